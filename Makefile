@@ -1,0 +1,31 @@
+# Ropepeach: a proved, crash-safe ResourceSync source.
+#   make demo   runs the main job once, on examples/first.script
+#   make test   passes every test and every proof (the merge gate)
+#   make build  builds the proved program
+#   make bench  measures speed (docs/BENCH.md has figures)
+
+SCRIPT ?= examples/first.script
+BASE ?= http://127.0.0.1:8080
+RT ?= rt
+
+.PHONY: demo test build bench documents
+
+# `rt try` builds without proving: quick, and no more than an unproved build.
+demo:
+	@echo "# demo: built the quick way, unproved ('make build' proves it first)"
+	@cd crates/rs_source && $(RT) try --seconds 60 -- mem 65536 $(BASE) 2 < ../../$(SCRIPT)
+
+test: documents
+	$(RT) ci
+
+# The proved program; its path is printed.
+build:
+	cd crates/rs_source && $(RT) run -- mem 65536 $(BASE) 2 < ../../examples/first.script > /dev/null
+	@echo "crates/rs_source/out/rs_source"
+
+# Every document that a script of a few hundred commands publishes, read by tools that are not ours.
+documents:
+	@python3 examples/check_documents.py || exit 1
+
+bench:
+	python3 bench/run.py
