@@ -27,5 +27,5 @@ build:
 documents:
 	@python3 examples/check_documents.py || exit 1
 
-bench:
+bench: build
 	python3 bench/run.py

@@ -1,0 +1,78 @@
+#!/usr/bin/env python3
+"""Hashing in pieces of 4,096 bytes (rs_fixity's Hashing) beside the kit's md5 and sha2 over one slice.
+
+Writes a small program in a folder of its own, proves and builds it with `rt run`, and times both ways on 16 MiB.
+"""
+import pathlib
+import shutil
+import subprocess
+import tempfile
+import time
+
+ROOT = pathlib.Path(__file__).resolve().parent.parent
+PROGRAM = """//! Hashes 16 MiB of zeros eight times, in pieces or whole.
+#![tactic(auto)]
+
+use md5::{Digest as _, Md5};
+use rs_fixity::Hashing;
+use sha2::{Digest as _, Sha256};
+use std::alloc::{AllocError, Global};
+use std::io;
+use std::{env, rt::Env};
+
+fn zeros(alloc: Global) -> Result<Vec<u8>, AllocError> {
+    vec![in alloc; 0u8; 16_777_216]
+}
+
+fn in_pieces(bytes: &[u8]) -> u8 {
+    let mut hashing = Hashing::new();
+    for piece in bytes.chunks(4096) {
+        hashing.add(piece);
+    }
+    hashing.done().md5[0]
+}
+
+fn whole(bytes: &[u8]) -> u8 {
+    Md5::digest(bytes)[0] ^ Sha256::digest(bytes)[0]
+}
+
+fn wants_pieces<R: Env + AllocGlobal>(rt: &R) -> io::Result<bool> {
+    Ok(env::args(rt)?.count() > 1)
+}
+
+fn main(rt: HostRuntime) -> io::Result<()> {
+    let pieces = wants_pieces(&rt)?;
+    let bytes = zeros(rt.alloc())?;
+    let mut seen = 0u8;
+    for _ in 0..8 {
+        let one = if pieces { in_pieces(bytes.as_slice()) } else { whole(bytes.as_slice()) };
+        seen = seen ^ one;
+    }
+    println!(rt; "{seen}")
+}
+"""
+
+
+def timed(command):
+    start = time.perf_counter()
+    subprocess.run(command, stdout=subprocess.DEVNULL, check=True)
+    return time.perf_counter() - start
+
+
+def main():
+    with tempfile.TemporaryDirectory() as folder:
+        root = pathlib.Path(folder)
+        shutil.copytree(ROOT / "crates" / "rs_fixity", root / "crates" / "rs_fixity")
+        crate = root / "crates" / "hashing"
+        (crate / "src").mkdir(parents=True)
+        (crate / "src" / "main.rt").write_text(PROGRAM)
+        lines = [l for l in (ROOT / "crates.txt").read_text().split("\n") if l.startswith("rs_fixity")]
+        (root / "crates.txt").write_text("\n".join(lines + ["hashing: rs_fixity md5 sha2"]) + "\n")
+        subprocess.run(["rt", "run"], cwd=crate, stdout=subprocess.DEVNULL, stderr=subprocess.DEVNULL, check=True)
+        built = str(crate / "out" / "hashing")
+        pieces = min(timed([built, "pieces"]) for _ in range(5))
+        whole = min(timed([built]) for _ in range(5))
+        print(f"hashing: pieces {128 / pieces:.0f} MiB/s, whole {128 / whole:.0f} MiB/s, ratio {pieces / whole:.2f}")
+
+
+main()

@@ -1,0 +1,39 @@
+//! Laws of digests and their text: public functions that do nothing, each proved to have its law as
+//! contract.
+
+ghost use Rattle.std.specs.Prelude.{◌≡◌, ℕ, List, ◌∷◌, ◌++◌, Some, IsTrue, Contains, codes};
+ghost use Rattle.rs_fixity.specs.declared.Digests.{Digests};
+ghost use Rattle.rs_fixity.specs.Digests.{digests, AreBytes};
+ghost use Rattle.rs_fixity.specs.HashText.{hash_text_of};
+ghost use Rattle.rs_fixity.specs.ReadHash.{read_hash};
+ghost use Rattle.rs_fixity.specs.Cut.{cut, strip, lacks};
+
+/// Of each message the MD5 is 16 bytes and the SHA-256 is 32 bytes.
+pub fn digests_are_bytes()
+    ensures md5 { (m : List ℕ) → AreBytes 16 (digests m).md5 }
+    ensures sha256 { (m : List ℕ) → AreBytes 32 (digests m).sha256 }
+{}
+
+/// The text of digests reads as these digests, and any text that reads as digests is the text of them.
+/// So different digests have different texts.
+pub fn hash_texts_read_back()
+    ensures read { (d : Digests) → AreBytes 16 d.md5 → AreBytes 32 d.sha256 →
+        read_hash (hash_text_of d) ≡ Some d }
+    ensures exact { (text : List ℕ) (d : Digests) → read_hash text ≡ Some d →
+        AreBytes 16 d.md5 × AreBytes 32 d.sha256 × (text ≡ hash_text_of d) }
+{}
+
+/// The text of digests stays on its line, and stands in XML attribute values as it is: it has no line feed,
+/// and none of `"`, `&`, `'`, `<`, `>`.
+pub fn hash_texts_need_no_escaping()
+    ensures { (d : Digests) (mark : ℕ) → Contains (10 ∷ codes "\"&'<>") mark →
+        ¬ Contains (hash_text_of d) mark }
+{}
+
+/// What was joined is cut again: a beginning is stripped off, and a value that lacks the mark after it is
+/// cut off before the mark.
+pub fn joined_texts_are_cut()
+    ensures strip { (front rest : List ℕ) → strip front (front ++ rest) ≡ Some rest }
+    ensures cut { (mark : ℕ) (value rest : List ℕ) → IsTrue (lacks mark value) →
+        cut mark (value ++ mark ∷ rest) ≡ (value, mark ∷ rest) }
+{}

@@ -1,0 +1,13 @@
+//! Moments: whole milliseconds of UTC from 1970 to the end of the year 9999, and their text in the form of
+//! W3C Datetime.
+//!
+//! Nothing here takes memory.
+#![tactic(auto)]
+
+mod calendar;
+pub mod laws;
+mod moment;
+#[cfg(test)]
+mod tests;
+
+pub use moment::Moment;
