@@ -1,0 +1,131 @@
+//! The set of the used blocks of a disk.
+ghost use Rattle.std.specs.Prelude.{ℕ, ◌≡◌, ◌↔◌, ◌<◌, ◌≤◌, true, false, nat_lt, length, IsTrue, IfOk, MatchOption};
+ghost use Rattle.rs_extent.specs.Blocks.{is_used, IsFreeRun, IsFree, IsTaken, IsLowest, Sets};
+
+use crate::Extent;
+use crate::words::{all_set, lowest_run, set_bits, skip_zeros};
+use std::alloc::{AllocError, Global};
+use std::marker::Model;
+
+/// Which blocks of a disk are used, one bit for each block.
+///
+/// Contracts see it as a list that says of each block whether it is used. A search looks at 64
+/// blocks at a time, from the first that may have a free one on. To take or to give back costs as
+/// much as the extent has blocks.
+#[derive(Debug, Drop)]
+pub struct Used {
+    // A bit for each block, set where it is free.
+    free: Vec<u64>,
+    block_count: u32,
+    // No block in the words below this one is free. A search begins here.
+    full_words: usize,
+}
+
+impl Model for Used {
+    ghost use Rattle.std.specs.Prelude.{List, Bool};
+    ghost use Rattle.rs_extent.specs.Bitmap.{used_blocks, IsBitmap};
+
+    ghost Value = { List Bool };
+
+    ghost view = { λ u. used_blocks u.block_count u.free.items };
+
+    ghost invariant = { λ u. IsBitmap u.block_count u.free.items u.full_words };
+}
+
+impl Used {
+    /// The set for a disk of `blocks` blocks, of which the first two are used.
+    ///
+    /// It takes a bit a block of memory, and no later call takes any.
+    ///
+    /// # Errors
+    ///
+    /// [`AllocError`] where the memory is refused.
+    pub fn new(alloc: Global, blocks: u32) -> Result<Used, AllocError>
+        requires { 2 ≤ blocks }
+        ensures size { IfOk result (λ used. length used ≡ blocks) }
+        ensures first_two { IfOk result (λ used. (b : ℕ) → b < blocks → is_used used b ≡ nat_lt b 2) }
+    {
+        let mut free = Vec::new(alloc);
+        free.resize(blocks.div_ceil(64) as usize, 0)?;
+        set_bits(&mut free, 2, blocks as usize, true);
+        Ok(Used {
+            free,
+            block_count: blocks,
+            full_words: 0,
+        })
+    }
+
+    /// How many blocks the disk has.
+    pub fn blocks(&self) -> u32
+        ensures { result ≡ length self.now }
+    {
+        self.block_count
+    }
+
+    /// Whether each block of `extent` is on the disk and free, as [`Used::take`] asks.
+    pub fn is_free(&self, extent: Extent) -> bool
+        ensures { IsTrue result ↔ IsFree self.now extent }
+    {
+        if extent.blocks == 0 {
+            return true;
+        }
+        let first = extent.first as usize;
+        let end = first + extent.blocks as usize;
+        end <= self.blocks() as usize && all_set(&self.free, first, end)
+    }
+
+    /// Adds the blocks of `extent`, all of which are free, and no others.
+    pub fn take(&mut self, extent: Extent)
+        requires { IsFree self.old extent }
+        ensures { Sets self.old self.new extent true }
+    {
+        if extent.blocks == 0 {
+            return;
+        }
+        let first = extent.first as usize;
+        set_bits(&mut self.free, first, first + extent.blocks as usize, false);
+        // As many steps at most as blocks were taken, so that taking costs no more than its blocks.
+        self.full_words = skip_zeros(&self.free, self.full_words, extent.blocks);
+    }
+
+    /// Removes the blocks of `extent`, all of which are on the disk and used, and no others.
+    pub fn give(&mut self, extent: Extent)
+        requires { IsTaken self.old extent }
+        ensures { Sets self.old self.new extent false }
+    {
+        if extent.blocks == 0 {
+            return;
+        }
+        let first = extent.first as usize;
+        set_bits(&mut self.free, first, first + extent.blocks as usize, true);
+        self.full_words = self.full_words.min(first / 64);
+    }
+
+    /// The lowest run of `blocks` free blocks, or `None` where the disk has no such run.
+    pub fn find(&self, blocks: u32) -> Option<Extent>
+        requires { 1 ≤ blocks }
+        ensures { MatchOption result ((first : ℕ) → IsFreeRun self.now first blocks → ⊥) (IsLowest self.now blocks) }
+    {
+        let first = lowest_run(&self.free, self.full_words, blocks)?;
+        Some(Extent { first, blocks })
+    }
+
+    /// The length in blocks of the longest run of free blocks, 0 where no block is free.
+    pub fn longest_free(&self) -> u32
+        ensures some { (first : ℕ) × IsFreeRun self.now first result }
+        ensures longest { (first n : ℕ) → IsFreeRun self.now first n → n ≤ result }
+    {
+        // A shorter run is served where a longer one is, so halving meets the longest.
+        let mut served = 0;
+        let mut most = self.blocks();
+        while served < most {
+            let middle = most - (most - served) / 2;
+            if self.find(middle).is_some() {
+                served = middle;
+            } else {
+                most = middle - 1;
+            }
+        }
+        served
+    }
+}

@@ -1,0 +1,15 @@
+//! Readers and writers that remember whether they failed.
+//!
+//! A contract over [`std::io::Read`] and [`std::io::Write`] says which bytes went, and never that
+//! an end failed. [`Watched`] adds that: its flag is set by a call that answers an error, and by
+//! nothing else. So a function that answers "the reader failed" can prove that one did.
+#![tactic(auto)]
+
+pub mod fault;
+pub mod watch;
+
+pub use fault::{ReadFault, WriteFault};
+pub use watch::Watched;
+
+#[cfg(test)]
+mod tests;

@@ -1,0 +1,144 @@
+//! A reader or a writer that remembers whether a call of it failed.
+ghost use Rattle.std.specs.Prelude.{◌≡◌, ◌<◌, ◌≤◌, false, length, take, IsTrue, IfOk, OnOk, OnErr, IfSome, MatchResult};
+ghost use Rattle.std.specs.Io.KnownBytes.{Consumes, IsAtEnd, Appends, Keeps};
+
+use crate::fault::{ReadFault, WriteFault};
+use std::fmt::Display;
+use std::io;
+use std::io::{Read, Write};
+
+/// A reader or a writer, with a flag that says whether a call of it has failed.
+///
+/// The flag is set by a call that answers an error and is never cleared. A caller may go on
+/// after an error: what the end does then is its own matter, and the flag stays set.
+#[derive(Debug, Drop)]
+pub struct Watched<T> {
+    inner: T,
+    failed: bool,
+}
+
+impl<T> Watched<T> {
+    ghost use Rattle.rs_io.specs.Watch.{watched, has_failed};
+
+    /// Watches `inner` from here on. What failed before is not known.
+    pub fn new(inner: T) -> Watched<T>
+        ensures inner { watched result ≡ inner }
+        ensures failed { has_failed result ≡ false }
+    {
+        Watched {
+            inner,
+            failed: false,
+        }
+    }
+
+    /// Whether a call has failed since [`Watched::new`].
+    pub fn has_failed(&self) -> bool
+        ensures { result ≡ has_failed self.now }
+    {
+        self.failed
+    }
+
+    /// The reader or the writer, to look at.
+    pub fn get_ref(&self) -> &T
+        ensures { result.now ≡ watched self.now }
+    {
+        &self.inner
+    }
+
+    /// The reader or the writer, given back. The flag is lost.
+    pub fn into_inner(self) -> T
+        ensures { result ≡ watched self }
+    {
+        self.inner
+    }
+
+    // Sets the flag where a call of `inner` failed, and gives `fault` in place of its error.
+    fn noted<A: Drop, F: Drop>(&mut self, answer: io::Result<A>, fault: F) -> Result<A, F>
+        ensures value { MatchResult answer (λ a. result ≡ Ok a) (λ _. result ≡ Err fault) }
+        ensures inner { watched self.new ≡ watched self.old }
+        ensures failed { OnErr result (IsTrue (has_failed self.new)) }
+        ensures unchanged { OnOk result (has_failed self.new ≡ has_failed self.old) }
+    {
+        match answer {
+            Ok(value) => Ok(value),
+            Err(_) => {
+                self.failed = true;
+                Err(fault)
+            }
+        }
+    }
+}
+
+impl<R: Read> Watched<R> {
+    ghost use Rattle.rs_io.specs.Watch.{watched, has_failed};
+
+    /// Reads once into the front of `buf`, and says how many bytes came.
+    ///
+    /// No byte comes only at the end of the input, or where `buf` has no room.
+    ///
+    /// # Errors
+    ///
+    /// [`ReadFault`] where the read fails. No byte is then lost.
+    pub fn read(&mut self, buf: &mut [u8]) -> Result<usize, ReadFault>
+        ensures bound { IfOk result (λ n. n ≤ length buf.new) }
+        ensures ok { IfOk result (λ n.
+            Consumes (R.remaining (watched self.old)) (R.remaining (watched self.new)) (take n buf.new)) }
+        ensures end { IfOk result (λ n. n ≡ 0 → 0 < length buf.new → IsAtEnd (R.remaining (watched self.new))) }
+        ensures err { OnErr result (Keeps (R.remaining (watched self.old)) (R.remaining (watched self.new))) }
+
+        ensures failed { OnErr result (IsTrue (has_failed self.new)) }
+        ensures unchanged { OnOk result (has_failed self.new ≡ has_failed self.old) }
+    {
+        let answer = self.inner.read(buf);
+        self.noted(answer, ReadFault)
+    }
+}
+
+impl<W: Write> Watched<W> {
+    ghost use Rattle.rs_io.specs.Watch.{watched, has_failed};
+
+    /// Writes all of `bytes`.
+    ///
+    /// # Errors
+    ///
+    /// [`WriteFault`] where a write fails. Some of the bytes may be written then.
+    pub fn put(&mut self, bytes: &[u8]) -> Result<(), WriteFault>
+        ensures ok { OnOk result
+            (Appends (W.contents (watched self.old)) (W.contents (watched self.new)) bytes.now) }
+        ensures failed { OnErr result (IsTrue (has_failed self.new)) }
+        ensures unchanged { OnOk result (has_failed self.new ≡ has_failed self.old) }
+    {
+        let answer = self.inner.write_all(bytes);
+        self.noted(answer, WriteFault)
+    }
+
+    /// Writes what `text` displays.
+    ///
+    /// # Errors
+    ///
+    /// [`WriteFault`] where a write fails, or `text` refuses to display. Some of the text may be
+    /// written then.
+    pub fn put_text<D: Display + Drop>(&mut self, text: D) -> Result<(), WriteFault>
+        ensures ok { OnOk result (IfSome (D.output text)
+            (Appends (W.contents (watched self.old)) (W.contents (watched self.new)))) }
+        ensures failed { OnErr result (IsTrue (has_failed self.new)) }
+        ensures unchanged { OnOk result (has_failed self.new ≡ has_failed self.old) }
+    {
+        let answer = self.inner.write_fmt(text);
+        self.noted(answer, WriteFault)
+    }
+
+    /// Passes on what the writer still holds back. Its bytes stay as they are, also at an error.
+    ///
+    /// # Errors
+    ///
+    /// [`WriteFault`] where the flush fails.
+    pub fn flush(&mut self) -> Result<(), WriteFault>
+        ensures bytes { Keeps (W.contents (watched self.old)) (W.contents (watched self.new)) }
+        ensures failed { OnErr result (IsTrue (has_failed self.new)) }
+        ensures unchanged { OnOk result (has_failed self.new ≡ has_failed self.old) }
+    {
+        let answer = self.inner.flush();
+        self.noted(answer, WriteFault)
+    }
+}
