@@ -24,7 +24,7 @@ BASE = "http://127.0.0.1:8080"
 LIMIT = 5
 SITEMAP = "{http://www.sitemaps.org/schemas/sitemap/0.9}"
 RS = "{http://www.openarchives.org/rs/terms/}"
-NAMES = ["a", "b/c", "x&y", "o'k", "x&amp;y", "%2E", "p(1)", "q;r=s,t", "m@h:1", "~u_v-w.x", "e!$*+", "long" + "n" * 200]
+NAMES = ["a", "b/c", "x&y", "o'k", "x&amp;y", "%2E", "p(1)", "q;r=s,t", "m@h:1", "~u_v-w.x", "e!$*+", "long" + "n" * 60]
 TYPES = ["text/plain", 'text/html; charset="utf-8"', "a/b; x=<y>&'z'", "application/octet-stream"]
 
 
@@ -51,6 +51,7 @@ def facts(body, kind):
 
 def script(seed, count):
     """Commands as lists of words: put, delete and publish in a fixed random order."""
+    # Short runs of few names, so that the quick build's limit of 1 MiB of output is kept.
     rng = random.Random(seed)
     for _ in range(count):
         name = rng.choice(NAMES) + (str(rng.randrange(4)) if rng.random() < 0.7 else "")
@@ -168,7 +169,7 @@ HEADS = ["/.well-known/resourcesync", "/capabilitylist.xml", "/resourcelist.xml"
 
 
 def visit(commands):
-    """The commands with, after every 25th, a visit: the lines, and at each line whether it is a visit's."""
+    """The commands with, after every 100th, a visit: the lines, and at each line whether it is a visit's."""
     lines, plan, publications = [], [], 0
     changes = 0
     for number, words in enumerate(commands):
@@ -176,7 +177,7 @@ def visit(commands):
         plan.append(("command", words))
         publications += words[0] == "publish"
         changes += words[0] != "publish"
-        if number % 25 == 24 or number == len(commands) - 1:
+        if number % 100 == 99 or number == len(commands) - 1:
             paths = list(HEADS)
             paths += [f"/resourcelist/{publications}/{k}.xml" for k in range(len(NAMES) * 5 // LIMIT + 2)]
             paths += [f"/changelist/{k}.xml" for k in range(changes // LIMIT + 2)]

@@ -1,0 +1,5 @@
+pub mod Images
+pub mod Steps
+pub mod Choice
+mod HistoryLaws
+mod CallParts

@@ -1,0 +1,42 @@
+-- What each call of a disk does to its state.
+use Rattle.std.specs.Prelude.{◌≡◌, ◌⊎◌, ℕ, ◌+◌, ◌<◌, ◌≤◌, ◌^◌, List, length, Result, OnOk, OnErr, IsErr, IsTrue}
+use Rattle.rs_disk.specs.Medium.{Medium, DiskState, widened, written, resting}
+
+-- What holds of a call of every device: the size stays, no call makes a device honest again, and the call is counted, as a fault where it fails.
+-- Where the calls stand at their last value a further call answers an error and changes nothing.
+pub record Counts {T E : Type 0} (old new : DiskState) (result : Result T E) : Type 0 where
+  pub size : new.size ≡ old.size
+  pub lasts : IsTrue new.honest → IsTrue old.honest
+  pub spent : 2 ^ 64 ≤ old.calls + 1 → (new ≡ old) × IsErr result
+  pub calls : old.calls + 1 < 2 ^ 64 → new.calls ≡ old.calls + 1
+  pub ok : OnOk result (new.faults ≡ old.faults)
+  pub fault : OnErr result (old.calls + 1 < 2 ^ 64 → new.faults ≡ old.faults + 1)
+
+-- What was held within earlier calls stays, and within this one, where it was counted, the disk held this.
+pub record Passes (old new : DiskState) (held : Medium) : Type 0 where
+  pub past : (m : ℕ) → m < old.calls → new.within m ≡ old.within m
+  pub this : old.calls < new.calls → new.within old.calls ≡ held
+
+-- A call that changes nothing: a read, or a sync that failed.
+pub record Stays (old new : DiskState) : Type 0 where
+  pub now : new.now ≡ old.now
+  pub passes : Passes old new old.now
+
+-- A write of these bytes: within it its range is unsettled, and after it they are written.
+pub record Writes (at : ℕ) (bytes : List ℕ) (old new : DiskState) : Type 0 where
+  pub now : new.now ≡ written old.now at bytes
+  pub passes : Passes old new (widened old.now at (length bytes))
+
+-- A write of n bytes that failed and changed nothing: within it its range was unsettled, or it had not begun.
+pub record Refuses (at n : ℕ) (old new : DiskState) : Type 0 where
+  pub now : new.now ≡ old.now
+  pub passes : Passes old new old.now ⊎ Passes old new (widened old.now at n)
+
+-- A write of n bytes that failed: any bytes are written in its range, or nothing has changed.
+abbrev pub Tears : ℕ → ℕ → DiskState → DiskState → Type 0
+Tears at n old new = ((any : List ℕ) × (length any ≡ n) × Writes at any old new) ⊎ Refuses at n old new
+
+-- A sync that succeeded: what a read gives is settled, and nothing is unsettled.
+pub record Settles (old new : DiskState) : Type 0 where
+  pub now : new.now ≡ resting old.now.seen
+  pub passes : Passes old new old.now

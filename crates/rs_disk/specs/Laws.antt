@@ -1,0 +1,89 @@
+-- What follows from the disk model alone.
+use Rattle.std.specs.Prelude.{◌≡◌, ◌↔◌, ℕ, ◌+◌, ◌<◌, ◌≤◌, List, [], ◌∷◌, length, replicate, get_or, Result, IsErr, OnOk, OnErr}
+use Rattle.rs_disk.specs.declared.disk.Fault.{Fault}
+use Rattle.rs_disk.specs.Medium.{Medium, DiskState, IsImage, IsImageAt, IsMedium, widened, partly_written, written, resting, image_of}
+use Rattle.rs_disk.specs.Calls.{Counts, Passes, Stays, Writes, Tears, Settles}
+use Rattle.rs_disk.specs.Leaves.{Leaves, Runs, TornFrom, Rests}
+
+-- Where all is settled, what a read gives is the one image.
+abbrev pub SettledImage : Type 0
+SettledImage = (bytes image : List ℕ) → IsImage (resting bytes) image ↔ (image ≡ bytes)
+
+-- Within a write the images are those from before it, with any bytes in its range.
+abbrev pub ImagesWithinWrite : Type 0
+ImagesWithinWrite = (m : Medium) (size at n : ℕ) → IsMedium size m → at + n ≤ size → (image : List ℕ) → IsImage (widened m at n) image ↔ TornFrom m at n image
+
+-- After a write, or a part of one, the images are those within it.
+abbrev pub ImagesAfterWrite : Type 0
+ImagesAfterWrite = (m : Medium) (at n : ℕ) (bytes image : List ℕ) → IsImage (partly_written m at n bytes) image ↔ IsImage (widened m at n) image
+
+-- Each number of a list is a byte.
+abbrev pub AreBytes : List ℕ → Type 0
+AreBytes bytes = (i : ℕ) → get_or bytes i 0 < 256
+
+-- The image of each choice is an image.
+abbrev pub ChoicesAreImages : Type 0
+ChoicesAreImages = (m : Medium) (size : ℕ) → IsMedium size m → (choice : List ℕ) → IsImage m (image_of choice m)
+
+-- Each image of bytes is the image of a choice of bytes.
+abbrev pub ImagesHaveChoices : Type 0
+ImagesHaveChoices = (m : Medium) (size : ℕ) → IsMedium size m → (image : List ℕ) → IsImage m image → AreBytes image → (choice : List ℕ) × AreBytes choice × (image_of choice m ≡ image)
+
+-- The images of a crash after fewer calls than were counted before a call are the same after it.
+abbrev pub PastImagesStay : Type 0
+PastImagesStay = (old new : DiskState) (held : Medium) → Passes old new held → old.calls ≤ new.calls → (m : ℕ) (image : List ℕ) → m < old.calls → IsImageAt old m image ↔ IsImageAt new m image
+
+-- Whatever a write answers, each image from its entry to its exit is one of its entry with any bytes in its range.
+abbrev pub WriteLeaves : Type 0
+WriteLeaves = (old new : DiskState) (at : ℕ) (bytes : List ℕ) (result : Result (Unit {0}) Fault) → Counts old new result → IsMedium old.size old.now → at + length bytes ≤ old.size
+    → OnOk result (Writes at bytes old new) → OnErr result (Tears at (length bytes) old new) → Leaves old new (λ _. TornFrom old.now at (length bytes))
+
+-- Whatever a sync answers, each image from its entry to its exit is one of its entry.
+abbrev pub SyncLeaves : Type 0
+SyncLeaves = (old new : DiskState) (result : Result (Unit {0}) Fault) → Counts old new result → IsMedium old.size old.now
+    → OnOk result (Settles old new) → OnErr result (Stays old new) → Leaves old new (λ _. IsImage old.now)
+
+-- Whatever a read answers, nothing changes.
+abbrev pub ReadRests : Type 0
+ReadRests = (old new : DiskState) (result : Result (Unit {0}) Fault) → Counts old new result → Stays old new → Rests old new
+
+-- A run of no call leaves P where each image of what is held has it.
+abbrev pub NoCallLeaves : (ℕ → List ℕ → Type 0) → Type 0
+NoCallLeaves P = (disk : DiskState) → ((image : List ℕ) → IsImage disk.now image → P disk.calls image) → Leaves disk disk P
+
+-- One call leaves P where each image within it and each image after it has it.
+abbrev pub OneCallLeaves : (ℕ → List ℕ → Type 0) → Type 0
+OneCallLeaves P = (old new : DiskState) (held : Medium) → Passes old new held → old.calls ≤ new.calls → new.calls ≤ old.calls + 1
+    → ((image : List ℕ) → IsImage held image → P old.calls image) → ((image : List ℕ) → IsImage new.now image → P new.calls image) → Leaves old new P
+
+-- A run and then another that both leave P leave it as one run.
+abbrev pub RunsGoOn : (ℕ → List ℕ → Type 0) → Type 0
+RunsGoOn P = (old mid new : DiskState) → Leaves old mid P → Leaves mid new P → Leaves old new P
+
+-- Each image of what a run holds at its exit has what the run leaves.
+abbrev pub ExitHas : (ℕ → List ℕ → Type 0) → Type 0
+ExitHas P = (old new : DiskState) → Leaves old new P → (image : List ℕ) → IsImage new.now image → P new.calls image
+
+-- What leaves P leaves each Q that follows from it.
+abbrev pub WeakerIsLeft : (ℕ → List ℕ → Type 0) → (ℕ → List ℕ → Type 0) → Type 0
+WeakerIsLeft P Q = (old new : DiskState) → ((m : ℕ) (image : List ℕ) → P m image → Q m image) → Leaves old new P → Leaves old new Q
+
+-- One call is a run.
+abbrev pub OneCallRuns : Type 0 → Type 0 → Type 0
+OneCallRuns T E = (old new : DiskState) (result : Result T E) → Counts old new result → Runs old new result
+
+-- A run, whatever it answers, and then another are a run with the second's answer.
+abbrev pub CountsGoOn : Type 0 → Type 0 → Type 0 → Type 0 → Type 0
+CountsGoOn T E U F = (old mid new : DiskState) (first : Result T E) (result : Result U F) → Runs old mid first → Runs mid new result → Runs old new result
+
+-- A run that failed may end a run that answers anything.
+abbrev pub FailedRunEnds : Type 0 → Type 0 → Type 0 → Type 0 → Type 0
+FailedRunEnds T E U F = (old new : DiskState) (first : Result T E) (result : Result U F) → IsErr first → Runs old new first → Runs old new result
+
+-- eight zero bytes, settled
+abbrev pub zeros : Medium
+zeros = resting (replicate 8 0)
+
+-- and after a write of 1, 2 and 3 at offset 2
+abbrev pub three_written : Medium
+three_written = written zeros 2 (1 ∷ 2 ∷ 3 ∷ [])

@@ -1,0 +1,33 @@
+-- What a run of device calls leaves, at its exit and of a crash within it.
+use Rattle.std.specs.Prelude.{◌≡◌, ◌⊎◌, ℕ, ◌+◌, ◌<◌, ◌≤◌, ◌^◌, List, length, take, drop, Result, OnErr, IsTrue}
+use Rattle.rs_disk.specs.Medium.{Medium, DiskState, IsImage, IsImageAt}
+
+-- A run leaves P: images of earlier moments stay, and at each m from its entry to its exit each image of a crash after m calls has P.
+pub record Leaves (old new : DiskState) (P : ℕ → List ℕ → Type 0) : Type 0 where
+  pub later : old.calls ≤ new.calls
+  pub before : (m : ℕ) (image : List ℕ) → m < old.calls → IsImageAt new m image → IsImageAt old m image
+  pub each : (m : ℕ) (image : List ℕ) → old.calls ≤ m → m ≤ new.calls → IsImageAt new m image → P m image
+
+-- What holds of a run of calls of every device: the size stays, the counts do not fall, no call makes the device honest again,
+-- and the run fails only where a call of it failed or the calls stand at their last value.
+pub record Runs {T E : Type 0} (old new : DiskState) (result : Result T E) : Type 0 where
+  pub size : new.size ≡ old.size
+  pub lasts : IsTrue new.honest → IsTrue old.honest
+  pub calls : old.calls ≤ new.calls
+  pub faults : old.faults ≤ new.faults
+  pub cause : OnErr result ((old.faults < new.faults) ⊎ (2 ^ 64 ≤ new.calls + 1))
+
+-- A list is torn in n places from an offset on: it is the same outside them.
+pub record Torn (at n : ℕ) (old new : List ℕ) : Type 0 where
+  pub size : length new ≡ length old
+  pub before : take at new ≡ take at old
+  pub after : drop (at + n) new ≡ drop (at + n) old
+
+-- an image of what was held, with any bytes in n places from an offset on
+abbrev pub TornFrom : Medium → ℕ → ℕ → List ℕ → Type 0
+TornFrom held at n image = (old : List ℕ) × IsImage held old × Torn at n old image
+
+-- A run of calls that changes nothing: at each m each image is one of what is held.
+pub record Rests (old new : DiskState) : Type 0 where
+  pub now : new.now ≡ old.now
+  pub leaves : Leaves old new (λ _. IsImage old.now)

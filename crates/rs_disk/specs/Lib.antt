@@ -1,0 +1,9 @@
+pub mod Medium
+pub mod Calls
+pub mod Leaves
+pub mod Contents
+pub mod History
+pub mod Plan
+pub mod Memory
+pub mod Faulty
+pub mod Laws

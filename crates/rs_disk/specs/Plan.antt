@@ -1,0 +1,30 @@
+-- Which further calls of a memory disk fail, and how.
+use Rattle.std.specs.Prelude.{ℕ, nat_lt, nat_eq, if◌then◌else◌, ◌/◌, List, length, take}
+use Rattle.rs_disk.specs.declared.plan.Plan.{Plan}
+use Rattle.rs_disk.specs.declared.plan.Plan.TheVariants.{Sound, StopsAfter, Stopped, FailsAfter}
+use Rattle.rs_disk.specs.declared.plan.Outcome.{Outcome}
+use Rattle.rs_disk.specs.declared.plan.Outcome.TheVariants.{Works, FailsHalfway, FailsAtStart, Refused}
+use Rattle.rs_disk.specs.Medium.{Medium, widened, partly_written}
+
+-- the i-th further call, counted from 0, where after k further calls every call fails: the first of them at its start, and later ones are refused
+abbrev pub stops_after : ℕ → ℕ → Outcome
+stops_after k i = if nat_lt i k then Works else (if nat_eq i k then FailsAtStart else Refused)
+
+-- the i-th further call, counted from 0, where after k further calls one call fails, and fails halfway
+abbrev pub fails_once : ℕ → ℕ → Outcome
+fails_once k i = if nat_eq i k then FailsHalfway else Works
+
+-- what a plan makes of the i-th further call, counted from 0
+abbrev pub planned_by : Plan → ℕ → Outcome
+planned_by Sound i = Works
+planned_by (StopsAfter k) i = stops_after k i
+planned_by Stopped i = Refused
+planned_by (FailsAfter k) i = fails_once k i
+
+-- what a failing write of these bytes leaves: the first half of them is there and its whole range unsettled; none of them and its range unsettled;
+-- or what was there, where it was refused or was to work and its record was refused memory
+abbrev pub left_by : Outcome → ℕ → List ℕ → Medium → Medium
+left_by Works at bytes m = m
+left_by FailsHalfway at bytes m = partly_written m at (length bytes) (take (length bytes / 2) bytes)
+left_by FailsAtStart at bytes m = widened m at (length bytes)
+left_by Refused at bytes m = m

@@ -1,0 +1,56 @@
+//! The record that a memory disk keeps of its writes and syncs, from which what it held within
+//! each earlier call is known.
+ghost use Rattle.std.specs.Prelude.{◌≡◌, ℕ, ◌<◌, OnOk, OnErr, IfOk};
+ghost use Rattle.rs_disk.specs.Medium.{resting};
+
+use std::alloc::{AllocError, Global};
+
+#[derive(Drop)]
+pub(crate) enum Change {
+    // These bytes were put at an offset, and this many places from there became unsettled.
+    Write {
+        at: usize,
+        places: usize,
+        put: Vec<u8>,
+    },
+    // What a read gives was settled.
+    Sync,
+}
+
+// A change, and how many calls were counted before its own.
+#[derive(Drop)]
+pub(crate) struct Entry {
+    call: u64,
+    change: Change,
+}
+
+// The bytes at first, all settled, and the changes since.
+#[derive(Drop)]
+pub(crate) struct History {
+    first: Vec<u8>,
+    entries: Vec<Entry>,
+}
+
+impl History {
+    ghost use Rattle.rs_disk.specs.History.{held_within, during, after};
+
+    pub(crate) fn starting_with(alloc: Global, bytes: &[u8]) -> Result<Self, AllocError>
+        ensures { IfOk result (λ h. (k : ℕ) → held_within k h ≡ resting bytes.now) }
+    {
+        Ok(History {
+            first: bytes.to_vec(alloc)?,
+            entries: Vec::new(alloc),
+        })
+    }
+
+    // Notes a change within the call that comes after this many counted ones.
+    pub(crate) fn note(&mut self, call: u64, change: Change) -> Result<(), AllocError>
+        ensures before { OnOk result ((k : ℕ) → k < call → held_within k self.new ≡ held_within k self.old) }
+        ensures within { OnOk result (held_within call self.new ≡ during change (held_within call self.old)) }
+        ensures after { OnOk result ((k : ℕ) → call < k → held_within k self.new ≡ after change (held_within k self.old)) }
+        ensures err { OnErr result ((k : ℕ) → held_within k self.new ≡ held_within k self.old) }
+    {
+        self.entries.push(Entry { call, change })?;
+        Ok(())
+    }
+}

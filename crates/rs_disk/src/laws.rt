@@ -1,0 +1,84 @@
+//! Laws of the disk model, over its definitions alone.
+//!
+//! Each function here does nothing: its contract is the law, which the check proves. Proofs cite
+//! the lemmas behind them, in `proofs/Images.antt`, `proofs/Choice.antt` and `proofs/Steps.antt`.
+ghost use Rattle.std.specs.Prelude.{◌≡◌, ℕ, List, [], ◌∷◌, replicate};
+ghost use Rattle.rs_disk.specs.Medium.{image_of, resting, written};
+ghost use Rattle.rs_disk.specs.Plan.{left_by, stops_after, fails_once};
+ghost use Rattle.rs_disk.specs.Laws.{SettledImage, ImagesWithinWrite, ImagesAfterWrite, ChoicesAreImages, ImagesHaveChoices, PastImagesStay, WriteLeaves, SyncLeaves, ReadRests, NoCallLeaves, OneCallLeaves, RunsGoOn, ExitHas, WeakerIsLeft, OneCallRuns, CountsGoOn, FailedRunEnds, zeros, three_written};
+
+/// Where all is settled, what a read gives is the one image.
+pub fn settled_disk_has_one_image()
+    ensures { SettledImage }
+{}
+
+/// A write makes its range unsettled: within it and after it the images are those from before it,
+/// with any bytes in its range.
+pub fn write_unsettles_its_range()
+    ensures within { ImagesWithinWrite }
+    ensures after { ImagesAfterWrite }
+{}
+
+/// The image of each choice is an image, and each image of bytes is that of a choice of bytes: what
+/// a memory disk's `image` can give is exactly what the model allows.
+pub fn choices_reach_each_image()
+    ensures sound { ChoicesAreImages }
+    ensures complete { ImagesHaveChoices }
+{}
+
+/// The images of earlier moments stay as they were.
+pub fn past_images_stay()
+    ensures { PastImagesStay }
+{}
+
+/// What one call of a disk leaves at each moment from its entry to its exit, whatever it answers.
+pub fn one_call_leaves()
+    ensures read { ReadRests }
+    ensures write { WriteLeaves }
+    ensures sync { SyncLeaves }
+{}
+
+/// Images of a disk of eight zero bytes, on which 1, 2 and 3 are written at offset 2.
+pub fn worked_images()
+    ensures one { image_of (9 ∷ []) three_written ≡ 0 ∷ 0 ∷ 9 ∷ 9 ∷ 9 ∷ 0 ∷ 0 ∷ 0 ∷ [] }
+    ensures two { image_of (7 ∷ 8 ∷ []) three_written ≡ 0 ∷ 0 ∷ 7 ∷ 8 ∷ 7 ∷ 0 ∷ 0 ∷ 0 ∷ [] }
+    ensures seen { image_of [] three_written ≡ 0 ∷ 0 ∷ 1 ∷ 2 ∷ 3 ∷ 0 ∷ 0 ∷ 0 ∷ [] }
+    ensures synced { image_of (9 ∷ []) (resting three_written.seen) ≡ 0 ∷ 0 ∷ 1 ∷ 2 ∷ 3 ∷ 0 ∷ 0 ∷ 0 ∷ [] }
+    ensures again { image_of (9 ∷ []) (written (resting three_written.seen) 4 (5 ∷ 6 ∷ [])) ≡ 0 ∷ 0 ∷ 1 ∷ 2 ∷ 9 ∷ 9 ∷ 0 ∷ 0 ∷ [] }
+{}
+
+/// The same write where it is planned to fail: halfway, at its start, and refused.
+pub fn worked_failures()
+    ensures half_seen { image_of [] (left_by (fails_once 0 0) 2 (1 ∷ 2 ∷ 3 ∷ []) zeros) ≡ 0 ∷ 0 ∷ 1 ∷ 0 ∷ 0 ∷ 0 ∷ 0 ∷ 0 ∷ [] }
+    ensures half_image { image_of (9 ∷ []) (left_by (fails_once 0 0) 2 (1 ∷ 2 ∷ 3 ∷ []) zeros) ≡ 0 ∷ 0 ∷ 9 ∷ 9 ∷ 9 ∷ 0 ∷ 0 ∷ 0 ∷ [] }
+    ensures stop_seen { image_of [] (left_by (stops_after 0 0) 2 (1 ∷ 2 ∷ 3 ∷ []) zeros) ≡ replicate 8 0 }
+    ensures stop_image { image_of (9 ∷ []) (left_by (stops_after 0 0) 2 (1 ∷ 2 ∷ 3 ∷ []) zeros) ≡ 0 ∷ 0 ∷ 9 ∷ 9 ∷ 9 ∷ 0 ∷ 0 ∷ 0 ∷ [] }
+    ensures refused { image_of (9 ∷ []) (left_by (stops_after 0 1) 2 (1 ∷ 2 ∷ 3 ∷ []) zeros) ≡ replicate 8 0 }
+{}
+
+/// What a run of calls is said to leave: a claim on each image of a crash after a number of calls.
+pub trait Claim {
+    ghost of: { ℕ → List ℕ → Type 0 };
+}
+
+/// What a run of calls leaves, for every claim: a run of no call, one call, one run and then
+/// another; and what each image at its exit has.
+pub fn runs_leave<P: Claim>()
+    ensures none { NoCallLeaves P.of }
+    ensures one { OneCallLeaves P.of }
+    ensures goes_on { RunsGoOn P.of }
+    ensures exit { ExitHas P.of }
+{}
+
+/// A run that leaves a claim leaves each claim that follows from it.
+pub fn weaker_claim_is_left<P: Claim, Q: Claim>()
+    ensures { WeakerIsLeft P.of Q.of }
+{}
+
+/// The counts of a run of calls of every device: of one call, of one run and then another, and of
+/// one that ends where a run of it failed.
+pub fn runs_count<T, E, U, F>()
+    ensures one { OneCallRuns T E }
+    ensures goes_on { CountsGoOn T E U F }
+    ensures failed { FailedRunEnds T E U F }
+{}

@@ -1,0 +1,107 @@
+//! A disk in memory, whose faults and crashes its caller plans.
+mod calls;
+
+ghost use Rattle.std.specs.Prelude.{◌≡◌, ℕ, ◌≤◌, replicate, length, IfOk};
+ghost use Rattle.rs_disk.specs.Medium.{IsImage, resting, image_of};
+ghost use Rattle.rs_disk.specs.Contents.{medium_of};
+ghost use Rattle.rs_disk.specs.History.{held_within};
+
+use crate::contents::Contents;
+use crate::history::History;
+use crate::plan::Plan;
+use std::alloc::{AllocError, Global};
+
+/// A disk in memory, which keeps a record of its writes and syncs.
+///
+/// It follows the disk model by proof. It fails where its caller planned it, by
+/// [`stop_after`](MemoryDisk::stop_after) or [`fail_once`](MemoryDisk::fail_once), where its
+/// record's growth is refused memory, and at the last value of its count of calls. The record
+/// grows with each write and sync.
+#[derive(Drop)]
+pub struct MemoryDisk {
+    alloc: Global,
+    contents: Contents,
+    history: History,
+    calls: u64,
+    faults: u64,
+    plan: Plan,
+    ghost replays: { (k : ℕ) → calls ≤ k → held_within k history ≡ medium_of contents },
+    ghost fewer: { faults ≤ calls },
+}
+
+impl MemoryDisk {
+    ghost use Rattle.rs_disk.specs.Memory.{state_of, planned};
+    ghost use Rattle.rs_disk.specs.Plan.{stops_after, fails_once};
+    ghost use Rattle.rs_disk.specs.declared.plan.Outcome.TheVariants.{Works};
+
+    /// A disk with these bytes, all settled, on which no call is planned to fail.
+    ///
+    /// # Errors
+    /// [`AllocError`] where memory is refused.
+    pub fn from_bytes(alloc: Global, bytes: &[u8]) -> Result<Self, AllocError>
+        ensures now { IfOk result (λ d. (state_of d).now ≡ resting bytes.now) }
+        ensures size { IfOk result (λ d. (state_of d).size ≡ length bytes.now) }
+        ensures calls { IfOk result (λ d. (state_of d).calls ≡ 0) }
+        ensures faults { IfOk result (λ d. (state_of d).faults ≡ 0) }
+        ensures plan { IfOk result (λ d. (i : ℕ) → planned d i ≡ Works) }
+    {
+        Ok(MemoryDisk {
+            alloc,
+            contents: Contents::resting(alloc, bytes)?,
+            history: History::starting_with(alloc, bytes)?,
+            calls: 0,
+            faults: 0,
+            plan: Plan::Sound,
+        })
+    }
+
+    /// A disk of this many zero bytes, all settled, on which no call is planned to fail.
+    ///
+    /// # Errors
+    /// [`AllocError`] where memory is refused.
+    pub fn new(alloc: Global, size: u64) -> Result<Self, AllocError>
+        ensures now { IfOk result (λ d. (state_of d).now ≡ resting (replicate size 0)) }
+        ensures size { IfOk result (λ d. (state_of d).size ≡ size) }
+        ensures calls { IfOk result (λ d. (state_of d).calls ≡ 0) }
+        ensures faults { IfOk result (λ d. (state_of d).faults ≡ 0) }
+        ensures plan { IfOk result (λ d. (i : ℕ) → planned d i ≡ Works) }
+    {
+        let zeros: Vec<u8> = vec![in alloc; 0; size as usize]?;
+        MemoryDisk::from_bytes(alloc, &zeros)
+    }
+
+    /// After `k` further calls every call fails.
+    ///
+    /// The first failing call, if a write, leaves its range unsettled; later ones change nothing.
+    /// This replaces what `stop_after` or `fail_once` planned before.
+    pub fn stop_after(&mut self, k: u64)
+        ensures state { state_of self.new ≡ state_of self.old }
+        ensures plan { (i : ℕ) → planned self.new i ≡ stops_after k i }
+    {
+        self.plan = Plan::StopsAfter(k);
+    }
+
+    /// After `k` further calls one call fails, and the later ones work.
+    ///
+    /// A write that fails so puts the first half of its bytes, rounded down, and leaves its whole
+    /// range unsettled. This replaces what `stop_after` or `fail_once` planned before.
+    pub fn fail_once(&mut self, k: u64)
+        ensures state { state_of self.new ≡ state_of self.old }
+        ensures plan { (i : ℕ) → planned self.new i ≡ fails_once k i }
+    {
+        self.plan = Plan::FailsAfter(k);
+    }
+
+    /// An image that a crash may leave now: the settled bytes, where the i-th unsettled place in
+    /// ascending order, counted from 0, holds `choice[i % choice.len()]`. With an empty choice it
+    /// is what a read gives.
+    ///
+    /// # Errors
+    /// [`AllocError`] where memory is refused.
+    pub fn image(&self, choice: &[u8]) -> Result<Vec<u8>, AllocError>
+        ensures chosen { IfOk result (λ v. v.items ≡ image_of choice.now (state_of self.now).now) }
+        ensures image { IfOk result (λ v. IsImage (state_of self.now).now v.items) }
+    {
+        self.contents.image(self.alloc, choice)
+    }
+}

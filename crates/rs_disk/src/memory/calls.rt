@@ -1,0 +1,163 @@
+//! The calls of a memory disk.
+ghost use Rattle.std.specs.Prelude.{◌≡◌, ℕ, ◌^◌, ◌+◌, ◌≤◌, ◌<◌, ◌⊎◌, ◌↔◌, is_ok, if◌then◌else◌, length, take, drop, IsOk, OnOk, OnErr, IfOk};
+ghost use Rattle.rs_disk.specs.Memory.{state_of, planned, sound, MovesOn, Begun, Changes, SameContents, SameCounts};
+ghost use Rattle.rs_disk.specs.Calls.{Counts, Stays, Writes, Tears, Settles};
+ghost use Rattle.rs_disk.specs.Medium.{resting, widened, partly_written};
+ghost use Rattle.rs_disk.specs.Plan.{left_by};
+ghost use Rattle.rs_disk.specs.declared.plan.Outcome.TheVariants.{Works};
+
+use super::MemoryDisk;
+use crate::history::Change;
+use crate::plan::Outcome;
+use crate::{Disk, Fault};
+use std::alloc::AllocError;
+
+impl MemoryDisk {
+    // Counts a call, and gives how many were counted before it. At the last value of the count it
+    // fails, and nothing changes.
+    fn begin_call(&mut self) -> Result<u64, Fault>
+        ensures spent { OnErr result (2 ^ 64 ≤ self.old.calls + 1) }
+        ensures unchanged { OnErr result (self.new ≡ self.old) }
+        ensures call { IfOk result (λ call. call ≡ self.old.calls) }
+        ensures room { OnOk result (self.old.calls + 1 < 2 ^ 64) }
+        ensures begun { IfOk result (λ call. Begun call (state_of self.new)) }
+        ensures state { OnOk result (state_of self.new ≡ record (state_of self.old) { calls = self.old.calls + 1 }) }
+        ensures plan { OnOk result (self.new.plan ≡ self.old.plan) }
+    {
+        if self.calls == u64::MAX {
+            return Err(Fault);
+        }
+        let call = self.calls;
+        self.calls += 1;
+        Ok(call)
+    }
+
+    // Counts a fault where the call failed.
+    fn end_call(&mut self, done: Result<(), Fault>) -> Result<(), Fault>
+        requires { self.old.faults < self.old.calls }
+        ensures result { result ≡ done }
+        ensures state { state_of self.new ≡ record (state_of self.old) { faults = self.old.faults + (if is_ok done then 0 else 1) } }
+        ensures plan { self.new.plan ≡ self.old.plan }
+    {
+        if done.is_err() {
+            self.faults += 1;
+        }
+        done
+    }
+
+    // Puts the bytes at an offset and makes this many places from there unsettled; where the
+    // record's growth is refused, nothing changes.
+    fn put(&mut self, call: u64, at: usize, places: usize, bytes: &[u8]) -> Result<(), AllocError>
+        requires begun { Begun call (state_of self.old) }
+        requires range { at + places ≤ (state_of self.old).size }
+        requires front { length bytes.now ≤ places }
+        ensures ok { OnOk result (Changes call (widened (state_of self.old).now at places)
+            (partly_written (state_of self.old).now at places bytes.now) (state_of self.old) (state_of self.new)) }
+        ensures err { OnErr result (SameContents (state_of self.old) (state_of self.new)) }
+        ensures counts { SameCounts (state_of self.old) (state_of self.new) }
+        ensures plan { self.new.plan ≡ self.old.plan }
+    {
+        let put = bytes.to_vec(self.alloc)?;
+        let change = Change::Write { at, places, put };
+        self.history.note(call, change)?;
+        self.contents.put(at, places, bytes);
+        Ok(())
+    }
+
+    // Settles what a read gives; where the record's growth is refused, nothing changes.
+    fn settle(&mut self, call: u64) -> Result<(), AllocError>
+        requires begun { Begun call (state_of self.old) }
+        ensures ok { OnOk result (Changes call (state_of self.old).now (resting (state_of self.old).now.seen) (state_of self.old) (state_of self.new)) }
+        ensures err { OnErr result (SameContents (state_of self.old) (state_of self.new)) }
+        ensures counts { SameCounts (state_of self.old) (state_of self.new) }
+        ensures plan { self.new.plan ≡ self.old.plan }
+    {
+        self.history.note(call, Change::Sync)?;
+        self.contents.settle();
+        Ok(())
+    }
+}
+
+impl Disk for MemoryDisk {
+    ghost state = { state_of };
+
+    ghost holds = { sound };
+
+    fn size(&self) -> u64 {
+        self.contents.size() as u64
+    }
+
+    fn calls(&self) -> u64 {
+        self.calls
+    }
+
+    fn faults(&self) -> u64 {
+        self.faults
+    }
+
+    fn read(&mut self, at: u64, into: &mut [u8]) -> Result<(), Fault>
+        requires { at + length into.old ≤ (state_of self.old).size }
+        ensures counts { Counts (state_of self.old) (state_of self.new) result }
+        ensures stays { Stays (state_of self.old) (state_of self.new) }
+        ensures gives { OnOk result (into.new ≡ take (length into.old) (drop at (state_of self.old).now.seen)) }
+
+        ensures works { IsOk result ↔ (((state_of self.old).calls + 1 < 2 ^ 64) × (planned self.old 0 ≡ Works)) }
+        ensures plan { MovesOn self.old self.new }
+    {
+        self.begin_call()?;
+        let done = match self.plan.step() {
+            Outcome::Works => {
+                self.contents.get(at as usize, into);
+                Ok(())
+            }
+            _ => Err(Fault),
+        };
+        self.end_call(done)
+    }
+
+    fn write(&mut self, at: u64, bytes: &[u8]) -> Result<(), Fault>
+        requires { at + length bytes.now ≤ (state_of self.old).size }
+        ensures counts { Counts (state_of self.old) (state_of self.new) result }
+        ensures writes { OnOk result (Writes at bytes.now (state_of self.old) (state_of self.new)) }
+        ensures tears { OnErr result (Tears at (length bytes.now) (state_of self.old) (state_of self.new)) }
+
+        ensures works { OnOk result (planned self.old 0 ≡ Works) }
+        // What a failing write leaves is what was planned, or what was there where the record's
+        // growth was refused.
+        ensures fails { OnErr result (((state_of self.new).now ≡ left_by (planned self.old 0) at bytes.now (state_of self.old).now) ⊎ ((state_of self.new).now ≡ (state_of self.old).now)) }
+        ensures plan { MovesOn self.old self.new }
+    {
+        let call = self.begin_call()?;
+        let at = at as usize;
+        let places = bytes.len();
+        let done = match self.plan.step() {
+            Outcome::Works => self.put(call, at, places, bytes).map_err(|_| Fault),
+            Outcome::FailsHalfway => {
+                let _noted = self.put(call, at, places, &bytes[..places / 2]);
+                Err(Fault)
+            }
+            Outcome::FailsAtStart => {
+                let _noted = self.put(call, at, places, &[]);
+                Err(Fault)
+            }
+            Outcome::Refused => Err(Fault),
+        };
+        self.end_call(done)
+    }
+
+    fn sync(&mut self) -> Result<(), Fault>
+        ensures counts { Counts (state_of self.old) (state_of self.new) result }
+        ensures settles { OnOk result (Settles (state_of self.old) (state_of self.new)) }
+        ensures stays { OnErr result (Stays (state_of self.old) (state_of self.new)) }
+
+        ensures works { OnOk result (planned self.old 0 ≡ Works) }
+        ensures plan { MovesOn self.old self.new }
+    {
+        let call = self.begin_call()?;
+        let done = match self.plan.step() {
+            Outcome::Works => self.settle(call).map_err(|_| Fault),
+            _ => Err(Fault),
+        };
+        self.end_call(done)
+    }
+}
