@@ -1,0 +1,158 @@
+-- Steps of lawful commands keep states lawful.
+use Rattle.std.proofs.Common.{◌≡◌, ℕ, ◌+◌, ◌<◌, ◌≤◌, ◌^◌, List, [], ◌∷◌, ◌++◌, length, refl, sym, subst, arith, Option, Some, None, nat_le, nat_lt, length-append}
+use Rattle.std.specs.Prelude.{IsTrue, false}
+use Rattle.std.specs.List.{AllByRecursion}
+use Rattle.std.proofs.lemmas.Bool.Decides.{nat_tests}
+use Rattle.std.specs.declared.cmp.Ordering.{Ordering}
+use Rattle.std.specs.declared.cmp.Ordering.TheVariants.{Less, Equal, Greater}
+use Rattle.rs_time.specs.Moment.{IsMoment}
+use Rattle.rs_record.specs.MediaType.{is_media_type}
+use Rattle.rs_record.specs.Changes.{deleted}
+use Rattle.rs_record.specs.declared.change.Change.{Change}
+use Rattle.rs_model.specs.declared.command.Command.{Command}
+use Rattle.rs_model.specs.declared.command.Command.TheVariants.{Put, Delete, Publish}
+use Rattle.rs_model.specs.declared.command.Refusal.{Refusal}
+use Rattle.rs_model.specs.declared.value.Held.{Held}
+use Rattle.rs_model.specs.Names.{Names, by_bytes, by_order, bind, unbind}
+use Rattle.rs_model.specs.State.{Source, facts_of, entries}
+use Rattle.rs_model.specs.Step.{step, state_after, fold_of, accepted_unless, next_state, reply_to, refusal_of, causes, moment_at, put_change}
+use Rattle.rs_model.specs.Lawful.{AreFacts, IsEntry, IsHeld, IsChange, IsLawful, IsLawfulCommand, IsLawfulTimed}
+use Rattle.rs_fixity.proofs.DigestBytes.{md5-bytes, sha256-bytes}
+use Rattle.rs_model.proofs.OrderLemmas.{ordered-bind, ordered-unbind, ordered-entries}
+use Rattle.rs_model.proofs.RoomLemmas.{no_causes, below_if, at_most_if, length-bind, length-unbind, length-entries, room_to_put, change_to_put, change_to_delete}
+
+pub facts_lawful : (kind bytes : List ℕ) → IsTrue (is_media_type kind) → length bytes ≤ 16777216 → AreFacts (facts_of kind bytes)
+facts_lawful kind bytes k h = record { kind = k; length = omega arith; md5 = md5-bytes bytes; sha256 = sha256-bytes bytes }
+
+-- one more element
+all_appended : {A : Type 0} (P : A → Type 0) (a : List A) (x : A) → AllByRecursion P a → P x → AllByRecursion P (a ++ x ∷ [])
+all_appended P [] x h p = (p, tt)
+all_appended P (y ∷ a) x h p = (h.0, all_appended P a x h.1 p)
+
+-- one more name, or one less
+bind_by : {V : Type 0} (P : List ℕ × V → Type 0) (r : Ordering) (name : List ℕ) (v : V) (e : List ℕ × V) (m : Names V) → P (name, v) → P e → AllByRecursion P m → AllByRecursion P (bind name v m)
+    → AllByRecursion P (by_order r ((name, v) ∷ e ∷ m) ((name, v) ∷ m) (e ∷ bind name v m))
+bind_by P Less name v e m a b d f = (a, (b, d))
+bind_by P Equal name v e m a b d f = (a, d)
+bind_by P Greater name v e m a b d f = (b, f)
+
+all_bound : {V : Type 0} (P : List ℕ × V → Type 0) (name : List ℕ) (v : V) (m : Names V) → P (name, v) → AllByRecursion P m → AllByRecursion P (bind name v m)
+all_bound P name v [] a h = (a, tt)
+all_bound P name v (e ∷ m) a h = bind_by P (by_bytes name e.0) name v e m a h.0 h.1 (all_bound P name v m a h.1)
+
+unbind_by : {V : Type 0} (P : List ℕ × V → Type 0) (r : Ordering) (name : List ℕ) (e : List ℕ × V) (m : Names V) → P e → AllByRecursion P m → AllByRecursion P (unbind name m)
+    → AllByRecursion P (by_order r (e ∷ m) m (e ∷ unbind name m))
+unbind_by P Less name e m b d f = (b, d)
+unbind_by P Equal name e m b d f = d
+unbind_by P Greater name e m b d f = (b, f)
+
+all_unbound : {V : Type 0} (P : List ℕ × V → Type 0) (name : List ℕ) (m : Names V) → AllByRecursion P m → AllByRecursion P (unbind name m)
+all_unbound P name [] h = tt
+all_unbound P name (e ∷ m) h = unbind_by P (by_bytes name e.0) name e m h.0 h.1 (all_unbound P name m h.1)
+
+all_entries : (held : Names Held) → AllByRecursion IsHeld held → AllByRecursion IsEntry (entries held)
+all_entries [] h = tt
+all_entries (e ∷ held) h = (h.0, all_entries held h.1)
+
+after_put : (s : Source) (name kind bytes : List ℕ) (t : ℕ) → IsLawful s → IsLawfulCommand (Put name kind bytes) → IsMoment t → refusal_of s (Put name kind bytes) ≡ None → IsLawful (next_state s (Put name kind bytes) t)
+after_put s name kind bytes t l c m none =
+    let cause = no_causes (causes s (Put name kind bytes)) none in
+    let facts : AreFacts (facts_of kind bytes) = facts_lawful kind bytes c.1 (at_most_if 16777216 (length bytes) cause.0) in
+    let held : Held = record { bytes = bytes; entry = record { facts = facts_of kind bytes; moment = t } } in
+    let change : Change = put_change s name (facts_of kind bytes) t in
+    let fewer : length s.changes < 50000 = change_to_put name kind bytes s none in
+    record {
+      base = l.base;
+      low = l.low;
+      high = l.high;
+      start = l.start;
+      last = m;
+      at = l.at;
+      number = l.number;
+      held = all_bound IsHeld name held s.held (record { name = c.0; facts = facts; moment = m }) l.held;
+      held_order = ordered-bind name held s.held l.held_order;
+      held_room = omega (arith, length-bind name held s.held, room_to_put name kind bytes s none l.held_room);
+      listed = l.listed;
+      listed_order = l.listed_order;
+      listed_room = l.listed_room;
+      changes = all_appended IsChange s.changes change l.changes (record { name = c.0; facts = facts; moment = m });
+      changes_room = omega (arith, fewer, length-append s.changes (change ∷ []));
+    }
+
+after_delete : (s : Source) (name : List ℕ) (t : ℕ) → IsLawful s → IsLawfulCommand (Delete name) → IsMoment t → refusal_of s (Delete name) ≡ None → IsLawful (next_state s (Delete name) t)
+after_delete s name t l c m none =
+    let change : Change = deleted name t in
+    let fewer : length s.changes < 50000 = change_to_delete name s none in
+    record {
+      base = l.base;
+      low = l.low;
+      high = l.high;
+      start = l.start;
+      last = m;
+      at = l.at;
+      number = l.number;
+      held = all_unbound IsHeld name s.held l.held;
+      held_order = ordered-unbind name s.held l.held_order;
+      held_room = omega (arith, length-unbind name s.held, l.held_room);
+      listed = l.listed;
+      listed_order = l.listed_order;
+      listed_room = l.listed_room;
+      changes = all_appended IsChange s.changes change l.changes (record { name = c; facts = tt; moment = m });
+      changes_room = omega (arith, fewer, length-append s.changes (change ∷ []));
+    }
+
+after_publish : (s : Source) (t : ℕ) → IsLawful s → IsMoment t → refusal_of s Publish ≡ None → IsLawful (next_state s Publish t)
+after_publish s t l m none =
+    record {
+      base = l.base;
+      low = l.low;
+      high = l.high;
+      start = l.start;
+      last = m;
+      at = m;
+      number = below_if (2 ^ 64) (s.number + 1) (no_causes (causes s Publish) none).1.0;
+      held = l.held;
+      held_order = l.held_order;
+      held_room = l.held_room;
+      listed = all_entries s.held l.held;
+      listed_order = ordered-entries s.held l.held_order;
+      listed_room = omega (arith, length-entries s.held, l.held_room);
+      changes = l.changes;
+      changes_room = l.changes_room;
+    }
+
+-- an accepted command
+pub next_lawful : (s : Source) (command : Command) (t : ℕ) → IsLawful s → IsLawfulCommand command → IsMoment t → refusal_of s command ≡ None → IsLawful (next_state s command t)
+next_lawful s (Put name kind bytes) t l c m none = after_put s name kind bytes t l c m none
+next_lawful s (Delete name) t l c m none = after_delete s name t l c m none
+next_lawful s Publish t l c m none = after_publish s t l m none
+
+-- the fields of a state, which was u and is now new
+pub kept_lawful : (s u new : Source) (command : Command) (t : ℕ) → s ≡ u → IsLawful s → IsLawfulCommand command → IsMoment t → refusal_of u command ≡ None → new ≡ next_state u command t → IsLawful new
+kept_lawful s u new command t same l c m none next =
+    let lawful : IsLawful u = subst IsLawful same l in
+    subst IsLawful (sym next) (next_lawful u command t lawful c m none)
+
+-- the last cause in each list: no moment is left
+moment_left : (s : Source) (command : Command) → refusal_of s command ≡ None → nat_le 253402300799999 s.last ≡ false
+moment_left s (Put name kind bytes) none = (no_causes (causes s (Put name kind bytes)) none).1.1.1.0
+moment_left s (Delete name) none = (no_causes (causes s (Delete name)) none).1.1.0
+moment_left s Publish none = (no_causes (causes s Publish) none).0
+
+pub below_greatest : (s : Source) (command : Command) → refusal_of s command ≡ None → s.last < 253402300799999
+below_greatest s command none = below_if 253402300799999 s.last (moment_left s command none)
+
+pub moment_fits : (s : Source) (command : Command) (now : ℕ) → refusal_of s command ≡ None → IsMoment now → IsMoment (moment_at s now)
+moment_fits s command now none h = let below = below_greatest s command none in omega arith
+
+after_lawful : (s : Source) (command : Command) (now : ℕ) (o : Option Refusal) → refusal_of s command ≡ o → IsLawful s → IsLawfulCommand command → IsMoment now
+    → IsLawful (state_after s (accepted_unless o (next_state s command (moment_at s now), reply_to s command (moment_at s now))))
+after_lawful s command now None e l c n = next_lawful s command (moment_at s now) l c (moment_fits s command now e n) e
+after_lawful s command now (Some refusal) e l c n = l
+
+pub step_lawful : (s : Source) (command : Command) (now : ℕ) → IsLawful s → IsLawfulCommand command → IsMoment now → IsLawful (state_after s (step s command now))
+step_lawful s command now l c n = after_lawful s command now (refusal_of s command) refl l c n
+
+pub fold_lawful : (s : Source) (commands : List (Command × ℕ)) → IsLawful s → AllByRecursion IsLawfulTimed commands → IsLawful (fold_of s commands)
+fold_lawful s [] l h = l
+fold_lawful s (c ∷ commands) l h = fold_lawful (state_after s (step s c.0 c.1)) commands (step_lawful s c.0 c.1 l h.0.0 h.0.1) h.1

@@ -1,0 +1,9 @@
+pub mod MirrorLemmas
+pub mod RegularLemmas
+pub mod Places
+pub mod RoomLemmas
+pub mod OrderLemmas
+pub mod Searches
+pub mod MapLemmas
+pub mod LawfulLemmas
+pub mod StepLemmas

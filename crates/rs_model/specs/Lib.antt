@@ -1,0 +1,6 @@
+pub mod Names
+pub mod State
+pub mod Lawful
+pub mod Inside
+pub mod Step
+pub mod Regular

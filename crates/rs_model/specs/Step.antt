@@ -1,0 +1,113 @@
+-- The step of a command, runs of commands, and the mirror of a list and the changes after it.
+use Rattle.std.specs.Prelude.{ℕ, ◌+◌, ◌^◌, Bool, ◌&&◌, nat_lt, nat_le, max, List, [], ◌∷◌, ◌++◌, length, Option, Some, None, is_some, is_none, Result, Ok, Err, if◌then◌else◌}
+use Rattle.rs_time.specs.Moment.{greatest}
+use Rattle.rs_record.specs.declared.facts.Facts.{Facts}
+use Rattle.rs_record.specs.declared.change.Change.{Change}
+use Rattle.rs_record.specs.Changes.{bound, deleted}
+use Rattle.rs_model.specs.declared.value.Entry.{Entry}
+use Rattle.rs_model.specs.declared.command.Command.{Command}
+use Rattle.rs_model.specs.declared.command.Command.TheVariants.{Put, Delete, Publish}
+use Rattle.rs_model.specs.declared.command.Reply.{Reply}
+use Rattle.rs_model.specs.declared.command.Reply.TheVariants as replies
+use Rattle.rs_model.specs.declared.command.Refusal.{Refusal}
+use Rattle.rs_model.specs.declared.command.Refusal.TheVariants.{TooLong, NotHeld, TooManyResources, TooManyChanges, Exhausted}
+use Rattle.rs_model.specs.Names.{Names, value_of, bind, unbind}
+use Rattle.rs_model.specs.State.{Source, facts_of, entries, longest_body, most_resources, most_changes}
+
+-- the refusal of the first cause that is there
+abbrev pub first_cause : List (Bool × Refusal) → Option Refusal
+first_cause [] = None
+first_cause (c ∷ cs) = if c.0 then Some c.1 else first_cause cs
+
+-- the name is held
+abbrev pub is_held : Source → List ℕ → Bool
+is_held s name = is_some (value_of name s.held)
+
+-- no moment is left
+abbrev pub is_out_of_moments : Source → Bool
+is_out_of_moments s = nat_le greatest s.last
+
+-- no change more is kept
+abbrev pub has_all_changes : Source → Bool
+has_all_changes s = nat_le most_changes (length s.changes)
+
+-- The causes for which a command is refused, in their order. A put: too long a body, a new name where all
+-- resources are held, all changes are kept, no moment is left. A delete: a name that is not held, then the same of
+-- changes and moments. A publish: no moment or no number is left.
+abbrev pub causes : Source → Command → List (Bool × Refusal)
+causes s (Put name kind bytes) =
+    (nat_lt longest_body (length bytes), TooLong)
+    ∷ (is_none (value_of name s.held) && nat_le most_resources (length s.held), TooManyResources)
+    ∷ (has_all_changes s, TooManyChanges) ∷ (is_out_of_moments s, Exhausted) ∷ []
+causes s (Delete name) =
+    (is_none (value_of name s.held), NotHeld) ∷ (has_all_changes s, TooManyChanges) ∷ (is_out_of_moments s, Exhausted) ∷ []
+causes s Publish = (is_out_of_moments s, Exhausted) ∷ (nat_le (2 ^ 64) (s.number + 1), Exhausted) ∷ []
+
+-- why the command is refused, if it is
+abbrev pub refusal_of : Source → Command → Option Refusal
+refusal_of s command = first_cause (causes s command)
+
+-- why a put or a delete is refused that the resources allow: all changes are kept, or no moment is left
+abbrev pub change_refusal : Source → Option Refusal
+change_refusal s = first_cause ((has_all_changes s, TooManyChanges) ∷ (is_out_of_moments s, Exhausted) ∷ [])
+
+-- the moment of an accepted command that comes at `now`
+abbrev pub moment_at : Source → ℕ → ℕ
+moment_at s now = max now (s.last + 1)
+
+-- the change that a put appends
+abbrev pub put_change : Source → List ℕ → Facts → ℕ → Change
+put_change s name facts t = bound name (is_held s name) t facts
+
+-- the state after an accepted command at its moment
+abbrev pub next_state : Source → Command → ℕ → Source
+next_state s (Put name kind bytes) t =
+    record s {
+      last = t;
+      held = bind name (record { bytes = bytes; entry = record { facts = facts_of kind bytes; moment = t } }) s.held;
+      changes = s.changes ++ put_change s name (facts_of kind bytes) t ∷ [];
+    }
+next_state s (Delete name) t =
+    record s { last = t; held = unbind name s.held; changes = s.changes ++ deleted name t ∷ [] }
+next_state s Publish t = record s { last = t; number = s.number + 1; at = t; listed = entries s.held }
+
+-- the reply to an accepted command at its moment
+abbrev pub reply_to : Source → Command → ℕ → Reply
+reply_to s (Put name kind bytes) t = if is_held s name then replies.Updated t else replies.Created t
+reply_to s (Delete name) t = replies.Deleted t
+reply_to s Publish t = replies.Published (s.number + 1) t
+
+-- the next state and the reply, unless there is a refusal
+abbrev pub accepted_unless : Option Refusal → Source × Reply → Result (Source × Reply) Refusal
+accepted_unless None next = Ok next
+accepted_unless (Some refusal) next = Err refusal
+
+-- the answer to a command that comes at `now`
+abbrev pub step : Source → Command → ℕ → Result (Source × Reply) Refusal
+step s command now =
+    let t = moment_at s now in
+    accepted_unless (refusal_of s command) (next_state s command t, reply_to s command t)
+
+-- the state that an answer leaves: the next one, or the same where the command is refused
+abbrev pub state_after : Source → Result (Source × Reply) Refusal → Source
+state_after s (Ok next) = next.0
+state_after s (Err refusal) = s
+
+-- the state after these commands in their order, each with the moment at which it comes; refused ones are skipped
+abbrev pub fold_of : Source → List (Command × ℕ) → Source
+fold_of s [] = s
+fold_of s (c ∷ commands) = fold_of (state_after s (step s c.0 c.1)) commands
+
+-- the map after a change: the name is bound to its facts and moment, or unbound
+abbrev pub applied : Option Facts → Change → Names Entry → Names Entry
+applied (Some facts) change m = bind change.name (record { facts = facts; moment = change.moment }) m
+applied None change m = unbind change.name m
+
+-- the map after a change that is after this moment
+abbrev pub mirror_step : ℕ → Change → Names Entry → Names Entry
+mirror_step at change m = if nat_lt at change.moment then applied change.facts change m else m
+
+-- the listed entries, changed by each of these changes that is after the moment of the list, in their order
+abbrev pub mirror_of : Names Entry → ℕ → List Change → Names Entry
+mirror_of listed at [] = listed
+mirror_of listed at (change ∷ changes) = mirror_of (mirror_step at change listed) at changes

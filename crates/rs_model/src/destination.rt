@@ -1,0 +1,60 @@
+//! What a destination has that follows a source.
+
+ghost use Rattle.std.specs.Prelude.{◌≡◌, IfOk, OnOk};
+ghost use Rattle.rs_model.specs.Step.{mirror_of, mirror_step};
+
+use crate::Entry;
+use crate::names::{bind_at, place_of};
+use rs_record::{Change, Duplicate, Facts, Name, duplicate_all};
+use rs_time::Moment;
+use std::alloc::{AllocError, Global};
+
+/// What a destination has that took over the list `listed`, which is of the moment `at`, and then
+/// followed the changes: for each change after that moment, in their order, the name is bound to its
+/// facts and moment, or unbound where it was deleted.
+///
+/// Changes at or before `at` are passed over. It scans the map at each change.
+pub fn mirror(
+    alloc: Global,
+    listed: &[(Name, Entry)],
+    at: Moment,
+    changes: &[Change],
+) -> Result<Vec<(Name, Entry)>, AllocError>
+    ensures { IfOk result (λ mirrored. mirrored.items ≡ mirror_of listed.now at changes.now) }
+{
+    let mut mirrored = duplicate_all(alloc, listed)?;
+    for change in changes {
+        follow(alloc, &mut mirrored, at, change)?;
+    }
+    Ok(mirrored)
+}
+
+// Follows one change, if it is after the moment of the list.
+fn follow(
+    alloc: Global,
+    mirrored: &mut Vec<(Name, Entry)>,
+    at: Moment,
+    change: &Change,
+) -> Result<(), AllocError>
+    ensures { OnOk result (mirrored.new.items ≡ mirror_step at change.now mirrored.old.items) }
+{
+    if change.moment.ms() <= at.ms() {
+        return Ok(());
+    }
+    let place = place_of(mirrored.as_slice(), &change.name);
+    match &change.facts {
+        Some(facts) => {
+            let entry = Entry {
+                facts: facts.copy(alloc)?,
+                moment: change.moment,
+            };
+            bind_at(mirrored, place, change.name.copy(alloc)?, entry)
+        }
+        None => {
+            if let Ok(i) = place {
+                let _entry = mirrored.remove(i);
+            }
+            Ok(())
+        }
+    }
+}

@@ -1,0 +1,327 @@
+//! The state of a source, and the steps that commands make.
+
+ghost use Rattle.std.specs.Prelude.{◌≡◌, ℕ, ◌<◌, ◌≤◌, ◌↔◌, length, None, IfOk, OnOk, OnErr, IsErrOf};
+ghost use Rattle.rs_model.specs.State.{longest_body, start_of, facts_of, entries as entries_of};
+ghost use Rattle.rs_model.specs.Step.{step as step_of, state_after, fold_of, refusal_of, change_refusal, next_state, reply_to, moment_at, is_held};
+ghost use Rattle.rs_time.specs.Moment.{IsMoment, greatest};
+ghost use Rattle.rs_model.specs.Lawful.{AreFacts};
+ghost use Rattle.rs_model.specs.declared.command.Command.TheVariants.{Put, Delete, Publish};
+
+mod shown;
+
+use crate::names::{bind, place_in_order, unbind};
+use crate::{Body, Command, Entry, Held, Refusal, Reply, StepError};
+use rs_fixity::digests_of;
+use rs_record::{Base, Change, Duplicate, Facts, MediaType, Name, duplicate_all};
+use rs_time::Moment;
+use std::alloc::{AllocError, Global};
+use std::marker::Model;
+
+// The greatest number of bytes of a body.
+const LONGEST_BODY: usize = 16_777_216;
+
+// The greatest number of resources that are held.
+const MOST_RESOURCES: usize = 50_000;
+
+// The greatest number of changes that are kept.
+const MOST_CHANGES: usize = 50_000;
+
+/// The state of a source: its base and item limit, the resources that it holds, the changes that it
+/// keeps, and its latest publication. Contracts see it as a `Source`, which is a record of these.
+///
+/// Each state has an item limit from 2 to 4,000, at most 50,000 resources held and at most 50,000 listed,
+/// both in strictly ascending order of the bytes of their names, and at most 50,000 changes; and all its
+/// values are lawful.
+#[derive(Debug, Drop)]
+pub struct State {
+    base: Base,
+    limit: u16,
+    start: Moment,
+    last: Moment,
+    held: Vec<(Name, Held)>,
+    changes: Vec<Change>,
+    number: u64,
+    at: Moment,
+    listed: Vec<(Name, Entry)>,
+}
+
+impl Model for State {
+    ghost use Rattle.rs_model.specs.State.{Source};
+
+    ghost Value = { Source };
+
+    ghost use Rattle.rs_model.specs.Inside.{source_of};
+    ghost use Rattle.rs_model.specs.Lawful.{IsLawful};
+
+    ghost view = { source_of };
+
+    ghost invariant = { λ s. IsLawful (source_of s) };
+}
+
+impl State {
+    /// A source formatted at this moment: nothing is held, there are no changes, and the empty list is
+    /// published as number 0. A list of more items than `limit`, which is 2 to 4,000, is cut into parts of
+    /// that many.
+    pub fn start(alloc: Global, base: Base, limit: u16, moment: Moment) -> State
+        requires low { 2 ≤ limit }
+        requires high { limit ≤ 4000 }
+        ensures { result ≡ start_of base limit moment }
+    {
+        // Reading them shows what their types keep.
+        let (_base, _ms) = (base.bytes(), moment.ms());
+        State {
+            base,
+            limit,
+            start: moment,
+            last: moment,
+            held: Vec::new(alloc),
+            changes: Vec::new(alloc),
+            number: 0,
+            at: moment,
+            listed: Vec::new(alloc),
+        }
+    }
+
+    /// The same state once more. It fails only where a growth of memory is refused.
+    pub fn copy(&self, alloc: Global) -> Result<State, AllocError>
+        ensures { IfOk result (λ copied. copied ≡ self.now) }
+    {
+        Ok(State {
+            base: self.base.copy(alloc)?,
+            limit: self.limit,
+            start: self.start,
+            last: self.last,
+            held: duplicate_all(alloc, self.held.as_slice())?,
+            changes: duplicate_all(alloc, self.changes.as_slice())?,
+            number: self.number,
+            at: self.at,
+            listed: duplicate_all(alloc, self.listed.as_slice())?,
+        })
+    }
+
+    /// The state after a command that comes at the moment `now`, and the reply to it. This state stays.
+    ///
+    /// The command is accepted at `now`, or at one millisecond after the last accepted command where
+    /// that is later. It is refused for the first cause of [`Refusal`] that is there. `NoMemory` comes
+    /// only where a growth of memory is refused, and never for a command that is refused.
+    pub fn step(
+        &self,
+        alloc: Global,
+        command: &Command,
+        now: Moment,
+    ) -> Result<(State, Reply), StepError>
+        ensures accepted { IfOk result (λ next. step_of self.now command.now now ≡ Ok next) }
+        ensures refused { (r : Refusal) → IsErrOf result (StepError.Refused r) ↔ (step_of self.now command.now now ≡ Err r) }
+    {
+        if let Some(refusal) = self.refusal(command) {
+            return Err(StepError::Refused(refusal));
+        }
+        let mut next = self.copy(alloc)?;
+        let reply = next.apply(alloc, command.duplicate(alloc)?, now)?;
+        Ok((next, reply))
+    }
+
+    /// The same step in place: this state becomes the next one. It takes the command, so that a body is
+    /// not copied. After any error the state is as it was.
+    pub fn apply(
+        &mut self,
+        alloc: Global,
+        command: Command,
+        now: Moment,
+    ) -> Result<Reply, StepError>
+        ensures accepted { IfOk result (λ reply. step_of self.old command now ≡ Ok (self.new, reply)) }
+        ensures refused { (r : Refusal) → IsErrOf result (StepError.Refused r) ↔ (step_of self.old command now ≡ Err r) }
+        ensures unchanged { OnErr result (self.new ≡ self.old) }
+    {
+        if let Some(refusal) = self.refusal(&command) {
+            return Err(StepError::Refused(refusal));
+        }
+        let moment = self.next_moment(now);
+        let accepted = match command {
+            Command::Put { name, kind, bytes } => self.put(alloc, name, kind, bytes, moment),
+            Command::Delete { name } => self.delete(name, moment),
+            Command::Publish => self.publish(alloc, moment),
+        };
+        Ok(accepted?)
+    }
+
+    /// The state after all these commands, each at its moment, in their order. Refused commands are
+    /// skipped. It fails only where a growth of memory is refused.
+    pub fn fold(&self, alloc: Global, commands: &[(Command, Moment)]) -> Result<State, AllocError>
+        ensures { IfOk result (λ state. state ≡ fold_of self.now commands.now) }
+    {
+        let mut state = self.copy(alloc)?;
+        for (command, now) in commands {
+            state.apply_or_skip(alloc, command.duplicate(alloc)?, *now)?;
+        }
+        Ok(state)
+    }
+
+    // One command of a run, which is skipped where it is refused.
+    fn apply_or_skip(
+        &mut self,
+        alloc: Global,
+        command: Command,
+        now: Moment,
+    ) -> Result<(), AllocError>
+        ensures { OnOk result (self.new ≡ state_after self.old (step_of self.old command now)) }
+    {
+        match self.apply(alloc, command, now) {
+            Ok(_) => Ok(()),
+            Err(StepError::Refused(_)) => Ok(()),
+            Err(StepError::NoMemory) => Err(AllocError),
+        }
+    }
+
+    // Whether the name is held.
+    fn holds(&self, name: &Name) -> bool
+        ensures { result ≡ is_held self.now name.now }
+    {
+        place_in_order(self.held.as_slice(), name).is_ok()
+    }
+
+    // The refusal of a command, if there is one.
+    fn refusal(&self, command: &Command) -> Option<Refusal>
+        ensures { result ≡ refusal_of self.now command.now }
+    {
+        match command {
+            Command::Put { name, bytes, .. } => {
+                if bytes.bytes().len() > LONGEST_BODY {
+                    Some(Refusal::TooLong)
+                } else if !self.holds(name) && self.held.len() >= MOST_RESOURCES {
+                    Some(Refusal::TooManyResources)
+                } else {
+                    self.change_refusal()
+                }
+            }
+            Command::Delete { name } => {
+                if self.holds(name) {
+                    self.change_refusal()
+                } else {
+                    Some(Refusal::NotHeld)
+                }
+            }
+            Command::Publish => {
+                if self.last.ms() >= Moment::GREATEST || self.number == u64::MAX {
+                    Some(Refusal::Exhausted)
+                } else {
+                    None
+                }
+            }
+        }
+    }
+
+    // The refusal of a change of any kind, if there is no room or no moment for it.
+    fn change_refusal(&self) -> Option<Refusal>
+        ensures { result ≡ change_refusal self.now }
+    {
+        if self.changes.len() >= MOST_CHANGES {
+            Some(Refusal::TooManyChanges)
+        } else if self.last.ms() >= Moment::GREATEST {
+            Some(Refusal::Exhausted)
+        } else {
+            None
+        }
+    }
+
+    // The moment of a command that is accepted and comes at `now`.
+    fn next_moment(&self, now: Moment) -> Moment
+        requires { self.now.last < greatest }
+        ensures value { result ≡ moment_at self.now now }
+        ensures bound { IsMoment result }
+    {
+        let moment = match Moment::after(self.last, now) {
+            Some(moment) => moment,
+            None => unreachable!(),
+        };
+        // Reading it shows what its type keeps.
+        let _ms = moment.ms();
+        moment
+    }
+
+    // Binds the name and appends the change.
+    fn put(
+        &mut self,
+        alloc: Global,
+        name: Name,
+        kind: MediaType,
+        bytes: Body,
+        moment: Moment,
+    ) -> Result<Reply, AllocError>
+        requires accepted { refusal_of self.old (Put name kind bytes) ≡ None }
+        requires moment { IsMoment moment }
+        ensures state { IfOk result (λ reply. self.new ≡ next_state self.old (Put name kind bytes) moment) }
+        ensures reply { IfOk result (λ reply. reply ≡ reply_to self.old (Put name kind bytes) moment) }
+        ensures unchanged { OnErr result (self.new ≡ self.old) }
+    {
+        let again = self.holds(&name);
+        let facts = facts(kind, &bytes);
+        let change = Change::bound(name.copy(alloc)?, again, moment, facts.copy(alloc)?);
+        let entry = Entry { facts, moment };
+        self.changes.reserve(1)?;
+        bind(&mut self.held, name, Held { bytes, entry })?;
+        self.changes.push(change).unwrap();
+        self.last = moment;
+        if again {
+            Ok(Reply::Updated(moment))
+        } else {
+            Ok(Reply::Created(moment))
+        }
+    }
+
+    // Unbinds the name and appends the change.
+    fn delete(&mut self, name: Name, moment: Moment) -> Result<Reply, AllocError>
+        requires accepted { refusal_of self.old (Delete name) ≡ None }
+        requires moment { IsMoment moment }
+        ensures state { IfOk result (λ reply. self.new ≡ next_state self.old (Delete name) moment) }
+        ensures reply { IfOk result (λ reply. reply ≡ reply_to self.old (Delete name) moment) }
+        ensures unchanged { OnErr result (self.new ≡ self.old) }
+    {
+        self.changes.reserve(1)?;
+        unbind(&mut self.held, &name);
+        self.changes.push(Change::deleted(name, moment)).unwrap();
+        self.last = moment;
+        Ok(Reply::Deleted(moment))
+    }
+
+    // Lists what is held.
+    fn publish(&mut self, alloc: Global, moment: Moment) -> Result<Reply, AllocError>
+        requires accepted { refusal_of self.old Publish ≡ None }
+        requires moment { IsMoment moment }
+        ensures state { IfOk result (λ reply. self.new ≡ next_state self.old Publish moment) }
+        ensures reply { IfOk result (λ reply. reply ≡ reply_to self.old Publish moment) }
+        ensures unchanged { OnErr result (self.new ≡ self.old) }
+    {
+        self.listed = entries(alloc, self.held.as_slice())?;
+        self.number += 1;
+        self.at = moment;
+        self.last = moment;
+        Ok(Reply::Published(self.number, moment))
+    }
+}
+
+// The facts of a body.
+fn facts(kind: MediaType, bytes: &Body) -> Facts
+    requires { length bytes.now ≤ longest_body }
+    ensures value { result ≡ facts_of kind bytes.now }
+    ensures lawful { AreFacts (facts_of kind bytes.now) }
+{
+    // Reading it shows what its type keeps.
+    let _kind = kind.bytes();
+    Facts {
+        kind,
+        length: bytes.bytes().len() as u32,
+        digests: digests_of(bytes.bytes()),
+    }
+}
+
+// The entries of what is held.
+fn entries(alloc: Global, held: &[(Name, Held)]) -> Result<Vec<(Name, Entry)>, AllocError>
+    ensures { IfOk result (λ entries. entries.items ≡ entries_of held.now) }
+{
+    let mut entries = Vec::new(alloc);
+    for (name, held) in held {
+        entries.push((name.copy(alloc)?, held.entry.duplicate(alloc)?))?;
+    }
+    Ok(entries)
+}

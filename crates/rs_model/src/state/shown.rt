@@ -1,0 +1,95 @@
+//! What a state shows.
+
+ghost use Rattle.std.specs.Prelude.{◌≡◌, length, option_copied};
+ghost use Rattle.rs_model.specs.State.{body_of};
+ghost use Rattle.rs_model.specs.Lawful.{IsLawful};
+
+use super::State;
+use crate::names::place_in_order;
+use crate::{Entry, Held};
+use rs_record::{Base, Change, Name};
+use rs_time::Moment;
+
+impl State {
+    /// The base of its URIs.
+    pub fn base(&self) -> &Base
+        ensures { result.now ≡ self.now.base }
+    {
+        &self.base
+    }
+
+    /// The item limit, from 2 to 4,000. The clause `lawful` says what each state keeps.
+    pub fn limit(&self) -> u16
+        ensures value { result ≡ self.now.limit }
+        ensures lawful { IsLawful self.now }
+    {
+        self.limit
+    }
+
+    /// The moment at which the source was formatted.
+    pub fn formatted(&self) -> Moment
+        ensures { result ≡ self.now.start }
+    {
+        self.start
+    }
+
+    /// The moment of the latest accepted command, or of formatting where there was none.
+    pub fn last(&self) -> Moment
+        ensures { result ≡ self.now.last }
+    {
+        self.last
+    }
+
+    /// The number of the latest publication. Formatting publishes number 0.
+    pub fn number(&self) -> u64
+        ensures { result ≡ self.now.number }
+    {
+        self.number
+    }
+
+    /// The moment of the latest publication.
+    pub fn at(&self) -> Moment
+        ensures { result ≡ self.now.at }
+    {
+        self.at
+    }
+
+    /// The resources that are held, in ascending order of the bytes of their names.
+    pub fn held(&self) -> &[(Name, Held)]
+        ensures { result.now ≡ self.now.held }
+    {
+        &self.held
+    }
+
+    /// The latest publication: the resources that were held at its moment, in ascending order of the
+    /// bytes of their names.
+    pub fn listed(&self) -> &[(Name, Entry)]
+        ensures { result.now ≡ self.now.listed }
+    {
+        &self.listed
+    }
+
+    /// All changes since formatting, in the order of their moments.
+    pub fn changes(&self) -> &[Change]
+        ensures { result.now ≡ self.now.changes }
+    {
+        &self.changes
+    }
+
+    /// The number of resources that are held, at most 50,000.
+    pub fn resources(&self) -> usize
+        ensures { result ≡ length self.now.held }
+    {
+        self.held.len()
+    }
+
+    /// The bytes of a resource, or `None` where it is not held.
+    pub fn body(&self, name: &Name) -> Option<&[u8]>
+        ensures { option_copied result ≡ body_of name.now self.now }
+    {
+        match place_in_order(self.held.as_slice(), name) {
+            Ok(i) => Some(self.held[i].1.bytes.bytes()),
+            Err(_) => None,
+        }
+    }
+}

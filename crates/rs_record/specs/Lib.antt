@@ -1,0 +1,11 @@
+pub mod Bytes
+pub mod Name
+pub mod MediaType
+pub mod Base
+pub mod Lacks
+pub mod What
+pub mod Changes
+pub mod Format
+pub mod Lawful
+pub mod Reading
+pub mod Borrowed

@@ -1,0 +1,84 @@
+//! What happened to a resource.
+
+ghost use Rattle.std.specs.Prelude.{◌≡◌, IfOk, IsTrue};
+ghost use Rattle.rs_record.specs.What.{agree};
+
+use crate::{Facts, Name};
+use rs_time::Moment;
+use std::alloc::{AllocError, Global};
+
+/// What happened to a resource: the values of the attribute `change` of Z39.99.
+#[derive(Clone, Copy, Debug, PartialEq, Eq)]
+pub enum What {
+    /// The name was bound, and had not been.
+    Created,
+    /// The name was bound in the place of what it had been bound to.
+    Updated,
+    /// The name was unbound.
+    Deleted,
+}
+
+/// What happened to a resource, and when. There are facts exactly where it was not deleted.
+///
+/// It is made by `bound` or `deleted`, which keep this.
+#[derive(Debug, Drop)]
+pub struct Change {
+    /// The name of the resource.
+    pub name: Name,
+    /// What happened to it.
+    pub what: What,
+    /// When it happened.
+    pub moment: Moment,
+    /// What is known of the body that the name was bound to; none where it was unbound.
+    pub facts: Option<Facts>,
+    pub ghost agreed: { IsTrue (agree what facts) },
+}
+
+impl Change {
+    ghost use Rattle.rs_record.specs.Changes.{bound, deleted};
+
+    /// The change that binds the name to these facts: `Updated` where it was bound before, which
+    /// `again` says, and else `Created`.
+    pub fn bound(name: Name, again: bool, moment: Moment, facts: Facts) -> Change
+        ensures { result ≡ bound name again moment facts }
+    {
+        Change {
+            name,
+            what: if again { What::Updated } else { What::Created },
+            moment,
+            facts: Some(facts),
+        }
+    }
+
+    /// The change that unbinds the name.
+    pub fn deleted(name: Name, moment: Moment) -> Change
+        ensures { result ≡ deleted name moment }
+    {
+        Change {
+            name,
+            what: What::Deleted,
+            moment,
+            facts: None,
+        }
+    }
+
+    /// The same change once more.
+    ///
+    /// # Errors
+    ///
+    /// An error where the memory for the copy was refused.
+    pub fn copy(&self, alloc: Global) -> Result<Change, AllocError>
+        ensures { IfOk result (λ change. change ≡ self.now) }
+    {
+        let facts = match &self.facts {
+            Some(facts) => Some(facts.copy(alloc)?),
+            None => None,
+        };
+        Ok(Change {
+            name: self.name.copy(alloc)?,
+            what: self.what,
+            moment: self.moment,
+            facts,
+        })
+    }
+}

@@ -1,0 +1,36 @@
+//! What is known of a body.
+
+ghost use Rattle.std.specs.Prelude.{◌≡◌, IfOk};
+
+use crate::MediaType;
+use rs_fixity::Digests;
+use std::alloc::{AllocError, Global};
+
+/// What is known of a body: what a Change List and a Resource List say of it (Z39.99, the
+/// attributes `type`, `length` and `hash`).
+#[derive(Debug, Drop)]
+pub struct Facts {
+    /// Its media type.
+    pub kind: MediaType,
+    /// Its length in bytes.
+    pub length: u32,
+    /// Its MD5 and its SHA-256.
+    pub digests: Digests,
+}
+
+impl Facts {
+    /// The same facts once more.
+    ///
+    /// # Errors
+    ///
+    /// An error where the memory for the copy was refused.
+    pub fn copy(&self, alloc: Global) -> Result<Facts, AllocError>
+        ensures { IfOk result (λ facts. facts ≡ self.now) }
+    {
+        Ok(Facts {
+            kind: self.kind.copy(alloc)?,
+            length: self.length,
+            digests: self.digests,
+        })
+    }
+}

@@ -1,0 +1,32 @@
+//! Names, media types, bases, what is kept of a resource and of a change to it, and how these are
+//! spelled on the disk.
+#![tactic(auto)]
+
+mod base;
+mod borrowed;
+mod bytes;
+mod change;
+mod change_format;
+mod duplicate;
+mod facts;
+mod fields;
+mod laws;
+mod media_type;
+mod name;
+mod record;
+mod record_format;
+
+pub use base::{Base, BaseError};
+pub use change::{Change, What};
+pub use change_format::{change_size, read_change, write_change};
+pub use duplicate::{Duplicate, duplicate_all};
+pub use facts::Facts;
+pub use fields::FieldFault;
+pub use laws::{formats_stand_alone, lawful_values_are_clean};
+pub use media_type::{MediaType, MediaTypeError};
+pub use name::{Name, NameError};
+pub use record::Record;
+pub use record_format::{read_record, record_size, write_record};
+
+#[cfg(test)]
+mod tests;

@@ -1,0 +1,149 @@
+//! Media types.
+
+ghost use Rattle.std.specs.Prelude.{◌≡◌, ◌↔◌, false, IfOk, OnOk, IsErrOf, IsTrue};
+ghost use Rattle.std.specs.List.{list_all};
+ghost use Rattle.rs_record.specs.Bytes.{is_between};
+ghost use Rattle.rs_record.specs.MediaType.{is_media_type, is_tchar as token_byte, begins_token as token_first, begins_subtype as subtype_first, after_token as token_rest};
+
+use crate::bytes::{is_alphanumeric, is_one_of};
+use std::alloc::{AllocError, Global};
+use std::marker::Model;
+use thiserror::Error;
+
+/// Why there is no media type.
+#[derive(Clone, Copy, Debug, PartialEq, Eq, Error)]
+pub enum MediaTypeError {
+    /// The bytes are no lawful media type.
+    #[error("the media type is not lawful")]
+    BadType,
+    /// The memory for the media type was refused.
+    #[error("out of memory")]
+    NoMemory,
+}
+
+/// A media type with its parameters: 3 to 100 bytes, seen as the list of its bytes.
+///
+/// It begins with a token, `/` and a token (RFC 9110, sections 8.3.1 and 5.6.2), each byte is
+/// printable ASCII (32 to 126), and the last one is no space. What follows the second token is
+/// kept as it was given.
+#[derive(Debug, Drop)]
+pub struct MediaType {
+    bytes: Vec<u8>,
+}
+
+impl Model for MediaType {
+    ghost use Rattle.std.specs.Prelude.{ℕ, List, IsTrue};
+    ghost use Rattle.rs_record.specs.MediaType.{is_media_type};
+
+    ghost Value = { List ℕ };
+
+    ghost view = { λ n. n.bytes.items };
+
+    ghost invariant = { λ n. IsTrue (is_media_type n.bytes.items) };
+}
+
+impl MediaType {
+    /// The media type of these bytes, copied into memory of its own.
+    ///
+    /// # Errors
+    ///
+    /// `BadType` exactly where the bytes are no lawful media type, without asking for memory;
+    /// `NoMemory` where the memory for the copy was refused.
+    pub fn new(alloc: Global, bytes: &[u8]) -> Result<MediaType, MediaTypeError>
+        ensures value { IfOk result (λ kind. kind ≡ bytes.now) }
+        ensures lawful { OnOk result (IsTrue (is_media_type bytes.now)) }
+        ensures bad_type { IsErrOf result MediaTypeError.BadType ↔ (is_media_type bytes.now ≡ false) }
+    {
+        if !is_lawful(bytes) {
+            return Err(MediaTypeError::BadType);
+        }
+        MediaType::from_lawful(alloc, bytes).map_err(|_| MediaTypeError::NoMemory)
+    }
+
+    /// The bytes of the media type, 3 to 100.
+    pub fn bytes(&self) -> &[u8]
+        ensures value { result.now ≡ self.now }
+        ensures lawful { IsTrue (is_media_type self.now) }
+    {
+        self.bytes.as_slice()
+    }
+
+    /// The same media type once more.
+    ///
+    /// # Errors
+    ///
+    /// An error where the memory for the copy was refused.
+    pub fn copy(&self, alloc: Global) -> Result<MediaType, AllocError>
+        ensures { IfOk result (λ kind. kind ≡ self.now) }
+    {
+        MediaType::from_lawful(alloc, self.bytes())
+    }
+
+    // The media type of lawful bytes.
+    pub(crate) fn from_lawful(alloc: Global, bytes: &[u8]) -> Result<MediaType, AllocError>
+        requires { IsTrue (is_media_type bytes.now) }
+        ensures { IfOk result (λ kind. kind ≡ bytes.now) }
+    {
+        Ok(MediaType {
+            bytes: Vec::from_slice(alloc, bytes)?,
+        })
+    }
+}
+
+// Whether the bytes are a media type.
+pub(crate) fn is_lawful(bytes: &[u8]) -> bool
+    ensures { result ≡ is_media_type bytes.now }
+{
+    3 <= bytes.len()
+        && bytes.len() <= 100
+        && are_printable(bytes)
+        && begins_token(bytes)
+        && begins_subtype(after_token(bytes))
+        && !bytes.ends_with(b" ")
+}
+
+// Whether each byte is printable ASCII.
+fn are_printable(bytes: &[u8]) -> bool
+    ensures { result ≡ list_all (is_between 32 126) bytes.now }
+{
+    bytes.iter().all(|byte| 32 <= *byte && *byte <= 126)
+}
+
+// Whether a token comes.
+fn begins_token(bytes: &[u8]) -> bool
+    ensures { result ≡ token_first bytes.now }
+{
+    match bytes {
+        [first, ..] => is_tchar(*first),
+        [] => false,
+    }
+}
+
+// Whether `/` and a token come.
+fn begins_subtype(bytes: &[u8]) -> bool
+    ensures { result ≡ subtype_first bytes.now }
+{
+    match bytes {
+        [b'/', rest @ ..] => begins_token(rest),
+        _ => false,
+    }
+}
+
+// What is left after the bytes of a token.
+fn after_token(bytes: &[u8]) -> &[u8]
+    ensures { result.now ≡ token_rest bytes.now }
+{
+    for (i, byte) in bytes.iter().enumerate() {
+        if !is_tchar(*byte) {
+            return &bytes[i..];
+        }
+    }
+    &[]
+}
+
+// Whether the byte may stand in a token.
+fn is_tchar(byte: u8) -> bool
+    ensures { result ≡ token_byte byte }
+{
+    is_alphanumeric(byte) || is_one_of(b"!#$%&'*+-.^_`|~", byte)
+}

@@ -1,0 +1,154 @@
+//! Names of resources.
+
+ghost use Rattle.std.specs.Prelude.{◌≡◌, ◌↔◌, false, IfOk, OnOk, IsErrOf, IsTrue};
+ghost use Rattle.std.specs.Ordering.{nat_cmp};
+ghost use Rattle.std.specs.Cmp.Lexicographic.{slice_cmp};
+ghost use Rattle.std.specs.List.{list_all};
+ghost use Rattle.rs_record.specs.Name.{is_name, is_segment as segment_bytes, segments, are_pchars as pchar_bytes, is_plain as plain_byte, two_hex as two_hex_bytes};
+
+use crate::bytes::{is_alphanumeric, is_hex, is_one_of};
+use std::alloc::{AllocError, Global};
+use std::cmp::Ordering;
+use std::marker::Model;
+use thiserror::Error;
+
+/// Why there is no name.
+#[derive(Clone, Copy, Debug, PartialEq, Eq, Error)]
+pub enum NameError {
+    /// The bytes are no lawful name.
+    #[error("the name is not lawful")]
+    BadName,
+    /// The memory for the name was refused.
+    #[error("out of memory")]
+    NoMemory,
+}
+
+/// The name of a resource: 1 to 240 bytes, seen as the list of its bytes.
+///
+/// A name is one or more segments joined by `/`, as in the path of a URI (RFC 3986, section 3.3).
+/// A segment is one or more `pchar`: a letter, a digit, one of `-._~!$&'()*+,;=:@`, or `%` and
+/// two hexadecimal digits. No segment is empty, `.` or `..`. Names are compared byte for byte:
+/// `%2E` is no dot, and `%41` is another name than `A`.
+#[derive(Debug, Drop)]
+pub struct Name {
+    bytes: Vec<u8>,
+}
+
+impl Model for Name {
+    ghost use Rattle.std.specs.Prelude.{ℕ, List, IsTrue};
+    ghost use Rattle.rs_record.specs.Name.{is_name};
+
+    ghost Value = { List ℕ };
+
+    ghost view = { λ n. n.bytes.items };
+
+    ghost invariant = { λ n. IsTrue (is_name n.bytes.items) };
+}
+
+impl Name {
+    /// The name of these bytes, copied into memory of its own.
+    ///
+    /// # Errors
+    ///
+    /// `BadName` exactly where the bytes are no lawful name, without asking for memory;
+    /// `NoMemory` where the memory for the copy was refused.
+    pub fn new(alloc: Global, bytes: &[u8]) -> Result<Name, NameError>
+        ensures value { IfOk result (λ name. name ≡ bytes.now) }
+        ensures lawful { OnOk result (IsTrue (is_name bytes.now)) }
+        ensures bad_name { IsErrOf result NameError.BadName ↔ (is_name bytes.now ≡ false) }
+    {
+        if !is_lawful(bytes) {
+            return Err(NameError::BadName);
+        }
+        Name::from_lawful(alloc, bytes).map_err(|_| NameError::NoMemory)
+    }
+
+    /// The bytes of the name, 1 to 240.
+    pub fn bytes(&self) -> &[u8]
+        ensures value { result.now ≡ self.now }
+        ensures lawful { IsTrue (is_name self.now) }
+    {
+        self.bytes.as_slice()
+    }
+
+    /// How the name stands to another one: names are ordered by their bytes, and a name comes
+    /// before each longer one that begins with it.
+    pub fn compare(&self, other: &Name) -> Ordering
+        ensures { result ≡ slice_cmp nat_cmp self.now other.now }
+    {
+        self.bytes().cmp(other.bytes())
+    }
+
+    /// The same name once more.
+    ///
+    /// # Errors
+    ///
+    /// An error where the memory for the copy was refused.
+    pub fn copy(&self, alloc: Global) -> Result<Name, AllocError>
+        ensures { IfOk result (λ name. name ≡ self.now) }
+    {
+        Name::from_lawful(alloc, self.bytes())
+    }
+
+    // The name of lawful bytes.
+    pub(crate) fn from_lawful(alloc: Global, bytes: &[u8]) -> Result<Name, AllocError>
+        requires { IsTrue (is_name bytes.now) }
+        ensures { IfOk result (λ name. name ≡ bytes.now) }
+    {
+        Ok(Name {
+            bytes: Vec::from_slice(alloc, bytes)?,
+        })
+    }
+}
+
+// Whether the bytes are a name.
+pub(crate) fn is_lawful(bytes: &[u8]) -> bool
+    ensures { result ≡ is_name bytes.now }
+{
+    bytes.len() <= 240 && are_segments(bytes)
+}
+
+// Whether each part between the `/` is a segment.
+fn are_segments(bytes: &[u8]) -> bool
+    ensures { result ≡ list_all segment_bytes (segments bytes.now) }
+{
+    bytes
+        .split(|byte| *byte == b'/')
+        .all(|part| is_segment(part))
+}
+
+// Whether the bytes are a segment.
+fn is_segment(bytes: &[u8]) -> bool
+    ensures { result ≡ segment_bytes bytes.now }
+{
+    are_pchars(bytes) && !matches!(bytes, [] | [b'.'] | [b'.', b'.'])
+}
+
+// Whether each byte may stand in a segment, a `%` before two hexadecimal digits.
+fn are_pchars(bytes: &[u8]) -> bool
+    ensures { result ≡ pchar_bytes bytes.now }
+{
+    for (i, byte) in bytes.iter().enumerate() {
+        if !is_plain(*byte) && !(*byte == b'%' && two_hex(&bytes[i + 1..])) {
+            return false;
+        }
+    }
+    true
+}
+
+// Whether two hexadecimal digits come.
+fn two_hex(bytes: &[u8]) -> bool
+    ensures { result ≡ two_hex_bytes bytes.now }
+{
+    match bytes {
+        [first, second, ..] => is_hex(*first) && is_hex(*second),
+        _ => false,
+    }
+}
+
+// Whether the byte stands for itself in a segment.
+fn is_plain(byte: u8) -> bool
+    ensures { result ≡ plain_byte byte }
+{
+    is_alphanumeric(byte) || is_one_of(b"-._~!$&'()*+,;=:@", byte)
+}

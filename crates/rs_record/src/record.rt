@@ -1,0 +1,47 @@
+//! A resource, and where its body lies.
+
+ghost use Rattle.std.specs.Prelude.{◌≡◌, IfOk};
+
+use crate::{MediaType, Name};
+use rs_extent::Extent;
+use rs_fixity::Digests;
+use rs_time::Moment;
+use std::alloc::{AllocError, Global};
+
+/// A resource that is held: its name, what is known of its body, since when, and where the body
+/// lies on the disk.
+#[derive(Debug, Drop)]
+pub struct Record {
+    /// The name of the resource.
+    pub name: Name,
+    /// The media type of the body.
+    pub kind: MediaType,
+    /// The length of the body in bytes.
+    pub length: u32,
+    /// The MD5 and the SHA-256 of the body.
+    pub digests: Digests,
+    /// When the name was bound to this body.
+    pub moment: Moment,
+    /// The blocks of the disk in which the body lies.
+    pub extent: Extent,
+}
+
+impl Record {
+    /// The same record once more.
+    ///
+    /// # Errors
+    ///
+    /// An error where the memory for the copy was refused.
+    pub fn copy(&self, alloc: Global) -> Result<Record, AllocError>
+        ensures { IfOk result (λ copied. copied ≡ self.now) }
+    {
+        Ok(Record {
+            name: self.name.copy(alloc)?,
+            kind: self.kind.copy(alloc)?,
+            length: self.length,
+            digests: self.digests,
+            moment: self.moment,
+            extent: self.extent,
+        })
+    }
+}
