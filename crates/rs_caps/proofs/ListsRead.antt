@@ -1,0 +1,200 @@
+-- The lists of one state are gathered whole, and the one mirrored with the other is what is held.
+use Rattle.std.proofs.Common.{◌≡◌, ℕ, ◌+◌, ◌-◌, ◌<◌, ◌≤◌, List, [], ◌∷◌, length, map, refl, sym, ap, ◌∙◌, arith, Option, Some, None, Bool, true, false, cond, nat_le, nat_lt}
+use Rattle.std.specs.Prelude.{codes, ◌==◌, ◌&&◌}
+use Rattle.std.proofs.lemmas.Bool.Decides.{nat_tests}
+use Rattle.std.proofs.lemmas.List.{map-id}
+use Rattle.std.proofs.lemmas.Simd.{map-map}
+use Rattle.rs_fixity.proofs.CutLemmas.{then_some}
+use Rattle.rs_record.specs.declared.change.Change.{Change}
+use Rattle.rs_model.specs.declared.value.Entry.{Entry}
+use Rattle.rs_model.specs.Names.{Names}
+use Rattle.rs_model.specs.State.{Source, entries}
+use Rattle.rs_model.specs.Step.{mirror_of}
+use Rattle.rs_model.specs.Regular.{IsRegular}
+use Rattle.rs_lists.specs.declared.doc.Doc.{Doc}
+use Rattle.rs_lists.specs.declared.doc.Doc.TheVariants.{Description, Capabilities, ResourceHead, ResourcePart, ChangeHead, ChangePart}
+use Rattle.rs_lists.specs.Chunks.{part_at}
+use Rattle.rs_lists.specs.Shown.{Shown, resource_parts_of, change_parts_of}
+use Rattle.rs_lists.specs.Text.{list_text, numbers_from, resource_list, change_part_text, part_links, resource_part_path, change_part_path}
+use Rattle.rs_caps.specs.Cut.{◌>>=◌}
+use Rattle.rs_caps.specs.Paths.{doc_of}
+use Rattle.rs_caps.specs.Shows.{record_of, shown_of}
+use Rattle.rs_caps.specs.DocumentTexts.{document_text}
+use Rattle.rs_caps.specs.Readings.{Listed}
+use Rattle.rs_caps.specs.Readings.Document.{ResourceList, ChangeList, ResourceListIndex, ChangeListIndex}
+use Rattle.rs_caps.specs.Reads.{reads}
+use Rattle.rs_caps.specs.Answer.{answer, answer_to, listed_of, resource_entry_of, change_entry_of, change_part_of, reading_of}
+use Rattle.rs_caps.specs.Gather.{resources_in, changes_in, parts_at, resources_of, changes_of, gather_resources, gather_changes, entry_of}
+use Rattle.rs_model.specs.Lawful.{IsLawful}
+use Rattle.rs_caps.proofs.Elements.{all_so, numbers_below}
+use Rattle.rs_caps.proofs.PathsRead.{doc_of-path_of}
+use Rattle.rs_caps.proofs.TextsRead.{IsLawfulShown, shown_lawful, text_reads, parts_few}
+use Rattle.rs_caps.proofs.Gathering.{IsPartAt, all_gathered}
+
+-- a list, a part or an index
+abbrev pub IsList : Doc → Type 0
+IsList Description = ⊥
+IsList Capabilities = ⊥
+IsList ResourceHead = Unit {0}
+IsList (ResourcePart publication k) = Unit {0}
+IsList ChangeHead = Unit {0}
+IsList (ChangePart k) = Unit {0}
+
+list_is_text : (s : Shown) (doc : Doc) → IsList doc → document_text s doc ≡ list_text s doc
+unfolding document_text
+list_is_text s Description h = absurd h
+list_is_text s Capabilities h = absurd h
+list_is_text s ResourceHead h = refl
+list_is_text s (ResourcePart publication k) h = refl
+list_is_text s ChangeHead h = refl
+list_is_text s (ChangePart k) h = refl
+
+is_list : (s : Shown) (doc : Doc) (text : List ℕ) → list_text s doc ≡ Some text → IsList doc
+unfolding list_text
+is_list s Description text h = cc
+is_list s Capabilities text h = cc
+is_list s ResourceHead text h = tt
+is_list s (ResourcePart publication k) text h = tt
+is_list s ChangeHead text h = tt
+is_list s (ChangePart k) text h = tt
+
+pub answer_at : (s : Source) (path : List ℕ) (doc : Doc) → IsList doc → doc_of path ≡ Some doc → answer s path ≡ list_text (shown_of s) doc
+answer_at s path doc list h = ap (answer_to s path) h ∙ list_is_text (shown_of s) doc list
+
+pub texts_answered : (s : Source) (path text : List ℕ) (doc : Doc) → doc_of path ≡ Some doc → list_text (shown_of s) doc ≡ Some text
+    → answer s path ≡ Some text
+texts_answered s path text doc d h = answer_at s path doc (is_list (shown_of s) doc text h) d ∙ h
+
+pub texts_read : (s : Source) (text : List ℕ) (doc : Doc) → IsLawful s → list_text (shown_of s) doc ≡ Some text
+    → reads text ≡ reading_of (shown_of s) doc
+texts_read s text doc l h = text_reads (shown_of s) doc text (shown_lawful s l) h
+
+more_than_one : (n : ℕ) → nat_le n 1 ≡ false → 1 < n
+more_than_one n e = grind (arith, nat_tests)
+
+-- parts of the Resource List
+listed_test : (n p k : ℕ) → 1 < p → k < p → ((n == n) && (nat_lt 1 p && nat_le 0 k && nat_lt k (0 + p))) ≡ true
+listed_test n p k a b = grind (arith, nat_tests)
+
+listed_text : (s : Shown) (k : ℕ) → 1 < resource_parts_of s → k < resource_parts_of s
+    → list_text s (ResourcePart s.number k)
+    ≡ Some (resource_list s (part_links s (codes "/resourcelist.xml")) (part_at k s.limit s.published))
+unfolding list_text
+listed_text s k a b =
+    ap (λ c. cond c (Some (resource_list s (part_links s (codes "/resourcelist.xml")) (part_at k s.limit s.published))) None)
+    (listed_test s.number (resource_parts_of s) k a b)
+
+resource_part : (s : Source) (k : ℕ) → IsLawful s → 1 < resource_parts_of (shown_of s) → k < resource_parts_of (shown_of s) → k < 60000
+    → IsPartAt resources_in (answer s) (resource_part_path s.number k) (map listed_of (part_at k s.limit (map record_of s.listed)))
+resource_part s k l a b few =
+    let v : Shown = shown_of s in
+    let shown_there = listed_text v k a b in
+    record {
+      text = resource_list v (part_links v (codes "/resourcelist.xml")) (part_at k v.limit v.published);
+      document = ResourceList s.at (map listed_of (part_at k v.limit v.published));
+      there = answer_at s (resource_part_path s.number k) (ResourcePart s.number k) tt
+          (doc_of-path_of (ResourcePart s.number k) (l.number, omega arith)) ∙ shown_there;
+      read = text_reads v (ResourcePart s.number k) _ (shown_lawful s l) shown_there;
+      gives = refl;
+    }
+
+resources_by : (s : Source) (b : Bool) → nat_le (resource_parts_of (shown_of s)) 1 ≡ b → IsLawful s
+    → resources_of (answer s) (cond b (ResourceList s.at (map listed_of (map record_of s.listed)))
+    (ResourceListIndex s.at (map (resource_entry_of (shown_of s)) (numbers_from 0 (resource_parts_of (shown_of s))))))
+    ≡ Some (s.at, map listed_of (map record_of s.listed))
+resources_by s true e l = refl
+resources_by s false e l =
+    let v : Shown = shown_of s in
+    let shown : IsLawfulShown v = shown_lawful s l in
+    let count : ℕ = resource_parts_of v in
+    let low : 2 ≤ v.limit = shown.low in
+    let few : count < 60000 = parts_few (length v.published) v.limit shown.published_room shown.low shown.high in
+    let Part : ℕ → Type 0 = λ k. IsPartAt resources_in (answer s) (resource_part_path s.number k)
+    (map listed_of (part_at k v.limit v.published)) in
+    ap (λ paths. parts_at resources_in (answer s) paths >>= λ children. Some (s.at, children)) (map-map (λ p. p.path) (resource_entry_of v) (numbers_from 0 count))
+    ∙ ap (λ (o : Option (List Listed)). o >>= λ children. Some (s.at, children))
+    (all_gathered listed_of resources_in (answer s) (resource_part_path s.number) v.limit v.published (omega arith)
+    (all_so (λ k. k < count) Part (λ k h. resource_part s k l (more_than_one count e) h (omega arith)) (numbers_from 0 count)
+    (numbers_below 0 count count (omega arith))))
+
+head_text : (s : Shown) → (text : List ℕ) × (list_text s ResourceHead ≡ Some text)
+unfolding list_text
+head_text s = (_, refl)
+
+pub resources_gathered : (s : Source) → IsLawful s → gather_resources (answer s) ≡ Some (s.at, map listed_of (map record_of s.listed))
+resources_gathered s l =
+    let head = head_text (shown_of s) in
+    then_some (answer s (codes "/resourcelist.xml")) _ head.0 _
+    (answer_at s (codes "/resourcelist.xml") ResourceHead tt (doc_of-path_of ResourceHead tt) ∙ head.1)
+    (then_some (reads head.0) _ _ _ (text_reads (shown_of s) ResourceHead head.0 (shown_lawful s l) head.1) (resources_by s _ refl l))
+
+-- parts of the Change List
+changed_test : (p k : ℕ) → 1 < p → k < p → (nat_lt 1 p && nat_le 0 (0 + k) && nat_lt (0 + k) (0 + p)) ≡ true
+changed_test p k a b = grind (arith, nat_tests)
+
+changed_text : (s : Source) (k : ℕ) → 1 < change_parts_of (shown_of s) → k < change_parts_of (shown_of s)
+    → list_text (shown_of s) (ChangePart (0 + k)) ≡ Some (change_part_text (shown_of s) (0 + k - 0))
+unfolding list_text
+changed_text s k a b = ap (λ c. cond c (Some (change_part_text (shown_of s) (0 + k - 0))) None)
+    (changed_test (change_parts_of (shown_of s)) k a b)
+
+change_part : (s : Source) (k : ℕ) → IsLawful s → 1 < change_parts_of (shown_of s) → k < change_parts_of (shown_of s) → k < 60000
+    → IsPartAt changes_in (answer s) (change_part_path (0 + k)) (map (λ c. c) (part_at k s.limit s.changes))
+change_part s k l a b few =
+    let v : Shown = shown_of s in
+    let shown_there = changed_text s k a b in
+    let number : 0 + k - 0 ≡ k = omega arith in
+    record {
+      text = change_part_text v (0 + k - 0);
+      document = change_part_of v (0 + k - 0);
+      there = answer_at s (change_part_path (0 + k)) (ChangePart (0 + k)) tt (doc_of-path_of (ChangePart (0 + k)) (omega arith))
+          ∙ shown_there;
+      read = text_reads v (ChangePart (0 + k)) _ (shown_lawful s l) shown_there;
+      gives = ap (λ n. Some (part_at n s.limit s.changes)) number ∙ ap Some (sym (map-id (part_at k s.limit s.changes)));
+    }
+
+changes_by : (s : Source) (b : Bool) → nat_le (change_parts_of (shown_of s)) 1 ≡ b → IsLawful s
+    → changes_of (answer s) (cond b (ChangeList s.start None s.changes)
+    (ChangeListIndex s.start None (map (change_entry_of (shown_of s)) (numbers_from 0 (change_parts_of (shown_of s))))))
+    ≡ Some (s.start, s.changes)
+changes_by s true e l = refl
+changes_by s false e l =
+    let v : Shown = shown_of s in
+    let count : ℕ = change_parts_of v in
+    let low : 2 ≤ v.limit = l.low in
+    let few : count < 60000 = parts_few (length v.changes) v.limit l.changes_room l.low l.high in
+    let Part : ℕ → Type 0 = λ k. IsPartAt changes_in (answer s) (change_part_path (0 + k)) (map (λ c. c) (part_at k v.limit v.changes)) in
+    ap (λ paths. parts_at changes_in (answer s) paths >>= λ children. Some (s.start, children)) (map-map (λ p. p.path) (change_entry_of v) (numbers_from 0 count))
+    ∙ ap (λ (o : Option (List Change)). o >>= λ children. Some (s.start, children))
+    (all_gathered (λ c. c) changes_in (answer s) (λ k. change_part_path (0 + k)) v.limit v.changes (omega arith)
+    (all_so (λ k. k < count) Part (λ k h. change_part s k l (more_than_one count e) h (omega arith)) (numbers_from 0 count)
+    (numbers_below 0 count count (omega arith))))
+    ∙ ap (λ cs. Some (s.start, cs)) (map-id s.changes)
+
+change_head_text : (s : Shown) → (text : List ℕ) × (list_text s ChangeHead ≡ Some text)
+unfolding list_text
+change_head_text s = (_, refl)
+
+pub changes_gathered : (s : Source) → IsLawful s → gather_changes (answer s) ≡ Some (s.start, s.changes)
+changes_gathered s l =
+    let head = change_head_text (shown_of s) in
+    then_some (answer s (codes "/changelist.xml")) _ head.0 _
+    (answer_at s (codes "/changelist.xml") ChangeHead tt (doc_of-path_of ChangeHead tt) ∙ head.1)
+    (then_some (reads head.0) _ _ _ (text_reads (shown_of s) ChangeHead head.0 (shown_lawful s l) head.1) (changes_by s _ refl l))
+
+-- what is listed is what was published
+same_entries : (m : Names Entry) → map entry_of (map listed_of (map record_of m)) ≡ m
+same_entries [] = refl
+same_entries (e ∷ m) = ap (λ l. e ∷ l) (same_entries m)
+
+same_pair : {A : Type 0} (a b : ℕ × A) → Some a ≡ Some b → (a.0 ≡ b.0) × (a.1 ≡ b.1)
+same_pair a b h = let same : a ≡ b = cc in (ap (λ p. p.0) same, ap (λ p. p.1) same)
+
+pub lists_mirror : (s : Source) → IsRegular s → IsLawful s → (at start : ℕ) (listed : List Listed) (changes : List Change)
+    → gather_resources (answer s) ≡ Some (at, listed) → gather_changes (answer s) ≡ Some (start, changes)
+    → mirror_of (map entry_of listed) at changes ≡ entries s.held
+lists_mirror s r l at start listed changes h g =
+    let resources = same_pair (s.at, map listed_of (map record_of s.listed)) (at, listed) (sym (resources_gathered s l) ∙ h) in
+    let same_changes = same_pair (s.start, s.changes) (start, changes) (sym (changes_gathered s l) ∙ g) in
+    (λ i. mirror_of (map entry_of (sym resources.1 i)) (sym resources.0 i) (sym same_changes.1 i))
+    ∙ ap (λ m. mirror_of m s.at s.changes) (same_entries s.listed) ∙ r.mirrored

@@ -1,0 +1,60 @@
+-- What a reader gathers from the texts at the lists' paths.
+use Rattle.std.specs.Prelude.{ℕ, List, [], ◌∷◌, ◌++◌, map, Option, Some, None, codes}
+use Rattle.rs_record.specs.declared.change.Change.{Change}
+use Rattle.rs_model.specs.declared.value.Entry.{Entry}
+use Rattle.rs_caps.specs.Cut.{◌>>=◌}
+use Rattle.rs_caps.specs.Readings.{Listed, Document}
+use Rattle.rs_caps.specs.Readings.Document.{ResourceList, ChangeList, ResourceListIndex, ChangeListIndex}
+use Rattle.rs_caps.specs.Reads.{reads}
+
+-- the children of a Resource List or a part of one
+abbrev pub resources_in : Document → Option (List Listed)
+resources_in (ResourceList at children) = Some children
+resources_in (ChangeList start until children) = None
+resources_in (ResourceListIndex at parts) = None
+resources_in (ChangeListIndex start until parts) = None
+
+-- the children of a Change List or a part of one
+abbrev pub changes_in : Document → Option (List Change)
+changes_in (ResourceList at children) = None
+changes_in (ChangeList start until children) = Some children
+changes_in (ResourceListIndex at parts) = None
+changes_in (ChangeListIndex start until parts) = None
+
+-- the children of the parts at these paths, in their order
+unfoldable pub parts_at : {A : Type 0} → (Document → Option (List A)) → (List ℕ → Option (List ℕ)) → List (List ℕ) → Option (List A)
+parts_at children_in fetched [] = Some []
+parts_at children_in fetched (path ∷ paths) = do
+  text ← fetched path
+  part ← reads text
+  children ← children_in part
+  rest ← parts_at children_in fetched paths
+  Some (children ++ rest)
+
+-- the moment of a Resource List, and its children, or those of the parts that its index names
+abbrev pub resources_of : (List ℕ → Option (List ℕ)) → Document → Option (ℕ × List Listed)
+resources_of fetched (ResourceList at children) = Some (at, children)
+resources_of fetched (ResourceListIndex at parts) = parts_at resources_in fetched (map (λ p. p.path) parts)
+    >>= λ children. Some (at, children)
+resources_of fetched (ChangeList start until children) = None
+resources_of fetched (ChangeListIndex start until parts) = None
+
+-- the start of a Change List, and its children, or those of the parts that its index names
+abbrev pub changes_of : (List ℕ → Option (List ℕ)) → Document → Option (ℕ × List Change)
+changes_of fetched (ChangeList start until children) = Some (start, children)
+changes_of fetched (ChangeListIndex start until parts) = parts_at changes_in fetched (map (λ p. p.path) parts)
+    >>= λ children. Some (start, children)
+changes_of fetched (ResourceList at children) = None
+changes_of fetched (ResourceListIndex at parts) = None
+
+-- the moment of the Resource List and its resources, from the texts fetched at each path
+abbrev pub gather_resources : (List ℕ → Option (List ℕ)) → Option (ℕ × List Listed)
+gather_resources fetched = fetched (codes "/resourcelist.xml") >>= λ text. reads text >>= λ d. resources_of fetched d
+
+-- the start of the Change List and its changes, from the texts fetched at each path
+abbrev pub gather_changes : (List ℕ → Option (List ℕ)) → Option (ℕ × List Change)
+gather_changes fetched = fetched (codes "/changelist.xml") >>= λ text. reads text >>= λ d. changes_of fetched d
+
+-- a resource of a list, as the map that is mirrored has it
+abbrev pub entry_of : Listed → List ℕ × Entry
+entry_of l = (l.name, record { facts = l.facts; moment = l.moment })

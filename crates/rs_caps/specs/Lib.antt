@@ -1,0 +1,11 @@
+pub mod Cut
+pub mod Paths
+pub mod Shows
+pub mod Views
+pub mod DocumentTexts
+pub mod ReadLines
+pub mod Reads
+pub mod Readings
+pub mod Answer
+pub mod Gather
+pub mod Statements

@@ -1,0 +1,150 @@
+-- What one line of a list or an index reads as.
+use Rattle.std.specs.Prelude.{ℕ, Bool, true, false, ◌==◌, if◌then◌else◌, List, [], ◌∷◌, ◌++◌, codes, Option, Some, None}
+use Rattle.rs_time.specs.ReadMoment.{read_moment, same_bytes}
+use Rattle.rs_fixity.specs.ReadHash.{read_hash}
+use Rattle.rs_record.specs.Base.{is_base}
+use Rattle.rs_record.specs.declared.facts.Facts.{Facts}
+use Rattle.rs_record.specs.declared.change.Change.{Change}
+use Rattle.rs_record.specs.Changes.{bound, deleted}
+use Rattle.rs_lists.specs.declared.doc.Doc.{Doc}
+use Rattle.rs_caps.specs.Cut.{◌>>=◌, ◌or_else◌, whole, strip, value_to, unescape, read_number}
+use Rattle.rs_caps.specs.Paths.{doc_of}
+use Rattle.rs_caps.specs.Readings.{Listed, ResourceEntry, ChangeEntry}
+
+-- the name of the resource that has this URI, below the base
+abbrev pub read_name : List ℕ → List ℕ → Option (List ℕ)
+read_name base text = unescape text >>= λ uri. strip (base ++ codes "/resource/") uri
+
+-- the attributes of a body, and what follows
+unfoldable pub read_facts : List ℕ → Option (Facts × List ℕ)
+read_facts text = do
+  a ← strip (codes " hash=\"") text
+  digests ← value_to 34 read_hash a
+  b ← strip (codes "\" length=\"") digests.1
+  length ← value_to 34 read_number b
+  d ← strip (codes "\" type=\"") length.1
+  kind ← value_to 34 unescape d
+  e ← strip (codes "\"") kind.1
+  Some (record { kind = kind.0; length = length.0; digests = digests.0 }, e)
+
+-- a resource of a Resource List
+unfoldable pub read_resource : List ℕ → List ℕ → Option Listed
+read_resource base text = do
+  a ← strip (codes "<url><loc>") text
+  name ← value_to 60 (read_name base) a
+  b ← strip (codes "</loc><lastmod>") name.1
+  moment ← value_to 60 read_moment b
+  d ← strip (codes "</lastmod><rs:md") moment.1
+  facts ← read_facts d
+  e ← strip (codes "/></url>") facts.1
+  whole (record { name = name.0; facts = facts.0; moment = moment.0 }) e
+
+-- the word of a change that binds a name: was it bound before?
+abbrev pub change_word : Bool → List ℕ
+change_word again = if again then codes "updated" else codes "created"
+
+-- a change with facts, under its word: its two moments are the same
+unfoldable pub read_bound : List ℕ → Bool → List ℕ → Option Change
+read_bound base again text = do
+  a ← strip (codes "<url><loc>") text
+  name ← value_to 60 (read_name base) a
+  b ← strip (codes "</loc><lastmod>") name.1
+  first ← value_to 60 read_moment b
+  d ← strip (codes "</lastmod><rs:md change=\"" ++ change_word again ++ codes "\" datetime=\"") first.1
+  moment ← value_to 34 read_moment d
+  e ← strip (codes "\"") moment.1
+  facts ← read_facts e
+  f ← strip (codes "/></url>") facts.1
+  if first.0 == moment.0 then whole (bound name.0 again moment.0 facts.0) f else None
+
+-- a deletion, which has no facts
+unfoldable pub read_deleted : List ℕ → List ℕ → Option Change
+read_deleted base text = do
+  a ← strip (codes "<url><loc>") text
+  name ← value_to 60 (read_name base) a
+  b ← strip (codes "</loc><rs:md change=\"deleted\" datetime=\"") name.1
+  moment ← value_to 34 read_moment b
+  d ← strip (codes "\"/></url>") moment.1
+  whole (deleted name.0 moment.0) d
+
+-- a change of a Change List
+abbrev pub read_change : List ℕ → List ℕ → Option Change
+read_change base text = read_bound base false text or_else read_bound base true text or_else read_deleted base text
+
+-- the `until` of a closed part, and what follows
+unfoldable pub read_end : List ℕ → Option (Option ℕ × List ℕ)
+read_end text = do
+  a ← strip (codes " until=\"") text
+  until ← value_to 34 read_moment a
+  b ← strip (codes "\"") until.1
+  Some (Some until.0, b)
+
+-- the `until`, if there is one, and what follows
+abbrev pub read_until : List ℕ → Option (Option ℕ × List ℕ)
+read_until text = read_end text or_else Some (None, text)
+
+-- the path, where it is one of a document
+abbrev pub if_known : List ℕ → Option Doc → Option (List ℕ)
+if_known path None = None
+if_known path (Some doc) = Some path
+
+-- the path of the document that has this URI, below the base
+abbrev pub read_path : List ℕ → List ℕ → Option (List ℕ)
+read_path base text = strip base text >>= λ path. if_known path (doc_of path)
+
+-- a part that a Resource List Index names
+unfoldable pub read_resource_entry : List ℕ → List ℕ → Option ResourceEntry
+read_resource_entry base text = do
+  a ← strip (codes "<sitemap><loc>") text
+  path ← value_to 60 (read_path base) a
+  b ← strip (codes "</loc><rs:md at=\"") path.1
+  at ← value_to 34 read_moment b
+  d ← strip (codes "\"/></sitemap>") at.1
+  whole (record { path = path.0; at = at.0 }) d
+
+-- a part that a Change List Index names
+unfoldable pub read_change_entry : List ℕ → List ℕ → Option ChangeEntry
+read_change_entry base text = do
+  a ← strip (codes "<sitemap><loc>") text
+  path ← value_to 60 (read_path base) a
+  b ← strip (codes "</loc><rs:md from=\"") path.1
+  start ← value_to 34 read_moment b
+  d ← strip (codes "\"") start.1
+  until ← read_until d
+  e ← strip (codes "/></sitemap>") until.1
+  whole (record { path = path.0; start = start.0; until = until.0 }) e
+
+-- what stands before these bytes, where the text ends with them
+unfoldable pub before_end : List ℕ → List ℕ → Option (List ℕ)
+before_end end [] = None
+before_end end (c ∷ text) = if same_bytes (c ∷ text) end then Some [] else (before_end end text >>= λ rest. Some (c ∷ rest))
+
+-- the lawful base of this URI of a Capability List
+abbrev pub read_base : List ℕ → Option (List ℕ)
+read_base text = before_end (codes "/capabilitylist.xml") text >>= λ base. if is_base base then Some base else None
+
+-- the base, by the link up to the Capability List
+unfoldable pub read_up : List ℕ → Option (List ℕ)
+read_up text = do
+  a ← strip (codes "<rs:ln rel=\"up\" href=\"") text
+  base ← value_to 34 read_base a
+  b ← strip (codes "\"/>") base.1
+  whole base.0 b
+
+-- the `at` of a Resource List or its index
+unfoldable pub read_resource_md : List ℕ → Option ℕ
+read_resource_md text = do
+  a ← strip (codes "<rs:md capability=\"resourcelist\" at=\"") text
+  at ← value_to 34 read_moment a
+  b ← strip (codes "\"/>") at.1
+  whole at.0 b
+
+-- the `from` and the `until`, if there is one, of a Change List or its index
+unfoldable pub read_change_md : List ℕ → Option (ℕ × Option ℕ)
+read_change_md text = do
+  a ← strip (codes "<rs:md capability=\"changelist\" from=\"") text
+  start ← value_to 34 read_moment a
+  b ← strip (codes "\"") start.1
+  until ← read_until b
+  d ← strip (codes "/>") until.1
+  whole (start.0, until.0) d

@@ -1,0 +1,71 @@
+-- The laws of what is served, as statements.
+use Rattle.std.specs.Prelude.{◌≡◌, ℕ, ◌+◌, ◌<◌, ◌≤◌, List, ◌++◌, map, Some}
+use Rattle.std.specs.List.{AllByRecursion}
+use Rattle.rs_record.specs.declared.change.Change.{Change}
+use Rattle.rs_model.specs.declared.command.Command.{Command}
+use Rattle.rs_model.specs.Regular.{IsRegular}
+use Rattle.rs_model.specs.State.{Source, entries}
+use Rattle.rs_model.specs.Step.{fold_of, mirror_of}
+use Rattle.rs_lists.specs.declared.doc.Doc.{Doc}
+use Rattle.rs_lists.specs.declared.doc.Doc.TheVariants.{ResourcePart, ChangePart}
+use Rattle.rs_lists.specs.Chunks.{part_at}
+use Rattle.rs_lists.specs.Text.{list_text, from_of}
+use Rattle.rs_caps.specs.Paths.{doc_of}
+use Rattle.rs_caps.specs.Shows.{record_of, shown_of}
+use Rattle.rs_caps.specs.Readings.{Listed}
+use Rattle.rs_caps.specs.Readings.Document.{ChangeList}
+use Rattle.rs_caps.specs.Reads.{reads}
+use Rattle.rs_caps.specs.Answer.{answer, listed_of, reading_of}
+use Rattle.rs_caps.specs.Gather.{gather_resources, gather_changes, entry_of}
+use Rattle.rs_model.specs.Lawful.{IsLawful, IsLawfulTimed}
+
+-- The text of a list, a part or an index that is there is what is answered at its path.
+abbrev pub TextsAreAnswered : Type 0
+TextsAreAnswered =
+    (s : Source) (path text : List ℕ) (doc : Doc) → doc_of path ≡ Some doc → list_text (shown_of s) doc ≡ Some text
+    → answer s path ≡ Some text
+
+-- It reads as exactly that document.
+abbrev pub TextsRead : Type 0
+TextsRead =
+    (s : Source) (text : List ℕ) (doc : Doc) → IsLawful s → list_text (shown_of s) doc ≡ Some text → reads text ≡ reading_of (shown_of s) doc
+
+-- What is gathered from the Resource List is the latest publication, whole.
+abbrev pub ResourcesAreGathered : Source → Type 0
+ResourcesAreGathered s = gather_resources (answer s) ≡ Some (s.at, map listed_of (map record_of s.listed))
+
+-- What is gathered from the Change List is all changes.
+abbrev pub ChangesAreGathered : Source → Type 0
+ChangesAreGathered s = gather_changes (answer s) ≡ Some (s.start, s.changes)
+
+-- The one mirrored with the other is what is held.
+abbrev pub ListsMirror : Source → Type 0
+ListsMirror s =
+    (at start : ℕ) (listed : List Listed) (changes : List Change)
+    → gather_resources (answer s) ≡ Some (at, listed) → gather_changes (answer s) ≡ Some (start, changes)
+    → mirror_of (map entry_of listed) at changes ≡ entries s.held
+
+-- Whatever commands come between, two answers at the path of one part of the Resource List are equal.
+abbrev pub ListedPartsStay : Type 0
+ListedPartsStay =
+    (s : Source) (earlier later : List (Command × ℕ)) (path x y : List ℕ) (publication k : ℕ)
+    → doc_of path ≡ Some (ResourcePart publication k)
+    → answer (fold_of s earlier) path ≡ Some x → answer (fold_of s (earlier ++ later)) path ≡ Some y → x ≡ y
+
+-- And so are two at the path of one part of the Change List, once the first has an `until`.
+abbrev pub ClosedPartsStay : Type 0
+ClosedPartsStay =
+    (s : Source) (earlier later : List (Command × ℕ)) (path x y : List ℕ) (k start until : ℕ) (children : List Change)
+    → IsLawful s → AllByRecursion IsLawfulTimed earlier
+    → doc_of path ≡ Some (ChangePart k) → reads x ≡ Some (ChangeList start (Some until) children)
+    → answer (fold_of s earlier) path ≡ Some x → answer (fold_of s (earlier ++ later)) path ≡ Some y → x ≡ y
+
+-- a change after the first moment and not after the second
+abbrev pub IsWithin : ℕ → ℕ → Change → Type 0
+IsWithin low high c = (low < c.moment) × (c.moment ≤ high)
+
+-- In a regular state the changes of a part of the Change List are after its `from`, and not after the next part's.
+abbrev pub PartsAreBounded : Type 0
+PartsAreBounded =
+    (s : Source) (k : ℕ) → IsRegular s
+    → AllByRecursion (IsWithin (from_of (shown_of s) k) (from_of (shown_of s) (k + 1))) (part_at k s.limit s.changes)

@@ -1,0 +1,16 @@
+//! The documents of a source: where each stands, its exact text, and the laws that what is served says what the
+//! source holds.
+#![tactic(auto)]
+
+mod document;
+pub mod laws;
+mod path_reading;
+mod path_writing;
+mod state_view;
+#[cfg(test)]
+mod tests;
+
+pub use document::{document_length, write_document};
+pub use path_reading::doc_of;
+pub use path_writing::{path_of, write_path};
+pub use state_view::StateView;

@@ -1,0 +1,48 @@
+//! Writing a path: where a document stands.
+
+ghost use Rattle.std.specs.Prelude.{◌≡◌, OnOk, OnErr, IfOk, IsTrue, false};
+ghost use Rattle.std.specs.Io.KnownBytes.{Appends};
+ghost use Rattle.rs_io.specs.Watch.{watched, has_failed};
+ghost use Rattle.rs_caps.specs.Paths.{path_of as path_text};
+
+use rs_io::{Watched, WriteFault};
+use rs_lists::Doc;
+use std::alloc::{AllocError, Global};
+use std::io::Write;
+
+/// Writes the path of a document, from its first `/` on, also of a part that does not exist.
+///
+/// # Errors
+///
+/// [`WriteFault`] only where the writer failed; a part of the path may then be written.
+pub fn write_path<W: Write>(doc: Doc, out: &mut Watched<W>) -> Result<(), WriteFault>
+    ensures written { OnOk result (Appends (W.contents (watched out.old)) (W.contents (watched out.new)) (path_text doc)) }
+    ensures sound { OnOk result (has_failed out.new ≡ has_failed out.old) }
+    ensures fault { OnErr result (IsTrue (has_failed out.new)) }
+{
+    match doc {
+        Doc::Description => out.put(b"/.well-known/resourcesync"),
+        Doc::Capabilities => out.put(b"/capabilitylist.xml"),
+        Doc::ResourceHead => out.put(b"/resourcelist.xml"),
+        Doc::ResourcePart { publication, part } => {
+            out.put_text(format_args!("/resourcelist/{publication}/{part}.xml"))
+        }
+        Doc::ChangeHead => out.put(b"/changelist.xml"),
+        Doc::ChangePart { part } => out.put_text(format_args!("/changelist/{part}.xml")),
+    }
+}
+
+/// The path of a document, at most 60 bytes.
+///
+/// # Errors
+///
+/// Only want of memory.
+pub fn path_of(alloc: Global, doc: Doc) -> Result<Vec<u8>, AllocError>
+    ensures { IfOk result (λ path. path.items ≡ path_text doc) }
+{
+    let mut out = Watched::new(Vec::new(alloc));
+    match write_path(doc, &mut out) {
+        Ok(()) => Ok(out.into_inner()),
+        Err(WriteFault) => Err(AllocError),
+    }
+}

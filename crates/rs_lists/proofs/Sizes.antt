@@ -1,0 +1,117 @@
+-- How long documents are at most.
+use Rattle.std.proofs.Common.{◌≡◌, ℕ, ◌+◌, ◌*◌, ◌≤◌, ◌<◌, ◌^◌, List, [], ◌∷◌, ◌++◌, length, map, refl, sym, ap, subst, length-append, arith, Option, Some, None}
+use Rattle.std.specs.Prelude.{codes, Result, Ok, Err, OnOk, IfSome}
+use Rattle.rs_time.specs.Moment.{moment_text}
+use Rattle.rs_record.specs.declared.record.Record.{Record}
+use Rattle.rs_record.specs.declared.change.Change.{Change}
+use Rattle.rs_lists.specs.Lawful.{IsSmall}
+use Rattle.std.specs.Option.{option_map}
+use Rattle.rs_lists.specs.Sinks.{Counts}
+use Rattle.rs_lists.specs.Shown.{Shown, resource_parts_of, change_parts_of}
+use Rattle.rs_lists.specs.Text.{line, joined, xml_line, open_line, close_line, link_line, up_line, part_links, document, resource_md, change_md, until_parts, resource_line, change_line, resource_list, change_list, resource_index, change_index, resource_entry, change_entry, numbers_from}
+use Rattle.rs_lists.proofs.Bounds.{total_length, length-line}
+use Rattle.rs_lists.proofs.Lengths.{length-moment_text}
+use Rattle.rs_lists.proofs.Lines.{document_lines}
+
+-- a document of short lines around its children
+document_small : (tag : List ℕ) (links : List (List ℕ)) (md : List ℕ) (children : List (List ℕ)) → length tag ≤ 12 → length (joined links) ≤ 500 → length (line md) ≤ 160
+    → length (joined children) ≤ 9800000 → IsSmall (document tag links md children)
+unfolding total_length
+document_small tag links md children t l m h =
+    let front = xml_line ∷ open_line tag ∷ links in
+    let whole = ap (λ x. length x) (sym (document_lines front children md (close_line tag))) in
+    let a = length-append ((joined front ++ line md) ++ joined children) (line (close_line tag)) in
+    let b = length-append (joined front ++ line md) (joined children) in
+    let d = length-append (joined front) (line md) in
+    let e = length-append (line xml_line) (line (open_line tag) ++ joined links) in
+    let f = length-append (line (open_line tag)) (joined links) in
+    let opening : length (line (open_line tag)) ≡ 1 + (length tag + (102 + 0)) + 1 = length-line (codes "<" ∷ tag ∷ codes " xmlns=\"http://www.sitemaps.org/schemas/sitemap/0.9\" xmlns:rs=\"http://www.openarchives.org/rs/terms/\">" ∷ []) in
+    let closing : length (line (close_line tag)) ≡ 2 + (length tag + (1 + 0)) + 1 = length-line (codes "</" ∷ tag ∷ codes ">" ∷ []) in
+    let first : length (line xml_line) ≡ 39 = refl in
+    omega arith
+
+link_length : (relation base path : List ℕ) → length (line (link_line relation base path)) ≡ 12 + (length relation + (8 + (length base + (length path + (3 + 0))))) + 1
+unfolding total_length
+link_length relation base path = length-line (codes "<rs:ln rel=\"" ∷ relation ∷ codes "\" href=\"" ∷ base ∷ path ∷ codes "\"/>" ∷ [])
+
+up_small : (base : List ℕ) → length base ≤ 128 → length (joined (up_line base ∷ [])) ≤ 500
+up_small base h =
+    let a = length-append (line (up_line base)) [] in
+    let b : length (line (up_line base)) ≡ 12 + (2 + (8 + (length base + (19 + (3 + 0))))) + 1 = link_length (codes "up") base (codes "/capabilitylist.xml") in
+    let none : length (joined []) ≡ 0 = refl in
+    omega arith
+
+part_links_small : (s : Shown) (path : List ℕ) → length s.base ≤ 128 → length path ≤ 18 → length (joined (part_links s path)) ≤ 500
+part_links_small s path h k =
+    let a = length-append (line (up_line s.base)) (line (link_line (codes "index") s.base path) ++ []) in
+    let b : length (line (up_line s.base)) ≡ 12 + (2 + (8 + (length s.base + (19 + (3 + 0))))) + 1 = link_length (codes "up") s.base (codes "/capabilitylist.xml") in
+    let d = length-append (line (link_line (codes "index") s.base path)) [] in
+    let e : length (line (link_line (codes "index") s.base path)) ≡ 12 + (5 + (8 + (length s.base + (length path + (3 + 0))))) + 1 = link_length (codes "index") s.base path in
+    let none : length (joined []) ≡ 0 = refl in
+    omega arith
+
+resource_md_small : (at : ℕ) → length (line (resource_md at)) ≤ 160
+unfolding total_length
+resource_md_small at =
+    let total : length (line (resource_md at)) ≡ 37 + (length (moment_text at) + (3 + 0)) + 1 = length-line (codes "<rs:md capability=\"resourcelist\" at=\"" ∷ moment_text at ∷ codes "\"/>" ∷ []) in
+    let t = length-moment_text at in
+    omega arith
+
+until_small : (until : Option ℕ) → total_length (until_parts until ++ codes "/>" ∷ []) ≤ 40
+unfolding total_length
+until_small None = omega arith
+until_small (Some t) = let e = length-moment_text t in let total : total_length (until_parts (Some t) ++ codes "/>" ∷ []) ≡ 8 + (length (moment_text t) + (1 + (2 + 0))) = refl in omega arith
+
+change_md_small : (start : ℕ) (until : Option ℕ) → length (line (change_md start until)) ≤ 160
+unfolding total_length
+change_md_small start until =
+    let total : length (line (change_md start until)) ≡ 37 + (length (moment_text start) + (1 + total_length (until_parts until ++ codes "/>" ∷ []))) + 1 =
+    length-line (codes "<rs:md capability=\"changelist\" from=\"" ∷ moment_text start ∷ codes "\"" ∷ until_parts until ++ codes "/>" ∷ []) in
+    let t = length-moment_text start in
+    let u = until_small until in
+    omega arith
+
+-- a list of at most 4,000 items, and an index of at most 25,000 parts
+pub resource_list_small : (s : Shown) (records : List Record) (n : ℕ) → length s.base ≤ 128 → length (joined (map (resource_line s.base) records)) ≤ 2450 * n → n ≤ 4000
+    → IsSmall (resource_list s (up_line s.base ∷ []) records)
+resource_list_small s records n b h few =
+    document_small (codes "urlset") (up_line s.base ∷ []) (resource_md s.at) (map (resource_line s.base) records) (omega arith) (up_small s.base b) (resource_md_small s.at) (omega arith)
+
+pub resource_part_small : (s : Shown) (path : List ℕ) (records : List Record) (n : ℕ) → length s.base ≤ 128 → length path ≤ 18 → length (joined (map (resource_line s.base) records)) ≤ 2450 * n → n ≤ 4000
+    → IsSmall (resource_list s (part_links s path) records)
+resource_part_small s path records n b k h few =
+    document_small (codes "urlset") (part_links s path) (resource_md s.at) (map (resource_line s.base) records) (omega arith) (part_links_small s path b k) (resource_md_small s.at) (omega arith)
+
+pub change_list_small : (s : Shown) (start : ℕ) (until : Option ℕ) (changes : List Change) (n : ℕ) → length s.base ≤ 128 → length (joined (map (change_line s.base) changes)) ≤ 2450 * n → n ≤ 4000
+    → IsSmall (change_list s (up_line s.base ∷ []) start until changes)
+change_list_small s start until changes n b h few =
+    document_small (codes "urlset") (up_line s.base ∷ []) (change_md start until) (map (change_line s.base) changes) (omega arith) (up_small s.base b) (change_md_small start until) (omega arith)
+
+pub change_part_small : (s : Shown) (path : List ℕ) (start : ℕ) (until : Option ℕ) (changes : List Change) (n : ℕ) → length s.base ≤ 128 → length path ≤ 18 → length (joined (map (change_line s.base) changes)) ≤ 2450 * n → n ≤ 4000
+    → IsSmall (change_list s (part_links s path) start until changes)
+change_part_small s path start until changes n b k h few =
+    document_small (codes "urlset") (part_links s path) (change_md start until) (map (change_line s.base) changes) (omega arith) (part_links_small s path b k) (change_md_small start until) (omega arith)
+
+pub resource_index_small : (s : Shown) (n : ℕ) → length s.base ≤ 128 → length (joined (map (resource_entry s) (numbers_from 0 (resource_parts_of s)))) ≤ 276 * n → n ≤ 25000 → IsSmall (resource_index s)
+resource_index_small s n b h few =
+    document_small (codes "sitemapindex") (up_line s.base ∷ []) (resource_md s.at) (map (resource_entry s) (numbers_from 0 (resource_parts_of s))) (omega arith) (up_small s.base b) (resource_md_small s.at) (omega arith)
+
+pub change_index_small : (s : Shown) (n : ℕ) → length s.base ≤ 128 → length (joined (map (change_entry s) (numbers_from 0 (change_parts_of s)))) ≤ 276 * n → n ≤ 25000 → IsSmall (change_index s)
+change_index_small s n b h few =
+    document_small (codes "sitemapindex") (up_line s.base ∷ []) (change_md s.start None) (map (change_entry s) (numbers_from 0 (change_parts_of s))) (omega arith) (up_small s.base b) (change_md_small s.start None) (omega arith)
+
+-- the same of what a call gives only where it succeeds
+pub on_small : {X E : Type 0} (r : Result X E) (d : Option (List ℕ)) (t : List ℕ) → OnOk r (IsSmall t) → d ≡ Some t → OnOk r (IfSome d IsSmall)
+on_small r d t h e = let P : Option (List ℕ) → Type 0 = λ o. OnOk r (IfSome o IsSmall) in subst P (sym e) h
+
+pub on_value : {X E : Type 0} {P : Type 0} (r : Result X E) → P → OnOk r P
+on_value (Ok v) p = p
+on_value (Err v) p = tt
+
+-- what a meter counted of a document
+pub measured : (before after total : ℕ) (d : Option (List ℕ)) → before ≡ 0 → total ≡ after → ¬ (d ≡ None) → IfSome d (Counts before after) → IfSome d IsSmall → Some total ≡ option_map (length {A = ℕ}) d
+measured before after total None e f there counts small = absurd (there refl)
+measured before after total (Some text) e f there counts small =
+    let fits : before + length text < 2 ^ 64 = omega arith in
+    let exact = counts.exact fits in
+    ap Some (omega arith)

@@ -1,0 +1,11 @@
+use Rattle.std.proofs.Common.{sym, ◌∷◌, []}
+use Rattle.std.specs.Prelude.{codes}
+use Rattle.rs_lists.specs.Text.{xml_line, open_line, up_line, link_line}
+use Rattle.rs_lists.proofs.Runs.{on_two}
+use Rattle.rs_lists.proofs.Lines.{joined-next}
+use Rattle.rs_lists.proofs.frame.put_part_opening.Goals as goal
+
+pub returns-clause-taken : goal.returns-clause-taken
+returns-clause-taken g c =
+    on_two g.S.Sink.takes g.met.S.Sink.takes_more c.put_link.result _ _ _ _ _ _ c.in_ok-put_opening.ensures.taken c.put_link.ensures.taken
+    (sym (joined-next (xml_line ∷ open_line (codes "urlset") ∷ up_line c.args.base.now ∷ []) (link_line (codes "index") c.args.base.now c.args.index.now)))

@@ -1,0 +1,11 @@
+pub mod Chunks
+pub mod Escape
+pub mod Lawful
+pub mod Lines
+pub mod Meters
+pub mod Parts
+pub mod Piece
+pub mod Root
+pub mod Shown
+pub mod Sinks
+pub mod Text

@@ -1,0 +1,7 @@
+-- What a meter has counted.
+use Rattle.std.specs.Prelude.{ℕ}
+use Rattle.rs_lists.specs.declared.meter.Meter.{Meter}
+
+-- how many bytes it has counted
+abbrev pub counted : Meter → ℕ
+counted m = m.total

@@ -1,0 +1,32 @@
+-- What a view shows of a source.
+use Rattle.std.specs.Prelude.{ℕ, ◌≤◌, List, length}
+use Rattle.rs_record.specs.declared.record.Record.{Record}
+use Rattle.rs_record.specs.declared.change.Change.{Change}
+use Rattle.rs_lists.specs.Chunks.{parts_of}
+
+-- base, item limit, start, publication number, its moment, published records, kept changes, and the number of their first part
+pub record Shown : Type 0 where
+  pub base : List ℕ
+  pub limit : ℕ
+  pub start : ℕ
+  pub number : ℕ
+  pub at : ℕ
+  pub published : List Record
+  pub changes : List Change
+  pub first : ℕ
+
+-- the bounds of what is shown
+pub record IsShown (s : Shown) : Type 0 where
+  pub low : 2 ≤ s.limit
+  pub high : s.limit ≤ 4000
+  pub published : length s.published ≤ 50000
+  pub changes : length s.changes ≤ 50000
+  pub first : s.first ≤ 253402300799999
+
+-- how many parts the published records have
+abbrev pub resource_parts_of : Shown → ℕ
+resource_parts_of s = parts_of (length s.published) s.limit
+
+-- how many parts the kept changes have
+abbrev pub change_parts_of : Shown → ℕ
+change_parts_of s = parts_of (length s.changes) s.limit

@@ -1,0 +1,61 @@
+//! The five characters that XML writes as references.
+
+ghost use Rattle.std.specs.Prelude.{◌≡◌, ◌∷◌, [], ◌-◌, ◌^◌, min, length, MatchOption, IsTrue, OnOk, OnErr};
+ghost use Rattle.std.specs.Io.KnownBytes.{Appends};
+ghost use Rattle.rs_io.specs.Watch.{watched, has_failed};
+ghost use Rattle.rs_lists.specs.Escape.{escape, escaped};
+
+use rs_io::{Watched, WriteFault};
+use std::io::Write;
+
+/// Writes `bytes` with `&`, `'`, `"`, `>` and `<` as the references `&amp;`, `&apos;`, `&quot;`,
+/// `&gt;` and `&lt;` (XML 1.0, section 4.6; Sitemap 0.9). All other bytes stand as they are.
+///
+/// # Errors
+///
+/// [`WriteFault`] where a write fails. Some of the bytes may be written then.
+pub fn write_escaped<W: Write>(bytes: &[u8], out: &mut Watched<W>) -> Result<(), WriteFault>
+    ensures written { OnOk result
+        (Appends (W.contents (watched out.old)) (W.contents (watched out.new)) (escape bytes.now)) }
+    ensures sound { OnOk result (has_failed out.new ≡ has_failed out.old) }
+    ensures fault { OnErr result (IsTrue (has_failed out.new)) }
+{
+    let mut start = 0;
+    for (i, byte) in bytes.iter().enumerate() {
+        if let Some(reference) = reference_of(*byte) {
+            out.put(&bytes[start..i])?;
+            out.put(reference)?;
+            start = i + 1;
+        }
+    }
+    out.put(&bytes[start..])
+}
+
+/// How many bytes [`write_escaped`] writes, or `u64::MAX` where they are more.
+pub fn escaped_length(bytes: &[u8]) -> u64
+    ensures { result ≡ min (length (escape bytes.now)) (2 ^ 64 - 1) }
+{
+    let mut total = 0u64;
+    for byte in bytes {
+        let length = match reference_of(*byte) {
+            Some(reference) => reference.len() as u64,
+            None => 1,
+        };
+        total = total.saturating_add(length);
+    }
+    total
+}
+
+// The reference that is written in the place of a byte. There is none where the byte stands as it is.
+fn reference_of(byte: u8) -> Option<&'static [u8]>
+    ensures { MatchOption result (escaped byte ≡ byte ∷ []) (λ reference. escaped byte ≡ reference.now) }
+{
+    match byte {
+        b'&' => Some(b"&amp;".as_slice()),
+        b'\'' => Some(b"&apos;".as_slice()),
+        b'"' => Some(b"&quot;".as_slice()),
+        b'>' => Some(b"&gt;".as_slice()),
+        b'<' => Some(b"&lt;".as_slice()),
+        _ => None,
+    }
+}

@@ -1,0 +1,44 @@
+//! Laws of the definitions that the contracts cite. A law is a function that does nothing: what it
+//! ensures holds.
+
+ghost use Rattle.std.specs.Prelude.{◌≡◌, ℕ, ◌+◌, ◌<◌, ◌≤◌, ◌^◌, List, length, IsTrue, Some};
+ghost use Rattle.std.specs.List.{list_all};
+ghost use Rattle.rs_record.specs.Base.{is_base};
+ghost use Rattle.rs_record.specs.Lawful.{IsLawfulRecord, IsLawfulChange};
+ghost use Rattle.rs_record.specs.declared.record.Record.{Record};
+ghost use Rattle.rs_record.specs.declared.change.Change.{Change};
+ghost use Rattle.rs_lists.specs.declared.doc.Doc.{Doc};
+ghost use Rattle.rs_lists.specs.Escape.{escape, stands_as_it_is};
+ghost use Rattle.rs_lists.specs.Lawful.{IsLawfulShown, IsSmall};
+ghost use Rattle.rs_lists.specs.Parts.{AreChunks};
+ghost use Rattle.rs_lists.specs.Shown.{Shown};
+ghost use Rattle.rs_lists.specs.Text.{line, list_text, resource_line, change_line, resource_entry, change_entry};
+
+/// No part of a list is empty, none has more items than the limit, all but the last have as many,
+/// and one after another they are the list.
+pub fn parts_are_chunks<T>()
+    ensures { (limit : ℕ) (items : List T) → 0 < limit → AreChunks limit items }
+{}
+
+/// A text without the five special characters is written as it is.
+pub fn plain_texts_stay()
+    ensures { (text : List ℕ) → IsTrue (list_all stands_as_it_is text) → escape text ≡ text }
+{}
+
+/// An entry of a list has at most 2,450 bytes and one of an index at most 276, each with its line
+/// feed. Sitemap 0.9 asks that a location has less than 2,048 characters, and so it has.
+pub fn entries_are_small()
+    ensures resource { (base : List ℕ) (r : Record) → IsTrue (is_base base) → IsLawfulRecord r →
+        length (line (resource_line base r)) ≤ 2450 }
+    ensures change { (base : List ℕ) (c : Change) → IsTrue (is_base base) → IsLawfulChange c →
+        length (line (change_line base c)) ≤ 2450 }
+    ensures resource_part { (s : Shown) (k : ℕ) → IsLawfulShown s → k < 2 ^ 64 →
+        length (line (resource_entry s k)) ≤ 276 }
+    ensures change_part { (s : Shown) (k : ℕ) → IsLawfulShown s → s.first + k < 2 ^ 64 →
+        length (line (change_entry s k)) ≤ 276 }
+{}
+
+/// Every list, part and index has less than 10,485,760 bytes, as Sitemap 0.9 asks.
+pub fn documents_are_small()
+    ensures { (s : Shown) (doc : Doc) (text : List ℕ) → IsLawfulShown s → list_text s doc ≡ Some text → IsSmall text }
+{}

@@ -1,0 +1,99 @@
+//! The lengths of texts, without the texts.
+
+ghost use Rattle.std.specs.Prelude.{◌≡◌, ◌-◌, ◌^◌, min, length};
+ghost use Rattle.std.specs.Fmt.{decimal};
+ghost use Rattle.rs_fixity.specs.HashText.{hash_text_of};
+ghost use Rattle.rs_lists.specs.Piece.{piece_text, pieces_text};
+
+use crate::Piece;
+use crate::escape::escaped_length;
+use crate::sink::Sink;
+use rs_fixity::Digests;
+use rs_io::WriteFault;
+
+/// A sink that counts the bytes of what it takes, and never fails.
+#[derive(Drop)]
+pub struct Meter {
+    total: u64,
+}
+
+impl Meter {
+    ghost use Rattle.rs_lists.specs.Meters.{counted};
+
+    /// Nothing counted yet.
+    pub fn new() -> Meter
+        ensures { counted result ≡ 0 }
+    {
+        Meter { total: 0 }
+    }
+
+    /// How many bytes went in, or `u64::MAX` where they are more.
+    pub fn total(&self) -> u64
+        ensures { result ≡ counted self.now }
+    {
+        self.total
+    }
+}
+
+impl Sink for Meter {
+    ghost use Rattle.std.specs.Prelude.{false};
+    ghost use Rattle.rs_lists.specs.Meters.{counted};
+    ghost use Rattle.rs_lists.specs.Sinks.{Counts, counts_nothing, counts_more};
+
+    ghost takes = { λ a b bytes. Counts (counted a) (counted b) bytes };
+
+    ghost failed = { λ _. false };
+
+    ghost takes_nothing = { λ a. counts_nothing (counted a) };
+
+    ghost takes_more = { λ a b c x y first second. counts_more _ _ _ x y first second };
+
+    fn put_piece(&mut self, piece: &Piece<'_>) -> Result<(), WriteFault> {
+        self.total = self.total.saturating_add(piece_length(piece));
+        Ok(())
+    }
+}
+
+/// How many bytes the pieces have, or `u64::MAX` where they have more. Takes no memory.
+pub fn pieces_length(pieces: &[Piece<'_>]) -> u64
+    ensures { result ≡ min (length (pieces_text pieces.now)) (2 ^ 64 - 1) }
+{
+    let mut total = 0u64;
+    for piece in pieces {
+        total = total.saturating_add(piece_length(piece));
+    }
+    total
+}
+
+// How many bytes a piece has, or `u64::MAX` where it has more.
+fn piece_length(piece: &Piece<'_>) -> u64
+    ensures { result ≡ min (length (piece_text piece.now)) (2 ^ 64 - 1) }
+{
+    match piece {
+        Piece::Plain(bytes) => bytes.len() as u64,
+        Piece::Escaped(bytes) => escaped_length(bytes),
+        Piece::Number(number) => count_digits(*number),
+        Piece::At(_) => 24,
+        Piece::Hash(digests) => hash_length(digests),
+    }
+}
+
+/// How many bytes the text of the digests has.
+pub fn hash_length(digests: &Digests) -> u64
+    ensures value { result ≡ length (hash_text_of digests.now) }
+    ensures constant { result ≡ 109 }
+{
+    let md5 = digests.md5.as_slice();
+    let sha256 = digests.sha256.as_slice();
+    13 + 2 * (md5.len() + sha256.len()) as u64
+}
+
+// How many decimal digits a number has.
+fn count_digits(number: u64) -> u64
+    ensures { result ≡ length (decimal number) }
+{
+    match number.checked_ilog10() {
+        Some(power) => power as u64 + 1,
+        None => 1,
+    }
+}

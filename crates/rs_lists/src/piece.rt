@@ -1,0 +1,45 @@
+//! The pieces that a text is made of.
+
+ghost use Rattle.std.specs.Prelude.{◌≡◌, IsTrue, OnOk, OnErr};
+ghost use Rattle.std.specs.Io.KnownBytes.{Appends};
+ghost use Rattle.rs_io.specs.Watch.{watched, has_failed};
+ghost use Rattle.rs_lists.specs.Piece.{pieces_text};
+
+use crate::sink::put_all;
+use rs_fixity::Digests;
+use rs_io::{Watched, WriteFault};
+use rs_time::Moment;
+use std::io::Write;
+
+/// A piece of a text.
+#[derive(Clone, Copy)]
+pub enum Piece<'a> {
+    /// Bytes as they stand.
+    Plain(&'a [u8]),
+
+    /// Bytes with the five special characters of XML written as references.
+    Escaped(&'a [u8]),
+
+    /// A number in decimal, with no leading zero.
+    Number(u64),
+
+    /// A moment as a W3C Datetime of 24 bytes.
+    At(Moment),
+
+    /// Both digests as the 109 bytes of the attribute `hash`.
+    Hash(Digests),
+}
+
+/// Writes pieces in their order. Takes no memory.
+///
+/// # Errors
+///
+/// [`WriteFault`] where a write fails. Some of the text may be written then.
+pub fn put_pieces<W: Write>(pieces: &[Piece<'_>], out: &mut Watched<W>) -> Result<(), WriteFault>
+    ensures written { OnOk result
+        (Appends (W.contents (watched out.old)) (W.contents (watched out.new)) (pieces_text pieces.now)) }
+    ensures sound { OnOk result (has_failed out.new ≡ has_failed out.old) }
+    ensures fault { OnErr result (IsTrue (has_failed out.new)) }
+{
+    put_all(pieces, out)
+}

@@ -1,0 +1,77 @@
+//! What takes the pieces of a text: a writer that writes them, a meter that counts their bytes.
+//!
+//! Each document is described once, over any sink, so what is measured is what is written.
+
+ghost use Rattle.std.specs.Prelude.{◌≡◌, ℕ, ◌++◌, List, [], Bool, IsTrue, OnOk, OnErr};
+ghost use Rattle.rs_lists.specs.Piece.{piece_text, pieces_text};
+ghost use Rattle.rs_lists.specs.Text.{line};
+
+use crate::Piece;
+use crate::escape::write_escaped;
+use rs_fixity::hash_text;
+use rs_io::{Watched, WriteFault};
+use std::io::Write;
+
+/// What takes the pieces of a text.
+pub trait Sink {
+    /// From one state to a later one these bytes went in, and nothing failed.
+    ghost takes: { Self → Self → List ℕ → Type 0 };
+
+    /// Whether it has failed.
+    ghost failed: { Self → Bool };
+
+    /// Takes a piece.
+    fn put_piece(&mut self, piece: &Piece<'_>) -> Result<(), WriteFault>
+        ensures taken { OnOk result (takes self.old self.new (piece_text piece.now)) }
+        ensures fault { OnErr result (IsTrue (failed self.new)) };
+
+    /// No byte went in.
+    ghost takes_nothing: { (a : Self) → takes a a [] };
+
+    /// Bytes went in, and then more.
+    ghost takes_more: { (a b c : Self) (x y : List ℕ) → takes a b x → takes b c y → takes a c (x ++ y) };
+}
+
+impl<W: Write> Sink for Watched<W> {
+    ghost use Rattle.std.specs.Io.KnownBytes.{Appends};
+    ghost use Rattle.rs_io.specs.Watch.{watched, has_failed};
+    ghost use Rattle.rs_lists.specs.Sinks.{Writes, writes_nothing, writes_more};
+
+    ghost takes = { λ a b bytes. Writes (W.contents (watched a)) (W.contents (watched b)) (has_failed a) (has_failed b) bytes };
+
+    ghost failed = { has_failed };
+
+    ghost takes_nothing = { λ a. writes_nothing (W.contents (watched a)) (has_failed a) };
+
+    ghost takes_more = { λ a b c x y first second. writes_more _ _ _ _ _ _ x y first second };
+
+    fn put_piece(&mut self, piece: &Piece<'_>) -> Result<(), WriteFault> {
+        match piece {
+            Piece::Plain(bytes) => self.put(bytes),
+            Piece::Escaped(bytes) => write_escaped(bytes, self),
+            Piece::Number(number) => self.put_text(*number),
+            Piece::At(moment) => self.put(&moment.text()),
+            Piece::Hash(digests) => self.put(&hash_text(digests)),
+        }
+    }
+}
+
+/// Puts pieces in their order.
+pub fn put_all<S: Sink>(pieces: &[Piece<'_>], sink: &mut S) -> Result<(), WriteFault>
+    ensures taken { OnOk result (S.takes sink.old sink.new (pieces_text pieces.now)) }
+    ensures fault { OnErr result (IsTrue (S.failed sink.new)) }
+{
+    for piece in pieces {
+        sink.put_piece(piece)?;
+    }
+    Ok(())
+}
+
+/// Puts a line of these pieces.
+pub fn put_line<S: Sink>(pieces: &[Piece<'_>], sink: &mut S) -> Result<(), WriteFault>
+    ensures taken { OnOk result (S.takes sink.old sink.new (line (pieces_text pieces.now))) }
+    ensures fault { OnErr result (IsTrue (S.failed sink.new)) }
+{
+    put_all(pieces, sink)?;
+    sink.put_piece(&Piece::Plain(b"\n"))
+}

@@ -1,0 +1,115 @@
+//! The lists as documents.
+
+ghost use Rattle.std.specs.Prelude.{◌≡◌, ◌↔◌, None, IsTrue, IfSome, IsSome, is_some, IsErrOf, OnOk, OnErr};
+ghost use Rattle.std.specs.Io.KnownBytes.{Appends};
+ghost use Rattle.rs_io.specs.Watch.{watched, has_failed};
+ghost use Rattle.rs_lists.specs.Lawful.{IsSmall};
+ghost use Rattle.rs_lists.specs.Text.{list_text, is_part};
+
+use crate::change_list::{put_change_head, put_change_part};
+use crate::resource_list::{put_resource_head, put_resource_part};
+use crate::sink::Sink;
+use crate::{Doc, View, change_parts, resource_parts};
+use rs_io::{Watched, WriteFault};
+use std::io::Write;
+use thiserror::Error;
+
+/// Why no list was written.
+#[derive(Clone, Copy, Debug, PartialEq, Eq, Error)]
+pub enum ListError {
+    /// There is no such list, index or part. Nothing was written.
+    #[error("there is no such document")]
+    NoSuchDocument,
+
+    /// The writer failed. Some of the text may be written.
+    #[error("the writer failed")]
+    WriteFault,
+}
+
+impl From<WriteFault> for ListError {
+    ghost use Rattle.rs_lists.specs.declared.write.ListError.{ListError};
+
+    ghost from_gives = { λ _ error. error ≡ ListError.WriteFault };
+
+    fn from(_: WriteFault) -> ListError {
+        ListError::WriteFault
+    }
+}
+
+/// Writes a list, an index or a part, exactly, to its last line's end.
+///
+/// Takes no memory. A part costs its own items only. The Source Description and the Capability
+/// List are not written here: to this function they are no documents.
+///
+/// # Errors
+///
+/// [`ListError::NoSuchDocument`] exactly where the document does not exist; nothing is written
+/// then. [`ListError::WriteFault`] where the writer failed.
+pub fn write_list<V: View, W: Write>(
+    view: &V,
+    doc: Doc,
+    out: &mut Watched<W>,
+) -> Result<(), ListError>
+    ensures written { OnOk result (IfSome (list_text (V.shown view.now) doc)
+        (Appends (W.contents (watched out.old)) (W.contents (watched out.new)))) }
+    ensures missing { IsErrOf result ListError.NoSuchDocument ↔ (list_text (V.shown view.now) doc ≡ None) }
+    ensures untouched { IsErrOf result ListError.NoSuchDocument → out.new ≡ out.old }
+    ensures small { OnOk result (IfSome (list_text (V.shown view.now) doc) IsSmall) }
+
+    ensures fault { IsErrOf result ListError.WriteFault → IsTrue (has_failed out.new) }
+    ensures sound { OnOk result (has_failed out.new ≡ has_failed out.old) }
+{
+    put_list(view, doc, out)
+}
+
+/// Puts a list, an index or a part.
+pub fn put_list<V: View, S: Sink>(view: &V, doc: Doc, sink: &mut S) -> Result<(), ListError>
+    ensures taken { OnOk result (IfSome (list_text (V.shown view.now) doc) (S.takes sink.old sink.new)) }
+    ensures missing { IsErrOf result ListError.NoSuchDocument ↔ (list_text (V.shown view.now) doc ≡ None) }
+    ensures untouched { IsErrOf result ListError.NoSuchDocument → sink.new ≡ sink.old }
+    ensures fault { IsErrOf result ListError.WriteFault → IsTrue (S.failed sink.new) }
+    ensures small { OnOk result (IfSome (list_text (V.shown view.now) doc) IsSmall) }
+{
+    if !is_there(view, doc) {
+        return Err(ListError::NoSuchDocument);
+    }
+    put_what_is_there(view, doc, sink)?;
+    Ok(())
+}
+
+// Whether there is such a list, index or part.
+fn is_there<V: View>(view: &V, doc: Doc) -> bool
+    ensures { result ≡ is_some (list_text (V.shown view.now) doc) }
+{
+    match doc {
+        Doc::ResourceHead | Doc::ChangeHead => true,
+        Doc::ResourcePart { publication, part } => {
+            publication == view.number() && is_part_of(resource_parts(view), 0, part)
+        }
+        Doc::ChangePart { part } => is_part_of(change_parts(view), view.first(), part),
+        Doc::Description | Doc::Capabilities => false,
+    }
+}
+
+// Whether a number is that of one of several parts.
+fn is_part_of(parts: u64, first: u64, number: u64) -> bool
+    ensures { result ≡ is_part parts first number }
+{
+    parts > 1 && first <= number && number - first < parts
+}
+
+// Puts a list, an index or a part that is there.
+fn put_what_is_there<V: View, S: Sink>(view: &V, doc: Doc, sink: &mut S) -> Result<(), WriteFault>
+    requires { IsSome (list_text (V.shown view.now) doc) }
+    ensures taken { OnOk result (IfSome (list_text (V.shown view.now) doc) (S.takes sink.old sink.new)) }
+    ensures fault { OnErr result (IsTrue (S.failed sink.new)) }
+    ensures small { OnOk result (IfSome (list_text (V.shown view.now) doc) IsSmall) }
+{
+    match doc {
+        Doc::ResourceHead => put_resource_head(view, sink),
+        Doc::ResourcePart { part, .. } => put_resource_part(view, part, sink),
+        Doc::ChangeHead => put_change_head(view, sink),
+        Doc::ChangePart { part } => put_change_part(view, part - view.first(), sink),
+        Doc::Description | Doc::Capabilities => unreachable!(),
+    }
+}

@@ -1,0 +1,37 @@
+-- The lines of a script.
+use Rattle.std.specs.Prelude.{◌≡◌, ◌≢◌, ◌==◌, slice_index, ℕ, ◌-◌, List, [], ◌∷◌, ◌++◌, length, take, All, flat_map, map, if◌then◌else◌, Bool}
+
+-- the longest line, in bytes, without its end
+abbrev pub line_limit : ℕ
+line_limit = 33600000
+
+-- no line feed (byte 10) stands in it
+abbrev pub HasNoBreak : List ℕ → Type 0
+HasNoBreak bytes = All (λ b. b ≢ 10) bytes
+
+-- the bytes of a line, with the line feed that ends it
+abbrev pub with_break : List ℕ → List ℕ
+with_break raw = raw ++ 10 ∷ []
+
+-- the input is these lines, each with its line feed, and then bytes without one
+pub record Splits (input : List ℕ) (raws : List (List ℕ)) (rest : List ℕ) : Type 0 where
+  pub whole : input ≡ flat_map with_break raws ++ rest
+  pub each : All HasNoBreak raws
+  pub partial : HasNoBreak rest
+
+-- without the carriage return (byte 13) at its end, if there is one
+abbrev pub cut_return : List ℕ → List ℕ
+cut_return raw = if slice_index raw (length raw - 1) == 13 then take (length raw - 1) raw else raw
+
+-- the line that no line feed ends: there is none right after a line feed, or in an empty input
+abbrev pub last_line : List ℕ → List (List ℕ)
+last_line [] = []
+last_line (b ∷ bytes) = (b ∷ bytes) ∷ []
+
+-- the lines that a script answers: a carriage return is cut off right before a line feed alone
+abbrev pub script_lines : List (List ℕ) → List ℕ → List (List ℕ)
+script_lines raws rest = map cut_return raws ++ last_line rest
+
+-- the line of these bytes, where a line feed ended it or the end of the input
+abbrev pub line_of : Bool → List ℕ → List ℕ
+line_of has_break raw = if has_break then cut_return raw else raw

@@ -1,0 +1,38 @@
+-- How far a script has come.
+use Rattle.std.specs.Prelude.{◌≡◌, ℕ, List, ◌++◌, map, Option}
+use Rattle.std.specs.Io.KnownBytes.{Consumes, Appends}
+use Rattle.rs_model.specs.declared.command.Command.{Command}
+use Rattle.rs_source.specs.declared.line.Line.{Line}
+use Rattle.rs_source.specs.Answers.{outcome_text, output_of}
+use Rattle.rs_source.specs.Kept.{Keeps}
+use Rattle.rs_source.specs.Lines.{Splits, cut_return}
+use Rattle.rs_source.specs.Script.{Gives, Transcript, ScriptGives}
+use Rattle.rs_source.specs.Session.{Session, Answer, Outcome}
+
+-- one answer was given, the session is the one after it, and this holds of its text
+pub record Answers (old : Session) (expected : Answer) (new : Session) (Written : List ℕ → Type 0) : Type 0 where
+  pub answer : Answer
+  pub gives : Gives old expected answer
+  pub session_is : answer.session ≡ new
+  pub written : Written (outcome_text answer.outcome)
+
+-- these bytes came: whole lines, whose answers were written, and then what is kept of the next
+pub record Progress
+    (start : Session) (before : Option (List ℕ)) (input : List ℕ) (line : Line)
+    (after : Option (List ℕ)) (now : Session) : Type 0 where
+  pub raws : List (List ℕ)
+  pub rest : List ℕ
+  pub outcomes : List Outcome
+  pub commands : List (Command × ℕ)
+  pub splits : Splits input raws rest
+  pub kept : Keeps line rest
+  pub answered : Transcript start (map cut_return raws) outcomes commands now
+  pub written : Appends before after (output_of outcomes)
+
+-- the lines of this input were answered, whatever of the answers was written
+abbrev pub Answered : Session → List ℕ → Session → Type 0
+Answered start input now = (outcomes : List Outcome) × (commands : List (Command × ℕ)) × ScriptGives start input outcomes commands now
+
+-- the reader gave this input, and then a tail that was not looked at
+abbrev pub Gave : Option (List ℕ) → Option (List ℕ) → List ℕ → Type 0
+Gave old new input = (tail : List ℕ) × Consumes old new (input ++ tail)

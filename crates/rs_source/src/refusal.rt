@@ -1,0 +1,35 @@
+//! Why a line is refused.
+
+use thiserror::Error;
+
+/// Why a line of a script is refused, or the source refuses what it asks for. Nothing changes.
+#[derive(Clone, Copy, Debug, PartialEq, Eq, Error)]
+pub enum Refusal {
+    /// The line has no such form: its first word is unknown, or its fields are too few or too many.
+    #[error("the line has no known form")]
+    BadLine,
+    /// The line is longer than a line may be.
+    #[error("the line is too long")]
+    LongLine,
+    /// The field of `at` is not 1 to 15 decimal digits, or past the last moment.
+    #[error("the field is no moment")]
+    BadMoment,
+    /// The field is no lawful name.
+    #[error("the name is not lawful")]
+    BadName,
+    /// The field is neither `-` nor pairs of hexadecimal digits.
+    #[error("the field is no hexadecimal text")]
+    BadHex,
+    /// The field is no lawful media type.
+    #[error("the media type is not lawful")]
+    BadType,
+    /// No document has the path, or the document of the path does not exist now.
+    #[error("there is no such document")]
+    NoSuchDocument,
+    /// The rules of the source refuse the request.
+    #[error("the source refuses")]
+    Model(rs_model::Refusal),
+    /// There is not enough memory.
+    #[error("out of memory")]
+    NoMemory,
+}
