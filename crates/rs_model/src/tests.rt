@@ -19,7 +19,7 @@ enum Ask {
     Publish,
 }
 
-fn at(rt: &impl Abort, ms: u64) -> Moment {
+pub fn at(rt: &impl Abort, ms: u64) -> Moment {
     Moment::new(ms).expect(rt, "a moment")
 }
 
@@ -27,7 +27,7 @@ fn named(rt: &impl Abort, alloc: Global, name: &str) -> Name {
     Name::new(alloc, name.as_bytes()).expect(rt, "a name")
 }
 
-fn put(rt: &impl Abort, alloc: Global, name: &str, bytes: Vec<u8>) -> Command {
+pub fn put(rt: &impl Abort, alloc: Global, name: &str, bytes: Vec<u8>) -> Command {
     Command::Put {
         name: named(rt, alloc, name),
         kind: MediaType::new(alloc, b"text/plain").expect(rt, "a media type"),
@@ -45,12 +45,12 @@ fn command(rt: &impl Abort, alloc: Global, ask: Ask) -> Command {
     }
 }
 
-fn formatted(rt: &impl Abort, alloc: Global) -> State {
+pub fn formatted(rt: &impl Abort, alloc: Global) -> State {
     let base = Base::new(alloc, b"http://example.org").expect(rt, "a base");
     State::start(alloc, base, 2, at(rt, 0))
 }
 
-fn refused(refusal: Refusal) -> Result<Reply, StepError> {
+pub fn refused(refusal: Refusal) -> Result<Reply, StepError> {
     Err(StepError::Refused(refusal))
 }
 
