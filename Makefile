@@ -1,4 +1,4 @@
-# Ropepeach: a proved, crash-safe ResourceSync source.
+# Ropepeach: a proved ResourceSync source.
 #   make demo   runs the main job once, on examples/first.script
 #   make test   passes every test and every proof (the merge gate)
 #   make build  builds the proved program

@@ -51,7 +51,7 @@ def facts(body, kind):
 
 def script(seed, count):
     """Commands as lists of words: put, delete and publish in a fixed random order."""
-    # Short runs of few names, so that the quick build's limit of 1 MiB of output is kept.
+    # Few names, so that they are often put again or deleted, and short bodies: the quick build prints at most 1 MiB.
     rng = random.Random(seed)
     for _ in range(count):
         name = rng.choice(NAMES) + (str(rng.randrange(4)) if rng.random() < 0.7 else "")
