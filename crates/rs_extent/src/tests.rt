@@ -27,6 +27,9 @@ fn a_block_past_the_end_is_not_free(rt: HostRuntime) -> Result<(), Fail> {
         (1, 2, false),
         (9, 1, true),
         (10, 1, false),
+        (2, u32::MAX, false),
+        (9, u32::MAX - 8, false),
+        (u32::MAX, 3, false),
         (u32::MAX, u32::MAX, false),
         (u32::MAX, 0, true),
     ] {
@@ -78,6 +81,34 @@ fn runs_across_words_are_taken_and_given(rt: HostRuntime) -> Result<(), Fail> {
         used.give(taken);
         set(&mut slow, taken, false);
         assert!(rt; agrees(&used, &slow), "{blocks} from {first} given");
+    }
+    Ok(())
+}
+
+#[test]
+fn disks_end_anywhere_in_a_word(rt: HostRuntime) -> Result<(), Fail> {
+    for blocks in [4, 63, 64, 65, 127, 128, 129, 8_388_607, 8_388_608] {
+        assert!(rt; blocks >= 4);
+        let mut used = Used::new(rt.alloc(), blocks)?;
+        let all = extent(2, blocks - 2);
+        assert_eq!(rt; used.find(blocks - 2), Some(all), "of {blocks}");
+        assert_eq!(rt; used.find(blocks - 1), None, "of {blocks}");
+        assert_eq!(rt; used.longest_free(), blocks - 2);
+        assert!(rt; !used.is_free(extent(2, blocks - 1)));
+
+        let but_one = extent(2, blocks - 3);
+        let last = extent(blocks - 1, 1);
+        assert!(rt; used.is_free(but_one));
+        used.take(but_one);
+        assert_eq!(rt; used.find(1), Some(last), "the last of {blocks}");
+        assert_eq!(rt; used.find(2), None, "of {blocks}");
+        assert_eq!(rt; used.longest_free(), 1);
+        assert!(rt; used.is_free(last));
+        used.take(last);
+        assert_eq!(rt; used.find(1), None, "of {blocks}");
+        assert_eq!(rt; used.longest_free(), 0);
+        used.give(last);
+        assert_eq!(rt; used.find(1), Some(last), "given, of {blocks}");
     }
     Ok(())
 }

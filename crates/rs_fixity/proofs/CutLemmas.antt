@@ -42,6 +42,43 @@ unfolding cut
 cut_value mark [] rest h = ap (λ b. cond b ([], mark ∷ rest) (with_first mark (cut mark rest))) (byte_itself mark)
 cut_value mark (c ∷ value) rest h = cut_more (c == mark) mark c value rest h (λ k. cut_value mark value rest k)
 
+stripped_by : (b : Bool) (p c : ℕ) (front text rest : List ℕ) → (c == p) ≡ b
+    → cond b (strip front text) None ≡ Some rest → (strip front text ≡ Some rest → text ≡ front ++ rest)
+    → c ∷ text ≡ p ∷ front ++ rest
+stripped_by true p c front text rest e h next = let is : c ≡ p = grind (arith, nat_tests) in λ i. is i ∷ next h i
+stripped_by false p c front text rest e h next = cc
+
+-- nothing but a beginning is stripped off
+pub strip_gave : (front text rest : List ℕ) → strip front text ≡ Some rest → text ≡ front ++ rest
+unfolding strip
+strip_gave [] text rest h = cc
+strip_gave (p ∷ front) [] rest h = cc
+strip_gave (p ∷ front) (c ∷ text) rest h =
+    stripped_by (c == p) p c front text rest refl h (strip_gave front text rest)
+
+-- a text cut before the mark: what stands before it lacks the mark, and the rest is empty or begins with it
+pub record IsCut (mark : ℕ) (text : List ℕ) (parts : List ℕ × List ℕ) : Type 0 where
+  pub joined : parts.0 ++ parts.1 ≡ text
+  pub lacking : IsTrue (lacks mark parts.0)
+  pub marked : (c : ℕ) (rest : List ℕ) → parts.1 ≡ c ∷ rest → c ≡ mark
+
+cut_by : (b : Bool) (mark c : ℕ) (text : List ℕ) (parts : List ℕ × List ℕ) → (c == mark) ≡ b → IsCut mark text parts
+    → IsCut mark (c ∷ text) (cond b ([], c ∷ text) (with_first c parts))
+cut_by true mark c text parts e h =
+    let is : c ≡ mark = grind (arith, nat_tests) in
+    record { joined = refl; lacking = refl; marked = λ d rest same. cc }
+cut_by false mark c text parts e h = record {
+  joined = ap (λ l. c ∷ l) h.joined;
+  lacking = λ i. not (e i) && h.lacking i;
+  marked = h.marked;
+}
+
+-- each text is cut so
+pub cut_is : (mark : ℕ) (text : List ℕ) → IsCut mark text (cut mark text)
+unfolding cut
+cut_is mark [] = record { joined = refl; lacking = refl; marked = λ c rest same. cc }
+cut_is mark (c ∷ text) = cut_by (c == mark) mark c text (cut mark text) refl (cut_is mark text)
+
 -- a value is given for the text that it is written as
 pub if_written_own : {A : Type 0} (text : List ℕ) (value : A) → if_written text text value ≡ Some value
 if_written_own text value = ap (λ b. cond b (Some value) None) ((bytes_decides text text).1 refl)

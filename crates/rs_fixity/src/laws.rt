@@ -37,3 +37,12 @@ pub fn joined_texts_are_cut()
     ensures cut { (mark : ℕ) (value rest : List ℕ) → IsTrue (lacks mark value) →
         cut mark (value ++ mark ∷ rest) ≡ (value, mark ∷ rest) }
 {}
+
+/// What was cut joins to the text again: a beginning that was stripped off and what follows, and a value
+/// that was cut off before a mark, which lacks the mark, and the rest, which is empty or begins with it.
+pub fn cut_texts_join()
+    ensures strip { (front text rest : List ℕ) → strip front text ≡ Some rest → text ≡ front ++ rest }
+    ensures cut { (mark : ℕ) (text : List ℕ) → (cut mark text).0 ++ (cut mark text).1 ≡ text }
+    ensures lacks { (mark : ℕ) (text : List ℕ) → IsTrue (lacks mark (cut mark text).0) }
+    ensures rest { (mark c : ℕ) (text rest : List ℕ) → (cut mark text).1 ≡ c ∷ rest → c ≡ mark }
+{}

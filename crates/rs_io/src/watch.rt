@@ -9,8 +9,9 @@ use std::io::{Read, Write};
 
 /// A reader or a writer, with a flag that says whether a call of it has failed.
 ///
-/// The flag is set by a call that answers an error and is never cleared. A caller may go on
-/// after an error: what the end does then is its own matter, and the flag stays set.
+/// The flag is set by a call that answers an error and is never cleared. Nothing is tried again but
+/// an interrupted write, which Rust's `write_all` tries again. A caller may go on after an error:
+/// what the end does then is its own matter, and the flag stays set.
 #[derive(Debug, Drop)]
 pub struct Watched<T> {
     inner: T,
