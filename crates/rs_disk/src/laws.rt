@@ -42,6 +42,7 @@ pub fn one_call_leaves()
 pub fn worked_images()
     ensures one { image_of (9 ∷ []) three_written ≡ 0 ∷ 0 ∷ 9 ∷ 9 ∷ 9 ∷ 0 ∷ 0 ∷ 0 ∷ [] }
     ensures two { image_of (7 ∷ 8 ∷ []) three_written ≡ 0 ∷ 0 ∷ 7 ∷ 8 ∷ 7 ∷ 0 ∷ 0 ∷ 0 ∷ [] }
+    ensures longer { image_of (4 ∷ 5 ∷ 6 ∷ 7 ∷ []) three_written ≡ 0 ∷ 0 ∷ 4 ∷ 5 ∷ 6 ∷ 0 ∷ 0 ∷ 0 ∷ [] }
     ensures seen { image_of [] three_written ≡ 0 ∷ 0 ∷ 1 ∷ 2 ∷ 3 ∷ 0 ∷ 0 ∷ 0 ∷ [] }
     ensures synced { image_of (9 ∷ []) (resting three_written.seen) ≡ 0 ∷ 0 ∷ 1 ∷ 2 ∷ 3 ∷ 0 ∷ 0 ∷ 0 ∷ [] }
     ensures again { image_of (9 ∷ []) (written (resting three_written.seen) 4 (5 ∷ 6 ∷ [])) ≡ 0 ∷ 0 ∷ 1 ∷ 2 ∷ 9 ∷ 9 ∷ 0 ∷ 0 ∷ [] }

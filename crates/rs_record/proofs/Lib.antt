@@ -6,3 +6,4 @@ pub mod FieldLaws
 pub mod FormatLaws
 pub mod ChangeLaws
 pub mod Answered
+pub mod Grammars

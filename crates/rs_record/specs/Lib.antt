@@ -9,3 +9,4 @@ pub mod Format
 pub mod Lawful
 pub mod Reading
 pub mod Borrowed
+pub mod Grammar

@@ -22,7 +22,7 @@ pub use change_format::{change_size, read_change, write_change};
 pub use duplicate::{Duplicate, duplicate_all};
 pub use facts::Facts;
 pub use fields::FieldFault;
-pub use laws::{formats_stand_alone, lawful_values_are_clean};
+pub use laws::{formats_stand_alone, grammars_are_the_standards, lawful_values_are_clean};
 pub use media_type::{MediaType, MediaTypeError};
 pub use name::{Name, NameError};
 pub use record::Record;

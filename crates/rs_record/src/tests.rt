@@ -235,3 +235,40 @@ fn pairs_are_duplicated(rt: HostRuntime) -> Result<(), Fail> {
     );
     Ok(())
 }
+
+#[test]
+fn the_laws(_rt: HostRuntime) {
+    grammars_are_the_standards();
+    lawful_values_are_clean();
+    formats_stand_alone();
+}
+
+#[test]
+fn refusals_are_shown(rt: HostRuntime) -> Result<(), Fail> {
+    let rows = [
+        (
+            format!(in rt.alloc(); "{}", NameError::BadName)?,
+            "the name is not lawful",
+        ),
+        (
+            format!(in rt.alloc(); "{}", MediaTypeError::BadType)?,
+            "the media type is not lawful",
+        ),
+        (
+            format!(in rt.alloc(); "{}", BaseError::BadBase)?,
+            "the base is not lawful",
+        ),
+        (
+            format!(in rt.alloc(); "{}", FieldFault::Malformed)?,
+            "the bytes are no lawful field",
+        ),
+        (
+            format!(in rt.alloc(); "{}", FieldFault::NoMemory)?,
+            "out of memory",
+        ),
+    ];
+    for (text, want) in &rows {
+        assert_eq!(rt; text.as_str(), *want);
+    }
+    Ok(())
+}

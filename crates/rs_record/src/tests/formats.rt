@@ -154,6 +154,29 @@ fn changes_are_spelled_by_the_table(rt: HostRuntime) -> Result<(), Fail> {
     Ok(())
 }
 
+// Where memory is refused a reader says so, never that the bytes are malformed, and a writer leaves
+// the vector as it was. Here memory is ample; the tests are run with each allocation refused too.
+#[test]
+fn refused_memory(rt: HostRuntime) -> Result<(), Fail> {
+    let bytes = record_by_hand(&rt)?;
+    assert!(rt; !is_malformed(read_record(rt.alloc(), &bytes)));
+    let (record, _) = read_record(rt.alloc(), &bytes)?;
+    let mut written = vec![in rt.alloc(); 9, 9]?;
+    match write_record(&record, &mut written) {
+        Ok(()) => assert_eq!(rt; &written[2..], bytes.as_slice()),
+        Err(_) => assert_eq!(rt; written.as_slice(), [9, 9].as_slice()),
+    }
+    let bytes = bound_by_hand(&rt, 2)?;
+    assert!(rt; !is_malformed(read_change(rt.alloc(), &bytes)));
+    let (change, _) = read_change(rt.alloc(), &bytes)?;
+    let mut written = vec![in rt.alloc(); 9, 9]?;
+    match write_change(&change, &mut written) {
+        Ok(()) => assert_eq!(rt; &written[2..], bytes.as_slice()),
+        Err(_) => assert_eq!(rt; written.as_slice(), [9, 9].as_slice()),
+    }
+    Ok(())
+}
+
 fn is_malformed<T: Drop>(read: Result<(T, usize), FieldFault>) -> bool {
     matches!(read, Err(FieldFault::Malformed))
 }
