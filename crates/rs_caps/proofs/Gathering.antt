@@ -1,11 +1,11 @@
 -- What is gathered over parts is what they are parts of.
-use Rattle.std.proofs.Common.{◌≡◌, ℕ, suc, zero, ◌+◌, ◌-◌, ◌*◌, ◌<◌, ◌≤◌, List, ◌++◌, length, map, take, drop, sym, ap, ◌∙◌, arith, Option, Some}
+use Rattle.std.proofs.Common.{◌≡◌, ℕ, suc, zero, ◌+◌, ◌*◌, ◌<◌, ◌≤◌, List, ◌++◌, length, map, take, drop, sym, ap, ◌∙◌, arith, Option, Some}
 use Rattle.std.specs.List.{AllByRecursion}
 use Rattle.std.proofs.lemmas.List.{map-append, take-append-drop, drop-drop, drop_all}
-use Rattle.std.proofs.lemmas.Nat.{div-add-mod', mod_below}
 use Rattle.rs_fixity.proofs.CutLemmas.{then_some}
 use Rattle.rs_lists.specs.Chunks.{parts_of, part_at}
 use Rattle.rs_lists.specs.Text.{numbers_from}
+use Rattle.rs_lists.proofs.Parts.{parts_cover}
 use Rattle.rs_caps.specs.Cut.{◌>>=◌}
 use Rattle.rs_caps.specs.Readings.{Document}
 use Rattle.rs_caps.specs.Reads.{reads}
@@ -50,10 +50,6 @@ gathered value children_in fetched path limit items k (suc j) h p =
     (ap (λ (o : Option (List _)). o >>= λ rest. Some (map value (part_at k limit items) ++ rest))
     (gathered value children_in fetched path limit items (k + 1) j h' p.1)
     ∙ ap Some (one_more value k limit items))))
-
--- the parts hold all items
-parts_cover : (n limit : ℕ) → 0 < limit → n ≤ parts_of n limit * limit
-parts_cover n limit h = omega (arith, div-add-mod' (n + limit - 1) limit, mod_below (n + limit - 1) limit h)
 
 drop_none : {A : Type 0} (items : List A) (limit : ℕ) → drop (0 * limit) items ≡ items
 drop_none items limit = let e : 0 * limit ≡ 0 = grind arith in ap (λ n. drop n items) e

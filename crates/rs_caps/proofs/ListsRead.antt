@@ -18,7 +18,8 @@ use Rattle.rs_lists.specs.Shown.{Shown, resource_parts_of, change_parts_of}
 use Rattle.rs_lists.specs.Text.{list_text, numbers_from, resource_list, change_part_text, part_links, resource_part_path, change_part_path}
 use Rattle.rs_caps.specs.Cut.{◌>>=◌}
 use Rattle.rs_caps.specs.Paths.{doc_of}
-use Rattle.rs_caps.specs.Shows.{record_of, shown_of}
+use Rattle.rs_model.specs.Listed.{record_of}
+use Rattle.rs_caps.specs.Shows.{shown_of}
 use Rattle.rs_caps.specs.DocumentTexts.{document_text}
 use Rattle.rs_caps.specs.Readings.{Listed}
 use Rattle.rs_caps.specs.Readings.Document.{ResourceList, ChangeList, ResourceListIndex, ChangeListIndex}

@@ -18,7 +18,8 @@ use Rattle.rs_lists.specs.Chunks.{part_at}
 use Rattle.rs_lists.specs.Shown.{Shown, resource_parts_of, change_parts_of}
 use Rattle.rs_lists.specs.Text.{list_text, last_moment, from_of, until_of, is_part, resource_list, change_list, change_part_text, part_links}
 use Rattle.rs_caps.specs.Paths.{doc_of}
-use Rattle.rs_caps.specs.Shows.{record_of, shown_of}
+use Rattle.rs_model.specs.Listed.{record_of}
+use Rattle.rs_caps.specs.Shows.{shown_of}
 use Rattle.rs_caps.specs.Readings.Document.{ChangeList}
 use Rattle.rs_caps.specs.Reads.{reads}
 use Rattle.rs_caps.specs.Answer.{answer, change_part_of}

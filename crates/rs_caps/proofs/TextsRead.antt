@@ -16,7 +16,8 @@ use Rattle.rs_lists.specs.Chunks.{parts_of, part_at}
 use Rattle.rs_lists.specs.Shown.{Shown, resource_parts_of, change_parts_of}
 use Rattle.rs_lists.specs.Text.{list_text, close_line, up_line, link_line, resource_line, change_line, facts_of_record, resource_md, change_md, resource_entry, change_entry, numbers_from, last_moment, from_of, until_of, is_part, resource_list, resource_index, change_list, change_index, part_links, change_part_text}
 use Rattle.rs_caps.specs.Cut.{◌>>=◌, ◌or_else◌, strip}
-use Rattle.rs_caps.specs.Shows.{record_of, shown_of}
+use Rattle.rs_model.specs.Listed.{record_of}
+use Rattle.rs_caps.specs.Shows.{shown_of}
 use Rattle.rs_caps.specs.Readings.{ResourceEntry, ChangeEntry, Document}
 use Rattle.rs_caps.specs.Readings.Document.{ResourceList, ChangeList, ResourceListIndex, ChangeListIndex}
 use Rattle.rs_caps.specs.ReadLines.{read_resource, read_change, read_resource_entry, read_change_entry, read_resource_md, read_change_md}

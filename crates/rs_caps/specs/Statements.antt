@@ -11,7 +11,8 @@ use Rattle.rs_lists.specs.declared.doc.Doc.TheVariants.{ResourcePart, ChangePart
 use Rattle.rs_lists.specs.Chunks.{part_at}
 use Rattle.rs_lists.specs.Text.{list_text, from_of}
 use Rattle.rs_caps.specs.Paths.{doc_of}
-use Rattle.rs_caps.specs.Shows.{record_of, shown_of}
+use Rattle.rs_model.specs.Listed.{record_of}
+use Rattle.rs_caps.specs.Shows.{shown_of}
 use Rattle.rs_caps.specs.Readings.{Listed}
 use Rattle.rs_caps.specs.Readings.Document.{ChangeList}
 use Rattle.rs_caps.specs.Reads.{reads}

@@ -255,7 +255,11 @@ fn a_view_shows_its_state(rt: HostRuntime) -> Result<(), Fail> {
     assert_eq!(rt; view.base().bytes(), BASE);
     assert_eq!(rt; (view.limit(), view.number(), view.first()), (2, 1, 0));
     assert_eq!(rt; (view.start().ms(), view.at().ms()), (0, 2));
-    assert_eq!(rt; (view.published_len(), view.changes_len()), (1, 2));
+    assert_eq!(rt; view.published_len(), 1);
+    assert_eq!(rt; view.published(0).name.bytes(), b"a".as_slice());
+    assert_eq!(rt; view.published(0).moment.ms(), 1);
+    assert_eq!(rt; view.changes_len(), 2);
+    assert_eq!(rt; view.change(1).name.bytes(), b"b".as_slice());
     Ok(())
 }
 

@@ -5,5 +5,6 @@ pub mod RoomLemmas
 pub mod OrderLemmas
 pub mod Searches
 pub mod MapLemmas
+pub mod ListedLemmas
 pub mod LawfulLemmas
 pub mod StepLemmas

@@ -1,5 +1,6 @@
 pub mod Names
 pub mod State
+pub mod Listed
 pub mod Lawful
 pub mod Inside
 pub mod Step

@@ -1,7 +1,8 @@
 //! The state of a source, and the steps that commands make.
 
-ghost use Rattle.std.specs.Prelude.{◌≡◌, ℕ, ◌<◌, ◌≤◌, ◌↔◌, length, None, IfOk, OnOk, OnErr, IsErrOf};
-ghost use Rattle.rs_model.specs.State.{longest_body, start_of, facts_of, entries as entries_of};
+ghost use Rattle.std.specs.Prelude.{◌≡◌, ℕ, ◌<◌, ◌≤◌, ◌↔◌, length, map, None, IfOk, OnOk, OnErr, IsErrOf};
+ghost use Rattle.rs_model.specs.State.{longest_body, start_of, facts_of, entries};
+ghost use Rattle.rs_model.specs.Listed.{record_of};
 ghost use Rattle.rs_model.specs.Step.{step as step_of, state_after, fold_of, refusal_of, change_refusal, next_state, reply_to, moment_at, is_held};
 ghost use Rattle.rs_time.specs.Moment.{IsMoment, greatest};
 ghost use Rattle.rs_model.specs.Lawful.{AreFacts};
@@ -13,8 +14,9 @@ mod tests;
 
 use crate::names::{bind, place_in_order, unbind};
 use crate::{Body, Command, Entry, Held, Refusal, Reply, StepError};
+use rs_extent::Extent;
 use rs_fixity::digests_of;
-use rs_record::{Base, Change, Duplicate, Facts, MediaType, Name, duplicate_all};
+use rs_record::{Base, Change, Duplicate, Facts, MediaType, Name, Record, duplicate_all};
 use rs_time::Moment;
 use std::alloc::{AllocError, Global};
 use std::marker::Model;
@@ -44,7 +46,8 @@ pub struct State {
     changes: Vec<Change>,
     number: u64,
     at: Moment,
-    listed: Vec<(Name, Entry)>,
+    // Records of empty extents, which is what the lists are written from.
+    listed: Vec<Record>,
 }
 
 impl Model for State {
@@ -52,12 +55,11 @@ impl Model for State {
 
     ghost Value = { Source };
 
-    ghost use Rattle.rs_model.specs.Inside.{source_of};
-    ghost use Rattle.rs_model.specs.Lawful.{IsLawful};
+    ghost use Rattle.rs_model.specs.Inside.{source_of, IsKept};
 
     ghost view = { source_of };
 
-    ghost invariant = { λ s. IsLawful (source_of s) };
+    ghost invariant = { IsKept };
 }
 
 impl State {
@@ -294,7 +296,7 @@ impl State {
         ensures reply { IfOk result (λ reply. reply ≡ reply_to self.old Publish moment) }
         ensures unchanged { OnErr result (self.new ≡ self.old) }
     {
-        self.listed = entries(alloc, self.held.as_slice())?;
+        self.listed = records(alloc, self.held.as_slice())?;
         self.number += 1;
         self.at = moment;
         self.last = moment;
@@ -317,13 +319,31 @@ fn facts(kind: MediaType, bytes: &Body) -> Facts
     }
 }
 
-// The entries of what is held.
-fn entries(alloc: Global, held: &[(Name, Held)]) -> Result<Vec<(Name, Entry)>, AllocError>
-    ensures { IfOk result (λ entries. entries.items ≡ entries_of held.now) }
+// The entries of what is held, as records.
+fn records(alloc: Global, held: &[(Name, Held)]) -> Result<Vec<Record>, AllocError>
+    ensures { IfOk result (λ records. records.items ≡ map record_of (entries held.now)) }
 {
-    let mut entries = Vec::new(alloc);
+    let mut records = Vec::new(alloc);
     for (name, held) in held {
-        entries.push((name.copy(alloc)?, held.entry.duplicate(alloc)?))?;
+        records.push(record(alloc, name, &held.entry)?)?;
     }
-    Ok(entries)
+    Ok(records)
+}
+
+// An entry as a record.
+fn record(alloc: Global, name: &Name, entry: &Entry) -> Result<Record, AllocError>
+    ensures { IfOk result (λ made. made ≡ record_of (name.now, entry.now)) }
+{
+    let facts = &entry.facts;
+    Ok(Record {
+        name: name.copy(alloc)?,
+        kind: facts.kind.copy(alloc)?,
+        length: facts.length,
+        digests: facts.digests,
+        moment: entry.moment,
+        extent: Extent {
+            first: 0,
+            blocks: 0,
+        },
+    })
 }

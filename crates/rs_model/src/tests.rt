@@ -75,6 +75,10 @@ fn moments_rise_to_their_end(rt: HostRuntime) {
     assert_eq!(rt; state.resources(), 2);
     assert_eq!(rt; state.held().len(), 2);
     assert_eq!(rt; state.listed().len(), 2);
+    let listed = &state.listed()[1];
+    assert_eq!(rt; listed.name.bytes(), b"b".as_slice());
+    assert_eq!(rt; (listed.length, listed.moment), (3, at(&rt, 5003)));
+    assert_eq!(rt; (listed.extent.first, listed.extent.blocks), (0, 0));
     assert_eq!(rt; state.changes().len(), 3);
     assert_eq!(rt; state.changes()[2].what, What::Updated);
     assert_eq!(rt;

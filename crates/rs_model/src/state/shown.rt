@@ -1,13 +1,14 @@
 //! What a state shows.
 
-ghost use Rattle.std.specs.Prelude.{◌≡◌, length, option_copied};
+ghost use Rattle.std.specs.Prelude.{◌≡◌, length, map, option_copied};
 ghost use Rattle.rs_model.specs.State.{body_of};
 ghost use Rattle.rs_model.specs.Lawful.{IsLawful};
+ghost use Rattle.rs_model.specs.Listed.{record_of};
 
 use super::State;
+use crate::Held;
 use crate::names::place_in_order;
-use crate::{Entry, Held};
-use rs_record::{Base, Change, Name};
+use rs_record::{Base, Change, Name, Record};
 use rs_time::Moment;
 
 impl State {
@@ -62,9 +63,9 @@ impl State {
     }
 
     /// The latest publication: the resources that were held at its moment, in ascending order of the
-    /// bytes of their names.
-    pub fn listed(&self) -> &[(Name, Entry)]
-        ensures { result.now ≡ self.now.listed }
+    /// bytes of their names. Each is a record whose extent is empty: a list is of no disk.
+    pub fn listed(&self) -> &[Record]
+        ensures { result.now ≡ map record_of self.now.listed }
     {
         &self.listed
     }

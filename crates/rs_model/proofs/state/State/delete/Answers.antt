@@ -5,4 +5,7 @@ use Rattle.rs_model.proofs.state.State.delete.Goals as goal
 
 pub invariant_of-self-2 : goal.invariant_of-self-2
 invariant_of-self-2 c =
-    kept_lawful _ _ _ (Delete c.args.name) c.args.moment c.self.view_is c.self.invariant (rw (← c.name.view_is) c.name.invariant) c.requires.moment c.requires.accepted (search rules)
+    record {
+      lawful = kept_lawful _ _ _ (Delete c.args.name) c.args.moment c.self.view_is c.self.invariant.lawful (rw (← c.name.view_is) c.name.invariant) c.requires.moment c.requires.accepted (search rules);
+      listed = c.self.invariant.listed;
+    }
