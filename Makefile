@@ -3,12 +3,13 @@
 #   make test   passes every test and every proof (the merge gate)
 #   make build  builds the proved program
 #   make bench  measures speed (docs/BENCH.md has figures)
+#   make memory refuses each growth of memory of the program in turn
 
 SCRIPT ?= examples/first.script
 BASE ?= http://127.0.0.1:8080
 RT ?= rt
 
-.PHONY: demo test build bench documents
+.PHONY: demo test build bench memory documents
 
 # `rt try` builds without proving: quick, and no more than an unproved build.
 demo:
@@ -29,3 +30,6 @@ documents:
 
 bench: build
 	python3 bench/run.py
+
+memory: build
+	@python3 examples/check_memory.py

@@ -80,6 +80,15 @@ uri_length base name h =
     e ∙ length-append base (codes "/resource/" ++ (escape name ++ [])) ∙ ap (λ n. length base + n) (length-append (codes "/resource/") (escape name ++ []) ∙ ap (λ l. 10 + length l) (append-nil (escape name)))
     ∙ omega arith
 
+-- a location with its references
+pub location_small : (base name : List ℕ) → IsTrue (is_base base) → IsTrue (is_name name) → length (escape (uri base name)) < 2048
+location_small base name h n =
+    let u = uri_length base name h in
+    let a = base_length base h in
+    let b = name_length name n in
+    let d = length-escape name in
+    omega arith
+
 pub resource_line_small : (base : List ℕ) (r : Record) → IsTrue (is_base base) → IsTrue (is_name r.name) → IsTrue (is_media_type r.kind) → r.length < 2 ^ 32 → length (hash_text_of r.digests) ≡ 109
     → length (line (resource_line base r)) ≤ 2450
 unfolding total_length

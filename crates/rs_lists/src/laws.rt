@@ -3,8 +3,9 @@
 
 ghost use Rattle.std.specs.Prelude.{◌≡◌, ℕ, ◌+◌, ◌<◌, ◌≤◌, ◌^◌, List, length, IsTrue, Some};
 ghost use Rattle.std.specs.List.{list_all};
-ghost use Rattle.rs_record.specs.Base.{is_base};
+ghost use Rattle.rs_record.specs.Base.{is_base, uri};
 ghost use Rattle.rs_record.specs.Lawful.{IsLawfulRecord, IsLawfulChange};
+ghost use Rattle.rs_record.specs.Name.{is_name};
 ghost use Rattle.rs_record.specs.declared.record.Record.{Record};
 ghost use Rattle.rs_record.specs.declared.change.Change.{Change};
 ghost use Rattle.rs_lists.specs.declared.doc.Doc.{Doc};
@@ -26,8 +27,10 @@ pub fn plain_texts_stay()
 {}
 
 /// An entry of a list has at most 2,450 bytes and one of an index at most 276, each with its line
-/// feed. Sitemap 0.9 asks that a location has less than 2,048 characters, and so it has.
+/// feed. The location of a resource has less than 2,048 characters, as Sitemap 0.9 asks.
 pub fn entries_are_small()
+    ensures location { (base name : List ℕ) → IsTrue (is_base base) → IsTrue (is_name name) →
+        length (escape (uri base name)) < 2048 }
     ensures resource { (base : List ℕ) (r : Record) → IsTrue (is_base base) → IsLawfulRecord r →
         length (line (resource_line base r)) ≤ 2450 }
     ensures change { (base : List ℕ) (c : Change) → IsTrue (is_base base) → IsLawfulChange c →

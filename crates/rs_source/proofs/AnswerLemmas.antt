@@ -1,5 +1,5 @@
 -- The answer to each kind of request.
-use Rattle.std.proofs.Common.{◌≡◌, ℕ, List, [], ◌∷◌, Option, Some, None, Result, Ok, Err, ◌⊎◌, ◌<◌, ◌≤◌, length, refl, inl, inr, ap, sym, subst, ◌∙◌, arith}
+use Rattle.std.proofs.Common.{◌≡◌, ℕ, List, [], ◌∷◌, Option, Some, None, Result, Ok, Err, ◌⊎◌, ◌<◌, ◌≤◌, length, refl, inl, inr, ap, sym, ◌∙◌, arith}
 use Rattle.rs_model.specs.State.{Source}
 use Rattle.rs_model.specs.Step.{step}
 use Rattle.rs_model.specs.declared.command.Command.{Command}
@@ -8,8 +8,8 @@ use Rattle.rs_model.specs.declared.command.Refusal as model
 use Rattle.rs_source.specs.declared.refusal.Refusal.{Refusal}
 use Rattle.rs_source.specs.declared.refusal.Refusal.TheVariants.{BadLine, LongLine, Model, NoMemory}
 use Rattle.rs_source.specs.Answers.{outcome_text, reply_text, shown_text}
-use Rattle.rs_source.specs.Progress.{Answers}
-use Rattle.rs_source.specs.Script.{session}
+use Rattle.rs_source.specs.Progress.{Answers, LineAnswers}
+use Rattle.rs_source.specs.Script.{Gives, LineGives, session}
 use Rattle.rs_source.specs.Session.{Session, moment_set, replied, shown, counted, refused, Answer, unchanged, stepped, shown_or, answer_to, answered}
 use Rattle.rs_source.specs.Lines.{line_limit}
 use Rattle.rs_source.specs.Requests.{request_of}
@@ -117,7 +117,7 @@ within s line le = grind (arith, nat_tests)
 
 -- a line that asks for nothing
 pub foreign_answered : (s : Session) (line : List ℕ) (P : List ℕ → Type 0)
-    → (length line ≤ line_limit) × (request_of line ≡ Err BadLine) → P (outcome_text (refused BadLine)) → Answers s (answered s line) s P
+    → (length line ≤ line_limit) × (request_of line ≡ Err BadLine) → P (outcome_text (refused BadLine)) → LineAnswers s line s P
 foreign_answered s line P h w = record {
   answer = unchanged s (refused BadLine);
   gives = inl (sym (within s line h.0 ∙ ap (answer_to s) h.1));
@@ -127,7 +127,7 @@ foreign_answered s line P h w = record {
 
 -- a line past the limit
 pub long_answered : (s : Session) (line : List ℕ) (P : List ℕ → Type 0)
-    → line_limit < length line → P (outcome_text (refused LongLine)) → Answers s (answered s line) s P
+    → line_limit < length line → P (outcome_text (refused LongLine)) → LineAnswers s line s P
 long_answered s line P h w = record {
   answer = unchanged s (refused LongLine);
   gives = inl (grind (arith, nat_tests));
@@ -135,9 +135,28 @@ long_answered s line P h w = record {
   written = w;
 }
 
+-- room for a line was refused
+pub no_room_for_line : (s : Session) (line : List ℕ) (P : List ℕ → Type 0)
+    → length line ≤ line_limit → P (outcome_text (refused NoMemory)) → LineAnswers s line s P
+no_room_for_line s line P le w = record {
+  answer = unchanged s (refused NoMemory);
+  gives = inr (le, refl);
+  session_is = refl;
+  written = w;
+}
+
+-- a line within the limit may be answered what its request may
+line_gives : (s : Session) (line : List ℕ) (expected answer : Answer) → length line ≤ line_limit
+    → expected ≡ answered s line → Gives s expected answer → LineGives s line answer
+line_gives s line expected answer le e (inl same) = inl (same ∙ e)
+line_gives s line expected answer le e (inr same) = inr (le, same)
+
 -- a line of these bytes
 pub bytes_answered : (s new : Session) (bytes line : List ℕ) (P : List ℕ → Type 0) → (bytes ≡ line) × (length line ≤ line_limit)
-    → Answers s (answer_to s (request_of bytes)) new P → Answers s (answered s line) new P
-bytes_answered s new bytes line P h given =
-    let Q : Answer → Type 0 = λ expected. Answers s expected new P in
-    subst Q (ap (λ b. answer_to s (request_of b)) h.0 ∙ sym (within s line h.1)) given
+    → Answers s (answer_to s (request_of bytes)) new P → LineAnswers s line new P
+bytes_answered s new bytes line P h given = record {
+  answer = given.answer;
+  gives = line_gives s line (answer_to s (request_of bytes)) given.answer h.1 (ap (λ b. answer_to s (request_of b)) h.0 ∙ sym (within s line h.1)) given.gives;
+  session_is = given.session_is;
+  written = given.written;
+}

@@ -11,10 +11,10 @@ use Rattle.rs_model.specs.declared.command.Command.{Command}
 use Rattle.rs_source.specs.declared.line.Line.{Line}
 use Rattle.rs_source.specs.Answers.{outcome_text, output_of}
 use Rattle.rs_source.specs.Kept.{Keeps}
-use Rattle.rs_source.specs.Lines.{Splits, HasNoBreak, with_break, cut_return, last_line, script_lines}
-use Rattle.rs_source.specs.Progress.{Answers, Progress, Answered, Gave}
+use Rattle.rs_source.specs.Lines.{Splits, AreWholeLines, HasNoBreak, with_break, cut_return, last_line, script_lines}
+use Rattle.rs_source.specs.Progress.{LineAnswers, Progress, Answered, Gave}
 use Rattle.rs_source.specs.Script.{LineGives, Transcript, ScriptGives}
-use Rattle.rs_source.specs.Session.{Session, Outcome, Answer, answered}
+use Rattle.rs_source.specs.Session.{Session, Outcome, Answer}
 
 -- one more line is answered
 pub Transcript-more : (lines : List (List ℕ)) (old : Session) (outcomes : List Outcome) (commands : List (Command × ℕ)) (mid : Session)
@@ -94,7 +94,7 @@ whole_more start raws raw outcomes commands now answer new e t g =
 -- a line feed has come, and the answer is written
 pub take_ok : {T E : Type 0} (r : Result T E) (line mid next : Line) (now new : Session) (c d : Option (List ℕ)) (run : List ℕ)
     → ((raw : List ℕ) → Keeps line raw → Keeps mid (raw ++ run))
-    → ((raw : List ℕ) → Keeps mid raw → Answers now (answered now (cut_return raw)) new (λ text. OnOk r (Appends c d text)))
+    → ((raw : List ℕ) → Keeps mid raw → LineAnswers now (cut_return raw) new (λ text. OnOk r (Appends c d text)))
     → Keeps next []
     → OnOk r ((start : Session) (before : Option (List ℕ)) (input : List ℕ) → HasNoBreak run
     → Progress start before input line c now → Progress start before (input ++ with_break run) next d new)
@@ -117,22 +117,26 @@ take_ok (Ok x) line mid next now new c d run k given fresh = λ start before inp
 -- and the answer is not written
 pub take_err : {T E : Type 0} (r : Result T E) (line mid : Line) (now new : Session) (c : Option (List ℕ)) (run : List ℕ) (W : List ℕ → Type 0)
     → ((raw : List ℕ) → Keeps line raw → Keeps mid (raw ++ run))
-    → ((raw : List ℕ) → Keeps mid raw → Answers now (answered now (cut_return raw)) new W)
+    → ((raw : List ℕ) → Keeps mid raw → LineAnswers now (cut_return raw) new W)
     → OnErr r ((start : Session) (before : Option (List ℕ)) (input : List ℕ) → HasNoBreak run
-    → Progress start before input line c now → Answered start (input ++ with_break run) new)
+    → Progress start before input line c now → Answered start (input ++ with_break run) new × AreWholeLines (input ++ with_break run))
 take_err (Ok x) line mid now new c run W k given = tt
 take_err (Err e) line mid now new c run W k given = λ start before input h p.
     let e = given (p.rest ++ run) (k p.rest p.kept) in
+    let splits = Splits-break input p.raws p.rest run h p.splits in
     let P : List (List ℕ) → Type 0 = λ lines. Transcript start lines (p.outcomes ++ e.answer.outcome ∷ []) (p.commands ++ e.answer.commands) new in (
-      p.outcomes ++ e.answer.outcome ∷ [],
-      p.commands ++ e.answer.commands,
       (
-        p.raws ++ (p.rest ++ run) ∷ [],
-        [],
-        Splits-break input p.raws p.rest run h p.splits,
-        subst P (sym (append-nil (map cut_return (p.raws ++ (p.rest ++ run) ∷ []))))
-            (whole_more start p.raws (p.rest ++ run) p.outcomes p.commands now e.answer new e.session_is p.answered e.gives),
+        p.outcomes ++ e.answer.outcome ∷ [],
+        p.commands ++ e.answer.commands,
+        (
+          p.raws ++ (p.rest ++ run) ∷ [],
+          [],
+          splits,
+          subst P (sym (append-nil (map cut_return (p.raws ++ (p.rest ++ run) ∷ []))))
+              (whole_more start p.raws (p.rest ++ run) p.outcomes p.commands now e.answer new e.session_is p.answered e.gives),
+        ),
       ),
+      (p.raws ++ (p.rest ++ run) ∷ [], splits),
     )
 
 last_line-some : (rest : List ℕ) → 0 < length rest → last_line rest ≡ rest ∷ []
@@ -151,7 +155,7 @@ last_more start raws rest outcomes commands now answer new e some t g =
 
 pub end_ok : {T E : Type 0} (r : Result T E) (line : Line) (now new : Session) (c d : Option (List ℕ))
     → ((raw : List ℕ) → Keeps line raw → 0 < length raw)
-    → ((raw : List ℕ) → Keeps line raw → Answers now (answered now raw) new (λ text. OnOk r (Appends c d text)))
+    → ((raw : List ℕ) → Keeps line raw → LineAnswers now raw new (λ text. OnOk r (Appends c d text)))
     → OnOk r ((start : Session) (before : Option (List ℕ)) (input : List ℕ) → Progress start before input line c now
     → (outcomes : List Outcome) × (commands : List (Command × ℕ)) × ScriptGives start input outcomes commands new × Appends before d (output_of outcomes))
 end_ok (Err e) line now new c d some given = tt
@@ -167,7 +171,7 @@ end_ok (Ok x) line now new c d some given = λ start before input p.
 
 pub end_err : {T E : Type 0} (r : Result T E) (line : Line) (now new : Session) (c : Option (List ℕ)) (W : List ℕ → Type 0)
     → ((raw : List ℕ) → Keeps line raw → 0 < length raw)
-    → ((raw : List ℕ) → Keeps line raw → Answers now (answered now raw) new W)
+    → ((raw : List ℕ) → Keeps line raw → LineAnswers now raw new W)
     → OnErr r ((start : Session) (before : Option (List ℕ)) (input : List ℕ) → Progress start before input line c now → Answered start input new)
 end_err (Ok x) line now new c W some given = tt
 end_err (Err e) line now new c W some given = λ start before input p.
@@ -223,9 +227,12 @@ pub Progress-whole : (start : Session) (before : Option (List ℕ)) (input : Lis
     → Progress start before input line c now
     → (lines : List ℕ) × (part : List ℕ) × (outcomes : List Outcome) × (commands : List (Command × ℕ)) × Consumes r s (lines ++ part) × HasNoBreak part
     × Appends before c (output_of outcomes) × ScriptGives start lines outcomes commands now × (F ⊎ (2 ^ 40 ≤ length (lines ++ part)))
+    × AreWholeLines lines
 Progress-whole start before input line c now r s F why gave p =
     let Q : List ℕ → Type 0 = λ bytes. Consumes r s bytes in
     let R : List ℕ → Type 0 = λ bytes. F ⊎ (2 ^ 40 ≤ length bytes) in
+    let splits : Splits (flat_map with_break p.raws) p.raws [] =
+    record { whole = sym (append-nil (flat_map with_break p.raws)); each = p.splits.each; partial = grind (arith, common_steps) } in
     let P : List (List ℕ) → Type 0 = λ lines. Transcript start lines p.outcomes p.commands now in (
       flat_map with_break p.raws,
       p.rest,
@@ -237,10 +244,11 @@ Progress-whole start before input line c now r s F why gave p =
       (
         p.raws,
         [],
-        record { whole = sym (append-nil (flat_map with_break p.raws)); each = p.splits.each; partial = grind (arith, common_steps) },
+        splits,
         subst P (sym (append-nil (map cut_return p.raws))) p.answered,
       ),
       subst R p.splits.whole why,
+      (p.raws, splits),
     )
 
 -- the last read gave no byte
@@ -248,12 +256,6 @@ pub Consumes-end : (r s t : Option (List ℕ)) (input buf : List ℕ) (n : ℕ) 
 Consumes-end r s t input buf n e h k =
     let Q : List ℕ → Type 0 = λ bytes. Consumes r t bytes in
     subst Q (ap (λ m. input ++ take m buf) e ∙ append-nil input) (Consumes-trans r s t input (take n buf) h k)
-
--- the whole input, and no tail
-pub Gave-all : (r s : Option (List ℕ)) (input : List ℕ) → Consumes r s input → Gave r s input
-Gave-all r s input h =
-    let Q : List ℕ → Type 0 = λ bytes. Consumes r s bytes in
-    ([], subst Q (sym (append-nil input)) h)
 
 -- a piece of which a front was used
 pub Gave-front : (r s t : Option (List ℕ)) (input piece used tail : List ℕ) → piece ≡ used ++ tail

@@ -15,14 +15,14 @@ use Rattle.rs_source.specs.declared.request.Request.{Request}
 use Rattle.rs_source.specs.declared.request.Request.TheVariants.{At, Run, Document, Body, Status}
 use Rattle.rs_source.specs.Lines.{line_limit, script_lines}
 use Rattle.rs_source.specs.Requests.{request_of}
-use Rattle.rs_source.specs.Script.{Gives, LineGives, Transcript, ScriptGives, HasMemory}
+use Rattle.rs_source.specs.Script.{LineGives, Transcript, ScriptGives, HasMemory}
 use Rattle.rs_source.specs.Session.{Session, Outcome, refused, Answer, unchanged, stepped, shown_or, answer_to, answered}
 use Rattle.rs_source.proofs.Cut.{Splits-once}
 
 -- an answer that is not want of memory is the model's
-the_answer : (old : Session) (expected answer : Answer) → Gives old expected answer → (answer.outcome ≡ refused NoMemory → ⊥) → answer ≡ expected
-the_answer old expected answer (inl e) h = e
-the_answer old expected answer (inr e) h = absurd (h (ap (λ (a : Answer). a.outcome) e))
+the_answer : (old : Session) (line : List ℕ) (answer : Answer) → LineGives old line answer → (answer.outcome ≡ refused NoMemory → ⊥) → answer ≡ answered old line
+the_answer old line answer (inl e) h = e
+the_answer old line answer (inr e) h = absurd (h (ap (λ (a : Answer). a.outcome) e.1))
 
 lines_once : (lines : List (List ℕ)) (old : Session) (outcomes others : List Outcome) (commands more : List (Command × ℕ)) (new end : Session)
     → Transcript old lines outcomes commands new → Transcript old lines others more end
@@ -33,8 +33,8 @@ lines_once (line ∷ lines) old outcomes others commands more new end s t h k =
     let h' : HasMemory (s.0.outcome ∷ s.1) = subst HasMemory s.4 h in
     let k' : HasMemory (t.0.outcome ∷ t.1) = subst HasMemory t.4 k in
     let same : s.0 ≡ t.0 =
-    the_answer old (answered old line) s.0 s.3 (All-head P s.0.outcome s.1 h')
-    ∙ sym (the_answer old (answered old line) t.0 t.3 (All-head P t.0.outcome t.1 k')) in
+    the_answer old line s.0 s.3 (All-head P s.0.outcome s.1 h')
+    ∙ sym (the_answer old line t.0 t.3 (All-head P t.0.outcome t.1 k')) in
     let Q : Session → Type 0 = λ mid. Transcript mid lines t.1 t.2 end in
     let rest = lines_once lines s.0.session s.1 t.1 s.2 t.2 new end s.6
     (subst Q (ap (λ (a : Answer). a.session) (sym same)) t.6) (All-tail P s.0.outcome s.1 h') (All-tail P t.0.outcome t.1 k') in (
@@ -80,7 +80,7 @@ line_folds s line answer (inl e) = subst (IsFold s.source) (sym e) (by_length (n
     by_length : (long : Bool) → IsFold s.source (if long then unchanged s (refused LongLine) else answer_to s (request_of line))
     by_length true = refl
     by_length false = request_folds s (request_of line)
-line_folds s line answer (inr e) = subst (IsFold s.source) (sym e) unchanged_folds
+line_folds s line answer (inr e) = subst (IsFold s.source) (sym e.1) unchanged_folds
   where
     unchanged_folds : IsFold s.source (unchanged s (refused NoMemory))
     unchanged_folds = refl

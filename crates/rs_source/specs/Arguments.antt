@@ -1,5 +1,7 @@
 -- The arguments of the program.
 use Rattle.std.specs.Prelude.{ℕ, min, if◌then◌else◌, List, [], ◌∷◌, codes, bytes_eq, Option, Some, None}
+use Rattle.std.specs.declared.io.ErrorKind.{ErrorKind}
+use Rattle.std.specs.declared.io.ErrorKind.TheVariants.{OutOfMemory}
 use Rattle.rs_source.specs.declared.program.ProgramError.{ProgramError}
 use Rattle.rs_source.specs.declared.program.ProgramError.TheVariants.{Usage, BadBase, BadLimit, NoMemory, Read, Write}
 use Rattle.rs_source.specs.declared.script.ScriptFault.{ScriptFault}
@@ -26,6 +28,11 @@ status_of BadLimit = 1
 status_of NoMemory = 1
 status_of Read = 1
 status_of Write = 1
+
+-- words that cannot be read are wrong arguments, but for want of memory
+abbrev pub unread_of : ErrorKind → ProgramError
+unread_of OutOfMemory = NoMemory
+unread_of _ = Usage
 
 -- the fault of a script is the fault of the program
 abbrev pub error_of : ScriptFault → ProgramError

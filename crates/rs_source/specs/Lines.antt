@@ -19,6 +19,10 @@ pub record Splits (input : List ℕ) (raws : List (List ℕ)) (rest : List ℕ) 
   pub each : All HasNoBreak raws
   pub partial : HasNoBreak rest
 
+-- whole lines: the last byte is a line feed, or there is none
+abbrev pub AreWholeLines : List ℕ → Type 0
+AreWholeLines input = (raws : List (List ℕ)) × Splits input raws []
+
 -- without the carriage return (byte 13) at its end, if there is one
 abbrev pub cut_return : List ℕ → List ℕ
 cut_return raw = if slice_index raw (length raw - 1) == 13 then take (length raw - 1) raw else raw

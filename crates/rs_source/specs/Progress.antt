@@ -1,18 +1,25 @@
 -- How far a script has come.
-use Rattle.std.specs.Prelude.{◌≡◌, ℕ, List, ◌++◌, map, Option}
-use Rattle.std.specs.Io.KnownBytes.{Consumes, Appends}
+use Rattle.std.specs.Prelude.{◌≡◌, ℕ, ◌⊎◌, List, ◌++◌, map, Option}
+use Rattle.std.specs.Io.KnownBytes.{Consumes, IsAtEnd, Appends}
 use Rattle.rs_model.specs.declared.command.Command.{Command}
 use Rattle.rs_source.specs.declared.line.Line.{Line}
 use Rattle.rs_source.specs.Answers.{outcome_text, output_of}
 use Rattle.rs_source.specs.Kept.{Keeps}
-use Rattle.rs_source.specs.Lines.{Splits, cut_return}
-use Rattle.rs_source.specs.Script.{Gives, Transcript, ScriptGives}
+use Rattle.rs_source.specs.Lines.{Splits, AreWholeLines, cut_return}
+use Rattle.rs_source.specs.Script.{Gives, LineGives, Transcript, ScriptGives}
 use Rattle.rs_source.specs.Session.{Session, Answer, Outcome}
 
 -- one answer was given, the session is the one after it, and this holds of its text
 pub record Answers (old : Session) (expected : Answer) (new : Session) (Written : List ℕ → Type 0) : Type 0 where
   pub answer : Answer
   pub gives : Gives old expected answer
+  pub session_is : answer.session ≡ new
+  pub written : Written (outcome_text answer.outcome)
+
+-- a line was answered, the session is the one after it, and this holds of the answer's text
+pub record LineAnswers (old : Session) (line : List ℕ) (new : Session) (Written : List ℕ → Type 0) : Type 0 where
+  pub answer : Answer
+  pub gives : LineGives old line answer
   pub session_is : answer.session ≡ new
   pub written : Written (outcome_text answer.outcome)
 
@@ -36,3 +43,7 @@ Answered start input now = (outcomes : List Outcome) × (commands : List (Comman
 -- the reader gave this input, and then a tail that was not looked at
 abbrev pub Gave : Option (List ℕ) → Option (List ℕ) → List ℕ → Type 0
 Gave old new input = (tail : List ℕ) × Consumes old new (input ++ tail)
+
+-- the reader gave whole lines, and then a tail that was not looked at; or this input, and nothing is left
+abbrev pub Came : Option (List ℕ) → Option (List ℕ) → List ℕ → Type 0
+Came old new input = (Gave old new input × AreWholeLines input) ⊎ (Consumes old new input × IsAtEnd new)

@@ -1,18 +1,18 @@
 -- A script: each line is answered in turn.
-use Rattle.std.specs.Prelude.{◌≡◌, ℕ, ◌⊎◌, List, [], ◌∷◌, ◌++◌, All}
+use Rattle.std.specs.Prelude.{◌≡◌, ℕ, ◌≤◌, ◌⊎◌, List, [], ◌∷◌, ◌++◌, length, All}
 use Rattle.rs_model.specs.State.{Source}
 use Rattle.rs_model.specs.declared.command.Command.{Command}
 use Rattle.rs_source.specs.declared.refusal.Refusal.TheVariants.{NoMemory}
-use Rattle.rs_source.specs.Lines.{Splits, script_lines}
+use Rattle.rs_source.specs.Lines.{line_limit, Splits, script_lines}
 use Rattle.rs_source.specs.Session.{Session, Outcome, refused, Answer, unchanged, answered}
 
 -- this answer, or room was refused and nothing changed
 abbrev pub Gives : Session → Answer → Answer → Type 0
 Gives old expected answer = (answer ≡ expected) ⊎ (answer ≡ unchanged old (refused NoMemory))
 
--- what a line may be answered
+-- what a line may be answered: room is refused for none past the limit
 abbrev pub LineGives : Session → List ℕ → Answer → Type 0
-LineGives old line answer = Gives old (answered old line) answer
+LineGives old line answer = (answer ≡ answered old line) ⊎ ((length line ≤ line_limit) × (answer ≡ unchanged old (refused NoMemory)))
 
 -- the lines are answered in turn: what comes of each, the commands that the source accepted, and the session after them
 abbrev pub Transcript : Session → List (List ℕ) → List Outcome → List (Command × ℕ) → Session → Type 0

@@ -20,7 +20,7 @@ mod state;
 #[cfg(test)]
 mod tests;
 
-use program::{MemArguments, ProgramError, mem_arguments, start};
+use program::{MemArguments, ProgramError, mem_arguments, start, unread};
 use rs_io::Watched;
 use script::script;
 use std::io::BufWriter;
@@ -45,8 +45,9 @@ fn run_mem<R: Input + Print + AllocGlobal>(
 
 /// Does what the arguments of the program ask for.
 fn run<R: Env + Input + Print + AllocGlobal>(rt: &R) -> Result<(), ProgramError> {
-    let Ok(arguments) = env::args(rt) else {
-        return Err(ProgramError::Usage);
+    let arguments = match env::args(rt) {
+        Ok(arguments) => arguments,
+        Err(error) => return Err(unread(error.kind())),
     };
     let Ok(words) = arguments.collect::<Vec<String>>(rt.alloc()) else {
         return Err(ProgramError::NoMemory);

@@ -4,13 +4,14 @@ ghost use Rattle.std.specs.Prelude.{◌≡◌, ◌<◌, ◌≤◌, ◌⊎◌, �
 ghost use Rattle.std.specs.String.{string_bytes};
 ghost use Rattle.rs_model.specs.State.{start_of};
 ghost use Rattle.rs_record.specs.Base.{is_base};
-ghost use Rattle.rs_source.specs.Arguments.{error_of, mem_of, status_of};
+ghost use Rattle.rs_source.specs.Arguments.{error_of, mem_of, status_of, unread_of};
 
 use crate::number::number;
 use crate::script::{ScriptFault, first_moment};
 use rs_model::State;
 use rs_record::{Base, BaseError};
 use std::alloc::Global;
+use std::io::ErrorKind;
 use thiserror::Error;
 
 /// Why the program ends with a status other than 0. Its text is the line on standard error.
@@ -92,6 +93,17 @@ pub fn mem_arguments(words: &[String]) -> Option<MemArguments<'_>>
         base: base.as_bytes(),
         limit: limit.min(65_535) as u16,
     })
+}
+
+/// Why the program ends where its words cannot be read: for want of memory, or as one of them is no
+/// text.
+pub fn unread(kind: ErrorKind) -> ProgramError
+    ensures { result ≡ unread_of kind }
+{
+    match kind {
+        ErrorKind::OutOfMemory => ProgramError::NoMemory,
+        _ => ProgramError::Usage,
+    }
 }
 
 /// A source in memory, formatted at the moment 0 with this base and item limit.

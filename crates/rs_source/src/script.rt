@@ -6,10 +6,10 @@ ghost use Rattle.rs_io.specs.Watch.{watched, has_failed};
 ghost use Rattle.rs_model.specs.declared.command.Command.{Command};
 ghost use Rattle.rs_source.specs.Answers.{output_of};
 ghost use Rattle.rs_source.specs.Kept.{Keeps};
-ghost use Rattle.rs_source.specs.Lines.{HasNoBreak, line_of, with_break};
-ghost use Rattle.rs_source.specs.Progress.{Answers, Progress, Answered, Gave};
+ghost use Rattle.rs_source.specs.Lines.{AreWholeLines, HasNoBreak, line_of, with_break};
+ghost use Rattle.rs_source.specs.Progress.{LineAnswers, Progress, Answered, Came};
 ghost use Rattle.rs_source.specs.Script.{ScriptGives, session};
-ghost use Rattle.rs_source.specs.Session.{Session, Outcome, answered};
+ghost use Rattle.rs_source.specs.Session.{Session, Outcome};
 
 use crate::answer::write_refusal;
 use crate::bytes::position_of;
@@ -44,8 +44,7 @@ fn answer_kept<S: ScriptSource, W: Write>(
     writer: &mut Watched<W>,
 ) -> Result<(), WriteFault>
     ensures answered { (raw : List ℕ) → Keeps line.now raw
-        → Answers (session (S.state source.old) now.old) (answered (session (S.state source.old) now.old) (line_of has_break raw))
-        (session (S.state source.new) now.new)
+        → LineAnswers (session (S.state source.old) now.old) (line_of has_break raw) (session (S.state source.new) now.new)
         (λ text. OnOk result (Appends (W.contents (watched writer.old)) (W.contents (watched writer.new)) text)) }
     ensures failed { OnErr result (IsTrue (has_failed writer.new)) }
 {
@@ -71,7 +70,8 @@ fn take_line<S: ScriptSource, W: Write>(
         → Progress start before (input ++ with_break run.now) line.new (W.contents (watched writer.new)) (session (S.state source.new) now.new)) }
     ensures err { OnErr result ((start : Session) (before : Option (List ℕ)) (input : List ℕ) → HasNoBreak run.now
         → Progress start before input line.old (W.contents (watched writer.old)) (session (S.state source.old) now.old)
-        → Answered start (input ++ with_break run.now) (session (S.state source.new) now.new)) }
+        → Answered start (input ++ with_break run.now) (session (S.state source.new) now.new)
+        × AreWholeLines (input ++ with_break run.now)) }
     ensures failed { OnErr result (IsTrue (has_failed writer.new)) }
 {
     line.extend(run);
@@ -95,7 +95,8 @@ fn take_piece<S: ScriptSource, W: Write>(
     ensures err { OnErr result ((start : Session) (before : Option (List ℕ)) (input : List ℕ)
         → Progress start before input line.old (W.contents (watched writer.old)) (session (S.state source.old) now.old)
         → (used : List ℕ) × (tail : List ℕ) × (piece.now ≡ used ++ tail)
-        × Answered start (input ++ used) (session (S.state source.new) now.new)) }
+        × Answered start (input ++ used) (session (S.state source.new) now.new)
+        × AreWholeLines (input ++ used)) }
     ensures failed { OnErr result (IsTrue (has_failed writer.new)) }
 {
     let mut rest = piece;
@@ -156,8 +157,9 @@ pub fn first_moment() -> Moment
 /// # Errors
 ///
 /// - [`ScriptFault::Read`]: the reader failed, or 2^40 reads came to no end. The lines that had come
-///   whole are answered.
-/// - [`ScriptFault::Write`]: the writer failed. What the lines before asked for is done.
+///   whole are answered, and of a part of a line after them nothing is done.
+/// - [`ScriptFault::Write`]: the writer failed. What the lines up to the one asked for whose answer
+///   was not written is done.
 pub fn script<S: ScriptSource, R: Read, W: Write>(
     alloc: Global,
     source: &mut S,
@@ -171,18 +173,20 @@ pub fn script<S: ScriptSource, R: Read, W: Write>(
         × Appends (W.contents (watched writer.old)) (W.contents (watched writer.new)) (output_of outcomes)
         × ScriptGives (session (S.state source.old) 0) input outcomes commands (session (S.state source.new) last)) }
 
-    // The reader failed, or gave 2^40 bytes and more: its whole lines were answered.
+    // The reader failed, or gave 2^40 bytes and more: its whole lines were answered, and a part of a
+    // line after them was not.
     ensures read { IsErrOf result ScriptFault.Read → (input : List ℕ) × (part : List ℕ)
         × (outcomes : List Outcome) × (commands : List (Command × ℕ)) × (last : ℕ)
         × Consumes (R.remaining (watched reader.old)) (R.remaining (watched reader.new)) (input ++ part)
-        × HasNoBreak part
+        × AreWholeLines input × HasNoBreak part
         × Appends (W.contents (watched writer.old)) (W.contents (watched writer.new)) (output_of outcomes)
         × ScriptGives (session (S.state source.old) 0) input outcomes commands (session (S.state source.new) last)
         × (IsTrue (has_failed reader.new) ⊎ (2 ^ 40 ≤ length (input ++ part))) }
 
-    // The writer failed: what the lines so far asked for is done.
+    // The writer failed: what the lines so far asked for is done. They had come whole, or the input
+    // had ended.
     ensures write { IsErrOf result ScriptFault.Write → (input : List ℕ) × (last : ℕ)
-        × Gave (R.remaining (watched reader.old)) (R.remaining (watched reader.new)) input
+        × Came (R.remaining (watched reader.old)) (R.remaining (watched reader.new)) input
         × Answered (session (S.state source.old) 0) input (session (S.state source.new) last)
         × IsTrue (has_failed writer.new) }
 {

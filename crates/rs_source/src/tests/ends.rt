@@ -1,6 +1,8 @@
+use crate::memory::script_bytes;
 use crate::script::{ScriptFault, script};
 use crate::tests::new_source;
 use rs_io::Watched;
+use std::alloc::Global;
 use std::cell::Cell;
 use std::io;
 use std::io::{ErrorKind, Read, Write};
@@ -164,46 +166,67 @@ fn the_limit_is_without_the_end(rt: HostRuntime) -> Result<(), Fail> {
 fn a_reader_fails_at_each_read(rt: HostRuntime) -> Result<(), Fail> {
     let held_back = Cell::new(0);
     let input = b"put a - a/b\nput b - a/b\npublish";
-    for (fail_at, wanted) in [
-        (0, b"".as_slice()),
-        (1, b""),
-        (2, b""),
-        (3, b"created 1970-01-01T00:00:00.001Z\n"),
-        (4, b"created 1970-01-01T00:00:00.001Z\n"),
-        (
-            5,
-            b"created 1970-01-01T00:00:00.001Z\ncreated 1970-01-01T00:00:00.002Z\n",
-        ),
-        (
-            6,
-            b"created 1970-01-01T00:00:00.001Z\ncreated 1970-01-01T00:00:00.002Z\n",
-        ),
-        (
-            7,
-            b"created 1970-01-01T00:00:00.001Z\ncreated 1970-01-01T00:00:00.002Z\n",
-        ),
-    ] {
-        let reader = Pieces {
-            rest: input,
-            piece: 5,
-            calls: 0,
-            fail_at,
-            held_back: &held_back,
-        };
-        let (output, ended) = run(&rt, reader)?;
-        assert!(rt;
-            ended == Err(ScriptFault::Read) && output.as_slice() == wanted,
-            "at {fail_at}"
-        );
+    let created = b"created 1970-01-01T00:00:00.001Z\ncreated 1970-01-01T00:00:00.002Z\n";
+    for piece in [1, 5, 12, input.len()] {
+        for fail_at in 0..=input.len().div_ceil(piece) {
+            let mut source = new_source(rt.alloc())?;
+            let mut reader = Watched::new(Pieces {
+                rest: input,
+                piece,
+                calls: 0,
+                fail_at,
+                held_back: &held_back,
+            });
+            let mut writer = Watched::new(Vec::new(rt.alloc()));
+            let ended = script(rt.alloc(), &mut source, &mut reader, &mut writer);
+            let come = input.len() - reader.get_ref().rest.len().min(input.len());
+            let whole = input[..come].iter().filter(|b| **b == b'\n').count();
+            let wanted = &created[..33 * whole.min(2)];
+            assert!(rt;
+                ended == Err(ScriptFault::Read) && writer.into_inner().as_slice() == wanted,
+                "pieces of {piece}, read {fail_at}"
+            );
+            assert!(rt; source.changes().len() == whole && source.number() == 0);
+        }
     }
     Ok(())
+}
+
+/// What a script of the first lines writes on a new source, and what `status` answers then.
+fn after(alloc: Global, lines: &[&[u8]]) -> Result<(Vec<u8>, Vec<u8>), Fail> {
+    let mut input = Vec::new(alloc);
+    for line in lines {
+        input.extend_from_slice(line)?;
+    }
+    let mut source = new_source(alloc)?;
+    let output = script_bytes(alloc, &mut source, input.as_slice())?;
+    let status = script_bytes(alloc, &mut source, b"status")?;
+    Ok((output, status))
 }
 
 #[test]
 fn a_writer_fails_at_each_call(rt: HostRuntime) -> Result<(), Fail> {
     let held_back = Cell::new(0);
-    let input = b"put a - a/b\npublish\ndelete a";
-    for (fail_at, changes, number) in [(0, 0, 0), (1, 1, 0), (2, 1, 0), (3, 1, 0), (4, 1, 1)] {
+    let lines = [
+        b"put a 6162 a/b\n".as_slice(),
+        b"show /resource/a\n",
+        b"publish\n",
+        b"show /resourcelist.xml\n",
+        b"no line\n",
+        b"put b - a/b\n",
+        b"delete a\n",
+        b"show /changelist/0.xml\n",
+        b"status",
+    ];
+    let mut input = Vec::new(rt.alloc());
+    let mut stages = Vec::new(rt.alloc());
+    stages.push(after(rt.alloc(), &lines[..0])?)?;
+    for (i, line) in lines.iter().enumerate() {
+        input.extend_from_slice(line)?;
+        stages.push(after(rt.alloc(), &lines[..i + 1])?)?;
+    }
+    let mut failures = 0;
+    for fail_at in 0..200 {
         let mut source = new_source(rt.alloc())?;
         let mut reader = Watched::new(input.as_slice());
         let mut writer = Watched::new(Held {
@@ -213,12 +236,31 @@ fn a_writer_fails_at_each_call(rt: HostRuntime) -> Result<(), Fail> {
             held_back: &held_back,
         });
         let ended = script(rt.alloc(), &mut source, &mut reader, &mut writer);
+        let written = writer.get_ref().bytes.as_slice();
+        let whole = stages.iter().filter(|s| s.0.len() <= written.len()).count();
+        let done = if fail_at == 0 {
+            0
+        } else {
+            whole.min(lines.len())
+        };
+        let status = script_bytes(rt.alloc(), &mut source, b"status")?;
+        if let Some((_, wanted)) = stages.get(done) {
+            assert!(rt;
+                status.as_slice() == wanted.as_slice(),
+                "after {done} lines, at {fail_at}"
+            );
+        }
+        if let Some((output, _)) = stages.last() {
+            assert!(rt; output.as_slice().starts_with(written), "at {fail_at}");
+            if ended == Ok(()) {
+                assert!(rt; written.len() == output.len() && done == lines.len());
+                break;
+            }
+        }
         assert!(rt; ended == Err(ScriptFault::Write), "at {fail_at}");
-        assert!(rt;
-            source.changes().len() == changes && source.number() == number,
-            "at {fail_at}"
-        );
+        failures = fail_at;
     }
+    assert!(rt; failures > 20, "{failures}");
     Ok(())
 }
 

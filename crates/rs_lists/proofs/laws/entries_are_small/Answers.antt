@@ -1,6 +1,9 @@
-use Rattle.rs_lists.proofs.Bounds.{resource_entry_small, change_entry_small, base_length}
+use Rattle.rs_lists.proofs.Bounds.{location_small, resource_entry_small, change_entry_small, base_length}
 use Rattle.rs_lists.proofs.LawfulSizes.{lawful_resource_small, lawful_change_small}
 use Rattle.rs_lists.proofs.laws.entries_are_small.Goals as goal
+
+pub returns-clause-location : goal.returns-clause-location
+returns-clause-location c = location_small
 
 pub returns-clause-resource : goal.returns-clause-resource
 returns-clause-resource c = lawful_resource_small

@@ -2,7 +2,7 @@
 use Rattle.std.proofs.Common.{◌≡◌, ◌++◌, ◌+◌, ◌-◌, ◌∙◌, List, ℕ, ap, append_assoc, arith, drop, length, sym, take, subst}
 use Rattle.std.proofs.lemmas.Grind.{common_steps}
 use Rattle.rs_io.specs.Watch.{watched}
-use Rattle.rs_source.specs.Lines.{with_break}
+use Rattle.rs_source.specs.Lines.{AreWholeLines, with_break}
 use Rattle.rs_source.specs.Progress.{Progress, Answered}
 use Rattle.rs_source.specs.Script.{session}
 use Rattle.rs_source.proofs.Breaks.{before_break, no_break, piece_cut}
@@ -18,12 +18,15 @@ returns-in_err-take_line-clause-err g c =
     let run = with_break (take i rest) in
     on_err c.from_residual.result
     (λ start before input p.
-    let P : List ℕ → Type 0 = λ bytes. Answered start bytes (session (g.S.ScriptSource.state c.take_line.new.source) c.take_line.new.now) in (
+    let P : List ℕ → Type 0 = λ bytes. Answered start bytes (session (g.S.ScriptSource.state c.take_line.new.source) c.take_line.new.now) × AreWholeLines bytes in
+    let both : P (input ++ (inv.0 ++ run)) =
+    subst P (append_assoc input inv.0 run)
+    (c.in_err-take_line.ensures.err start before (input ++ inv.0) (before_break rest i found) (inv.2 start before input p)) in (
       inv.0 ++ run,
       drop (i + 1) rest,
       piece_cut c.args.piece.now inv.0 rest i inv.1 found,
-      subst P (append_assoc input inv.0 run)
-          (c.in_err-take_line.ensures.err start before (input ++ inv.0) (before_break rest i found) (inv.2 start before input p)),
+      both.0,
+      both.1,
     ))
 
 pub loop-i-preserved : goal.loop-i-preserved
