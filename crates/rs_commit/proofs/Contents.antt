@@ -1,0 +1,169 @@
+-- What a slot says, and how the slots of an image stand by it.
+use Rattle.std.proofs.Common.{true≢false, ◌≡◌, ℕ, ◌<◌, Bool, true, false, ◌&&◌, nat_lt, nat_eq, if◌then◌else◌, List, length, take, Some, None, refl, sym, ◌∙◌, ap, subst, arith}
+use Rattle.std.proofs.lemmas.Bool.{and_parts, and_from}
+use Rattle.std.proofs.lemmas.Bool.Decides.{nat_tests}
+use Rattle.rs_commit.specs.declared.root.Root.{Root}
+use Rattle.rs_commit.specs.declared.slot.Slot.{Slot}
+use Rattle.rs_commit.specs.declared.slot.Slot.TheVariants.{First, Second}
+use Rattle.rs_commit.specs.declared.slot.Content.{Content}
+use Rattle.rs_commit.specs.declared.slot.Content.TheVariants.{Closed, Unknown, Open}
+use Rattle.rs_commit.specs.Slots.{other, block, gate, version, root_in, is_open, content, Standing, pick, current, OpensTo}
+use Rattle.rs_commit.proofs.Blocks.{front_blocks}
+
+is_not : (m n : ℕ) → (m ≡ n → ⊥) → nat_eq m n ≡ false
+is_not m n differs = grind (arith, nat_tests)
+
+is_same : (m n : ℕ) → m ≡ n → nat_eq m n ≡ true
+is_same m n same = grind (arith, nat_tests)
+
+same_from : (m n : ℕ) → nat_eq m n ≡ true → m ≡ n
+same_from m n is = grind (arith, nat_tests)
+
+above : (m n : ℕ) → m < n → nat_lt m n ≡ true
+above m n lt = grind (arith, nat_tests)
+
+below : (m n : ℕ) → m < n → nat_lt n m ≡ false
+below m n lt = grind (arith, nat_tests)
+
+never : (a b : Bool) → b ≡ false → (a && b) ≡ false
+never true b off = off
+never false b off = refl
+
+-- a slot whose gate isn't 1 says nothing
+pub closed : (bytes : List ℕ) → (gate bytes ≡ 1 → ⊥) → content bytes ≡ Closed
+unfolding content
+closed bytes shut =
+    let off : is_open bytes ≡ false = never (nat_eq (length bytes) 512) (nat_eq (gate bytes) 1) (is_not (gate bytes) 1 shut) in
+    ap (λ (b : Bool). if b then (if nat_eq (version bytes) 1 then Open (root_in bytes) else Unknown) else Closed) off
+
+-- a whole one whose gate is 1 tells the root of a known version
+pub opened : (bytes : List ℕ) (root : Root) → length bytes ≡ 512 → gate bytes ≡ 1 → version bytes ≡ 1 → root_in bytes ≡ root → content bytes ≡ Open root
+unfolding content
+opened bytes root long one known tells =
+    let on : is_open bytes ≡ true = and_from (nat_eq (length bytes) 512) (nat_eq (gate bytes) 1) (is_same (length bytes) 512 long) (is_same (gate bytes) 1 one) in
+    (λ i. if on i then (if is_same (version bytes) 1 known i then Open (root_in bytes) else Unknown) else Closed) ∙ ap Open tells
+
+open_from : (o k : Bool) (a root : Root) → (if o then (if k then Open a else Unknown) else Closed) ≡ Open root → o ≡ true
+open_from true k a root e = refl
+open_from false k a root e = absurd cc
+
+closed_from : (o k : Bool) (a : Root) → (if o then (if k then Open a else Unknown) else Closed) ≡ Closed → o ≡ false
+closed_from false k a e = refl
+closed_from true true a e = absurd cc
+closed_from true false a e = absurd cc
+
+-- the gate of one that tells a root is 1
+pub gate_of_open : (bytes : List ℕ) (root : Root) → content bytes ≡ Open root → gate bytes ≡ 1
+unfolding content
+gate_of_open bytes root is =
+    let on : is_open bytes ≡ true = open_from (is_open bytes) (nat_eq (version bytes) 1) (root_in bytes) root is in
+    same_from (gate bytes) 1 (and_parts (nat_eq (length bytes) 512) (nat_eq (gate bytes) 1) on).1
+
+-- and that of a whole one that says nothing isn't
+pub gate_of_closed : (bytes : List ℕ) → length bytes ≡ 512 → content bytes ≡ Closed → gate bytes ≡ 1 → ⊥
+unfolding content
+gate_of_closed bytes long is one =
+    let off : is_open bytes ≡ false = closed_from (is_open bytes) (nat_eq (version bytes) 1) (root_in bytes) is in
+    let on : is_open bytes ≡ true = and_from (nat_eq (length bytes) 512) (nat_eq (gate bytes) 1) (is_same (length bytes) 512 long) (is_same (gate bytes) 1 one) in
+    true≢false (sym on ∙ off)
+
+-- one slot tells a root, and the other one says nothing
+pub one_open : (image : List ℕ) (s : Slot) (root : Root) → content (block image s) ≡ Open root → content (block image (other s)) ≡ Closed
+    → current image ≡ Some (record { slot = s; root = root; spare_open = false })
+unfolding current
+one_open image First root here there = λ i. pick (here i) (there i)
+one_open image Second root here there = λ i. pick (there i) (here i)
+
+-- both tell one, and this one is newer
+pub two_open : (image : List ℕ) (s : Slot) (root spare : Root) → content (block image s) ≡ Open root → content (block image (other s)) ≡ Open spare → spare.generation < root.generation
+    → current image ≡ Some (record { slot = s; root = root; spare_open = true })
+unfolding current
+two_open image First root spare here there greater =
+    (λ i. pick (here i) (there i))
+    ∙ ap (λ (b : Bool). if b then Some (record { slot = First; root = root; spare_open = true }) else (if nat_lt root.generation spare.generation then Some (record { slot = Second; root = spare; spare_open = true }) else None))
+    (above spare.generation root.generation greater)
+two_open image Second root spare here there greater =
+    (λ i. pick (there i) (here i))
+    ∙ (λ i. if below spare.generation root.generation greater i then Some (record { slot = First; root = spare; spare_open = true })
+    else (if above spare.generation root.generation greater i then Some (record { slot = Second; root = root; spare_open = true }) else None))
+
+-- What the slots say where they stand like this.
+pub record Says (slots : Standing) (says : Slot → Content) : Type 0 where
+  pub here : says slots.slot ≡ Open slots.root
+  pub told : slots.spare_open ≡ true → (root : Root) × (says (other slots.slot) ≡ Open root)
+  pub shut : slots.spare_open ≡ false → says (other slots.slot) ≡ Closed
+
+says_alone : (says : Slot → Content) (s : Slot) (root : Root) (slots : Standing) → says s ≡ Open root → says (other s) ≡ Closed
+    → Some (record { slot = s; root = root; spare_open = false }) ≡ Some slots → Says slots says
+says_alone says s root slots here there e =
+    let alone : Standing = record { slot = s; root = root; spare_open = false } in
+    let same : Some alone ≡ Some slots = e in
+    let is : alone ≡ slots = cc in
+    subst (λ (x : Standing). Says x says) is (record { here = here; told = λ on. absurd (true≢false (sym on)); shut = λ _. there })
+
+says_both : (says : Slot → Content) (s : Slot) (root spare : Root) (slots : Standing) → says s ≡ Open root → says (other s) ≡ Open spare
+    → Some (record { slot = s; root = root; spare_open = true }) ≡ Some slots → Says slots says
+says_both says s root spare slots here there e =
+    let both : Standing = record { slot = s; root = root; spare_open = true } in
+    let same : Some both ≡ Some slots = e in
+    let is : both ≡ slots = cc in
+    subst (λ (x : Standing). Says x says) is (record { here = here; told = λ _. (spare, there); shut = λ off. absurd (true≢false off) })
+
+says_newer : (says : Slot → Content) (a b : Root) (u v : Bool) (slots : Standing) → says First ≡ Open a → says Second ≡ Open b
+    → (if u then Some (record { slot = First; root = a; spare_open = true }) else (if v then Some (record { slot = Second; root = b; spare_open = true }) else None)) ≡ Some slots
+    → Says slots says
+says_newer says a b true v slots one two e = says_both says First a b slots one two e
+says_newer says a b false true slots one two e = says_both says Second b a slots two one e
+says_newer says a b false false slots one two e = absurd cc
+
+says_from : (says : Slot → Content) (c d : Content) (slots : Standing) → says First ≡ c → says Second ≡ d → pick c d ≡ Some slots → Says slots says
+says_from says (Open a) Closed slots one two e = says_alone says First a slots one two e
+says_from says Closed (Open b) slots one two e = says_alone says Second b slots two one e
+says_from says (Open a) (Open b) slots one two e = says_newer says a b (nat_lt b.generation a.generation) (nat_lt a.generation b.generation) slots one two e
+says_from says (Open a) Unknown slots one two e = absurd cc
+says_from says Closed Closed slots one two e = absurd cc
+says_from says Closed Unknown slots one two e = absurd cc
+says_from says Unknown d slots one two e = absurd cc
+
+pub says : (image : List ℕ) (slots : Standing) → current image ≡ Some slots → Says slots (λ s. content (block image s))
+unfolding current
+says image slots is = says_from (λ s. content (block image s)) (content (block image First)) (content (block image Second)) slots refl refl is
+
+-- how the slots stand depends on the first 1,024 bytes alone
+pub current_stays : (one two : List ℕ) → take 1024 one ≡ take 1024 two → current one ≡ current two
+unfolding current
+current_stays one two same = λ i. pick (content (front_blocks one two same First i)) (content (front_blocks one two same Second i))
+
+pub opens_stays : (one two : List ℕ) (root : Root) → take 1024 one ≡ take 1024 two → OpensTo root one → OpensTo root two
+opens_stays one two root same opens = (opens.0, sym (current_stays one two same) ∙ opens.1, opens.2)
+
+-- an image opens to one root
+pub opens_once : (image : List ℕ) (a b : Root) → OpensTo a image → OpensTo b image → a ≡ b
+opens_once image a b one two =
+    let same : Some one.0 ≡ Some two.0 = sym one.1 ∙ two.1 in
+    let stands : one.0 ≡ two.0 = cc in
+    sym one.2 ∙ ap (λ (s : Standing). s.root) stands ∙ two.2
+
+pub same_blocks : (one two : List ℕ) (s : Slot) → block one s ≡ block two s → block one (other s) ≡ block two (other s) → current one ≡ current two
+unfolding current
+same_blocks one two First here there = λ i. pick (content (here i)) (content (there i))
+same_blocks one two Second here there = λ i. pick (content (there i)) (content (here i))
+
+-- a whole one whose gate is 1 and whose version isn't
+pub unknown : (bytes : List ℕ) → length bytes ≡ 512 → gate bytes ≡ 1 → (version bytes ≡ 1 → ⊥) → content bytes ≡ Unknown
+unfolding content
+unknown bytes long one differs =
+    let on : is_open bytes ≡ true = and_from (nat_eq (length bytes) 512) (nat_eq (gate bytes) 1) (is_same (length bytes) 512 long) (is_same (gate bytes) 1 one) in
+    λ i. if on i then (if is_not (version bytes) 1 differs i then Open (root_in bytes) else Unknown) else Closed
+
+-- a block that the disk doesn't have says nothing
+pub missing : (bytes : List ℕ) → length bytes < 512 → content bytes ≡ Closed
+unfolding content
+missing bytes short =
+    let size : nat_eq (length bytes) 512 ≡ false = grind (arith, nat_tests) in
+    ap (λ (b : Bool). if b && nat_eq (gate bytes) 1 then (if nat_eq (version bytes) 1 then Open (root_in bytes) else Unknown) else Closed) size
+
+-- the slots of an image stand by what they say
+pub current_by : (image : List ℕ) (first second : Content) → first ≡ content (block image First) → second ≡ content (block image Second) → current image ≡ pick first second
+unfolding current
+current_by image first second one two = λ i. pick (sym one i) (sym two i)

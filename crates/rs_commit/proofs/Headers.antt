@@ -1,0 +1,22 @@
+-- What the first 54 bytes of a whole block say.
+use Rattle.std.proofs.Common.{◌≡◌, ℕ, ◌<◌, List, length, take, get_or, sym, ◌∙◌, ap, arith}
+use Rattle.std.proofs.lemmas.List.{get_or-take}
+use Rattle.rs_commit.specs.declared.root.Root.{Root}
+use Rattle.rs_commit.specs.declared.slot.Content.TheVariants.{Closed, Unknown, Open}
+use Rattle.rs_commit.specs.Slots.{root_in, content}
+use Rattle.rs_commit.proofs.Contents.{closed, opened, unknown}
+use Rattle.rs_commit.proofs.Payloads.{first_bytes}
+
+module _ (bytes block : List ℕ) (long : length block ≡ 512) (are : bytes ≡ take 54 block) where
+  byte_at : (i : ℕ) → i < 54 → get_or block i 0 ≡ get_or bytes i 0
+  byte_at i lt = sym (ap (λ (l : List ℕ). get_or l i 0) are ∙ get_or-take 54 block i 0 lt)
+
+  pub says_closed : (get_or bytes 0 0 ≡ 1 → ⊥) → Closed ≡ content block
+  says_closed shut = sym (closed block (λ one. shut (sym (byte_at 0 (omega arith)) ∙ one)))
+
+  pub says_unknown : get_or bytes 0 0 ≡ 1 → (get_or bytes 1 0 ≡ 1 → ⊥) → Unknown ≡ content block
+  says_unknown one differs = sym (unknown block long (byte_at 0 (omega arith) ∙ one) (λ known. differs (sym (byte_at 1 (omega arith)) ∙ known)))
+
+  pub says_open : get_or bytes 0 0 ≡ 1 → get_or bytes 1 0 ≡ 1 → (root : Root) → root ≡ root_in bytes → Open root ≡ content block
+  says_open one known root tells =
+      sym (opened block root long (byte_at 0 (omega arith) ∙ one) (byte_at 1 (omega arith) ∙ known) (sym (tells ∙ ap root_in are ∙ first_bytes block)))

@@ -1,0 +1,7 @@
+pub mod Blocks
+pub mod Contents
+pub mod Payloads
+pub mod Ready
+pub mod Phases
+pub mod Runs
+pub mod Headers

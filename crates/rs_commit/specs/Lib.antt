@@ -1,0 +1,4 @@
+pub mod Slots
+pub mod Commit
+pub mod Format
+pub mod Laws

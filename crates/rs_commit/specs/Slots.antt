@@ -1,0 +1,93 @@
+-- The root slots of a disk, and which of them holds the root. A slot is a block of 512 bytes.
+use Rattle.std.specs.Prelude.{◌≡◌, ◌<◌, ◌^◌, ℕ, Bool, true, false, ◌&&◌, nat_lt, nat_eq, if◌then◌else◌, List, [], ◌∷◌, length, take, drop, get_or, Option, Some, None}
+use Rattle.std.specs.Int.{from_be_bytes, to_be_bytes, w32, w64}
+use Rattle.std.specs.List.{concat}
+use Rattle.rs_commit.specs.declared.root.Root.{Root}
+use Rattle.rs_commit.specs.declared.slot.Slot.{Slot}
+use Rattle.rs_commit.specs.declared.slot.Slot.TheVariants.{First, Second}
+use Rattle.rs_commit.specs.declared.slot.Content.{Content}
+use Rattle.rs_commit.specs.declared.slot.Content.TheVariants.{Closed, Unknown, Open}
+
+-- where a slot begins on the disk
+abbrev pub offset : Slot → ℕ
+offset First = 0
+offset Second = 512
+
+abbrev pub other : Slot → Slot
+other First = Second
+other Second = First
+
+-- the block of a slot; it is short where the disk ends in it
+abbrev pub block : List ℕ → Slot → List ℕ
+block image slot = take 512 (drop (offset slot) image)
+
+-- n bytes of a block, from one on
+abbrev pub field : List ℕ → ℕ → ℕ → List ℕ
+field bytes at n = take n (drop at bytes)
+
+-- byte 0 is the gate, byte 1 the version
+abbrev pub gate : List ℕ → ℕ
+gate bytes = get_or bytes 0 0
+
+abbrev pub version : List ℕ → ℕ
+version bytes = get_or bytes 1 0
+
+-- the root that bytes 2 to 53 tell, each number big endian
+unfoldable pub root_in : List ℕ → Root
+root_in bytes = record {
+  generation = from_be_bytes w64 (field bytes 2 8);
+  directory = record { first = from_be_bytes w32 (field bytes 10 4); blocks = from_be_bytes w32 (field bytes 14 4) };
+  length = from_be_bytes w32 (field bytes 18 4);
+  sha256 = field bytes 22 32;
+}
+
+-- a slot is open where its block is whole and its gate is 1
+abbrev pub is_open : List ℕ → Bool
+is_open bytes = nat_eq (length bytes) 512 && nat_eq (gate bytes) 1
+
+-- what a slot says: nothing where it isn't open, and only version 1 is known
+unfoldable pub content : List ℕ → Content
+content bytes = if is_open bytes then (if nat_eq (version bytes) 1 then Open (root_in bytes) else Unknown) else Closed
+
+-- How the slots stand: which one holds the root, the root, and whether the other one, the spare, is open.
+pub record Standing : Type 0 where
+  pub slot : Slot
+  pub root : Root
+  pub spare_open : Bool
+
+-- the slot of the greater generation; there is none where they are equal
+abbrev pub newer : Root → Root → Option Standing
+newer first second =
+    if nat_lt second.generation first.generation then Some (record { slot = First; root = first; spare_open = true })
+    else (if nat_lt first.generation second.generation then Some (record { slot = Second; root = second; spare_open = true }) else None)
+
+-- The rule: the open slot holds the root, of two open ones the newer. There is none where no slot is open, where an open
+-- one has an unknown version, and where both are open with equal generations.
+abbrev pub pick : Content → Content → Option Standing
+pick (Open first) Closed = Some (record { slot = First; root = first; spare_open = false })
+pick Closed (Open second) = Some (record { slot = Second; root = second; spare_open = false })
+pick (Open first) (Open second) = newer first second
+pick first second = None
+
+-- how the slots of a whole image stand
+unfoldable pub current : List ℕ → Option Standing
+current image = pick (content (block image First)) (content (block image Second))
+
+-- an image opens to this root
+abbrev pub OpensTo : Root → List ℕ → Type 0
+OpensTo root image = (slots : Standing) × (current image ≡ Some slots) × (slots.root ≡ root)
+
+-- bytes 1 to 53 of a slot that tells a root: version 1, and the fields of the root
+unfoldable pub payload_of : Root → List ℕ
+payload_of root =
+    concat
+    ((1 ∷ []) ∷ to_be_bytes w64 root.generation ∷ to_be_bytes w32 root.directory.first ∷ to_be_bytes w32 root.directory.blocks
+    ∷ to_be_bytes w32 root.length ∷ root.sha256 ∷ [])
+
+-- The fields of a root fit their places.
+pub record IsLawfulRoot (root : Root) : Type 0 where
+  pub generation : root.generation < 2 ^ 64
+  pub first : root.directory.first < 2 ^ 32
+  pub blocks : root.directory.blocks < 2 ^ 32
+  pub bytes : root.length < 2 ^ 32
+  pub digest : length root.sha256 ≡ 32

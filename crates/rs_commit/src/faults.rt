@@ -1,0 +1,48 @@
+//! Why slots were not opened, or no root was put in place of another.
+use rs_disk::Fault;
+use thiserror::Error;
+
+/// Why slots were not opened.
+#[derive(Clone, Copy, Debug, PartialEq, Eq, Error)]
+pub enum SlotFault {
+    /// No slot is open, an open one has an unknown version, or both are open with equal
+    /// generations.
+    #[error("the disk holds no source")]
+    NotASource,
+    /// A device call failed.
+    #[error("the device failed")]
+    Device,
+}
+
+impl From<Fault> for SlotFault {
+    ghost use Rattle.rs_commit.specs.declared.faults.SlotFault.TheVariants.{Device};
+    ghost use Rattle.std.specs.Prelude.{◌≡◌};
+
+    ghost from_gives = { λ _ fault. fault ≡ Device };
+
+    fn from(_: Fault) -> Self {
+        SlotFault::Device
+    }
+}
+
+/// Why no root was put in place of another.
+#[derive(Clone, Copy, Debug, PartialEq, Eq, Error)]
+pub enum CommitFault {
+    /// The generation of the root is at its last value.
+    #[error("no generation is left")]
+    Exhausted,
+    /// A device call failed.
+    #[error("the device failed")]
+    Device,
+}
+
+impl From<Fault> for CommitFault {
+    ghost use Rattle.rs_commit.specs.declared.faults.CommitFault.TheVariants.{Device};
+    ghost use Rattle.std.specs.Prelude.{◌≡◌};
+
+    ghost from_gives = { λ _ fault. fault ≡ Device };
+
+    fn from(_: Fault) -> Self {
+        CommitFault::Device
+    }
+}

@@ -1,0 +1,72 @@
+//! A root, and how a slot spells it.
+ghost use Rattle.std.specs.Prelude.{◌≡◌, ◌+◌, ◌≤◌, length};
+ghost use Rattle.rs_disk.specs.Medium.{over};
+ghost use Rattle.rs_commit.specs.Slots.{field as field_of, payload_of, root_in as root_told, IsLawfulRoot};
+
+use rs_extent::Extent;
+
+/// The version of the slots that are written, and the one version that is known.
+pub(crate) const VERSION: u8 = 1;
+
+/// What a slot says: which commit it came by, and where the directory lies.
+#[derive(Clone, Copy, Debug, PartialEq, Eq)]
+pub struct Root {
+    /// One more than that of the root before it. Of two open slots the one with the greater
+    /// generation holds the root.
+    pub generation: u64,
+    /// The blocks of the directory.
+    pub directory: Extent,
+    /// The length of the directory in bytes.
+    pub length: u32,
+    /// The SHA-256 (FIPS 180-4) of the directory's bytes.
+    pub sha256: [u8; 32],
+}
+
+/// The bytes 1 to 53 of a slot that tells a root.
+pub(crate) fn payload(root: Root) -> [u8; 53]
+    ensures bytes { result ≡ payload_of root }
+    ensures lawful { IsLawfulRoot root }
+{
+    let mut bytes = [0; 53];
+    put(&mut bytes, 0, &[VERSION]);
+    put(&mut bytes, 1, &root.generation.to_be_bytes());
+    put(&mut bytes, 9, &root.directory.first.to_be_bytes());
+    put(&mut bytes, 13, &root.directory.blocks.to_be_bytes());
+    put(&mut bytes, 17, &root.length.to_be_bytes());
+    put(&mut bytes, 21, &root.sha256);
+    bytes
+}
+
+/// Puts a field in place of the bytes from `at` on.
+pub(crate) fn put(bytes: &mut [u8], at: usize, field: &[u8])
+    requires { at + length field.now ≤ length bytes.old }
+    ensures { bytes.new ≡ over bytes.old at field.now }
+{
+    bytes[at..at + field.len()].copy_from_slice(field);
+}
+
+/// The root that the first 54 bytes of a slot tell.
+#[tactic(auto, unfolding(crate::specs::Slots::root_in))]
+pub(crate) fn root_in(bytes: &[u8; 54]) -> Root
+    ensures { result ≡ root_told bytes.now }
+{
+    Root {
+        generation: u64::from_be_bytes(field(bytes, 2)),
+        directory: Extent {
+            first: u32::from_be_bytes(field(bytes, 10)),
+            blocks: u32::from_be_bytes(field(bytes, 14)),
+        },
+        length: u32::from_be_bytes(field(bytes, 18)),
+        sha256: field(bytes, 22),
+    }
+}
+
+// The `N` bytes from `at` on.
+fn field<const N: usize>(bytes: &[u8], at: usize) -> [u8; N]
+    requires { at + N ≤ length bytes.now }
+    ensures { result ≡ field_of bytes.now at N }
+{
+    let mut field = [0; N];
+    field.copy_from_slice(&bytes[at..at + N]);
+    field
+}

@@ -1,0 +1,54 @@
+//! One of the two slots, and what it says.
+ghost use Rattle.std.specs.Prelude.{◌≡◌};
+ghost use Rattle.rs_commit.specs.Slots.{offset as offset_of, other as other_of};
+
+use crate::Root;
+
+/// The gate of a slot that is open; every other value is a closed gate.
+pub(crate) const OPEN: u8 = 1;
+
+/// The gate of a slot that is closed by a commit or by formatting.
+pub(crate) const CLOSED: u8 = 0;
+
+/// How many bytes a block has.
+pub(crate) const BLOCK: u64 = 512;
+
+/// One of the two slots: block 0 or block 1 of the disk.
+#[derive(Clone, Copy, Debug, PartialEq, Eq)]
+pub(crate) enum Slot {
+    First,
+    Second,
+}
+
+impl Slot {
+    /// The other slot.
+    pub(crate) fn other(self) -> Slot
+        ensures { result ≡ other_of self }
+    {
+        match self {
+            Slot::First => Slot::Second,
+            Slot::Second => Slot::First,
+        }
+    }
+
+    /// Where the slot begins, in bytes.
+    pub(crate) fn offset(self) -> u64
+        ensures { result ≡ offset_of self }
+    {
+        match self {
+            Slot::First => 0,
+            Slot::Second => BLOCK,
+        }
+    }
+}
+
+/// What a slot says.
+#[derive(Clone, Copy)]
+pub(crate) enum Content {
+    /// Nothing: its gate is closed, or the disk has no such block.
+    Closed,
+    /// It is open, and of a version that isn't known.
+    Unknown,
+    /// It is open and tells a root.
+    Open(Root),
+}

@@ -1,0 +1,193 @@
+//! The slots of a disk, and the change of the root.
+ghost use Rattle.std.specs.Prelude.{◌≡◌, ◌+◌, ◌<◌, ◌≤◌, ◌^◌, ◌↔◌, List, [], ◌∷◌, ℕ, OnOk, OnErr, IsErrOf};
+ghost use Rattle.std.specs.Bool.{OnTrue, OnFalse};
+ghost use Rattle.rs_disk.specs.Medium.{IsImage, over, resting};
+ghost use Rattle.rs_disk.specs.Leaves.{Leaves, Runs, Torn, TornFrom};
+ghost use Rattle.rs_commit.specs.Slots.{OpensTo, offset, other, pick, newer as newer_of, payload_of, IsLawfulRoot};
+ghost use Rattle.rs_commit.specs.Commit.{SameBehind, IsReady, OldOrNew, next, with_root, device_in_commit};
+
+use crate::root::payload;
+use crate::settled::write_settled;
+use crate::slot::{CLOSED, Content, OPEN, Slot};
+use crate::{CommitFault, Root};
+use rs_disk::{Disk, Fault};
+use rs_extent::Extent;
+use std::cmp::Ordering;
+use std::marker::Model;
+
+/// The slots of a disk, as [`open_slots`](crate::open_slots) found them.
+///
+/// Contracts see which slot holds the root, the root, and whether the other slot, the spare, is
+/// open.
+#[derive(Debug, Drop)]
+pub struct Slots {
+    slot: Slot,
+    root: Root,
+    spare_open: bool,
+}
+
+impl Model for Slots {
+    ghost use Rattle.rs_commit.specs.Slots.{Standing};
+
+    ghost Value = { Standing };
+
+    ghost view = { λ s. record { slot = s.slot; root = s.root; spare_open = s.spare_open } };
+}
+
+impl Slots {
+    /// The root.
+    pub fn root(&self) -> Root
+        ensures { result ≡ self.now.root }
+    {
+        self.root
+    }
+
+    /// The slots by what they say, or `None` where they tell no root.
+    pub(crate) fn of(first: Content, second: Content) -> Option<Slots>
+        ensures { result ≡ pick first second }
+    {
+        match (first, second) {
+            (Content::Open(root), Content::Closed) => Some(Slots {
+                slot: Slot::First,
+                root,
+                spare_open: false,
+            }),
+            (Content::Closed, Content::Open(root)) => Some(Slots {
+                slot: Slot::Second,
+                root,
+                spare_open: false,
+            }),
+            (Content::Open(first), Content::Open(second)) => Slots::newer(first, second),
+            _ => None,
+        }
+    }
+
+    // The slots where both are open.
+    fn newer(first: Root, second: Root) -> Option<Slots>
+        ensures { result ≡ newer_of first second }
+    {
+        let (slot, root) = match first.generation.cmp(&second.generation) {
+            Ordering::Greater => (Slot::First, first),
+            Ordering::Less => (Slot::Second, second),
+            Ordering::Equal => return None,
+        };
+        Some(Slots {
+            slot,
+            root,
+            spare_open: true,
+        })
+    }
+
+    /// Puts the root of the next generation in the place of this one, in one step: stopped at any
+    /// moment, each image opens to the old root or to the new one.
+    ///
+    /// The disk has blocks 0 and 1. The promise is for slots that are as a read gives them, where
+    /// both blocks are settled (`IsReady`): after [`open_slots`](crate::open_slots) on a disk that
+    /// was synced, and after each commit that succeeded. It makes six device calls at most.
+    ///
+    /// # Errors
+    /// [`CommitFault::Exhausted`] exactly where the generation is at its last value, which changes
+    /// nothing; [`CommitFault::Device`] where a device call failed. After that the slots must be
+    /// settled by a sync and opened again.
+    pub fn commit<D: Disk>(
+        &mut self,
+        disk: &mut D,
+        directory: Extent,
+        length: u32,
+        sha256: &[u8; 32],
+    ) -> Result<(), CommitFault>
+        requires { 1024 ≤ (D.state disk.old).size }
+
+        // What holds of every device, whatever the slots are.
+        ensures runs { Runs (D.state disk.old) (D.state disk.new) (device_in_commit result) }
+        ensures outside { SameBehind (D.state disk.new).now.seen (D.state disk.old).now.seen }
+
+        // Stopped at any moment, the disk opens to the old root or to the new one.
+        ensures any_moment { IsReady self.old (D.state disk.old).now → Leaves (D.state disk.old) (D.state disk.new)
+            (λ _. OldOrNew (D.state disk.old).now self.old.root (next self.old.root directory length sha256.now)) }
+
+        // After it, to the new one, nothing is unsettled, and the slots can be changed again.
+        ensures root { OnOk result (self.new.root ≡ next self.old.root directory length sha256.now) }
+        ensures opens { OnOk result (IsReady self.old (D.state disk.old).now → (image : List ℕ) → IsImage (D.state disk.new).now image → OpensTo self.new.root image) }
+        ensures ready { OnOk result (IsReady self.old (D.state disk.old).now → IsReady self.new (D.state disk.new).now) }
+        ensures written { OnOk result ((D.state disk.new).now ≡ resting (with_root (D.state disk.old).now.seen (other self.old.slot) self.new.root)) }
+
+        // Without a generation to give it, nothing changes.
+        ensures exhausted { IsErrOf result CommitFault.Exhausted ↔ (2 ^ 64 ≤ self.old.root.generation + 1) }
+        ensures untouched { IsErrOf result CommitFault.Exhausted → D.state disk.new ≡ D.state disk.old }
+        ensures kept { OnErr result (self.new ≡ self.old) }
+    {
+        if self.root.generation == u64::MAX {
+            return Err(CommitFault::Exhausted);
+        }
+        let root = Root {
+            generation: self.root.generation + 1,
+            directory,
+            length,
+            sha256: *sha256,
+        };
+        self.put_root(disk, root)?;
+        *self = Slots {
+            slot: self.slot.other(),
+            root,
+            spare_open: true,
+        };
+        Ok(())
+    }
+
+    // Puts a root into the spare. The spare is closed before its other bytes are written, and
+    // opened after they are settled.
+    fn put_root<D: Disk>(&self, disk: &mut D, root: Root) -> Result<(), Fault>
+        requires { 1024 ≤ (D.state disk.old).size }
+        ensures runs { Runs (D.state disk.old) (D.state disk.new) result }
+        ensures outside { SameBehind (D.state disk.new).now.seen (D.state disk.old).now.seen }
+        ensures any_moment { self.now.root.generation < root.generation → IsReady self.now (D.state disk.old).now
+            → Leaves (D.state disk.old) (D.state disk.new) (λ _. OldOrNew (D.state disk.old).now self.now.root root) }
+        ensures written { OnOk result ((D.state disk.new).now ≡ resting (with_root (D.state disk.old).now.seen (other self.now.slot) root)) }
+        ensures lawful { IsLawfulRoot root }
+    {
+        let spare = self.slot.other();
+        close_gate(disk, spare, self.spare_open)?;
+        write_behind(disk, spare, root)?;
+        open_gate(disk, spare)
+    }
+}
+
+// Closes a slot. One that is closed already is settled so, and is not written: its other bytes may
+// be torn, and within a write its gate may be anything.
+fn close_gate<D: Disk>(disk: &mut D, slot: Slot, is_open: bool) -> Result<(), Fault>
+    requires { 1024 ≤ (D.state disk.old).size }
+    ensures runs { Runs (D.state disk.old) (D.state disk.new) result }
+    ensures torn { Torn (offset slot) 1 (D.state disk.old).now.seen (D.state disk.new).now.seen }
+    ensures any_moment { OnTrue is_open (Leaves (D.state disk.old) (D.state disk.new) (λ _. TornFrom (D.state disk.old).now (offset slot) 1)) }
+    ensures closed { OnTrue is_open (OnOk result ((D.state disk.new).now ≡ resting (over (D.state disk.old).now.seen (offset slot) (0 ∷ [])))) }
+    ensures nothing { OnFalse is_open (D.state disk.new ≡ D.state disk.old) }
+{
+    if is_open {
+        write_settled(disk, slot.offset(), &[CLOSED])?;
+    }
+    Ok(())
+}
+
+// Writes a root into a slot, behind its gate.
+fn write_behind<D: Disk>(disk: &mut D, slot: Slot, root: Root) -> Result<(), Fault>
+    requires { 1024 ≤ (D.state disk.old).size }
+    ensures runs { Runs (D.state disk.old) (D.state disk.new) result }
+    ensures torn { Torn (offset slot + 1) 53 (D.state disk.old).now.seen (D.state disk.new).now.seen }
+    ensures any_moment { Leaves (D.state disk.old) (D.state disk.new) (λ _. TornFrom (D.state disk.old).now (offset slot + 1) 53) }
+    ensures written { OnOk result ((D.state disk.new).now ≡ resting (over (D.state disk.old).now.seen (offset slot + 1) (payload_of root))) }
+    ensures lawful { IsLawfulRoot root }
+{
+    write_settled(disk, slot.offset() + 1, &payload(root))
+}
+
+// Opens a slot.
+fn open_gate<D: Disk>(disk: &mut D, slot: Slot) -> Result<(), Fault>
+    requires { 1024 ≤ (D.state disk.old).size }
+    ensures runs { Runs (D.state disk.old) (D.state disk.new) result }
+    ensures torn { Torn (offset slot) 1 (D.state disk.old).now.seen (D.state disk.new).now.seen }
+    ensures any_moment { Leaves (D.state disk.old) (D.state disk.new) (λ _. TornFrom (D.state disk.old).now (offset slot) 1) }
+    ensures opened { OnOk result ((D.state disk.new).now ≡ resting (over (D.state disk.old).now.seen (offset slot) (1 ∷ []))) }
+{
+    write_settled(disk, slot.offset(), &[OPEN])
+}
