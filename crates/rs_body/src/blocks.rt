@@ -1,0 +1,39 @@
+//! How many blocks a body needs, and whether an extent has them.
+ghost use Rattle.std.specs.Prelude.{◌≡◌, ◌↔◌, ◌*◌, IsTrue};
+ghost use Rattle.rs_body.specs.Blocks.{IsOnDisk, blocks_of, IsSized};
+
+use rs_extent::Extent;
+
+// The bytes of a block.
+const BLOCK: u32 = 512;
+
+/// How many blocks of 512 bytes a body of `length` bytes needs: at most 8,388,608.
+pub fn blocks_for(length: u32) -> u32
+    ensures { result ≡ blocks_of length }
+{
+    length.div_ceil(BLOCK)
+}
+
+/// Whether `extent` has the size for a body of `length` bytes: exactly the blocks that it needs,
+/// and where it needs none, 0 for its first block.
+pub fn is_sized(extent: Extent, length: u32) -> bool
+    ensures { IsTrue result ↔ IsSized extent length }
+{
+    extent.blocks == blocks_for(length) && (length != 0 || extent.first == 0)
+}
+
+/// Whether each block of `extent` lies on a disk of `size` bytes, as
+/// [`write_body`](crate::write_body) and [`read_body`](crate::read_body) ask. An extent of no
+/// blocks lies on every disk.
+pub fn is_on_disk(extent: Extent, size: u64) -> bool
+    ensures { IsTrue result ↔ IsOnDisk extent size }
+{
+    extent.blocks == 0 || offset_of(extent) + extent.blocks as u64 * BLOCK as u64 <= size
+}
+
+/// The offset in bytes at which an extent begins.
+pub(crate) fn offset_of(extent: Extent) -> u64
+    ensures { result ≡ 512 * extent.first }
+{
+    extent.first as u64 * BLOCK as u64
+}

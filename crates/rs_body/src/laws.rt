@@ -1,0 +1,43 @@
+//! Laws of blocks and of runs that write outside them, over their definitions alone.
+//!
+//! Each function here does nothing: its contract is the law, which the check proves. Proofs cite
+//! the lemmas behind them, in `proofs/Kept.antt` and `proofs/Sets.antt`.
+ghost use Rattle.rs_body.specs.Laws.{BesideEach, FewestBlocks, NoCallOutside, OutsideGoesOn, OutsideLess, OutsideRests, PartKept, ImagePartKept};
+
+/// Extents are beside a set of blocks where each of them is.
+pub fn beside_each()
+    ensures { BesideEach }
+{}
+
+/// The blocks that bytes need are the fewest that have room for them.
+pub fn fewest_blocks()
+    ensures { FewestBlocks }
+{}
+
+/// A run of no call writes outside every set of blocks.
+pub fn outside_none()
+    ensures { NoCallOutside }
+{}
+
+/// Runs that write outside a set of blocks, one after another, write outside it as one.
+pub fn outside_goes_on()
+    ensures { OutsideGoesOn }
+{}
+
+/// What writes outside a set of blocks writes outside each set of fewer.
+pub fn outside_less()
+    ensures { OutsideLess }
+{}
+
+/// What changes nothing writes outside every set of blocks.
+pub fn outside_rests()
+    ensures { OutsideRests }
+{}
+
+/// What stands in blocks of a set stays, where the set's blocks hold what they held; and in each
+/// image of a crash within a run that writes outside the set, it is what an image from before the
+/// run has there.
+pub fn part_kept()
+    ensures part { PartKept }
+    ensures image { ImagePartKept }
+{}
