@@ -1,0 +1,4 @@
+pub mod OneList
+pub mod Replaced
+pub mod Standing
+pub mod Filled

@@ -1,0 +1,30 @@
+-- How a page of a list is spelled on the disk.
+use Rattle.std.specs.Prelude.{◌≤◌, ℕ, List, ◌∷◌, ◌++◌, length, flat_map, All}
+use Rattle.std.specs.Int.{w32, to_be_bytes}
+use Rattle.rs_page.specs.declared.kind.PageKind.{PageKind}
+use Rattle.rs_page.specs.declared.kind.PageKind.TheVariants.{Records, Changes}
+
+-- What a page is made of: the kind of its items, how each of them is spelled, and which are lawful.
+pub record ItemFormat (T : Type 0) : Type 1 where
+  pub kind : PageKind
+  pub bytes : T → List ℕ
+  pub IsLawful : T → Type 0
+
+-- the byte of a kind
+abbrev pub kind_byte : PageKind → ℕ
+kind_byte Records = 1
+kind_byte Changes = 2
+
+-- the items, one after the other
+abbrev pub items_bytes : {T : Type 0} → ItemFormat T → List T → List ℕ
+items_bytes format items = flat_map format.bytes items
+
+-- a page: the byte of its kind, the number of its items in 4 bytes, big endian, and the items; nothing follows
+abbrev pub page_bytes : {T : Type 0} → ItemFormat T → List T → List ℕ
+page_bytes format items = kind_byte format.kind ∷ (to_be_bytes w32 (length items) ++ items_bytes format items)
+
+-- The items that a page can have: 1 to 50,000 of them, each of them lawful.
+pub record ArePageItems {T : Type 0} (format : ItemFormat T) (items : List T) : Type 0 where
+  pub some : 1 ≤ length items
+  pub most : length items ≤ 50000
+  pub lawful : All format.IsLawful items

@@ -1,0 +1,53 @@
+-- What follows from the definitions of pages alone.
+use Rattle.std.specs.Prelude.{◌≡◌, ℕ, Bool, true, List, map, All}
+use Rattle.rs_body.specs.Blocks.{within, in_some}
+use Rattle.rs_body.specs.Outside.{Keeps}
+use Rattle.rs_page.specs.declared.place.PageRef.{PageRef}
+use Rattle.rs_page.specs.Format.{ItemFormat}
+use Rattle.rs_page.specs.Sheets.{Sheet, IsStored, extents_of, placed_extents, stored_refs, stored}
+use Rattle.rs_page.specs.Pages.{IsPage, ArePages, IsWritten, Stands}
+
+-- The bytes at a reference are a page of at most one list of items.
+abbrev pub PageHoldsOnce : {T : Type 0} → ItemFormat T → Type 0
+PageHoldsOnce {T} format = (ref : PageRef) (image : List ℕ) (a b : List T) → IsPage format ref image a → IsPage format ref image b → a ≡ b
+
+-- The pages of references hold at most one list of lists of items.
+abbrev pub PagesHoldOnce : {T : Type 0} → ItemFormat T → Type 0
+PagesHoldOnce {T} format = (refs : List PageRef) (image : List ℕ) (a b : List (List T)) → ArePages format refs image a → ArePages format refs image b → a ≡ b
+
+-- A page stays where its blocks hold what they held.
+abbrev pub PageStays : {T : Type 0} → ItemFormat T → Type 0
+PageStays {T} format = (kept : ℕ → Bool) (ref : PageRef) (old new : List ℕ) (items : List T)
+    → ((b : ℕ) → within ref.extent b ≡ true → kept b ≡ true) → Keeps kept old new → IsPage format ref old items → IsPage format ref new items
+
+-- Pages stay where their blocks hold what they held.
+abbrev pub PagesStay : {T : Type 0} → ItemFormat T → Type 0
+PagesStay {T} format = (kept : ℕ → Bool) (refs : List PageRef) (old new : List ℕ) (pages : List (List T))
+    → ((b : ℕ) → in_some (extents_of refs) b ≡ true → kept b ≡ true) → Keeps kept old new → ArePages format refs old pages → ArePages format refs new pages
+
+-- Sheets that are stored stand where their blocks hold what they held, ..
+abbrev pub SheetsStay : {T : Type 0} → ItemFormat T → Type 0
+SheetsStay {T} format = (kept : ℕ → Bool) (sheets : List (Sheet T)) (old new : List ℕ)
+    → ((b : ℕ) → in_some (extents_of (stored_refs sheets)) b ≡ true → kept b ≡ true) → Keeps kept old new
+    → All (Stands format old) sheets → All (Stands format new) sheets
+
+-- .. and so do those that were written into the blocks that they were given.
+abbrev pub WrittenStay : {T : Type 0} → ItemFormat T → Type 0
+WrittenStay {T} format = (kept : ℕ → Bool) (sheets : List (Sheet T)) (old new : List ℕ)
+    → ((b : ℕ) → in_some (placed_extents sheets) b ≡ true → kept b ≡ true) → Keeps kept old new
+    → All (IsWritten format old) sheets → All (IsWritten format new) sheets
+
+-- Where the stored sheets stand and the placed ones are written, all of them stand once they are stored.
+abbrev pub WrittenStand : {T : Type 0} → ItemFormat T → Type 0
+WrittenStand {T} format = (sheets : List (Sheet T)) (image : List ℕ)
+    → All (Stands format image) sheets → All (IsWritten format image) sheets → All (Stands format image) (stored format sheets)
+
+-- Where all sheets are stored and stand, the references to them are references to pages of their items, ..
+abbrev pub StandingArePages : {T : Type 0} → ItemFormat T → Type 0
+StandingArePages {T} format = (sheets : List (Sheet T)) (image : List ℕ) → All IsStored sheets
+    → All (Stands format image) sheets → ArePages format (stored_refs sheets) image (map (λ sheet. sheet.items) sheets)
+
+-- .. and where they are, the sheets stand.
+abbrev pub PagesStand : {T : Type 0} → ItemFormat T → Type 0
+PagesStand {T} format = (sheets : List (Sheet T)) (image : List ℕ) → All IsStored sheets
+    → ArePages format (stored_refs sheets) image (map (λ sheet. sheet.items) sheets) → All (Stands format image) sheets

@@ -1,0 +1,9 @@
+pub mod Format
+pub mod Items
+pub mod Apart
+pub mod Sheets
+pub mod Pages
+pub mod Kept
+pub mod Placing
+pub mod Faults
+pub mod Laws

@@ -1,0 +1,140 @@
+//! A page of a list.
+pub(crate) mod load;
+pub(crate) mod store;
+
+ghost use Rattle.std.specs.Prelude.{ℕ, ◌≡◌, ◌<◌, ◌≤◌, length, slice_get, slice_set, IfOk, IfSome, OnOk, OnErr};
+ghost use Rattle.rs_extent.specs.Blocks.{IsFreeRun};
+ghost use Rattle.rs_page.specs.Sheets.{stored_ref};
+ghost use Rattle.rs_page.specs.Placing.{PlacesOne, HasNoRun};
+
+use crate::format::page_size;
+use crate::{Fill, PageItem, Place};
+use rs_body::blocks_for;
+use rs_extent::Used;
+use rs_fixity::Digests;
+use rs_record::{Duplicate, duplicate_all};
+use std::alloc::{AllocError, Global};
+use std::marker::Model;
+use thiserror::Error;
+
+/// The most items that a page has.
+pub const MOST_ITEMS: usize = 50_000;
+
+/// No run of free blocks is long enough for a page.
+#[derive(Clone, Copy, Debug, PartialEq, Eq, Error)]
+#[error("no run of free blocks is long enough")]
+pub struct Full;
+
+/// A page of a list: its items, in their order, and where it stands.
+///
+/// It has 1 to [`MOST_ITEMS`] items.
+#[derive(Debug, Drop)]
+pub struct Page<T: PageItem> {
+    items: Vec<T>,
+    place: Place,
+}
+
+impl<T: PageItem> Model for Page<T> {
+    ghost use Rattle.rs_page.specs.Sheets.{Sheet, IsKept};
+
+    ghost Value = { Sheet T };
+
+    ghost view = { λ page. record { items = page.items.items; place = page.place } };
+
+    ghost invariant = { λ page. IsKept T.format page.items.items page.place };
+}
+
+impl<T: PageItem> Page<T> {
+    /// A page of these items, which has no blocks yet.
+    pub fn new(items: Vec<T>) -> Page<T>
+        requires some { 1 ≤ length items.items }
+        requires most { length items.items ≤ MOST_ITEMS }
+        ensures items { result.items ≡ items.items }
+        ensures place { result.place ≡ Place.Touched }
+    {
+        Page {
+            items,
+            place: Place::Touched,
+        }
+    }
+
+    /// Its items, in their order.
+    pub fn items(&self) -> &[T]
+        ensures items { result.now ≡ self.now.items }
+        ensures some { 1 ≤ length result.now }
+        ensures most { length result.now ≤ MOST_ITEMS }
+    {
+        &self.items
+    }
+
+    /// Where it stands.
+    pub fn place(&self) -> Place
+        ensures { result ≡ self.now.place }
+    {
+        self.place
+    }
+
+    /// Puts an item in the place of the one at `i`, counted from 0, whose format has as many
+    /// bytes. The page has not been stored, and stays where it is. It takes no memory.
+    pub fn replace(&mut self, i: usize, item: T)
+        requires within { i < length self.old.items }
+        requires fits { IfSome (slice_get self.old.items i) (λ old. length (T.format.bytes item) ≡ length (T.format.bytes old)) }
+        requires not_stored { stored_ref self.old.place ≡ None }
+        ensures items { self.new.items ≡ slice_set self.old.items i item }
+        ensures place { self.new.place ≡ self.old.place }
+    {
+        self.items[i] = item;
+    }
+
+    /// Gives the page the lowest run of free blocks of its size, where it has no blocks yet. It
+    /// takes no memory.
+    ///
+    /// # Errors
+    /// [`Full`] where there is no such run; nothing has changed then.
+    pub fn place_in(&mut self, used: &mut Used) -> Result<(), Full>
+        ensures ok { OnOk result (PlacesOne T.format used.old self.old used.new self.new) }
+        ensures full { OnErr result (HasNoRun T.format used.old self.old) }
+        ensures used { OnErr result (used.new ≡ used.old) }
+        ensures err { OnErr result (self.new ≡ self.old) }
+    {
+        match self.place {
+            Place::Placed(_) | Place::Stored(_) => Ok(()),
+            Place::Touched => {
+                let Some(extent) = used.find(blocks_for(page_size(&self.items))) else {
+                    return Err(Full);
+                };
+                used.take(extent);
+                self.place = Place::Placed(extent);
+                Ok(())
+            }
+        }
+    }
+}
+
+impl<T: Fill> Page<T> {
+    /// Gives the item at `i`, counted from 0, these digests in the place of its own. The page has
+    /// not been stored, and stays where it is. It takes no memory.
+    pub fn fill(&mut self, i: usize, digests: Digests)
+        requires within { i < length self.old.items }
+        requires not_stored { stored_ref self.old.place ≡ None }
+        ensures items { IfSome (slice_get self.old.items i) (λ item. self.new.items ≡ slice_set self.old.items i (T.filled digests item)) }
+        ensures place { self.new.place ≡ self.old.place }
+    {
+        self.items[i].fill(digests);
+    }
+}
+
+impl<T: PageItem + Duplicate> Page<T> {
+    /// The same page once more, at the same place.
+    ///
+    /// # Errors
+    /// [`AllocError`] where the memory for the copy is refused.
+    pub fn copy(&self, alloc: Global) -> Result<Page<T>, AllocError>
+        ensures { IfOk result (λ copied. copied ≡ self.now) }
+    {
+        Ok(Page {
+            items: duplicate_all(alloc, &self.items)?,
+            place: self.place,
+        })
+    }
+}

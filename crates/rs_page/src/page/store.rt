@@ -1,0 +1,93 @@
+//! Writing a page.
+ghost use Rattle.std.specs.Prelude.{ℕ, ◌≡◌, ◌⊎◌, ◌<◌, ◌≤◌, ◌+◌, ◌^◌, Bool, IfSome, IsSome, OnOk, OnErr, IsErrOf};
+ghost use Rattle.rs_body.specs.Blocks.{IsOnDisk};
+ghost use Rattle.rs_body.specs.Outside.{IsBeside, WritesOutside};
+ghost use Rattle.rs_page.specs.Sheets.{IsTouched, placed_extent, stored_ref, sheet_stored};
+ghost use Rattle.rs_page.specs.Pages.{IsWritten};
+
+use crate::format::page_bytes;
+use crate::{Page, PageItem, PageRef, Place};
+use rs_body::write_body;
+use rs_disk::{Disk, Fault};
+use rs_fixity::digests_of;
+use std::alloc::{AllocError, Global};
+use thiserror::Error;
+
+/// Why a page was not stored.
+#[derive(Clone, Copy, Debug, PartialEq, Eq, Error)]
+pub enum StoreFault {
+    /// The device failed.
+    #[error("the device failed")]
+    Device,
+    /// The memory for the bytes of the page was refused.
+    #[error("out of memory")]
+    NoMemory,
+}
+
+impl From<AllocError> for StoreFault {
+    ghost use Rattle.rs_page.specs.declared.page.store.StoreFault.{StoreFault};
+
+    ghost from_gives = { λ _ fault. fault ≡ StoreFault.NoMemory };
+
+    fn from(_: AllocError) -> StoreFault {
+        StoreFault::NoMemory
+    }
+}
+
+impl From<Fault> for StoreFault {
+    ghost use Rattle.rs_page.specs.declared.page.store.StoreFault.{StoreFault};
+
+    ghost from_gives = { λ _ fault. fault ≡ StoreFault.Device };
+
+    fn from(_: Fault) -> StoreFault {
+        StoreFault::Device
+    }
+}
+
+impl<T: PageItem> Page<T> {
+    /// Writes the page at the front of the blocks that it was given, by one device call. A page
+    /// that is on the disk already is not written again.
+    ///
+    /// It has blocks, and they lie on the disk. A read gives the page from then on; a crash may
+    /// leave anything in its blocks until the next sync. Nothing else on the disk changes, whether
+    /// it succeeds or not: each set of blocks beside the page's stays as it is, at every moment of
+    /// the call.
+    ///
+    /// # Errors
+    /// - [`StoreFault::NoMemory`] where the memory for its bytes is refused; the device is not
+    ///   called then.
+    /// - [`StoreFault::Device`] where the device fails. Its blocks may then hold anything.
+    ///
+    /// After each of them the page is as it was, and may be stored again.
+    pub fn store<D: Disk>(&mut self, alloc: Global, disk: &mut D) -> Result<(), StoreFault>
+        requires placed { ¬ IsTouched self.old.place }
+        requires room { IfSome (placed_extent self.old.place) (λ extent. IsOnDisk extent (D.state disk.old).size) }
+        ensures ok { OnOk result (self.new ≡ sheet_stored T.format self.old) }
+        ensures reads { OnOk result (IsWritten T.format (D.state disk.new).now.seen self.old) }
+        ensures err { OnErr result (self.new ≡ self.old) }
+        ensures device { IsErrOf result StoreFault.Device → ((D.state disk.old).faults < (D.state disk.new).faults) ⊎ (2 ^ 64 ≤ (D.state disk.new).calls + 1) }
+        ensures no_memory { IsErrOf result StoreFault.NoMemory → D.state disk.new ≡ D.state disk.old }
+        ensures stored { IsSome (stored_ref self.old.place) → (result ≡ Ok tt) × (D.state disk.new ≡ D.state disk.old) }
+
+        // Whatever it answers.
+        ensures outside { (kept : ℕ → Bool) → IfSome (placed_extent self.old.place) (IsBeside kept) → WritesOutside kept (D.state disk.old) (D.state disk.new) }
+        ensures size { (D.state disk.new).size ≡ (D.state disk.old).size }
+        ensures keeps { (D.state disk.new).honest ≡ (D.state disk.old).honest }
+        ensures one_call { (D.state disk.new).calls ≤ (D.state disk.old).calls + 1 }
+        ensures calls { (D.state disk.old).calls ≤ (D.state disk.new).calls }
+        ensures faults { (D.state disk.old).faults ≤ (D.state disk.new).faults }
+    {
+        let Place::Placed(extent) = self.place else {
+            return Ok(());
+        };
+        let bytes = page_bytes(alloc, &self.items)?;
+        let sha256 = digests_of(&bytes).sha256;
+        write_body(disk, extent, &bytes)?;
+        self.place = Place::Stored(PageRef {
+            extent,
+            length: bytes.len() as u32,
+            sha256,
+        });
+        Ok(())
+    }
+}

@@ -1,0 +1,25 @@
+//! Where a page stands.
+
+use rs_extent::Extent;
+
+/// Where a page lies on the disk, and what it is.
+#[derive(Clone, Copy, Debug, PartialEq, Eq)]
+pub struct PageRef {
+    /// The blocks that it has.
+    pub extent: Extent,
+    /// Its length in bytes, from the front of its first block on.
+    pub length: u32,
+    /// The SHA-256 of these bytes.
+    pub sha256: [u8; 32],
+}
+
+/// Where a page of a list stands.
+#[derive(Clone, Copy, Debug, PartialEq, Eq)]
+pub enum Place {
+    /// It was made or changed, and has no blocks yet.
+    Touched,
+    /// It was given these blocks, and is not written yet.
+    Placed(Extent),
+    /// It is on the disk.
+    Stored(PageRef),
+}
