@@ -1,0 +1,38 @@
+-- What follows from the definitions of catalogues alone.
+use Rattle.std.specs.Prelude.{◌≡◌, ◌≤◌, ℕ, Bool, true, List, length, map, option_map, All}
+use Rattle.rs_body.specs.Blocks.{in_some}
+use Rattle.rs_body.specs.Outside.{Keeps}
+use Rattle.rs_record.specs.declared.record.Record.{Record}
+use Rattle.rs_model.specs.declared.value.Entry.{Entry}
+use Rattle.rs_model.specs.Names.{Names, value_of, bind, unbind, map_values}
+use Rattle.rs_page.specs.declared.place.PageRef.{PageRef}
+use Rattle.rs_page.specs.Items.{record_format}
+use Rattle.rs_page.specs.Sheets.{Sheet, IsStored, extents_of, stored_refs}
+use Rattle.rs_page.specs.Pages.{Stands}
+use Rattle.rs_catalogue.specs.Catalogue.{IsCatalogue, HoldsCatalogue}
+
+-- Pages hold at most one catalogue.
+abbrev pub CatalogueHeldOnce : Type 0
+CatalogueHeldOnce = (refs : List PageRef) (image : List ℕ) (a b : List (List Record)) → HoldsCatalogue refs image a → HoldsCatalogue refs image b → a ≡ b
+
+-- What pages hold depends on their blocks alone.
+abbrev pub CatalogueStays : Type 0
+CatalogueStays = (kept : ℕ → Bool) (refs : List PageRef) (old new : List ℕ) (pages : List (List Record))
+    → ((b : ℕ) → in_some (extents_of refs) b ≡ true → kept b ≡ true) → Keeps kept old new → HoldsCatalogue refs old pages → HoldsCatalogue refs new pages
+
+-- Where each page of a catalogue stands on the disk, the references to them hold its records: so they load as this catalogue.
+abbrev pub StoredCatalogueIsHeld : Type 0
+StoredCatalogueIsHeld = (sheets : List (Sheet Record)) (image : List ℕ) → IsCatalogue sheets → length sheets ≤ 1 → All IsStored sheets
+    → All (Stands record_format image) sheets → HoldsCatalogue (stored_refs sheets) image (map (λ sheet. sheet.items) sheets)
+
+-- What is shown of each record is bound as the record is, ..
+abbrev pub ShownIsBound : Type 0
+ShownIsBound = (shown : Record → Entry) (name : List ℕ) (r : Record) (records : Names Record) → map_values shown (bind name r records) ≡ bind name (shown r) (map_values shown records)
+
+-- .. unbound ..
+abbrev pub ShownIsUnbound : Type 0
+ShownIsUnbound = (shown : Record → Entry) (name : List ℕ) (records : Names Record) → map_values shown (unbind name records) ≡ unbind name (map_values shown records)
+
+-- .. and found.
+abbrev pub ShownIsFound : Type 0
+ShownIsFound = (shown : Record → Entry) (name : List ℕ) (records : Names Record) → value_of name (map_values shown records) ≡ option_map shown (value_of name records)

@@ -1,0 +1,4 @@
+pub mod Named
+pub mod Catalogue
+pub mod Inside
+pub mod Laws

@@ -1,0 +1,36 @@
+//! Laws of catalogues, over their definitions alone.
+//!
+//! Each function here does nothing: its contract is the law, which the check proves.
+ghost use Rattle.rs_catalogue.specs.Laws.{CatalogueHeldOnce, CatalogueStays, StoredCatalogueIsHeld, ShownIsBound, ShownIsUnbound, ShownIsFound};
+
+use rs_page::laws::{pages_hold_once, pages_stay, stored_pages_stand};
+use rs_record::Record;
+
+/// Pages hold at most one catalogue.
+pub fn catalogue_is_held_once()
+    ensures { CatalogueHeldOnce }
+{
+    pages_hold_once::<Record>();
+}
+
+/// What pages hold depends on their blocks alone.
+pub fn catalogue_stays()
+    ensures { CatalogueStays }
+{
+    pages_stay::<Record>();
+}
+
+/// A catalogue whose pages all stand on the disk is what the references to them hold: so
+/// [`crate::Catalogue::load`] of these gives its records, wherever the device and the memory allow.
+pub fn stored_catalogue_is_held()
+    ensures { StoredCatalogueIsHeld }
+{
+    stored_pages_stand::<Record>();
+}
+
+/// What is shown of each record is bound, unbound and found as the records are.
+pub fn shown_records_are_a_map()
+    ensures bound { ShownIsBound }
+    ensures unbound { ShownIsUnbound }
+    ensures found { ShownIsFound }
+{}

@@ -1,0 +1,145 @@
+//! A catalogue on the disk.
+
+ghost use Rattle.std.specs.Prelude.{◌≡◌, ◌⊎◌, ◌<◌, ◌≤◌, ◌+◌, ◌^◌, ℕ, Bool, List, [], ◌∷◌, map, All, IfOk, IfSome, OnOk, OnErr, IsErrOf, IsTrue};
+ghost use Rattle.rs_disk.specs.Leaves.{Rests};
+ghost use Rattle.rs_body.specs.Outside.{AreBeside, WritesOutside};
+ghost use Rattle.rs_record.specs.declared.record.Record.{Record};
+ghost use Rattle.rs_page.specs.Items.{record_format};
+ghost use Rattle.rs_page.specs.Placing.{Places, HasNoPlace};
+ghost use Rattle.rs_page.specs.Pages.{IsWritten};
+ghost use Rattle.rs_page.specs.Sheets.{IsStored, IsTouched, placed_extent, placed_extents, stored, stored_refs};
+ghost use Rattle.rs_page.specs.Kept.{AreApart, AreOnDisk, AreTaken};
+ghost use Rattle.rs_catalogue.specs.Catalogue.{records_of, IsCatalogue, StandsUnstored, HoldsCatalogue};
+
+use crate::Catalogue;
+use crate::records::is_ordered;
+use rs_body::laws::outside_none;
+use rs_disk::Disk;
+use rs_extent::Used;
+use rs_page::laws::pages_hold_once;
+use rs_page::{Full, LoadFault, Page, PageRef, StoreFault};
+use rs_record::Record;
+use std::alloc::Global;
+
+impl Catalogue {
+    /// Gives each touched page the lowest run of free blocks of its size, one page after the other.
+    /// It takes no memory.
+    ///
+    /// # Errors
+    ///
+    /// [`Full`] where a page has no such run; nothing has changed then.
+    pub fn place_touched(&mut self, used: &mut Used) -> Result<(), Full>
+        ensures places { OnOk result (Places record_format used.old self.old used.new self.new) }
+        ensures placed { OnOk result (All (λ sheet. ¬ IsTouched sheet.place) self.new) }
+        ensures taken { placed_extents self.old ≡ [] → OnOk result (AreTaken used.old used.new (placed_extents self.new)) }
+        ensures unstored { (name : List ℕ) → StandsUnstored name self.old → StandsUnstored name self.new }
+        ensures full { OnErr result (HasNoPlace record_format used.old self.old) }
+        ensures used { OnErr result (used.new ≡ used.old) }
+        ensures unchanged { OnErr result (self.new ≡ self.old) }
+    {
+        let Some(page) = &mut self.page else {
+            return Ok(());
+        };
+        page.place_in(used)
+    }
+
+    /// Writes each page that was given blocks, by one device call a page. Pages that are on the disk
+    /// already are not written again.
+    ///
+    /// No page is touched, and the extents of those that were given blocks lie on the disk and have
+    /// no block in common. A read gives the pages from then on; a crash may leave anything in their
+    /// blocks until the next sync. Nothing else on the disk changes, whether it succeeds or not:
+    /// each set of blocks beside these extents stays as it is, at every moment of the run.
+    ///
+    /// # Errors
+    ///
+    /// - [`StoreFault::NoMemory`] where the memory for a page's bytes is refused; the disk is as it
+    ///   was then.
+    /// - [`StoreFault::Device`] where the device fails. The extents may then hold anything.
+    ///
+    /// After each of them the records are as they were.
+    pub fn store_touched<D: Disk>(&mut self, alloc: Global, disk: &mut D) -> Result<(), StoreFault>
+        requires placed { All (λ sheet. ¬ IsTouched sheet.place) self.old }
+        requires room { AreOnDisk (placed_extents self.old) (D.state disk.old).size }
+        requires apart { AreApart (placed_extents self.old) }
+        ensures ok { OnOk result (self.new ≡ stored record_format self.old) }
+        ensures reads { OnOk result (All (IsWritten record_format (D.state disk.new).now.seen) self.old) }
+        ensures records { OnErr result (records_of self.new ≡ records_of self.old) }
+        ensures device { IsErrOf result StoreFault.Device → ((D.state disk.old).faults < (D.state disk.new).faults) ⊎ (2 ^ 64 ≤ (D.state disk.new).calls + 1) }
+        ensures no_memory { IsErrOf result StoreFault.NoMemory → D.state disk.new ≡ D.state disk.old }
+
+        // Whatever it answers.
+        ensures outside { (kept : ℕ → Bool) → AreBeside kept (placed_extents self.old) → WritesOutside kept (D.state disk.old) (D.state disk.new) }
+        ensures size { (D.state disk.new).size ≡ (D.state disk.old).size }
+        ensures keeps { (D.state disk.new).honest ≡ (D.state disk.old).honest }
+        ensures calls { (D.state disk.old).calls ≤ (D.state disk.new).calls }
+        ensures faults { (D.state disk.old).faults ≤ (D.state disk.new).faults }
+    {
+        let Some(page) = &mut self.page else {
+            outside_none();
+            return Ok(());
+        };
+        page.store(alloc, disk)
+    }
+
+    /// Reads the catalogue that these references point to, whatever they say. The disk stays as it
+    /// is.
+    ///
+    /// No memory is asked for a page before its extent was found to lie on the disk and to have
+    /// exactly the blocks of its length.
+    ///
+    /// # Errors
+    ///
+    /// - [`LoadFault::Device`] where the device fails.
+    /// - [`LoadFault::Damaged`] where the disk holds no catalogue there: a page is damaged, the
+    ///   names do not strictly ascend, or there is more than one page.
+    /// - [`LoadFault::NoMemory`] where the memory is refused.
+    pub fn load<D: Disk>(
+        alloc: Global,
+        disk: &mut D,
+        pages: &[PageRef],
+    ) -> Result<Catalogue, LoadFault>
+        ensures pages { IfOk result (λ loaded. stored_refs loaded ≡ pages.now) }
+        ensures stored { IfOk result (All IsStored) }
+
+        // What the disk holds is said of a device that has followed the model.
+        ensures found { IfOk result (λ loaded. IsTrue (D.state disk.new).honest → HoldsCatalogue pages.now (D.state disk.new).now.seen (map (λ sheet. sheet.items) loaded)) }
+        ensures damaged { IsErrOf result LoadFault.Damaged → IsTrue (D.state disk.new).honest → (records : List (List Record)) → ¬ HoldsCatalogue pages.now (D.state disk.new).now.seen records }
+        ensures device { IsErrOf result LoadFault.Device → ((D.state disk.old).faults < (D.state disk.new).faults) ⊎ (2 ^ 64 ≤ (D.state disk.new).calls + 1) }
+
+        ensures rests { Rests (D.state disk.old) (D.state disk.new) }
+        ensures size { (D.state disk.new).size ≡ (D.state disk.old).size }
+        ensures lasts { IsTrue (D.state disk.new).honest → IsTrue (D.state disk.old).honest }
+        ensures faults { (D.state disk.old).faults ≤ (D.state disk.new).faults }
+    {
+        match pages {
+            [] => Ok(Catalogue::empty(alloc)),
+            [page] => Catalogue::load_page(alloc, disk, page),
+            _ => Err(LoadFault::Damaged),
+        }
+    }
+
+    // Reads the catalogue of one page.
+    fn load_page<D: Disk>(
+        alloc: Global,
+        disk: &mut D,
+        page: &PageRef,
+    ) -> Result<Catalogue, LoadFault>
+        ensures pages { IfOk result (λ loaded. stored_refs loaded ≡ page.now ∷ []) }
+        ensures stored { IfOk result (All IsStored) }
+        ensures found { IfOk result (λ loaded. IsTrue (D.state disk.new).honest → HoldsCatalogue (page.now ∷ []) (D.state disk.new).now.seen (map (λ sheet. sheet.items) loaded)) }
+        ensures damaged { IsErrOf result LoadFault.Damaged → IsTrue (D.state disk.new).honest → (records : List (List Record)) → ¬ HoldsCatalogue (page.now ∷ []) (D.state disk.new).now.seen records }
+        ensures device { IsErrOf result LoadFault.Device → ((D.state disk.old).faults < (D.state disk.new).faults) ⊎ (2 ^ 64 ≤ (D.state disk.new).calls + 1) }
+        ensures rests { Rests (D.state disk.old) (D.state disk.new) }
+        ensures size { (D.state disk.new).size ≡ (D.state disk.old).size }
+        ensures lasts { IsTrue (D.state disk.new).honest → IsTrue (D.state disk.old).honest }
+        ensures faults { (D.state disk.old).faults ≤ (D.state disk.new).faults }
+    {
+        pages_hold_once::<Record>();
+        let page = Page::load(alloc, disk, page)?;
+        if !is_ordered(page.items()) {
+            return Err(LoadFault::Damaged);
+        }
+        Ok(Catalogue { page: Some(page) })
+    }
+}

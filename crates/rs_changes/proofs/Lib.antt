@@ -1,0 +1,4 @@
+pub mod Rising
+pub mod Filled
+pub mod OnePage
+pub mod Joined

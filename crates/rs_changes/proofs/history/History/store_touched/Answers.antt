@@ -1,0 +1,19 @@
+use Rattle.std.proofs.Common.{◌≡◌, List, [], ◌∷◌, sym, ap, ◌∙◌, subst}
+use Rattle.rs_record.specs.declared.change.Change.{Change}
+use Rattle.rs_body.specs.Outside.{AreBeside}
+use Rattle.rs_page.specs.Kept.{AreOnDisk}
+use Rattle.rs_page.specs.Sheets.{Sheet, placed_extents}
+use Rattle.rs_changes.specs.Inside.{sheets_of}
+use Rattle.rs_changes.proofs.OnePage.{beside_one, on_disk_one}
+use Rattle.rs_changes.proofs.history.History.store_touched.Goals as goal
+
+pub store-requires-clause-room : goal.store-requires-clause-room
+store-requires-clause-room g c =
+    let view : c.args.self.now ≡ c.in-Some.page ∷ [] = sym c.self.view_is ∙ ap sheets_of c.in-Some.is in
+    on_disk_one c.in-Some.page (g.D.Disk.state c.args.disk.now).size
+    (subst (λ (sheets : List (Sheet Change)). AreOnDisk (placed_extents sheets) (g.D.Disk.state c.args.disk.now).size) view c.requires.room)
+
+pub returns-clause-outside : goal.returns-clause-outside
+returns-clause-outside g c kept beside =
+    let view : c.args.self.now ≡ c.in-Some.page ∷ [] = sym c.self.view_is ∙ ap sheets_of c.in-Some.is in
+    c.store.ensures.outside kept (beside_one kept c.in-Some.page (subst (λ (sheets : List (Sheet Change)). AreBeside kept (placed_extents sheets)) view beside))

@@ -1,0 +1,12 @@
+use Rattle.std.proofs.Common.{arith, sym, subst}
+use Rattle.rs_changes.specs.History.{AreKept}
+use Rattle.rs_changes.proofs.Joined.{joined, fewer_refs}
+use Rattle.rs_changes.proofs.laws.stored_history_is_held.Goals as goal
+
+pub returns : goal.returns
+returns c sheets image keeps one stored stand =
+    record {
+      hold = c.stored_pages_stand.ensures.pages sheets image stored stand;
+      kept = subst AreKept (sym (joined sheets)) keeps.kept;
+      one = omega (arith, fewer_refs sheets);
+    }

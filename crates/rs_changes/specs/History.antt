@@ -1,0 +1,57 @@
+-- A history: changes in the order of their moments, in pages.
+use Rattle.std.specs.Prelude.{◌≡◌, ◌≤◌, ◌+◌, ◌-◌, ◌*◌, ℕ, Bool, true, false, ◌&&◌, nat_lt, min, is_some, IsTrue, List, [], ◌∷◌, length, flat_map, slice_get, All, Option}
+use Rattle.rs_record.specs.declared.change.Change.{Change}
+use Rattle.rs_model.specs.State.{most_changes}
+use Rattle.rs_page.specs.declared.place.PageRef.{PageRef}
+use Rattle.rs_page.specs.Items.{change_format}
+use Rattle.rs_page.specs.Sheets.{Sheet, items_of, stored_ref}
+use Rattle.rs_page.specs.Pages.{ArePages}
+
+-- the changes of a list of pages, the earliest first
+abbrev pub changes_of : List (Sheet Change) → List Change
+changes_of sheets = items_of sheets
+
+-- the moments strictly rise, from above this one
+abbrev pub is_after : ℕ → List Change → Bool
+is_after moment [] = true
+is_after moment (c ∷ cs) = nat_lt moment c.moment && is_after c.moment cs
+
+-- the moments strictly rise
+abbrev pub is_rising : List Change → Bool
+is_rising [] = true
+is_rising (c ∷ cs) = is_after c.moment cs
+
+-- the last change, if there is one
+abbrev pub last_of : List Change → Option Change
+last_of changes = slice_get changes (length changes - 1)
+
+-- The moments strictly rise, and there are at most as many changes as a source keeps.
+pub record AreKept (changes : List Change) : Type 0 where
+  pub rising : IsTrue (is_rising changes)
+  pub room : length changes ≤ most_changes
+
+-- What each history keeps: each page has changes, and the moments strictly rise through all pages.
+pub record IsHistory (sheets : List (Sheet Change)) : Type 0 where
+  pub some : All (λ sheet. 1 ≤ length sheet.items) sheets
+  pub kept : AreKept (changes_of sheets)
+
+-- the last change stands in a page that is not on the disk
+abbrev pub EndsUnstored : List (Sheet Change) → Type 0
+EndsUnstored [] = ⊥
+EndsUnstored (sheet ∷ []) = is_some (stored_ref sheet.place) ≡ false
+EndsUnstored (sheet ∷ next ∷ sheets) = EndsUnstored (next ∷ sheets)
+
+-- What pages on the disk have to be: pages of changes, one for one, through which the moments strictly rise. A history has one page, or none where it is empty.
+pub record HoldsHistory (refs : List PageRef) (image : List ℕ) (pages : List (List Change)) : Type 0 where
+  pub hold : ArePages change_format refs image pages
+  pub kept : AreKept (flat_map (λ items. items) pages)
+  pub one : length refs ≤ 1
+
+-- The places of n changes are dealt into parts 0, 1, 2, .. of `limit` each, as far as there are any.
+-- The place of part k's first change, which is n where there is no such part.
+abbrev pub part_start : ℕ → ℕ → ℕ → ℕ
+part_start n limit k = min (k * limit) n
+
+-- the place where part k ends: of the first change after it, or else n
+abbrev pub part_end : ℕ → ℕ → ℕ → ℕ
+part_end n limit k = min ((k + 1) * limit) n

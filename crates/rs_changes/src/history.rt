@@ -1,0 +1,181 @@
+//! A history in memory.
+
+ghost use Rattle.std.specs.Prelude.{◌≡◌, ◌≤◌, ◌<◌, ◌++◌, ℕ, List, [], ◌∷◌, length, map, slice_get, Some, None, IfOk, IfSome};
+ghost use Rattle.rs_record.specs.declared.change.Change.{Change};
+ghost use Rattle.rs_model.specs.State.{most_changes};
+ghost use Rattle.rs_page.specs.Items.{change_filled};
+ghost use Rattle.rs_page.specs.Kept.{KeepsPages, stored_sheets};
+ghost use Rattle.rs_page.specs.Sheets.{placed_extents, stored_ref, stored_refs};
+ghost use Rattle.rs_changes.specs.History.{changes_of, last_of, AreKept, IsHistory, EndsUnstored, part_start, part_end};
+
+use crate::changes::with_change;
+use rs_fixity::Digests;
+use rs_page::{Page, PageRef, Place};
+use rs_record::Change;
+use std::alloc::{AllocError, Global};
+use std::marker::Model;
+use std::ops::Range;
+
+// The number of the first part that is kept, while none is dropped.
+const FIRST_PART: u64 = 0;
+
+/// The changes that a source keeps, the earliest first: their moments strictly rise, and there are
+/// at most 50,000 of them, in pages. Contracts see the list of the pages.
+#[derive(Debug, Drop)]
+pub struct History {
+    pub(crate) page: Option<Page<Change>>,
+}
+
+impl Model for History {
+    ghost use Rattle.std.specs.Prelude.{List};
+    ghost use Rattle.rs_record.specs.declared.change.Change.{Change};
+    ghost use Rattle.rs_page.specs.Sheets.{Sheet};
+
+    ghost Value = { List (Sheet Change) };
+
+    ghost use Rattle.rs_changes.specs.Inside.{sheets_of};
+    ghost use Rattle.rs_changes.specs.History.{IsHistory};
+
+    ghost view = { λ h. sheets_of h.page };
+
+    ghost invariant = { λ h. IsHistory (sheets_of h.page) };
+}
+
+impl History {
+    /// A history of no changes, which has no pages.
+    pub fn empty(_alloc: Global) -> History
+        ensures { result ≡ [] }
+    {
+        History { page: None }
+    }
+
+    // The changes, in their order.
+    fn changes(&self) -> &[Change]
+        ensures value { result.now ≡ changes_of self.now }
+        ensures lawful { IsHistory self.now }
+    {
+        match &self.page {
+            None => &[],
+            Some(page) => page.items(),
+        }
+    }
+
+    /// How many changes there are.
+    pub fn len(&self) -> usize
+        ensures value { result ≡ length (changes_of self.now) }
+        ensures lawful { IsHistory self.now }
+    {
+        self.changes().len()
+    }
+
+    /// The number of the first part of the changes that is kept. None was dropped, so it is 0.
+    pub fn first(&self) -> u64
+        ensures { result ≡ 0 }
+    {
+        FIRST_PART
+    }
+
+    /// The change at place `i`, counted from 0 at the earliest.
+    pub fn at(&self, i: usize) -> &Change
+        requires { i < length (changes_of self.now) }
+        ensures { slice_get (changes_of self.now) i ≡ Some result.now }
+    {
+        &self.changes()[i]
+    }
+
+    /// The places of part `k`, counted from 0, where the changes are dealt into parts of `limit`
+    /// each: from the one of its first change up to the one after its last change. Only the last
+    /// part may have fewer, and where there is no part `k` the range is empty.
+    ///
+    /// A source has a limit from 2 to 4,000; any other has its parts too. It takes no memory.
+    pub fn part(&self, k: u64, limit: u16) -> Range<usize>
+        ensures start { result.start ≡ part_start (length (changes_of self.now)) limit k }
+        ensures end { result.end ≡ part_end (length (changes_of self.now)) limit k }
+    {
+        let len = self.len();
+        let start = k.saturating_mul(u64::from(limit)).min(len as u64) as usize;
+        let end = (start + usize::from(limit)).min(len);
+        start..end
+    }
+
+    /// The history with this change at its end. Its moment is after the last one's. This history
+    /// stays. At most the page that is touched is copied; all others stay the same pages.
+    ///
+    /// # Errors
+    ///
+    /// [`AllocError`] where the memory is refused.
+    pub fn with(&self, alloc: Global, change: Change) -> Result<History, AllocError>
+        requires rises { IfSome (last_of (changes_of self.now)) (λ last. last.moment < «change».moment) }
+        requires room { length (changes_of self.now) < most_changes }
+        ensures appended { IfOk result (λ next. changes_of next ≡ changes_of self.now ++ «change» ∷ []) }
+        ensures kept { IfOk result (KeepsPages self.now) }
+        ensures unstored { IfOk result EndsUnstored }
+        ensures unplaced { IfOk result (λ next. placed_extents next ≡ []) }
+    {
+        let changes = with_change(alloc, self.changes(), change)?;
+        Ok(History {
+            page: Some(Page::new(changes)),
+        })
+    }
+
+    /// The same history once more, in the same pages.
+    ///
+    /// # Errors
+    ///
+    /// [`AllocError`] where the memory is refused.
+    pub fn copy(&self, alloc: Global) -> Result<History, AllocError>
+        ensures { IfOk result (λ copied. copied ≡ self.now) }
+    {
+        match &self.page {
+            None => Ok(History::empty(alloc)),
+            Some(page) => {
+                let page = page.copy(alloc)?;
+                Ok(History { page: Some(page) })
+            }
+        }
+    }
+
+    /// Gives the facts of the last change these digests; a deletion, which has no facts, stays as
+    /// it is. The change stands in a page that was not stored, as it does after [`History::with`]
+    /// put it there. It takes no memory.
+    pub fn fill_last(&mut self, digests: Digests)
+        requires { EndsUnstored self.old }
+        ensures filled { (before : List Change) (last : Change) → changes_of self.old ≡ before ++ last ∷ [] → changes_of self.new ≡ before ++ change_filled digests last ∷ [] }
+        ensures places { map (λ sheet. sheet.place) self.new ≡ map (λ sheet. sheet.place) self.old }
+        ensures lengths { map (λ sheet. length sheet.items) self.new ≡ map (λ sheet. length sheet.items) self.old }
+    {
+        let Some(page) = &mut self.page else {
+            return;
+        };
+        fill_last_of(page, digests);
+    }
+
+    /// The references to the pages that are on the disk, in their order.
+    ///
+    /// # Errors
+    ///
+    /// [`AllocError`] where the memory is refused.
+    pub fn pages(&self, alloc: Global) -> Result<Vec<PageRef>, AllocError>
+        ensures { IfOk result (λ pages. pages.items ≡ stored_refs self.now) }
+    {
+        let mut pages = Vec::new(alloc);
+        if let Some(page) = &self.page {
+            if let Place::Stored(stored) = page.place() {
+                pages.push(stored)?;
+            }
+        }
+        Ok(pages)
+    }
+}
+
+// Gives the facts of the last change of a page, where it has some, these digests.
+fn fill_last_of(page: &mut Page<Change>, digests: Digests)
+    requires some { 1 ≤ length page.old.items }
+    requires not_stored { stored_ref page.old.place ≡ None }
+    ensures filled { (before : List Change) (last : Change) → page.old.items ≡ before ++ last ∷ [] → page.new.items ≡ before ++ change_filled digests last ∷ [] }
+    ensures place { page.new.place ≡ page.old.place }
+    ensures lengths { length page.new.items ≡ length page.old.items }
+{
+    let last = page.items().len() - 1;
+    page.fill(last, digests);
+}

@@ -1,0 +1,29 @@
+//! Laws of histories, over their definitions alone.
+//!
+//! Each function here does nothing: its contract is the law, which the check proves.
+ghost use Rattle.rs_changes.specs.Laws.{HistoryHeldOnce, HistoryStays, StoredHistoryIsHeld};
+
+use rs_page::laws::{pages_hold_once, pages_stay, stored_pages_stand};
+use rs_record::Change;
+
+/// Pages hold at most one history.
+pub fn history_is_held_once()
+    ensures { HistoryHeldOnce }
+{
+    pages_hold_once::<Change>();
+}
+
+/// What pages hold depends on their blocks alone.
+pub fn history_stays()
+    ensures { HistoryStays }
+{
+    pages_stay::<Change>();
+}
+
+/// A history whose pages all stand on the disk is what the references to them hold: so
+/// [`crate::History::load`] of these gives its changes, wherever the device and the memory allow.
+pub fn stored_history_is_held()
+    ensures { StoredHistoryIsHeld }
+{
+    stored_pages_stand::<Change>();
+}

@@ -1,0 +1,12 @@
+//! The changes that a source keeps, in the order of their moments, in pages.
+#![tactic(auto)]
+
+mod changes;
+mod history;
+pub mod laws;
+mod storing;
+
+pub use history::History;
+
+#[cfg(test)]
+mod tests;

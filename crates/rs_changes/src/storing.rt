@@ -1,0 +1,141 @@
+//! A history on the disk.
+
+ghost use Rattle.std.specs.Prelude.{◌≡◌, ◌⊎◌, ◌<◌, ◌≤◌, ◌+◌, ◌^◌, ℕ, Bool, List, [], ◌∷◌, map, All, IfOk, IfSome, OnOk, OnErr, IsErrOf, IsTrue};
+ghost use Rattle.rs_disk.specs.Leaves.{Rests};
+ghost use Rattle.rs_body.specs.Outside.{AreBeside, WritesOutside};
+ghost use Rattle.rs_record.specs.declared.change.Change.{Change};
+ghost use Rattle.rs_page.specs.Items.{change_format};
+ghost use Rattle.rs_page.specs.Kept.{AreApart, AreOnDisk, AreTaken};
+ghost use Rattle.rs_page.specs.Placing.{Places, HasNoPlace};
+ghost use Rattle.rs_page.specs.Pages.{IsWritten};
+ghost use Rattle.rs_page.specs.Sheets.{IsStored, IsTouched, placed_extent, placed_extents, stored, stored_refs};
+ghost use Rattle.rs_changes.specs.History.{changes_of, IsHistory, EndsUnstored, HoldsHistory};
+
+use crate::History;
+use crate::changes::is_rising;
+use rs_body::laws::outside_none;
+use rs_disk::Disk;
+use rs_extent::Used;
+use rs_page::laws::pages_hold_once;
+use rs_page::{Full, LoadFault, Page, PageRef, StoreFault};
+use rs_record::Change;
+use std::alloc::Global;
+
+impl History {
+    /// Gives each touched page the lowest run of free blocks of its size, one page after the other.
+    /// It takes no memory.
+    ///
+    /// # Errors
+    ///
+    /// [`Full`] where a page has no such run; nothing has changed then.
+    pub fn place_touched(&mut self, used: &mut Used) -> Result<(), Full>
+        ensures places { OnOk result (Places change_format used.old self.old used.new self.new) }
+        ensures placed { OnOk result (All (λ sheet. ¬ IsTouched sheet.place) self.new) }
+        ensures taken { placed_extents self.old ≡ [] → OnOk result (AreTaken used.old used.new (placed_extents self.new)) }
+        ensures unstored { EndsUnstored self.old → EndsUnstored self.new }
+        ensures full { OnErr result (HasNoPlace change_format used.old self.old) }
+        ensures used { OnErr result (used.new ≡ used.old) }
+        ensures unchanged { OnErr result (self.new ≡ self.old) }
+    {
+        let Some(page) = &mut self.page else {
+            return Ok(());
+        };
+        page.place_in(used)
+    }
+
+    /// Writes each page that was given blocks, by one device call a page. Pages that are on the disk
+    /// already are not written again.
+    ///
+    /// No page is touched, and the extents of those that were given blocks lie on the disk and have
+    /// no block in common. A read gives the pages from then on; a crash may leave anything in their
+    /// blocks until the next sync. Nothing else on the disk changes, whether it succeeds or not:
+    /// each set of blocks beside these extents stays as it is, at every moment of the run.
+    ///
+    /// # Errors
+    ///
+    /// - [`StoreFault::NoMemory`] where the memory for a page's bytes is refused; the disk is as it
+    ///   was then.
+    /// - [`StoreFault::Device`] where the device fails. The extents may then hold anything.
+    ///
+    /// After each of them the changes are as they were.
+    pub fn store_touched<D: Disk>(&mut self, alloc: Global, disk: &mut D) -> Result<(), StoreFault>
+        requires placed { All (λ sheet. ¬ IsTouched sheet.place) self.old }
+        requires room { AreOnDisk (placed_extents self.old) (D.state disk.old).size }
+        requires apart { AreApart (placed_extents self.old) }
+        ensures ok { OnOk result (self.new ≡ stored change_format self.old) }
+        ensures reads { OnOk result (All (IsWritten change_format (D.state disk.new).now.seen) self.old) }
+        ensures changes { OnErr result (changes_of self.new ≡ changes_of self.old) }
+        ensures device { IsErrOf result StoreFault.Device → ((D.state disk.old).faults < (D.state disk.new).faults) ⊎ (2 ^ 64 ≤ (D.state disk.new).calls + 1) }
+        ensures no_memory { IsErrOf result StoreFault.NoMemory → D.state disk.new ≡ D.state disk.old }
+
+        // Whatever it answers.
+        ensures outside { (kept : ℕ → Bool) → AreBeside kept (placed_extents self.old) → WritesOutside kept (D.state disk.old) (D.state disk.new) }
+        ensures size { (D.state disk.new).size ≡ (D.state disk.old).size }
+        ensures keeps { (D.state disk.new).honest ≡ (D.state disk.old).honest }
+        ensures calls { (D.state disk.old).calls ≤ (D.state disk.new).calls }
+        ensures faults { (D.state disk.old).faults ≤ (D.state disk.new).faults }
+    {
+        let Some(page) = &mut self.page else {
+            outside_none();
+            return Ok(());
+        };
+        page.store(alloc, disk)
+    }
+
+    /// Reads the history that these references point to, whatever they say. The disk stays as it
+    /// is.
+    ///
+    /// No memory is asked for a page before its extent was found to lie on the disk and to have
+    /// exactly the blocks of its length.
+    ///
+    /// # Errors
+    ///
+    /// - [`LoadFault::Device`] where the device fails.
+    /// - [`LoadFault::Damaged`] where the disk holds no history there: a page is damaged, the
+    ///   moments do not strictly rise, or there is more than one page.
+    /// - [`LoadFault::NoMemory`] where the memory is refused.
+    pub fn load<D: Disk>(
+        alloc: Global,
+        disk: &mut D,
+        pages: &[PageRef],
+    ) -> Result<History, LoadFault>
+        ensures pages { IfOk result (λ loaded. stored_refs loaded ≡ pages.now) }
+        ensures stored { IfOk result (All IsStored) }
+
+        // What the disk holds is said of a device that has followed the model.
+        ensures found { IfOk result (λ loaded. IsTrue (D.state disk.new).honest → HoldsHistory pages.now (D.state disk.new).now.seen (map (λ sheet. sheet.items) loaded)) }
+        ensures damaged { IsErrOf result LoadFault.Damaged → IsTrue (D.state disk.new).honest → (changes : List (List Change)) → ¬ HoldsHistory pages.now (D.state disk.new).now.seen changes }
+        ensures device { IsErrOf result LoadFault.Device → ((D.state disk.old).faults < (D.state disk.new).faults) ⊎ (2 ^ 64 ≤ (D.state disk.new).calls + 1) }
+
+        ensures rests { Rests (D.state disk.old) (D.state disk.new) }
+        ensures size { (D.state disk.new).size ≡ (D.state disk.old).size }
+        ensures lasts { IsTrue (D.state disk.new).honest → IsTrue (D.state disk.old).honest }
+        ensures faults { (D.state disk.old).faults ≤ (D.state disk.new).faults }
+    {
+        match pages {
+            [] => Ok(History::empty(alloc)),
+            [page] => History::load_page(alloc, disk, page),
+            _ => Err(LoadFault::Damaged),
+        }
+    }
+
+    // Reads the history of one page.
+    fn load_page<D: Disk>(alloc: Global, disk: &mut D, page: &PageRef) -> Result<History, LoadFault>
+        ensures pages { IfOk result (λ loaded. stored_refs loaded ≡ page.now ∷ []) }
+        ensures stored { IfOk result (All IsStored) }
+        ensures found { IfOk result (λ loaded. IsTrue (D.state disk.new).honest → HoldsHistory (page.now ∷ []) (D.state disk.new).now.seen (map (λ sheet. sheet.items) loaded)) }
+        ensures damaged { IsErrOf result LoadFault.Damaged → IsTrue (D.state disk.new).honest → (changes : List (List Change)) → ¬ HoldsHistory (page.now ∷ []) (D.state disk.new).now.seen changes }
+        ensures device { IsErrOf result LoadFault.Device → ((D.state disk.old).faults < (D.state disk.new).faults) ⊎ (2 ^ 64 ≤ (D.state disk.new).calls + 1) }
+        ensures rests { Rests (D.state disk.old) (D.state disk.new) }
+        ensures size { (D.state disk.new).size ≡ (D.state disk.old).size }
+        ensures lasts { IsTrue (D.state disk.new).honest → IsTrue (D.state disk.old).honest }
+        ensures faults { (D.state disk.old).faults ≤ (D.state disk.new).faults }
+    {
+        pages_hold_once::<Change>();
+        let page = Page::load(alloc, disk, page)?;
+        if !is_rising(page.items()) {
+            return Err(LoadFault::Damaged);
+        }
+        Ok(History { page: Some(page) })
+    }
+}
