@@ -1,6 +1,7 @@
 pub mod Cases
 pub mod Cutting
 pub mod Texts
+pub mod BlocksNotShown
 pub mod Steps
 pub mod Escaping
 pub mod Numbers

@@ -9,15 +9,17 @@ use Rattle.rs_model.specs.Step.{fold_of, mirror_of}
 use Rattle.rs_lists.specs.declared.doc.Doc.{Doc}
 use Rattle.rs_lists.specs.declared.doc.Doc.TheVariants.{ResourcePart, ChangePart}
 use Rattle.rs_lists.specs.Chunks.{part_at}
+use Rattle.rs_lists.specs.Shown.{Shown}
 use Rattle.rs_lists.specs.Text.{list_text, from_of}
 use Rattle.rs_caps.specs.Paths.{doc_of}
-use Rattle.rs_model.specs.Listed.{record_of}
+use Rattle.rs_model.specs.Listed.{record_of, entry_of as entry_of_record}
 use Rattle.rs_caps.specs.Shows.{shown_of}
 use Rattle.rs_caps.specs.Readings.{Listed}
 use Rattle.rs_caps.specs.Readings.Document.{ChangeList}
 use Rattle.rs_caps.specs.Reads.{reads}
 use Rattle.rs_caps.specs.Answer.{answer, listed_of, reading_of}
 use Rattle.rs_caps.specs.Gather.{gather_resources, gather_changes, entry_of}
+use Rattle.rs_caps.specs.DocumentTexts.{document_text}
 use Rattle.rs_model.specs.Lawful.{IsLawful, IsLawfulTimed}
 
 -- The text of a list, a part or an index that is there is what is answered at its path.
@@ -70,3 +72,23 @@ abbrev pub PartsAreBounded : Type 0
 PartsAreBounded =
     (s : Source) (k : ℕ) → IsRegular s
     → AllByRecursion (IsWithin (from_of (shown_of s) k) (from_of (shown_of s) (k + 1))) (part_at k s.limit s.changes)
+
+-- No document says where the blocks of a body are: each is the text of the same view with empty extents.
+abbrev pub BlocksAreNotShown : Type 0
+BlocksAreNotShown =
+    (s : Shown) (doc : Doc) → document_text (record s { published = map record_of (map entry_of_record s.published) }) doc ≡ document_text s doc
+
+-- two views that show the same, but for the blocks of the published records
+pub record IsShownAlike (s t : Shown) : Type 0 where
+  pub base : s.base ≡ t.base
+  pub limit : s.limit ≡ t.limit
+  pub start : s.start ≡ t.start
+  pub number : s.number ≡ t.number
+  pub at : s.at ≡ t.at
+  pub published : map entry_of_record s.published ≡ map entry_of_record t.published
+  pub changes : s.changes ≡ t.changes
+  pub first : s.first ≡ t.first
+
+-- Such views have the same documents.
+abbrev pub AlikeViewsHaveOneText : Type 0
+AlikeViewsHaveOneText = (s t : Shown) (doc : Doc) → IsShownAlike s t → document_text s doc ≡ document_text t doc

@@ -51,6 +51,7 @@ impl Catalogue {
     fn records(&self) -> &[Record]
         ensures value { result.now ≡ records_of self.now }
         ensures lawful { IsCatalogue self.now }
+        ensures one_page { length self.now ≤ 1 }
     {
         match &self.page {
             None => &[],
@@ -62,6 +63,7 @@ impl Catalogue {
     pub fn len(&self) -> usize
         ensures value { result ≡ length (records_of self.now) }
         ensures lawful { IsCatalogue self.now }
+        ensures one_page { length self.now ≤ 1 }
     {
         self.records().len()
     }

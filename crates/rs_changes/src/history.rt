@@ -53,6 +53,7 @@ impl History {
     fn changes(&self) -> &[Change]
         ensures value { result.now ≡ changes_of self.now }
         ensures lawful { IsHistory self.now }
+        ensures one_page { length self.now ≤ 1 }
     {
         match &self.page {
             None => &[],
@@ -64,6 +65,7 @@ impl History {
     pub fn len(&self) -> usize
         ensures value { result ≡ length (changes_of self.now) }
         ensures lawful { IsHistory self.now }
+        ensures one_page { length self.now ≤ 1 }
     {
         self.changes().len()
     }

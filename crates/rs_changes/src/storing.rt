@@ -1,6 +1,7 @@
 //! A history on the disk.
 
-ghost use Rattle.std.specs.Prelude.{◌≡◌, ◌⊎◌, ◌<◌, ◌≤◌, ◌+◌, ◌^◌, ℕ, Bool, List, [], ◌∷◌, map, All, IfOk, IfSome, OnOk, OnErr, IsErrOf, IsTrue};
+ghost use Rattle.std.specs.Prelude.{◌≡◌, ◌⊎◌, ◌<◌, ◌≤◌, ◌+◌, ◌^◌, ℕ, Bool, List, [], ◌∷◌, length, map, All, IfOk, IfSome, OnOk, OnErr, IsErrOf, IsTrue};
+ghost use Rattle.std.specs.List.{AllZip};
 ghost use Rattle.rs_disk.specs.Leaves.{Rests};
 ghost use Rattle.rs_body.specs.Outside.{AreBeside, WritesOutside};
 ghost use Rattle.rs_record.specs.declared.change.Change.{Change};
@@ -8,7 +9,7 @@ ghost use Rattle.rs_page.specs.Items.{change_format};
 ghost use Rattle.rs_page.specs.Kept.{AreApart, AreOnDisk, AreTaken};
 ghost use Rattle.rs_page.specs.Placing.{Places, HasNoPlace};
 ghost use Rattle.rs_page.specs.Pages.{IsWritten};
-ghost use Rattle.rs_page.specs.Sheets.{IsStored, IsTouched, placed_extent, placed_extents, stored, stored_refs};
+ghost use Rattle.rs_page.specs.Sheets.{IsStored, IsTouched, placed_extent, placed_extents, sheet_stored, stored, stored_refs};
 ghost use Rattle.rs_changes.specs.History.{changes_of, IsHistory, EndsUnstored, HoldsHistory};
 
 use crate::History;
@@ -57,7 +58,8 @@ impl History {
     ///   was then.
     /// - [`StoreFault::Device`] where the device fails. The extents may then hold anything.
     ///
-    /// After each of them the changes are as they were.
+    /// After each of them the changes are as they were, and each page is as it was, or is written and
+    /// stored.
     pub fn store_touched<D: Disk>(&mut self, alloc: Global, disk: &mut D) -> Result<(), StoreFault>
         requires placed { All (λ sheet. ¬ IsTouched sheet.place) self.old }
         requires room { AreOnDisk (placed_extents self.old) (D.state disk.old).size }
@@ -65,6 +67,7 @@ impl History {
         ensures ok { OnOk result (self.new ≡ stored change_format self.old) }
         ensures reads { OnOk result (All (IsWritten change_format (D.state disk.new).now.seen) self.old) }
         ensures changes { OnErr result (changes_of self.new ≡ changes_of self.old) }
+        ensures places { OnErr result (AllZip (λ old new. (new ≡ old) ⊎ ((new ≡ sheet_stored change_format old) × IsWritten change_format (D.state disk.new).now.seen old)) self.old self.new) }
         ensures device { IsErrOf result StoreFault.Device → ((D.state disk.old).faults < (D.state disk.new).faults) ⊎ (2 ^ 64 ≤ (D.state disk.new).calls + 1) }
         ensures no_memory { IsErrOf result StoreFault.NoMemory → D.state disk.new ≡ D.state disk.old }
 
@@ -72,6 +75,7 @@ impl History {
         ensures outside { (kept : ℕ → Bool) → AreBeside kept (placed_extents self.old) → WritesOutside kept (D.state disk.old) (D.state disk.new) }
         ensures size { (D.state disk.new).size ≡ (D.state disk.old).size }
         ensures keeps { (D.state disk.new).honest ≡ (D.state disk.old).honest }
+        ensures one_each { (D.state disk.new).calls ≤ (D.state disk.old).calls + length (placed_extents self.old) }
         ensures calls { (D.state disk.old).calls ≤ (D.state disk.new).calls }
         ensures faults { (D.state disk.old).faults ≤ (D.state disk.new).faults }
     {
@@ -82,8 +86,8 @@ impl History {
         page.store(alloc, disk)
     }
 
-    /// Reads the history that these references point to, whatever they say. The disk stays as it
-    /// is.
+    /// Reads the history that these references point to, whatever they say, by one device call a
+    /// page. The disk stays as it is.
     ///
     /// No memory is asked for a page before its extent was found to lie on the disk and to have
     /// exactly the blocks of its length.
@@ -110,6 +114,7 @@ impl History {
         ensures rests { Rests (D.state disk.old) (D.state disk.new) }
         ensures size { (D.state disk.new).size ≡ (D.state disk.old).size }
         ensures lasts { IsTrue (D.state disk.new).honest → IsTrue (D.state disk.old).honest }
+        ensures one_each { (D.state disk.new).calls ≤ (D.state disk.old).calls + length pages.now }
         ensures faults { (D.state disk.old).faults ≤ (D.state disk.new).faults }
     {
         match pages {
@@ -129,6 +134,7 @@ impl History {
         ensures rests { Rests (D.state disk.old) (D.state disk.new) }
         ensures size { (D.state disk.new).size ≡ (D.state disk.old).size }
         ensures lasts { IsTrue (D.state disk.new).honest → IsTrue (D.state disk.old).honest }
+        ensures one_call { (D.state disk.new).calls ≤ (D.state disk.old).calls + 1 }
         ensures faults { (D.state disk.old).faults ≤ (D.state disk.new).faults }
     {
         pages_hold_once::<Change>();

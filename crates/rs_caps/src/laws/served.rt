@@ -3,7 +3,7 @@
 ghost use Rattle.rs_model.specs.State.{Source};
 ghost use Rattle.rs_model.specs.Regular.{IsRegular};
 ghost use Rattle.rs_model.specs.Lawful.{IsLawful};
-ghost use Rattle.rs_caps.specs.Statements.{TextsAreAnswered, TextsRead, ResourcesAreGathered, ChangesAreGathered, ListsMirror, ListedPartsStay, ClosedPartsStay, PartsAreBounded};
+ghost use Rattle.rs_caps.specs.Statements.{TextsAreAnswered, TextsRead, ResourcesAreGathered, ChangesAreGathered, ListsMirror, ListedPartsStay, ClosedPartsStay, PartsAreBounded, BlocksAreNotShown, AlikeViewsHaveOneText};
 
 use rs_model::State;
 
@@ -47,4 +47,11 @@ pub fn closed_parts_stay()
 /// the `from` of the next, which is its `until` where it has one.
 pub fn parts_are_bounded()
     ensures { PartsAreBounded }
+{}
+
+/// No document says where the blocks of a body are. A view of a stored source shows published records with the
+/// blocks of their bodies, a view of a state shows them with none: their documents are equal all the same.
+pub fn blocks_are_not_shown()
+    ensures bare { BlocksAreNotShown }
+    ensures alike { AlikeViewsHaveOneText }
 {}

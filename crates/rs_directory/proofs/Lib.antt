@@ -1,0 +1,5 @@
+pub mod Pieces
+pub mod FieldLaws
+pub mod PartLaws
+pub mod Entries
+pub mod OneDirectory

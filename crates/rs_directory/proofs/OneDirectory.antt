@@ -1,0 +1,224 @@
+-- Bytes are the directory of one header and of one list of entries of each kind.
+use Rattle.std.proofs.Common.{◌≡◌, ℕ, ◌+◌, ◌*◌, Bool, true, false, cond, eqb, List, [], ◌++◌, length, flat_map, Some, None, refl, sym, ◌∙◌, ap, ap₂, subst, eq-eqb, arith}
+use Rattle.std.specs.Prelude.{All, IsTrue}
+use Rattle.std.proofs.lemmas.Bool.{eqb-true}
+use Rattle.std.proofs.lemmas.List.{append-nil, length-append}
+use Rattle.rs_record.specs.Base.{is_base}
+use Rattle.rs_record.proofs.FieldLaws.{AreBytes, Takes, bind_some, guard_some, some_is}
+use Rattle.rs_page.specs.declared.place.PageRef.{PageRef}
+use Rattle.rs_directory.specs.declared.header.Header.{Header}
+use Rattle.rs_directory.specs.declared.parts.Counts.{Counts}
+use Rattle.rs_directory.specs.Directory.{header_bytes, ref_bytes, directory_bytes, directory_length, IsLawfulHeader, IsLawfulRef, AreLawfulRefs}
+use Rattle.rs_directory.specs.Laws.{DirectoryReadsOnce}
+use Rattle.rs_directory.specs.Reading.{header_at, counts_at, entries_at, pages_of}
+use Rattle.rs_directory.proofs.Pieces.{length-header_bytes, length-entries}
+use Rattle.rs_directory.proofs.PartLaws.{HasLawfulNumbers, AreLawfulCounts, counts_bytes, header, counts}
+use Rattle.rs_directory.proofs.Entries.{all_read, some_entries, same_refs}
+
+-- how many pages there are
+abbrev pub counts_of : List PageRef → List PageRef → List PageRef → Counts
+counts_of catalogue changes published = record { catalogue = length catalogue; changes = length changes; published = length published }
+
+-- the entries of each kind
+abbrev pub all_entries : List PageRef → List PageRef → List PageRef → List ℕ
+all_entries catalogue changes published = flat_map ref_bytes catalogue ++ (flat_map ref_bytes changes ++ flat_map ref_bytes published)
+
+-- what follows a header
+abbrev pub after_header : List PageRef → List PageRef → List PageRef → List ℕ
+after_header catalogue changes published = counts_bytes (counts_of catalogue changes published) ++ all_entries catalogue changes published
+
+-- a directory in its parts
+pub directory_parts : (h : Header) (catalogue changes published : List PageRef)
+    → directory_bytes h catalogue changes published ≡ header_bytes h ++ after_header catalogue changes published
+directory_parts h catalogue changes published =
+    ap (λ xs. header_bytes h ++ (counts_bytes (counts_of catalogue changes published) ++ (flat_map ref_bytes catalogue ++ (flat_map ref_bytes changes ++ xs))))
+    (append-nil (flat_map ref_bytes published))
+
+pub has_numbers : (h : Header) → IsLawfulHeader h → HasLawfulNumbers h
+has_numbers h lawful =
+    record { limit = record { low = lawful.low; high = lawful.high }; start = lawful.start; last = lawful.last; number = lawful.number; at = lawful.at }
+
+pub lawful_header : (h : Header) → IsTrue (is_base h.base) → HasLawfulNumbers h → IsLawfulHeader h
+lawful_header h base has =
+    record { base = base; low = has.limit.low; high = has.limit.high; start = has.start; last = has.last; number = has.number; at = has.at }
+
+-- the header of a directory is read
+pub header_read : (bytes : List ℕ) (h : Header) (catalogue changes published : List PageRef) → IsLawfulHeader h
+    → bytes ≡ directory_bytes h catalogue changes published → header_at bytes ≡ Some (h, after_header catalogue changes published)
+header_read bytes h catalogue changes published lawful is =
+    ap header_at (is ∙ directory_parts h catalogue changes published) ∙ header.again h (after_header catalogue changes published) (has_numbers h lawful)
+
+-- the length of all entries
+length-all_entries : (catalogue changes published : List PageRef) → AreLawfulRefs catalogue → AreLawfulRefs changes → AreLawfulRefs published
+    → length (all_entries catalogue changes published) ≡ 44 * pages_of (counts_of catalogue changes published)
+length-all_entries catalogue changes published of_a of_b of_c =
+    omega (
+      arith,
+      length-append (flat_map ref_bytes catalogue) (flat_map ref_bytes changes ++ flat_map ref_bytes published),
+      length-append (flat_map ref_bytes changes) (flat_map ref_bytes published),
+      length-entries catalogue of_a.each,
+      length-entries changes of_b.each,
+      length-entries published of_c.each,
+    )
+
+-- the length of a directory
+pub length-directory_bytes : (h : Header) (catalogue changes published : List PageRef) → AreLawfulRefs catalogue → AreLawfulRefs changes
+    → AreLawfulRefs published
+    → length (directory_bytes h catalogue changes published) ≡ directory_length h (length catalogue + length changes + length published)
+length-directory_bytes h catalogue changes published of_a of_b of_c =
+    omega (
+      arith,
+      ap length (directory_parts h catalogue changes published),
+      length-append (header_bytes h) (after_header catalogue changes published),
+      length-append (counts_bytes (counts_of catalogue changes published)) (all_entries catalogue changes published),
+      length-header_bytes h,
+      length-all_entries catalogue changes published of_a of_b of_c,
+    )
+
+-- the rest of a directory is read
+pub entries_read : (catalogue changes published : List PageRef) → AreLawfulRefs catalogue → AreLawfulRefs changes → AreLawfulRefs published
+    → entries_at (after_header catalogue changes published) ≡ Some (counts_of catalogue changes published, all_entries catalogue changes published)
+unfolding entries_at
+entries_read catalogue changes published of_a of_b of_c =
+    let n = counts_of catalogue changes published in
+    let e = all_entries catalogue changes published in
+    let exact : eqb (length e) (44 * pages_of n) ≡ true = eq-eqb _ _ (length-all_entries catalogue changes published of_a of_b of_c) in
+    rw (counts.again n e (record { catalogue = of_a.count; changes = of_b.count; published = of_c.count }), exact) refl
+
+-- what was read after a header
+pub record HasEntries (bytes : List ℕ) (x : Counts × List ℕ) : Type 0 where
+  pub takes : Takes counts_bytes AreLawfulCounts bytes x
+  pub size : length x.1 ≡ 44 * pages_of x.0
+
+pub entries_takes : (bytes : List ℕ) (x : Counts × List ℕ) → AreBytes bytes → entries_at bytes ≡ Some x → HasEntries bytes x
+unfolding entries_at
+entries_takes bytes x fits e =
+    let a = bind_some (counts_at bytes) (λ n. cond (eqb (length n.1) (44 * pages_of n.0)) (Some n) None) x e in
+    let g = guard_some (eqb (length a.0.1) (44 * pages_of a.0.0)) a.0 x a.2 in
+    subst (HasEntries bytes) g.1 (record { takes = counts.takes bytes a.0 fits a.1; size = eqb-true _ _ g.0 })
+
+-- Bytes are a directory of at most one header and of at most one list of entries of each kind.
+pub one_directory : DirectoryReadsOnce
+one_directory h h' catalogue catalogue' changes changes' published published' of_h of_a of_b of_c of_h' of_a' of_b' of_c' same =
+    let bytes = directory_bytes h catalogue changes published in
+    let head : (h, after_header catalogue changes published) ≡ (h', after_header catalogue' changes' published') =
+    some_is _ _ (sym (header_read bytes h catalogue changes published of_h refl) ∙ header_read bytes h' catalogue' changes' published' of_h' same) in
+    let rest : (counts_of catalogue changes published, all_entries catalogue changes published) ≡
+    (counts_of catalogue' changes' published', all_entries catalogue' changes' published') =
+    some_is _ _ (sym (entries_read catalogue changes published of_a of_b of_c) ∙ ap entries_at (ap (λ x. x.1) head)
+    ∙ entries_read catalogue' changes' published' of_a' of_b' of_c') in
+    let first = same_refs catalogue catalogue' _ _ of_a.each of_a'.each (ap (λ x. x.0.catalogue) rest) (ap (λ x. x.1) rest) in
+    let second = same_refs changes changes' _ _ of_b.each of_b'.each (ap (λ x. x.0.changes) rest) first.1 in
+    let third = same_refs published published' [] [] of_c.each of_c'.each (ap (λ x. x.0.published) rest)
+    (append-nil _ ∙ second.1 ∙ sym (append-nil _)) in
+    (ap (λ x. x.0) head, first.0, second.0, third.0)
+
+pub same_counts : (catalogue changes published : List PageRef) (n : Counts) → length catalogue ≡ n.catalogue → length changes ≡ n.changes
+    → length published ≡ n.published → counts_of catalogue changes published ≡ n
+same_counts catalogue changes published n e f g =
+    let made : ℕ → ℕ → ℕ → Counts = λ x y z. record { catalogue = x; changes = y; published = z } in
+    ap₂ (λ x y. made x y (length published)) e f ∙ ap (made n.catalogue n.changes) g
+
+-- lists of entries, of which there are as many bytes as the numbers of pages say
+record HasLists (n : Counts) (bytes : List ℕ) : Type 0 where
+  catalogue : List PageRef
+  changes : List PageRef
+  published : List PageRef
+  of_catalogue : AreLawfulRefs catalogue
+  of_changes : AreLawfulRefs changes
+  of_published : AreLawfulRefs published
+  counts : counts_of catalogue changes published ≡ n
+  entries : bytes ≡ all_entries catalogue changes published
+
+entries_joined : (a b c : List PageRef) (entries x y : List ℕ) → entries ≡ flat_map ref_bytes a ++ x → x ≡ flat_map ref_bytes b ++ y → y ≡ flat_map ref_bytes c
+    → entries ≡ all_entries a b c
+entries_joined a b c entries x y e f g = e ∙ ap (λ xs. flat_map ref_bytes a ++ xs) (f ∙ ap (λ xs. flat_map ref_bytes b ++ xs) g)
+
+-- how many bytes follow so many entries
+after_entries : (refs : List PageRef) (n : ℕ) (bytes rest : List ℕ) → length refs ≡ n → All IsLawfulRef refs → bytes ≡ flat_map ref_bytes refs ++ rest
+    → length bytes ≡ 44 * n + length rest
+after_entries refs n bytes rest count lawful parts =
+    omega (arith, count, ap length parts, length-append (flat_map ref_bytes refs) rest, length-entries refs lawful)
+
+some_lists : (n : Counts) (bytes : List ℕ) → AreBytes bytes → AreLawfulCounts n → length bytes ≡ 44 * pages_of n → HasLists n bytes
+some_lists n bytes fits lawful size =
+    let a = some_entries n.catalogue bytes fits (omega arith) in
+    let a_size = after_entries a.refs n.catalogue bytes a.rest a.count a.lawful a.parts in
+    let b = some_entries n.changes a.rest a.rest_bytes (omega arith) in
+    let b_size = after_entries b.refs n.changes a.rest b.rest b.count b.lawful b.parts in
+    let c = some_entries n.published b.rest b.rest_bytes (omega arith) in
+    let c_size = after_entries c.refs n.published b.rest c.rest c.count c.lawful c.parts in
+    let last = all_read c.refs n.published b.rest c.rest c.lawful c.parts (omega arith) (omega arith) in
+    record {
+      catalogue = a.refs;
+      changes = b.refs;
+      published = c.refs;
+      of_catalogue = record { each = a.lawful; count = omega (arith, a.count, lawful.catalogue) };
+      of_changes = record { each = b.lawful; count = omega (arith, b.count, lawful.changes) };
+      of_published = record { each = c.lawful; count = omega (arith, c.count, lawful.published) };
+      counts = same_counts a.refs b.refs c.refs n a.count b.count c.count;
+      entries = entries_joined a.refs b.refs c.refs bytes a.rest b.rest a.parts b.parts last.1;
+    }
+
+-- ---- what a refusal says
+
+none_is : {A : Type 0} (x : A) → None ≡ Some x → ⊥
+none_is x e = absurd cc
+
+false_is : false ≡ true → ⊥
+false_is e = absurd cc
+
+module _ (bytes : List ℕ) (fits : AreBytes bytes) where
+  -- the bytes are no lawful directory
+  abbrev pub IsNone : Type 0
+  IsNone = (h : Header) (catalogue changes published : List PageRef) → IsLawfulHeader h
+      → AreLawfulRefs catalogue → AreLawfulRefs changes → AreLawfulRefs published → ¬ (bytes ≡ directory_bytes h catalogue changes published)
+
+  pub no_header : header_at bytes ≡ None → IsNone
+  no_header e h catalogue changes published of_h of_a of_b of_c is =
+      none_is _ (sym e ∙ header_read bytes h catalogue changes published of_h is)
+
+  pub no_entries : (h : Header) (rest : List ℕ) → header_at bytes ≡ Some (h, rest) → entries_at rest ≡ None → IsNone
+  no_entries h rest e f h' catalogue changes published of_h of_a of_b of_c is =
+      let same : (h, rest) ≡ (h', after_header catalogue changes published) = some_is _ _ (sym e ∙ header_read bytes h' catalogue changes published of_h is) in
+      none_is _ (sym f ∙ ap entries_at (ap (λ x. x.1) same) ∙ entries_read catalogue changes published of_a of_b of_c)
+
+  pub no_base : (h : Header) (rest : List ℕ) → header_at bytes ≡ Some (h, rest) → is_base h.base ≡ false → IsNone
+  no_base h rest e f h' catalogue changes published of_h of_a of_b of_c is =
+      let same : (h, rest) ≡ (h', after_header catalogue changes published) = some_is _ _ (sym e ∙ header_read bytes h' catalogue changes published of_h is) in
+      false_is (sym f ∙ ap (λ x. is_base x.0.base) same ∙ of_h.base)
+
+  -- what was read is a directory
+  pub is_directory : (h : Header) (rest : List ℕ) (n : Counts) (entries : List ℕ) (catalogue changes published : List PageRef)
+      → header_at bytes ≡ Some (h, rest) → entries_at rest ≡ Some (n, entries) → counts_of catalogue changes published ≡ n
+      → entries ≡ all_entries catalogue changes published
+      → bytes ≡ directory_bytes h catalogue changes published
+  is_directory h rest n entries catalogue changes published e f same is =
+      let t = header.takes bytes (h, rest) fits e in
+      let u = entries_takes rest (n, entries) t.rest f in
+      t.parts ∙ ap (λ xs. header_bytes h ++ xs) (u.takes.parts ∙ ap₂ (λ m xs. counts_bytes m ++ xs) (sym same) is)
+      ∙ sym (directory_parts h catalogue changes published)
+
+  -- where the parts were read and the base is lawful, the bytes are some lawful directory
+  pub not_none : (h : Header) (rest : List ℕ) (n : Counts) (entries : List ℕ) → header_at bytes ≡ Some (h, rest) → entries_at rest ≡ Some (n, entries)
+      → IsTrue (is_base h.base) → IsNone → ⊥
+  not_none h rest n entries e f base none =
+      let t = header.takes bytes (h, rest) fits e in
+      let u = entries_takes rest (n, entries) t.rest f in
+      let all = some_lists n entries u.takes.rest u.takes.lawful u.size in
+      none h all.catalogue all.changes all.published (lawful_header h base t.lawful) all.of_catalogue all.of_changes all.of_published
+      (is_directory h rest n entries all.catalogue all.changes all.published e f all.counts all.entries)
+
+  -- as many bytes of entries as the numbers of pages say
+  pub size_read : (h : Header) (rest : List ℕ) (n : Counts) (entries : List ℕ) → header_at bytes ≡ Some (h, rest) → entries_at rest ≡ Some (n, entries)
+      → length entries ≡ 44 * pages_of n
+  size_read h rest n entries e f = (entries_takes rest (n, entries) (header.takes bytes (h, rest) fits e).rest f).size
+
+  -- where the parts were read, only a bad base is left
+  pub bad_base : (h : Header) (rest : List ℕ) (n : Counts) (entries : List ℕ) → header_at bytes ≡ Some (h, rest) → entries_at rest ≡ Some (n, entries)
+      → IsNone → is_base h.base ≡ false
+  bad_base h rest n entries e f none = by_cases (is_base h.base) refl
+    where
+      by_cases : (b : Bool) → is_base h.base ≡ b → is_base h.base ≡ false
+      by_cases true is = absurd (not_none h rest n entries e f is none)
+      by_cases false is = is

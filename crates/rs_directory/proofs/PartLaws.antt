@@ -1,0 +1,184 @@
+-- What is read is what was written, and what was written is read: headers, numbers of pages and entries.
+use Rattle.std.proofs.Common.{◌≡◌, ℕ, ◌^◌, ◌<◌, List, [], ◌∷◌, ◌++◌, length, Some, None, refl, ap, ◌∙◌}
+use Rattle.std.specs.List.{concat}
+use Rattle.std.specs.Int.{w16, w32, w64, to_be_bytes}
+use Rattle.rs_time.specs.Moment.{IsMoment}
+use Rattle.rs_record.specs.Format.{counted}
+use Rattle.rs_record.specs.Reading.{◌>>=◌, piece_at, number_at, counted_at, moment_at}
+use Rattle.rs_record.proofs.FieldLaws.{AreBytes, Takes, IsFormat, bind_some, takes_as, one_more, concat-onto, piece, piece_read, number_4, number_8, moment}
+use Rattle.rs_page.specs.declared.place.PageRef.{PageRef}
+use Rattle.rs_directory.specs.declared.header.Header.{Header}
+use Rattle.rs_directory.specs.declared.parts.Counts.{Counts}
+use Rattle.rs_directory.specs.Limit.{IsLimit}
+use Rattle.rs_directory.specs.Directory.{header_bytes, ref_bytes, IsLawfulRef}
+use Rattle.rs_directory.specs.Reading.{limit_at, header_at, counts_at, ref_at}
+use Rattle.rs_directory.proofs.FieldLaws.{limit, text, number_none, piece_none_of}
+
+-- ---- headers
+
+-- what a header keeps beside its base
+pub record HasLawfulNumbers (h : Header) : Type 0 where
+  pub limit : IsLimit h.limit
+  pub start : IsMoment h.start
+  pub last : IsMoment h.last
+  pub number : h.number < 2 ^ 64
+  pub at : IsMoment h.at
+
+header_takes : (bytes : List ℕ) (x : Header × List ℕ) → AreBytes bytes → header_at bytes ≡ Some x → Takes header_bytes HasLawfulNumbers bytes x
+unfolding header_at
+header_takes bytes x fits e =
+    let made : ℕ → List ℕ → ℕ → ℕ → ℕ → ℕ → Header =
+    λ items base start last number at. record { base = base; limit = items; start = start; last = last; number = number; at = at } in
+    let a = bind_some (limit_at bytes) (λ items. counted_at items.1 >>= λ base. moment_at base.1 >>= λ start. moment_at start.1
+    >>= λ last. number_at w64 last.1 >>= λ number. moment_at number.1 >>= λ at. Some (made items.0 base.0 start.0 last.0 number.0 at.0, at.1)) x e in
+    let b = bind_some (counted_at a.0.1) (λ base. moment_at base.1 >>= λ start. moment_at start.1 >>= λ last. number_at w64 last.1
+    >>= λ number. moment_at number.1 >>= λ at. Some (made a.0.0 base.0 start.0 last.0 number.0 at.0, at.1)) x a.2 in
+    let d = bind_some (moment_at b.0.1) (λ start. moment_at start.1 >>= λ last. number_at w64 last.1 >>= λ number. moment_at number.1
+    >>= λ at. Some (made a.0.0 b.0.0 start.0 last.0 number.0 at.0, at.1)) x b.2 in
+    let f = bind_some (moment_at d.0.1) (λ last. number_at w64 last.1 >>= λ number. moment_at number.1
+    >>= λ at. Some (made a.0.0 b.0.0 d.0.0 last.0 number.0 at.0, at.1)) x d.2 in
+    let g = bind_some (number_at w64 f.0.1) (λ number. moment_at number.1 >>= λ at. Some (made a.0.0 b.0.0 d.0.0 f.0.0 number.0 at.0, at.1)) x f.2 in
+    let h = bind_some (moment_at g.0.1) (λ at. Some (made a.0.0 b.0.0 d.0.0 f.0.0 g.0.0 at.0, at.1)) x g.2 in
+    let ta = limit.takes bytes a.0 fits a.1 in
+    let tb = text.takes a.0.1 b.0 ta.rest b.1 in
+    let td = moment.takes b.0.1 d.0 tb.rest d.1 in
+    let tf = moment.takes d.0.1 f.0 td.rest f.1 in
+    let tg = number_8.takes f.0.1 g.0 tf.rest g.1 in
+    let th = moment.takes g.0.1 h.0 tg.rest h.1 in
+    let L = to_be_bytes w16 a.0.0 in
+    let B = counted b.0.0 in
+    let S = to_be_bytes w64 d.0.0 in
+    let T = to_be_bytes w64 f.0.0 in
+    let N = to_be_bytes w64 g.0.0 in
+    let one = one_more [] bytes L bytes a.0.1 refl ta.parts in
+    let two = one_more (L ∷ []) bytes B a.0.1 b.0.1 one tb.parts in
+    let three = one_more (L ∷ B ∷ []) bytes S b.0.1 d.0.1 two td.parts in
+    let four = one_more (L ∷ B ∷ S ∷ []) bytes T d.0.1 f.0.1 three tf.parts in
+    let five = one_more (L ∷ B ∷ S ∷ T ∷ []) bytes N f.0.1 g.0.1 four tg.parts in
+    let six = one_more (L ∷ B ∷ S ∷ T ∷ N ∷ []) bytes (to_be_bytes w64 h.0.0) g.0.1 h.0.1 five th.parts in
+    takes_as (made a.0.0 b.0.0 d.0.0 f.0.0 g.0.0 h.0.0, h.0.1) x h.2
+    (record { parts = six; rest = th.rest; lawful = record { limit = ta.lawful; start = td.lawful; last = tf.lawful; number = tg.lawful; at = th.lawful } })
+
+header_again : (h : Header) (rest : List ℕ) → HasLawfulNumbers h → header_at (header_bytes h ++ rest) ≡ Some (h, rest)
+unfolding header_at
+header_again h rest lawful =
+    let at = to_be_bytes w64 h.at ++ rest in
+    let number = to_be_bytes w64 h.number ++ at in
+    let last = to_be_bytes w64 h.last ++ number in
+    let start = to_be_bytes w64 h.start ++ last in
+    ap header_at (concat-onto (to_be_bytes w16 h.limit ∷ counted h.base ∷ to_be_bytes w64 h.start ∷ to_be_bytes w64 h.last ∷ to_be_bytes w64 h.number ∷
+    to_be_bytes w64 h.at ∷ []) rest)
+    ∙ rw (
+      limit.again h.limit (counted h.base ++ start) lawful.limit,
+      text.again h.base start tt,
+      moment.again h.start last lawful.start,
+      moment.again h.last number lawful.last,
+      number_8.again h.number at lawful.number,
+      moment.again h.at rest lawful.at,
+    ) refl
+
+pub header : IsFormat header_at header_bytes HasLawfulNumbers
+header = record { takes = header_takes; again = header_again }
+
+-- ---- numbers of pages
+
+-- three numbers, one after the other
+abbrev pub counts_bytes : Counts → List ℕ
+counts_bytes n = concat (to_be_bytes w32 n.catalogue ∷ to_be_bytes w32 n.changes ∷ to_be_bytes w32 n.published ∷ [])
+
+-- each has 32 bits
+pub record AreLawfulCounts (n : Counts) : Type 0 where
+  pub catalogue : n.catalogue < 2 ^ 32
+  pub changes : n.changes < 2 ^ 32
+  pub published : n.published < 2 ^ 32
+
+counts_takes : (bytes : List ℕ) (x : Counts × List ℕ) → AreBytes bytes → counts_at bytes ≡ Some x → Takes counts_bytes AreLawfulCounts bytes x
+unfolding counts_at
+counts_takes bytes x fits e =
+    let made : ℕ → ℕ → ℕ → Counts = λ catalogue changes published. record { catalogue = catalogue; changes = changes; published = published } in
+    let a = bind_some (number_at w32 bytes) (λ catalogue. number_at w32 catalogue.1 >>= λ changes. number_at w32 changes.1
+    >>= λ published. Some (made catalogue.0 changes.0 published.0, published.1)) x e in
+    let b = bind_some (number_at w32 a.0.1) (λ changes. number_at w32 changes.1 >>= λ published. Some (made a.0.0 changes.0 published.0, published.1)) x a.2 in
+    let d = bind_some (number_at w32 b.0.1) (λ published. Some (made a.0.0 b.0.0 published.0, published.1)) x b.2 in
+    let ta = number_4.takes bytes a.0 fits a.1 in
+    let tb = number_4.takes a.0.1 b.0 ta.rest b.1 in
+    let td = number_4.takes b.0.1 d.0 tb.rest d.1 in
+    let A = to_be_bytes w32 a.0.0 in
+    let B = to_be_bytes w32 b.0.0 in
+    let one = one_more [] bytes A bytes a.0.1 refl ta.parts in
+    let two = one_more (A ∷ []) bytes B a.0.1 b.0.1 one tb.parts in
+    let three = one_more (A ∷ B ∷ []) bytes (to_be_bytes w32 d.0.0) b.0.1 d.0.1 two td.parts in
+    takes_as (made a.0.0 b.0.0 d.0.0, d.0.1) x d.2
+    (record { parts = three; rest = td.rest; lawful = record { catalogue = ta.lawful; changes = tb.lawful; published = td.lawful } })
+
+counts_again : (n : Counts) (rest : List ℕ) → AreLawfulCounts n → counts_at (counts_bytes n ++ rest) ≡ Some (n, rest)
+unfolding counts_at
+counts_again n rest lawful =
+    let published = to_be_bytes w32 n.published ++ rest in
+    let changes = to_be_bytes w32 n.changes ++ published in
+    ap counts_at (concat-onto (to_be_bytes w32 n.catalogue ∷ to_be_bytes w32 n.changes ∷ to_be_bytes w32 n.published ∷ []) rest)
+    ∙ rw (
+      number_4.again n.catalogue changes lawful.catalogue,
+      number_4.again n.changes published lawful.changes,
+      number_4.again n.published rest lawful.published,
+    ) refl
+
+pub counts : IsFormat counts_at counts_bytes AreLawfulCounts
+counts = record { takes = counts_takes; again = counts_again }
+
+-- ---- entries
+
+ref_takes : (bytes : List ℕ) (x : PageRef × List ℕ) → AreBytes bytes → ref_at bytes ≡ Some x → Takes ref_bytes IsLawfulRef bytes x
+unfolding ref_at
+ref_takes bytes x fits e =
+    let made : ℕ → ℕ → ℕ → List ℕ → PageRef =
+    λ first blocks len sha256. record { extent = record { first = first; blocks = blocks }; length = len; sha256 = sha256 } in
+    let a = bind_some (number_at w32 bytes) (λ first. number_at w32 first.1 >>= λ blocks. number_at w32 blocks.1 >>= λ len. piece_at 32 len.1
+    >>= λ sha256. Some (made first.0 blocks.0 len.0 sha256.0, sha256.1)) x e in
+    let b = bind_some (number_at w32 a.0.1) (λ blocks. number_at w32 blocks.1 >>= λ len. piece_at 32 len.1
+    >>= λ sha256. Some (made a.0.0 blocks.0 len.0 sha256.0, sha256.1)) x a.2 in
+    let d = bind_some (number_at w32 b.0.1) (λ len. piece_at 32 len.1 >>= λ sha256. Some (made a.0.0 b.0.0 len.0 sha256.0, sha256.1)) x b.2 in
+    let f = bind_some (piece_at 32 d.0.1) (λ sha256. Some (made a.0.0 b.0.0 d.0.0 sha256.0, sha256.1)) x d.2 in
+    let ta = number_4.takes bytes a.0 fits a.1 in
+    let tb = number_4.takes a.0.1 b.0 ta.rest b.1 in
+    let td = number_4.takes b.0.1 d.0 tb.rest d.1 in
+    let tf = (piece 32).takes d.0.1 f.0 td.rest f.1 in
+    let F = to_be_bytes w32 a.0.0 in
+    let B = to_be_bytes w32 b.0.0 in
+    let L = to_be_bytes w32 d.0.0 in
+    let one = one_more [] bytes F bytes a.0.1 refl ta.parts in
+    let two = one_more (F ∷ []) bytes B a.0.1 b.0.1 one tb.parts in
+    let three = one_more (F ∷ B ∷ []) bytes L b.0.1 d.0.1 two td.parts in
+    let four = one_more (F ∷ B ∷ L ∷ []) bytes f.0.0 d.0.1 f.0.1 three tf.parts in
+    takes_as (made a.0.0 b.0.0 d.0.0 f.0.0, f.0.1) x f.2
+    (record { parts = four; rest = tf.rest; lawful = record { first = ta.lawful; blocks = tb.lawful; len = td.lawful; sha256 = tf.lawful.length } })
+
+ref_again : (r : PageRef) (rest : List ℕ) → IsLawfulRef r → ref_at (ref_bytes r ++ rest) ≡ Some (r, rest)
+unfolding ref_at
+ref_again r rest lawful =
+    let sha256 = r.sha256 ++ rest in
+    let len = to_be_bytes w32 r.length ++ sha256 in
+    let blocks = to_be_bytes w32 r.extent.blocks ++ len in
+    ap ref_at (concat-onto (to_be_bytes w32 r.extent.first ∷ to_be_bytes w32 r.extent.blocks ∷ to_be_bytes w32 r.length ∷ r.sha256 ∷ []) rest)
+    ∙ rw (
+      number_4.again r.extent.first blocks lawful.first,
+      number_4.again r.extent.blocks len lawful.blocks,
+      number_4.again r.length sha256 lawful.len,
+      piece_read 32 r.sha256 rest lawful.sha256,
+    ) refl
+
+pub ref : IsFormat ref_at ref_bytes IsLawfulRef
+ref = record { takes = ref_takes; again = ref_again }
+
+-- where no entry stands in front, there are too few bytes for one
+pub ref_none : (bytes : List ℕ) → AreBytes bytes → ref_at bytes ≡ None → length bytes < 44
+unfolding ref_at
+ref_none bytes fits e =
+    let made : ℕ → ℕ → ℕ → List ℕ → PageRef =
+    λ first blocks len sha256. record { extent = record { first = first; blocks = blocks }; length = len; sha256 = sha256 } in
+    number_none 40 bytes (λ first. number_at w32 first.1 >>= λ blocks. number_at w32 blocks.1 >>= λ len. piece_at 32 len.1
+    >>= λ sha256. Some (made first.0 blocks.0 len.0 sha256.0, sha256.1)) fits e
+    (λ first fits₁ e₁. number_none 36 first.1 (λ blocks. number_at w32 blocks.1 >>= λ len. piece_at 32 len.1
+    >>= λ sha256. Some (made first.0 blocks.0 len.0 sha256.0, sha256.1)) fits₁ e₁
+    (λ blocks fits₂ e₂. number_none 32 blocks.1 (λ len. piece_at 32 len.1 >>= λ sha256. Some (made first.0 blocks.0 len.0 sha256.0, sha256.1)) fits₂ e₂
+    (λ len fits₃ e₃. piece_none_of 32 len.1 (λ sha256. (made first.0 blocks.0 len.0 sha256.0, sha256.1)) e₃)))

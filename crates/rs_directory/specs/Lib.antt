@@ -1,0 +1,4 @@
+pub mod Limit
+pub mod Directory
+pub mod Laws
+pub mod Reading

@@ -1,0 +1,117 @@
+//! A directory as bytes on the disk.
+
+ghost use Rattle.std.specs.Prelude.{◌≡◌, ◌≤◌, ◌+◌, ◌*◌, ◌++◌, vec_len, vec_capacity, length, flat_map, All, IfOk};
+ghost use Rattle.rs_directory.specs.Directory.{header_bytes, ref_bytes, count_bytes, directory_bytes as bytes_of, directory_length, IsLawfulHeader, IsLawfulRef, AreLawfulRefs};
+
+use crate::Header;
+use crate::fields::append;
+use rs_page::PageRef;
+use std::alloc::{AllocError, Global};
+
+/// How many bytes an entry of a page has.
+pub(crate) const ENTRY_SIZE: usize = 44;
+
+/// How many bytes a directory with this header and so many entries has in all: at most 175, and 44
+/// for each entry.
+pub fn directory_size(header: &Header, entries: usize) -> u32
+    requires { entries ≤ 150000 }
+    ensures size { result ≡ directory_length header.now entries }
+    ensures bound { result ≤ 175 + 44 * entries }
+{
+    (47 + header.base.bytes().len() + ENTRY_SIZE * entries) as u32
+}
+
+/// The bytes of a directory: its header, the number of entries of each kind, and the entries. Each
+/// kind has at most 50,000 of them.
+///
+/// Memory is asked for once, for exactly as many bytes as the directory has.
+///
+/// # Errors
+///
+/// An error where this memory was refused.
+pub fn directory_bytes(
+    alloc: Global,
+    header: &Header,
+    catalogue: &[PageRef],
+    changes: &[PageRef],
+    published: &[PageRef],
+) -> Result<Vec<u8>, AllocError>
+    requires catalogue { length catalogue.now ≤ 50000 }
+    requires changes { length changes.now ≤ 50000 }
+    requires published { length published.now ≤ 50000 }
+    ensures bytes { IfOk result (λ out. out.items ≡ bytes_of header.now catalogue.now changes.now published.now) }
+    ensures size { IfOk result (λ out. vec_len out ≡ directory_length header.now (length catalogue.now + length changes.now + length published.now)) }
+
+    // So what was written is read again.
+    ensures header { IfOk result (λ _. IsLawfulHeader header.now) }
+    ensures catalogue { IfOk result (λ _. AreLawfulRefs catalogue.now) }
+    ensures changes { IfOk result (λ _. AreLawfulRefs changes.now) }
+    ensures published { IfOk result (λ _. AreLawfulRefs published.now) }
+{
+    let entries = catalogue.len() + changes.len() + published.len();
+    let mut out = Vec::with_capacity(alloc, directory_size(header, entries) as usize)?;
+    append_header(header, &mut out);
+    append_count(catalogue, &mut out);
+    append_count(changes, &mut out);
+    append_count(published, &mut out);
+    append_refs(catalogue, &mut out);
+    append_refs(changes, &mut out);
+    append_refs(published, &mut out);
+    Ok(out)
+}
+
+// Appends a header, for which there is room.
+fn append_header(header: &Header, out: &mut Vec<u8>)
+    requires { vec_len out.old + 35 + length header.now.base ≤ vec_capacity out.old }
+    ensures items { out.new.items ≡ out.old.items ++ header_bytes header.now }
+    ensures len { vec_len out.new ≡ vec_len out.old + 35 + length header.now.base }
+    ensures capacity { vec_capacity out.old ≤ vec_capacity out.new }
+    ensures lawful { IsLawfulHeader header.now }
+{
+    let base = header.base.bytes();
+    append(&header.limit.items().to_be_bytes(), out);
+    append(&[base.len() as u8], out);
+    append(base, out);
+    append(&header.start.ms().to_be_bytes(), out);
+    append(&header.last.ms().to_be_bytes(), out);
+    append(&header.number.to_be_bytes(), out);
+    append(&header.at.ms().to_be_bytes(), out);
+}
+
+// Appends the number of the entries, for which there is room.
+fn append_count(refs: &[PageRef], out: &mut Vec<u8>)
+    requires most { length refs.now ≤ 50000 }
+    requires room { vec_len out.old + 4 ≤ vec_capacity out.old }
+    ensures items { out.new.items ≡ out.old.items ++ count_bytes refs.now }
+    ensures len { vec_len out.new ≡ vec_len out.old + 4 }
+    ensures capacity { vec_capacity out.old ≤ vec_capacity out.new }
+{
+    append(&(refs.len() as u32).to_be_bytes(), out);
+}
+
+// Appends the entries, for which there is room.
+fn append_refs(refs: &[PageRef], out: &mut Vec<u8>)
+    requires { vec_len out.old + 44 * length refs.now ≤ vec_capacity out.old }
+    ensures items { out.new.items ≡ out.old.items ++ flat_map ref_bytes refs.now }
+    ensures len { vec_len out.new ≡ vec_len out.old + 44 * length refs.now }
+    ensures capacity { vec_capacity out.old ≤ vec_capacity out.new }
+    ensures lawful { All IsLawfulRef refs.now }
+{
+    for entry in refs {
+        append_ref(entry, out);
+    }
+}
+
+// Appends an entry, for which there is room.
+fn append_ref(entry: &PageRef, out: &mut Vec<u8>)
+    requires { vec_len out.old + 44 ≤ vec_capacity out.old }
+    ensures items { out.new.items ≡ out.old.items ++ ref_bytes entry.now }
+    ensures len { vec_len out.new ≡ vec_len out.old + 44 }
+    ensures capacity { vec_capacity out.old ≤ vec_capacity out.new }
+    ensures lawful { IsLawfulRef entry.now }
+{
+    append(&entry.extent.first.to_be_bytes(), out);
+    append(&entry.extent.blocks.to_be_bytes(), out);
+    append(&entry.length.to_be_bytes(), out);
+    append(&entry.sha256, out);
+}

@@ -1,0 +1,23 @@
+//! What a source keeps beside its lists.
+
+use crate::Limit;
+use rs_record::Base;
+use rs_time::Moment;
+
+/// What a source keeps beside its lists: how it was formatted, how far its commands have come, and
+/// which publication is the latest.
+#[derive(Debug, Drop)]
+pub struct Header {
+    /// The front of each URI of the source.
+    pub base: Base,
+    /// The item limit: the greatest number of items in one document, 2 to 4,000.
+    pub limit: Limit,
+    /// The moment of formatting.
+    pub start: Moment,
+    /// The moment of the last accepted command, or of formatting.
+    pub last: Moment,
+    /// The number of the latest publication, which is 0 at first.
+    pub number: u64,
+    /// The moment of the latest publication, or of formatting.
+    pub at: Moment,
+}

@@ -1,0 +1,24 @@
+//! The directory of a source: what a root points to, and how it is spelled on the disk.
+//!
+//! A [`Directory`] has the [`Header`] of the source and an entry of each page of its three lists.
+//! [`directory_bytes`] spells it and [`read_directory`] reads it back, or finds that the bytes are no
+//! lawful directory; [`laws`] states that bytes are the directory of one source at most.
+#![tactic(auto)]
+
+mod directory;
+mod fields;
+mod format;
+mod header;
+pub mod laws;
+mod limit;
+mod parts;
+mod reading;
+
+pub use directory::Directory;
+pub use format::{directory_bytes, directory_size};
+pub use header::Header;
+pub use limit::Limit;
+pub use reading::read_directory;
+
+#[cfg(test)]
+mod tests;

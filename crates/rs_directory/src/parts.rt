@@ -1,0 +1,102 @@
+//! The parts of a directory, read off the front of some bytes.
+
+ghost use Rattle.rs_record.specs.Reading.{Gives};
+ghost use Rattle.rs_directory.specs.Reading.{header_at as header_read, counts_at as counts_read, entries_at as entries_read, ref_at as ref_read, header_seen};
+
+use crate::Limit;
+use crate::fields::{counted_at, u16_at, u32_at, u64_at};
+use crate::format::ENTRY_SIZE;
+use rs_extent::Extent;
+use rs_page::PageRef;
+use rs_time::Moment;
+
+/// A header that was read. Whether its base is lawful was not looked at.
+#[derive(Clone, Copy)]
+pub struct HeaderFields<'a> {
+    pub base: &'a [u8],
+    pub limit: Limit,
+    pub start: Moment,
+    pub last: Moment,
+    pub number: u64,
+    pub at: Moment,
+}
+
+/// How many pages of each kind there are.
+#[derive(Clone, Copy)]
+pub struct Counts {
+    pub catalogue: u32,
+    pub changes: u32,
+    pub published: u32,
+}
+
+/// A header, and the bytes after it.
+#[tactic(auto, unfolding(crate::specs::Reading::header_at, crate::specs::Reading::limit_at, rs_record::specs::Reading::moment_at))]
+pub fn header_at(bytes: &[u8]) -> Option<(HeaderFields<'_>, &[u8])>
+    ensures { Gives (λ x. (header_seen x.0, x.1.now)) result (header_read bytes.now) }
+{
+    let (items, rest) = u16_at(bytes)?;
+    let limit = Limit::new(items)?;
+    let (base, rest) = counted_at(rest)?;
+    let (ms, rest) = u64_at(rest)?;
+    let start = Moment::new(ms)?;
+    let (ms, rest) = u64_at(rest)?;
+    let last = Moment::new(ms)?;
+    let (number, rest) = u64_at(rest)?;
+    let (ms, rest) = u64_at(rest)?;
+    let at = Moment::new(ms)?;
+    let header = HeaderFields {
+        base,
+        limit,
+        start,
+        last,
+        number,
+        at,
+    };
+    Some((header, rest))
+}
+
+// The numbers of pages, and the bytes after them.
+#[tactic(auto, unfolding(crate::specs::Reading::counts_at))]
+fn counts_at(bytes: &[u8]) -> Option<(Counts, &[u8])>
+    ensures { Gives (λ x. (x.0, x.1.now)) result (counts_read bytes.now) }
+{
+    let (catalogue, rest) = u32_at(bytes)?;
+    let (changes, rest) = u32_at(rest)?;
+    let (published, rest) = u32_at(rest)?;
+    let counts = Counts {
+        catalogue,
+        changes,
+        published,
+    };
+    Some((counts, rest))
+}
+
+/// The numbers of pages, and the bytes of their entries: as many as the numbers say, and no more.
+#[tactic(auto, unfolding(crate::specs::Reading::entries_at))]
+pub fn entries_at(bytes: &[u8]) -> Option<(Counts, &[u8])>
+    ensures { Gives (λ x. (x.0, x.1.now)) result (entries_read bytes.now) }
+{
+    let (counts, entries) = counts_at(bytes)?;
+    let pages = counts.catalogue as usize + counts.changes as usize + counts.published as usize;
+    if entries.len() != ENTRY_SIZE * pages {
+        return None;
+    }
+    Some((counts, entries))
+}
+
+/// An entry of a page, and the bytes after it.
+#[tactic(auto, unfolding(crate::specs::Reading::ref_at))]
+pub fn ref_at(bytes: &[u8]) -> Option<(PageRef, &[u8])>
+    ensures { Gives (λ x. (x.0, x.1.now)) result (ref_read bytes.now) }
+{
+    let (first, rest) = u32_at(bytes)?;
+    let (blocks, rest) = u32_at(rest)?;
+    let (length, rest) = u32_at(rest)?;
+    let (sha256, rest) = rest.split_first_chunk::<32>()?;
+    let entry = PageRef {
+        extent: Extent { first, blocks },
+        length,
+        sha256: *sha256,
+    };
+    Some((entry, rest))
+}

@@ -1,0 +1,7 @@
+pub mod Taken
+pub mod Reached
+pub mod Reaching
+pub mod Each
+pub mod Once
+pub mod Frame
+pub mod Loaded

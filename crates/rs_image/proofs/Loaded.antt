@@ -1,0 +1,153 @@
+-- What a loader of a root's lists finds.
+use Rattle.std.proofs.Common.{◌≡◌, ℕ, ◌+◌, ◌-◌, ◌<◌, ◌≤◌, true, List, length, map, refl, subst, arith, sym, ◌∙◌, ap, Result, Ok, Err}
+use Rattle.std.specs.Prelude.{IsErrOf}
+use Rattle.std.specs.Result.{IsErrAnd}
+use Rattle.rs_disk.specs.Medium.{Medium, DiskState, IsMedium}
+use Rattle.rs_disk.specs.Leaves.{Rests}
+use Rattle.rs_extent.specs.declared.Extent.{Extent}
+use Rattle.rs_body.specs.Blocks.{within, part, IsSized}
+use Rattle.rs_body.proofs.Sets.{within_true, within_is}
+use Rattle.rs_record.specs.declared.fields.FieldFault.{FieldFault}
+use Rattle.rs_record.specs.declared.fields.FieldFault.TheVariants.{Malformed, NoMemory as NoFieldMemory}
+use Rattle.rs_page.specs.declared.page.load.LoadFault.{LoadFault}
+use Rattle.rs_page.specs.declared.page.load.LoadFault.TheVariants.{Damaged}
+use Rattle.rs_page.specs.Faults.{of_items}
+use Rattle.rs_page.specs.declared.place.PageRef.{PageRef}
+use Rattle.rs_directory.specs.declared.header.Header.{Header}
+use Rattle.rs_directory.specs.Directory.{directory_bytes, IsLawfulHeader, AreLawfulRefs}
+use Rattle.rs_fixity.specs.Digests.{digests}
+use Rattle.rs_commit.specs.declared.root.Root.{Root}
+use Rattle.rs_model.specs.State.{Source}
+use Rattle.rs_page.specs.Sheets.{Sheet, stored_refs}
+use Rattle.rs_catalogue.specs.Catalogue.{HoldsCatalogue}
+use Rattle.rs_changes.specs.History.{HoldsHistory}
+use Rattle.rs_directory.specs.declared.directory.Directory.{Directory}
+use Rattle.rs_image.specs.declared.contents.Contents.{Contents}
+use Rattle.rs_image.specs.Reach.{blocks_of_disk}
+use Rattle.rs_image.specs.Whole.{IsWhole}
+use Rattle.rs_image.specs.Tells.{Tells, state_in, listing}
+use Rattle.rs_image.specs.Loading.{spelled, IsLawful, AreOf, Hold}
+use Rattle.rs_image.proofs.Once.{sheets_once, catalogue_held_once, history_held_once}
+use Rattle.rs_directory.proofs.OneDirectory.{one_directory}
+
+-- whether both ends of an extent are inside
+pub ends_inside : (e : Extent) (n : ℕ) → 2 ≤ e.first → e.first + e.blocks ≤ n → (b : ℕ) → within e b ≡ true → (2 ≤ b) × (b < n)
+ends_inside e n low high b is = let inside = within_is e b is in (omega (arith, inside.0), omega (arith, inside.1))
+
+pub low_inside : (e : Extent) (n : ℕ) → 0 < e.blocks → ((b : ℕ) → within e b ≡ true → (2 ≤ b) × (b < n)) → 2 ≤ e.first
+low_inside e n some inside = (inside e.first (within_true e e.first (omega arith) (omega arith))).0
+
+pub high_inside : (e : Extent) (n : ℕ) → 0 < e.blocks → ((b : ℕ) → within e b ≡ true → (2 ≤ b) × (b < n)) → e.first + e.blocks ≤ n
+high_inside e n some inside =
+    let last = inside (e.first + (e.blocks - 1)) (within_true e (e.first + (e.blocks - 1)) (omega arith) (omega arith)) in
+    omega (arith, last.1)
+
+-- A disk on which an extent of some bytes lies behind the slots has more than the slots.
+pub has_slots : (e : Extent) (n size : ℕ) → 0 < n → IsSized e n → ((b : ℕ) → within e b ≡ true → (2 ≤ b) × (b < blocks_of_disk size)) → 1024 ≤ size
+has_slots e n size some sized inside =
+    let blocks : 0 < e.blocks = omega (arith, sized.0, some) in
+    let low = low_inside e (blocks_of_disk size) blocks inside in
+    let high = high_inside e (blocks_of_disk size) blocks inside in
+    omega (arith, low, high, blocks)
+
+-- Fields that are damaged are malformed.
+is_malformed : (fault : FieldFault) (made : LoadFault) → made ≡ of_items fault → made ≡ Damaged → fault ≡ Malformed
+is_malformed Malformed made is damaged = cc
+is_malformed NoFieldMemory made is damaged = absurd cc
+
+pub malformed : {T : Type 0} (fault : FieldFault) (made : Result T LoadFault) → IsErrAnd made (λ e. e ≡ of_items fault) → IsErrOf made Damaged → fault ≡ Malformed
+malformed fault (Ok x) is damaged = absurd is
+malformed fault (Err made) is damaged = let same : made ≡ Damaged = cc in is_malformed fault made is same
+
+-- a directory has bytes
+pub some_bytes : (h : Header) (catalogue changes published : List PageRef) (bytes : List ℕ) → bytes ≡ directory_bytes h catalogue changes published → 0 < length bytes
+some_bytes h catalogue changes published bytes is = let long = ap length is in omega (arith, long)
+
+-- what was read of the directory is read still, ..
+pub still_read : (root : Root) (bytes : List ℕ) (mid new : DiskState) → Rests mid new
+    → part root.directory root.length mid.now.seen ≡ bytes → part root.directory root.length new.now.seen ≡ bytes
+still_read root bytes mid new rests read = subst (λ (m : Medium). part root.directory root.length m.seen ≡ bytes) (sym rests.now) read
+
+-- .. of a disk whose size is how much of it is read
+pub size_seen : (size : ℕ) (m : Medium) → IsMedium size m → size ≡ length m.seen
+size_seen size m is = sym (is.image.size ∙ is.settled)
+
+-- a fault that is handed on
+pub handed_on : {T : Type 0} (fault : LoadFault) (made : Result T LoadFault) → IsErrAnd made (λ e. e ≡ fault) → IsErrOf made Damaged → fault ≡ Damaged
+handed_on fault (Ok x) is damaged = absurd is
+handed_on fault (Err made) is damaged = let same : made ≡ Damaged = cc in sym is ∙ same
+
+-- the items of pages
+abbrev pub items_in : {T : Type 0} → List (Sheet T) → List (List T)
+items_in sheets = map (λ sheet. sheet.items) sheets
+
+-- what pages of a directory hold the lists
+abbrev pub HoldLists : Directory → List ℕ → Contents → Type 0
+HoldLists d image c = Hold d image (items_in c.catalogue) (items_in c.history) (items_in c.published)
+
+-- The lists that a root tells are those of the directory that was read.
+pub told_of : (root : Root) (d : Directory) (c : Contents) (image : List ℕ) (s : Source) → IsLawful d → part root.directory root.length image ≡ spelled d
+    → Tells root c image s → AreOf d c
+told_of root d c image s lawful found tells =
+    let same = one_directory c.header d.header (stored_refs c.catalogue) d.catalogue.items (stored_refs c.history) d.changes.items
+    (stored_refs c.published) d.published.items tells.listable.header tells.listable.catalogue tells.listable.history tells.listable.published
+    lawful.header lawful.catalogue lawful.changes lawful.published (sym tells.directory ∙ found) in
+    record {
+      header = same.0;
+      catalogue = same.1;
+      changes = same.2;
+      published = same.3;
+      catalogue_stored = tells.whole.catalogue;
+      changes_stored = tells.whole.history;
+      published_stored = tells.whole.published;
+    }
+
+-- .. and its pages hold them.
+pub told_hold : (root : Root) (d : Directory) (c : Contents) (image : List ℕ) (s : Source) → AreOf d c → Tells root c image s → HoldLists d image c
+told_hold root d c image s of tells = record {
+  catalogue = subst (λ (refs : List PageRef). HoldsCatalogue refs image (items_in c.catalogue)) of.catalogue tells.catalogue;
+  changes = subst (λ (refs : List PageRef). HoldsHistory refs image (items_in c.history)) of.changes tells.history;
+  published = subst (λ (refs : List PageRef). HoldsCatalogue refs image (items_in c.published)) of.published tells.published;
+}
+
+-- The pages of a directory hold at most one set of lists.
+pub same_lists : (d : Directory) (a b : Contents) (image : List ℕ) → AreOf d a → AreOf d b → HoldLists d image a → HoldLists d image b → a ≡ b
+same_lists d a b image of_a of_b hold_a hold_b =
+    let header : a.header ≡ b.header = of_a.header ∙ sym of_b.header in
+    let catalogue : a.catalogue ≡ b.catalogue = sheets_once a.catalogue b.catalogue of_a.catalogue_stored of_b.catalogue_stored (of_a.catalogue ∙ sym of_b.catalogue)
+    (catalogue_held_once d.catalogue.items image (items_in a.catalogue) (items_in b.catalogue) hold_a.catalogue hold_b.catalogue) in
+    let history : a.history ≡ b.history = sheets_once a.history b.history of_a.changes_stored of_b.changes_stored (of_a.changes ∙ sym of_b.changes)
+    (history_held_once d.changes.items image (items_in a.history) (items_in b.history) hold_a.changes hold_b.changes) in
+    let published : a.published ≡ b.published = sheets_once a.published b.published of_a.published_stored of_b.published_stored (of_a.published ∙ sym of_b.published)
+    (catalogue_held_once d.published.items image (items_in a.published) (items_in b.published) hold_a.published hold_b.published) in
+    λ i. record { header = header i; catalogue = catalogue i; history = history i; published = published i }
+
+-- Lists of a directory that are whole are told, ..
+pub are_told : (root : Root) (d : Directory) (c : Contents) (image : List ℕ) (size : ℕ) → IsLawful d → (digests (spelled d)).sha256 ≡ root.sha256
+    → part root.directory root.length image ≡ spelled d → AreOf d c → HoldLists d image c → size ≡ length image → IsWhole size root c
+    → Tells root c image (state_in image c)
+are_told root d c image size lawful digest found of hold long whole =
+    let same : spelled d ≡ listing c = λ i. directory_bytes (sym of.header i) (sym of.catalogue i) (sym of.changes i) (sym of.published i) in
+    record {
+      listable = record {
+        header = subst IsLawfulHeader (sym of.header) lawful.header;
+        catalogue = subst AreLawfulRefs (sym of.catalogue) lawful.catalogue;
+        history = subst AreLawfulRefs (sym of.changes) lawful.changes;
+        published = subst AreLawfulRefs (sym of.published) lawful.published;
+      };
+      directory = found ∙ same;
+      digest = subst (λ (bytes : List ℕ). (digests bytes).sha256 ≡ root.sha256) same digest;
+      catalogue = subst (λ (refs : List PageRef). HoldsCatalogue refs image (items_in c.catalogue)) (sym of.catalogue) hold.catalogue;
+      history = subst (λ (refs : List PageRef). HoldsHistory refs image (items_in c.history)) (sym of.changes) hold.changes;
+      published = subst (λ (refs : List PageRef). HoldsCatalogue refs image (items_in c.published)) (sym of.published) hold.published;
+      whole = subst (λ (n : ℕ). IsWhole n root c) long whole;
+      state = refl;
+    }
+
+-- .. and where they are not, none are.
+pub none_told : (root : Root) (d : Directory) (c : Contents) (image : List ℕ) (size : ℕ) → IsLawful d → part root.directory root.length image ≡ spelled d
+    → AreOf d c → HoldLists d image c → size ≡ length image → ¬ IsWhole size root c → (other : Contents) (s : Source) → ¬ Tells root other image s
+none_told root d c image size lawful found of hold long broken other s tells =
+    let of_other = told_of root d other image s lawful found tells in
+    let same : other ≡ c = same_lists d other c image of_other of (told_hold root d other image s of_other tells) hold in
+    broken (subst (λ (n : ℕ). IsWhole n root c) (sym long) (subst (λ (lists : Contents). IsWhole (length image) root lists) same tells.whole))

@@ -1,0 +1,91 @@
+-- An image tells at most one set of lists, and stands for at most one state.
+use Rattle.std.proofs.Common.{◌≡◌, ℕ, List, [], ◌∷◌, map, refl, sym, ◌∙◌, ap, subst}
+use Rattle.std.specs.Prelude.{All, IsSome}
+use Rattle.std.specs.List.{cons_option}
+use Rattle.std.proofs.lemmas.List.Elements.{All-head, All-tail}
+use Rattle.rs_commit.specs.declared.root.Root.{Root}
+use Rattle.rs_commit.proofs.Contents.{opens_once}
+use Rattle.rs_page.specs.declared.place.PageRef.{PageRef}
+use Rattle.rs_page.specs.declared.place.Place.{Place}
+use Rattle.rs_page.specs.declared.place.Place.TheVariants.{Touched, Placed, Stored}
+use Rattle.rs_page.specs.Apart.{records_apart, changes_apart}
+use Rattle.rs_page.specs.Items.{record_format, change_format}
+use Rattle.rs_page.specs.Sheets.{Sheet, IsStored, stored_ref, stored_refs}
+use Rattle.rs_page.proofs.OneList.{pages_hold_once}
+use Rattle.rs_catalogue.specs.Catalogue.{HoldsCatalogue}
+use Rattle.rs_catalogue.specs.Laws.{CatalogueHeldOnce}
+use Rattle.rs_changes.specs.History.{HoldsHistory}
+use Rattle.rs_changes.specs.Laws.{HistoryHeldOnce}
+use Rattle.rs_directory.proofs.OneDirectory.{one_directory}
+use Rattle.rs_record.specs.declared.record.Record.{Record}
+use Rattle.rs_record.specs.declared.change.Change.{Change}
+use Rattle.rs_image.specs.Tells.{state_in, Tells}
+use Rattle.rs_image.specs.Laws.{StandsOnce, TellsOnce}
+
+-- pages of records, and of changes
+pub catalogue_held_once : CatalogueHeldOnce
+catalogue_held_once refs image a b first second = pages_hold_once record_format records_apart refs image a b first.hold second.hold
+
+pub history_held_once : HistoryHeldOnce
+history_held_once refs image a b first second = pages_hold_once change_format changes_apart refs image a b first.hold second.hold
+
+-- where a page stands, and the references to the pages after it
+one_place : (a b : Place) (more others : List PageRef) → IsSome (stored_ref a) → IsSome (stored_ref b)
+    → cons_option (stored_ref a) more ≡ cons_option (stored_ref b) others → (a ≡ b) × (more ≡ others)
+one_place Touched b more others is_a is_b same = absurd cc
+one_place (Placed extent) b more others is_a is_b same = absurd cc
+one_place (Stored ref) Touched more others is_a is_b same = absurd cc
+one_place (Stored ref) (Placed extent) more others is_a is_b same = absurd cc
+one_place (Stored ref) (Stored other) more others is_a is_b same =
+    let refs : ref ≡ other = cc in
+    let rests : more ≡ others = cc in
+    (ap Stored refs, rests)
+
+-- Stored pages are what the references to them and the items of each say.
+pub sheets_once : {T : Type 0} (a b : List (Sheet T)) → All IsStored a → All IsStored b → stored_refs a ≡ stored_refs b
+    → map (λ sheet. sheet.items) a ≡ map (λ sheet. sheet.items) b → a ≡ b
+sheets_once [] [] of_a of_b refs items = refl
+sheets_once [] (sheet ∷ b) of_a of_b refs items = absurd cc
+sheets_once (sheet ∷ a) [] of_a of_b refs items = absurd cc
+sheets_once (x ∷ a) (y ∷ b) of_a of_b refs items =
+    let place = one_place x.place y.place (stored_refs a) (stored_refs b) (All-head IsStored x a of_a) (All-head IsStored y b of_b) refs in
+    let here : x.items ≡ y.items = cc in
+    let there : map (λ sheet. sheet.items) a ≡ map (λ sheet. sheet.items) b = cc in
+    let rest : a ≡ b = sheets_once a b (All-tail IsStored x a of_a) (All-tail IsStored y b of_b) place.1 there in
+    λ i. record { items = here i; place = place.0 i } ∷ rest i
+
+-- the lists of a catalogue, and of a history, by the references to their pages
+pub catalogue_once : (a b : List (Sheet Record)) (image : List ℕ) → All IsStored a → All IsStored b → stored_refs a ≡ stored_refs b
+    → HoldsCatalogue (stored_refs a) image (map (λ sheet. sheet.items) a) → HoldsCatalogue (stored_refs b) image (map (λ sheet. sheet.items) b) → a ≡ b
+catalogue_once a b image of_a of_b refs holds_a holds_b =
+    sheets_once a b of_a of_b refs
+    (catalogue_held_once (stored_refs b) image (map (λ sheet. sheet.items) a) (map (λ sheet. sheet.items) b)
+    (subst (λ (of : List PageRef). HoldsCatalogue of image (map (λ sheet. sheet.items) a)) refs holds_a) holds_b)
+
+pub history_once : (a b : List (Sheet Change)) (image : List ℕ) → All IsStored a → All IsStored b → stored_refs a ≡ stored_refs b
+    → HoldsHistory (stored_refs a) image (map (λ sheet. sheet.items) a) → HoldsHistory (stored_refs b) image (map (λ sheet. sheet.items) b) → a ≡ b
+history_once a b image of_a of_b refs holds_a holds_b =
+    sheets_once a b of_a of_b refs
+    (history_held_once (stored_refs b) image (map (λ sheet. sheet.items) a) (map (λ sheet. sheet.items) b)
+    (subst (λ (of : List PageRef). HoldsHistory of image (map (λ sheet. sheet.items) a)) refs holds_a) holds_b)
+
+-- A root tells at most one set of lists in an image.
+pub tells_once : TellsOnce
+tells_once root c d image s t one two =
+    let same = one_directory c.header d.header (stored_refs c.catalogue) (stored_refs d.catalogue) (stored_refs c.history) (stored_refs d.history)
+    (stored_refs c.published) (stored_refs d.published) one.listable.header one.listable.catalogue one.listable.history one.listable.published
+    two.listable.header two.listable.catalogue two.listable.history two.listable.published (sym one.directory ∙ two.directory) in
+    let catalogue : c.catalogue ≡ d.catalogue =
+    catalogue_once c.catalogue d.catalogue image one.whole.catalogue two.whole.catalogue same.1 one.catalogue two.catalogue in
+    let history : c.history ≡ d.history = history_once c.history d.history image one.whole.history two.whole.history same.2 one.history two.history in
+    let published : c.published ≡ d.published =
+    catalogue_once c.published d.published image one.whole.published two.whole.published same.3 one.published two.published in
+    λ i. record { header = same.0 i; catalogue = catalogue i; history = history i; published = published i }
+
+-- An image stands for at most one state.
+pub stands_once : StandsOnce
+stands_once image s t (root, opens, (c, one)) (other, opens_too, (d, two)) =
+    let roots : root ≡ other = opens_once image root other opens opens_too in
+    let told : Tells other c image s = subst (λ (r : Root). Tells r c image s) roots one in
+    let lists : c ≡ d = tells_once other c d image s t told two in
+    sym one.state ∙ ap (state_in image) lists ∙ two.state

@@ -1,0 +1,46 @@
+-- Words of the loader's contracts: where a directory may lie, a directory as it was read, and lists that stand where it says.
+use Rattle.std.specs.Prelude.{◌≡◌, ◌<◌, ◌≤◌, List, ℕ, true, All}
+use Rattle.rs_body.specs.Blocks.{within, IsSized}
+use Rattle.rs_commit.specs.declared.root.Root.{Root}
+use Rattle.rs_record.specs.declared.record.Record.{Record}
+use Rattle.rs_record.specs.declared.change.Change.{Change}
+use Rattle.rs_page.specs.Sheets.{IsStored, stored_refs}
+use Rattle.rs_catalogue.specs.Catalogue.{HoldsCatalogue}
+use Rattle.rs_changes.specs.History.{HoldsHistory}
+use Rattle.rs_directory.specs.Directory.{directory_bytes, IsLawfulHeader, AreLawfulRefs}
+use Rattle.rs_directory.specs.declared.directory.Directory.{Directory}
+use Rattle.rs_image.specs.declared.contents.Contents.{Contents}
+use Rattle.rs_image.specs.Reach.{blocks_of_disk}
+
+-- The directory of a root has exactly the blocks of its length, all of them behind the slots in what is used of a disk of
+-- this many bytes.
+pub record IsPlaced (size : ℕ) (root : Root) : Type 0 where
+  pub sized : IsSized root.directory root.length
+  pub inside : (b : ℕ) → within root.directory b ≡ true → (2 ≤ b) × (b < blocks_of_disk size)
+
+-- the bytes of a directory
+abbrev pub spelled : Directory → List ℕ
+spelled d = directory_bytes d.header d.catalogue.items d.changes.items d.published.items
+
+-- What every directory that was read keeps.
+pub record IsLawful (d : Directory) : Type 0 where
+  pub header : IsLawfulHeader d.header
+  pub catalogue : AreLawfulRefs d.catalogue.items
+  pub changes : AreLawfulRefs d.changes.items
+  pub published : AreLawfulRefs d.published.items
+
+-- The lists are those of a directory: they have its header, and all their pages are stored where it says.
+pub record AreOf (d : Directory) (c : Contents) : Type 0 where
+  pub header : c.header ≡ d.header
+  pub catalogue : stored_refs c.catalogue ≡ d.catalogue.items
+  pub changes : stored_refs c.history ≡ d.changes.items
+  pub published : stored_refs c.published ≡ d.published.items
+  pub catalogue_stored : All IsStored c.catalogue
+  pub changes_stored : All IsStored c.history
+  pub published_stored : All IsStored c.published
+
+-- What the pages of a directory hold in an image: these records, changes and published records, page for page.
+pub record Hold (d : Directory) (image : List ℕ) (records : List (List Record)) (moves : List (List Change)) (listed : List (List Record)) : Type 0 where
+  pub catalogue : HoldsCatalogue d.catalogue.items image records
+  pub changes : HoldsHistory d.changes.items image moves
+  pub published : HoldsCatalogue d.published.items image listed

@@ -1,0 +1,45 @@
+-- Which blocks of a disk a root reaches.
+use Rattle.std.specs.Prelude.{◌<◌, ◌≤◌, ◌/◌, ◌≡◌, ℕ, Bool, true, not, ◌&&◌, ◌||◌, nat_eq, nat_lt, bytes_eq, min, List, ◌∷◌, ◌++◌, map, filter}
+use Rattle.std.specs.List.{list_any}
+use Rattle.rs_extent.specs.declared.Extent.{Extent}
+use Rattle.rs_body.specs.Blocks.{in_some}
+use Rattle.rs_commit.specs.declared.root.Root.{Root}
+use Rattle.rs_record.specs.declared.record.Record.{Record}
+use Rattle.rs_page.specs.declared.place.PageRef.{PageRef}
+use Rattle.rs_page.specs.Sheets.{stored_refs, extents_of}
+use Rattle.rs_catalogue.specs.Catalogue.{records_of}
+use Rattle.rs_image.specs.declared.contents.Contents.{Contents}
+
+-- how many blocks of a disk of this many bytes are used: whole ones, and no more than 8,388,608
+abbrev pub blocks_of_disk : ℕ → ℕ
+blocks_of_disk size = min (size / 512) 8388608
+
+-- two entries of pages are equal
+abbrev pub same_page : PageRef → PageRef → Bool
+same_page a b =
+    nat_eq a.extent.first b.extent.first && nat_eq a.extent.blocks b.extent.blocks && nat_eq a.length b.length && bytes_eq a.sha256 b.sha256
+
+-- the published pages that are not pages of the catalogue too
+abbrev pub unshared : List PageRef → List PageRef → List PageRef
+unshared published catalogue = filter (λ ref. not (list_any (same_page ref) catalogue)) published
+
+-- the blocks of the bodies of these records
+abbrev pub bodies_of : List Record → List Extent
+bodies_of records = map (λ r. r.extent) records
+
+-- What a root reaches beside the slots: its directory, the catalogue pages, the change pages, the published pages, where a
+-- page that is a catalogue page too counts once, and the bodies of the catalogue's records. A body that only a published
+-- record names is not reached.
+abbrev pub reach : Root → Contents → List Extent
+reach root c =
+    root.directory
+    ∷ extents_of (stored_refs c.catalogue) ++ extents_of (stored_refs c.history)
+    ++ extents_of (unshared (stored_refs c.published) (stored_refs c.catalogue)) ++ bodies_of (records_of c.catalogue)
+
+-- a block is a slot's, or the root reaches it
+abbrev pub is_kept : Root → Contents → ℕ → Bool
+is_kept root c b = nat_lt b 2 || in_some (reach root c) b
+
+-- each block of the extents is behind the slots, and one of those that are used of a disk of this many bytes
+abbrev pub AreInside : ℕ → List Extent → Type 0
+AreInside size extents = (b : ℕ) → in_some extents b ≡ true → (2 ≤ b) × (b < blocks_of_disk size)

@@ -1,0 +1,52 @@
+-- What a root and the lists behind it keep, whatever the disk holds.
+use Rattle.std.specs.Prelude.{◌≡◌, ◌<◌, ◌≤◌, ℕ, max, All, IfSome, MatchOption}
+use Rattle.rs_body.specs.Blocks.{IsSized}
+use Rattle.rs_commit.specs.declared.root.Root.{Root}
+use Rattle.rs_record.specs.declared.record.Record.{Record}
+use Rattle.rs_record.specs.declared.change.Change.{Change}
+use Rattle.rs_model.specs.State.{longest_body}
+use Rattle.rs_page.specs.Sheets.{IsStored}
+use Rattle.rs_page.specs.Kept.{AreApart}
+use Rattle.rs_catalogue.specs.Catalogue.{records_of}
+use Rattle.rs_changes.specs.History.{changes_of, last_of}
+use Rattle.rs_directory.specs.declared.header.Header.{Header}
+use Rattle.rs_image.specs.declared.contents.Contents.{Contents}
+use Rattle.rs_image.specs.Reach.{reach, AreInside}
+
+-- The moment of an item is after the first moment and at most the second one, ..
+pub record IsWithin (low high moment : ℕ) : Type 0 where
+  pub after : low < moment
+  pub up_to : moment ≤ high
+
+-- .. and of a record also: no body is longer than a body may be, and its extent has exactly its blocks.
+pub record IsSoundRecord (low high : ℕ) (r : Record) : Type 0 where
+  pub moment : IsWithin low high r.moment
+  pub body : r.length ≤ longest_body
+  pub sized : IsSized r.extent r.length
+
+-- A change is within these moments, and its body no longer than one may be.
+pub record IsSoundChange (low high : ℕ) (c : Change) : Type 0 where
+  pub moment : IsWithin low high c.moment
+  pub body : IfSome c.facts (λ facts. facts.length ≤ longest_body)
+
+-- Formatting is no later than the latest publication, which is no later than the last command; and that is the later one
+-- of the publication and the last change.
+pub record AreMoments (h : Header) (c : Contents) : Type 0 where
+  pub start : h.start ≤ h.at
+  pub at : h.at ≤ h.last
+  pub last : MatchOption (last_of (changes_of c.history)) (h.last ≡ h.at) (λ change. h.last ≡ max h.at change.moment)
+
+-- What a root and the lists behind it keep: all pages are stored; the moments are in order; each record and each change is
+-- sound, where what was published is up to the publication; the directory has exactly its blocks; and what the root
+-- reaches lies on a disk of this many bytes behind the slots, no two things with a block in common.
+pub record IsWhole (size : ℕ) (root : Root) (c : Contents) : Type 0 where
+  pub catalogue : All IsStored c.catalogue
+  pub history : All IsStored c.history
+  pub published : All IsStored c.published
+  pub moments : AreMoments c.header c
+  pub records : All (IsSoundRecord c.header.start c.header.last) (records_of c.catalogue)
+  pub changes : All (IsSoundChange c.header.start c.header.last) (changes_of c.history)
+  pub listed : All (IsSoundRecord c.header.start c.header.at) (records_of c.published)
+  pub directory : IsSized root.directory root.length
+  pub apart : AreApart (reach root c)
+  pub inside : AreInside size (reach root c)

@@ -1,0 +1,18 @@
+//! What stands behind a root, as a program holds it.
+
+use rs_catalogue::Catalogue;
+use rs_changes::History;
+use rs_directory::Header;
+
+/// What stands behind a root: the directory's header, and the lists that its pages hold.
+#[derive(Debug, Drop)]
+pub struct Contents {
+    /// What the source keeps beside its lists.
+    pub header: Header,
+    /// The resources that are held, in the ascending order of their names.
+    pub catalogue: Catalogue,
+    /// The changes, the earliest first.
+    pub history: History,
+    /// The resources of the latest publication, in the ascending order of their names.
+    pub published: Catalogue,
+}

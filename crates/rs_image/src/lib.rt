@@ -1,0 +1,15 @@
+//! What an image of a disk stands for, and how it is read.
+#![tactic(auto)]
+
+mod contents;
+pub mod laws;
+mod loading;
+mod used;
+mod whole;
+
+pub use contents::Contents;
+pub use loading::load;
+pub use used::used_of;
+
+#[cfg(test)]
+mod tests;

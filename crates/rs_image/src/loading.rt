@@ -1,0 +1,120 @@
+//! Reading what stands behind a root.
+
+ghost use Rattle.std.specs.Prelude.{◌≡◌, ◌⊎◌, ◌↔◌, ◌<◌, ◌≤◌, ◌+◌, ◌^◌, ℕ, List, true, map, IfOk, OnOk, IsErrOf, IsTrue};
+ghost use Rattle.rs_disk.specs.Leaves.{Rests};
+ghost use Rattle.rs_fixity.specs.Digests.{digests};
+ghost use Rattle.rs_body.specs.Blocks.{within, part};
+ghost use Rattle.rs_record.specs.declared.record.Record.{Record};
+ghost use Rattle.rs_record.specs.declared.change.Change.{Change};
+ghost use Rattle.rs_model.specs.State.{Source};
+ghost use Rattle.rs_image.specs.declared.contents.Contents.{Contents};
+ghost use Rattle.rs_image.specs.Reach.{blocks_of_disk};
+ghost use Rattle.rs_image.specs.Whole.{IsWhole};
+ghost use Rattle.rs_image.specs.Tells.{Tells, state_in};
+ghost use Rattle.rs_image.specs.Loading.{IsPlaced, spelled, IsLawful, AreOf, Hold};
+
+use crate::Contents;
+use crate::used::block_count;
+use crate::whole::is_whole;
+use rs_body::{is_sized, read_body};
+use rs_catalogue::{Catalogue, LoadFault};
+use rs_changes::History;
+use rs_commit::Root;
+use rs_directory::{Directory, read_directory};
+use rs_disk::Disk;
+use rs_extent::Extent;
+use std::alloc::Global;
+
+/// Reads what stands behind a root, whatever the root and the disk say, and checks each rule of the
+/// format. The disk stays as it is.
+///
+/// No memory is asked for the directory or a page before its extent was found to lie on the disk
+/// and to have exactly the blocks of its length.
+///
+/// # Errors
+///
+/// - [`LoadFault::Device`] where the device fails.
+/// - [`LoadFault::Damaged`] where the root tells nothing on this disk: the bytes of the directory or
+///   of a page are not those of their digests and formats, or a rule of the lists or of their blocks
+///   is broken.
+/// - [`LoadFault::NoMemory`] where the memory is refused.
+pub fn load<D: Disk>(alloc: Global, disk: &mut D, root: &Root) -> Result<Contents, LoadFault>
+    ensures whole { IfOk result (λ c. IsWhole (D.state disk.new).size root.now c) }
+
+    // What the disk holds is said of a device that has followed the model.
+    ensures told { IfOk result (λ c. IsTrue (D.state disk.new).honest → Tells root.now c (D.state disk.new).now.seen (state_in (D.state disk.new).now.seen c)) }
+    ensures damaged { IsErrOf result LoadFault.Damaged → IsTrue (D.state disk.new).honest → (c : Contents) (s : Source) → ¬ Tells root.now c (D.state disk.new).now.seen s }
+    ensures device { IsErrOf result LoadFault.Device → ((D.state disk.old).faults < (D.state disk.new).faults) ⊎ (2 ^ 64 ≤ (D.state disk.new).calls + 1) }
+    ensures no_memory { IsErrOf result LoadFault.NoMemory → IsPlaced (D.state disk.new).size root.now }
+
+    ensures rests { Rests (D.state disk.old) (D.state disk.new) }
+    ensures size { (D.state disk.new).size ≡ (D.state disk.old).size }
+    ensures lasts { IsTrue (D.state disk.new).honest → IsTrue (D.state disk.old).honest }
+    ensures faults { (D.state disk.old).faults ≤ (D.state disk.new).faults }
+{
+    let directory = load_directory(alloc, disk, root)?;
+    let contents = load_lists(alloc, disk, directory)?;
+    match is_whole(alloc, disk.size(), root, &contents) {
+        Ok(true) => Ok(contents),
+        Ok(false) => Err(LoadFault::Damaged),
+        Err(_) => Err(LoadFault::NoMemory),
+    }
+}
+
+// Reads the directory of a root.
+fn load_directory<D: Disk>(alloc: Global, disk: &mut D, root: &Root) -> Result<Directory, LoadFault>
+    ensures placed { OnOk result (IsPlaced (D.state disk.new).size root.now) }
+    ensures room { OnOk result (1024 ≤ (D.state disk.new).size) }
+    ensures lawful { IfOk result IsLawful }
+    ensures digest { IfOk result (λ d. (digests (spelled d)).sha256 ≡ root.now.sha256) }
+    ensures found { IfOk result (λ d. IsTrue (D.state disk.new).honest → part root.now.directory root.now.length (D.state disk.new).now.seen ≡ spelled d) }
+    ensures damaged { IsErrOf result LoadFault.Damaged → IsTrue (D.state disk.new).honest → (c : Contents) (s : Source) → ¬ Tells root.now c (D.state disk.new).now.seen s }
+    ensures device { IsErrOf result LoadFault.Device → ((D.state disk.old).faults < (D.state disk.new).faults) ⊎ (2 ^ 64 ≤ (D.state disk.new).calls + 1) }
+    ensures no_memory { IsErrOf result LoadFault.NoMemory → IsPlaced (D.state disk.new).size root.now }
+    ensures rests { Rests (D.state disk.old) (D.state disk.new) }
+    ensures size { (D.state disk.new).size ≡ (D.state disk.old).size }
+    ensures lasts { IsTrue (D.state disk.new).honest → IsTrue (D.state disk.old).honest }
+    ensures faults { (D.state disk.old).faults ≤ (D.state disk.new).faults }
+{
+    if !is_sized(root.directory, root.length) || !is_inside(root.directory, disk.size()) {
+        return Err(LoadFault::Damaged);
+    }
+    let mut bytes = Vec::new(alloc);
+    read_body(disk, root.directory, root.length, &root.sha256, &mut bytes)?;
+    Ok(read_directory(alloc, &bytes)?)
+}
+
+// Whether each block of an extent is behind the slots, and one of those that are used of a disk of
+// `size` bytes.
+fn is_inside(extent: Extent, size: u64) -> bool
+    ensures { IsTrue result ↔ ((b : ℕ) → within extent b ≡ true → (2 ≤ b) × (b < blocks_of_disk size)) }
+{
+    let end = extent.first as u64 + extent.blocks as u64;
+    extent.blocks == 0 || 2 <= extent.first && end <= block_count(size) as u64
+}
+
+// Reads the lists whose pages a directory names.
+fn load_lists<D: Disk>(
+    alloc: Global,
+    disk: &mut D,
+    directory: Directory,
+) -> Result<Contents, LoadFault>
+    ensures lists { IfOk result (AreOf directory) }
+    ensures found { IfOk result (λ c. IsTrue (D.state disk.new).honest → Hold directory (D.state disk.new).now.seen (map (λ sheet. sheet.items) c.catalogue) (map (λ sheet. sheet.items) c.history) (map (λ sheet. sheet.items) c.published)) }
+    ensures damaged { IsErrOf result LoadFault.Damaged → IsTrue (D.state disk.new).honest → (catalogue : List (List Record)) (changes : List (List Change)) (published : List (List Record)) → ¬ Hold directory (D.state disk.new).now.seen catalogue changes published }
+    ensures device { IsErrOf result LoadFault.Device → ((D.state disk.old).faults < (D.state disk.new).faults) ⊎ (2 ^ 64 ≤ (D.state disk.new).calls + 1) }
+    ensures rests { Rests (D.state disk.old) (D.state disk.new) }
+    ensures size { (D.state disk.new).size ≡ (D.state disk.old).size }
+    ensures lasts { IsTrue (D.state disk.new).honest → IsTrue (D.state disk.old).honest }
+    ensures faults { (D.state disk.old).faults ≤ (D.state disk.new).faults }
+{
+    let catalogue = Catalogue::load(alloc, disk, &directory.catalogue)?;
+    let history = History::load(alloc, disk, &directory.changes)?;
+    let published = Catalogue::load(alloc, disk, &directory.published)?;
+    Ok(Contents {
+        header: directory.header,
+        catalogue,
+        history,
+        published,
+    })
+}

@@ -1,0 +1,170 @@
+//! The blocks that a root reaches, marked in the set of the used blocks of its disk.
+ghost use Rattle.std.specs.Prelude.{◌≡◌, ◌≤◌, ◌<◌, ℕ, [], ◌∷◌, ◌++◌, true, false, IfOk, IfSome, IfNone, length};
+ghost use Rattle.std.specs.List.{list_any};
+ghost use Rattle.rs_extent.specs.Blocks.{is_used};
+ghost use Rattle.rs_page.specs.Kept.{AreApart, AreTaken};
+ghost use Rattle.rs_page.specs.Sheets.{extents_of, stored_refs};
+ghost use Rattle.rs_catalogue.specs.Catalogue.{records_of};
+ghost use Rattle.rs_image.specs.Reach.{blocks_of_disk, same_page, unshared, bodies_of, reach, is_kept, AreInside};
+ghost use Rattle.rs_image.specs.Whole.{IsWhole};
+ghost use Rattle.rs_image.specs.Takes.{CanTake};
+
+use crate::Contents;
+use rs_catalogue::Catalogue;
+use rs_commit::Root;
+use rs_extent::{Extent, Used};
+use rs_page::PageRef;
+use std::alloc::{AllocError, Global};
+
+// The bytes of a block.
+const BLOCK: u64 = 512;
+// The greatest number of blocks of a disk that are used.
+const MOST_BLOCKS: u64 = 8_388_608;
+
+/// The blocks of a disk of `size` bytes that are in use: those of the slots, and those that the
+/// root reaches. All others are free.
+///
+/// The root and its lists have to be whole on this disk. It takes time for each record and for each
+/// block that is reached, and asks for a bit a block of memory and for that of the page entries.
+///
+/// # Errors
+///
+/// [`AllocError`] where the memory is refused.
+pub fn used_of(
+    alloc: Global,
+    size: u64,
+    root: &Root,
+    contents: &Contents,
+) -> Result<Used, AllocError>
+    requires room { 1024 ≤ size }
+    requires whole { IsWhole size root.now contents.now }
+    ensures blocks { IfOk result (λ used. length used ≡ blocks_of_disk size) }
+    ensures exact { IfOk result (λ used. (b : ℕ) → b < blocks_of_disk size → is_used used b ≡ is_kept root.now contents.now b) }
+{
+    let reached = reached(alloc, size, root, contents)?;
+    Ok(reached.unwrap())
+}
+
+/// The blocks of the slots and those that the root reaches, on a disk of `size` bytes. `None` where
+/// a thing that it reaches does not lie behind the slots on the disk, or two have a block in common.
+///
+/// The root and the lists may say anything.
+///
+/// # Errors
+///
+/// [`AllocError`] where the memory is refused.
+pub(crate) fn reached(
+    alloc: Global,
+    size: u64,
+    root: &Root,
+    contents: &Contents,
+) -> Result<Option<Used>, AllocError>
+    requires { 1024 ≤ size }
+    ensures blocks { IfOk result (λ found. IfSome found (λ used. length used ≡ blocks_of_disk size)) }
+    ensures exact { IfOk result (λ found. IfSome found (λ used. (b : ℕ) → b < blocks_of_disk size → is_used used b ≡ is_kept root.now contents.now b)) }
+    ensures apart { IfOk result (λ found. IfSome found (λ _. AreApart (reach root.now contents.now))) }
+    ensures inside { IfOk result (λ found. IfSome found (λ _. AreInside size (reach root.now contents.now))) }
+    ensures none { IfOk result (λ found. IfNone found (AreApart (reach root.now contents.now) → AreInside size (reach root.now contents.now) → ⊥)) }
+{
+    let mut used = Used::new(alloc, block_count(size))?;
+    if take_reached(alloc, &mut used, root, contents)? {
+        Ok(Some(used))
+    } else {
+        Ok(None)
+    }
+}
+
+/// How many blocks of a disk of `size` bytes are used: whole ones, and no more than 8,388,608.
+pub(crate) fn block_count(size: u64) -> u32
+    ensures { result ≡ blocks_of_disk size }
+{
+    (size / BLOCK).min(MOST_BLOCKS) as u32
+}
+
+// Takes all that a root reaches, until an extent is not free.
+fn take_reached(
+    alloc: Global,
+    used: &mut Used,
+    root: &Root,
+    contents: &Contents,
+) -> Result<bool, AllocError>
+    ensures taken { IfOk result (λ all. all ≡ true → AreTaken used.old used.new (reach root.now contents.now)) }
+    ensures refused { IfOk result (λ all. all ≡ false → CanTake used.old (reach root.now contents.now) → ⊥) }
+{
+    let pages = reached_pages(alloc, contents)?;
+    if !take_bodies(used, &contents.catalogue) {
+        return Ok(false);
+    }
+    if !take_pages(used, &pages) {
+        return Ok(false);
+    }
+    Ok(take(used, root.directory))
+}
+
+// The pages that a root reaches: a published page that is a catalogue page too counts once. Each
+// published page is looked for among the catalogue's pages, of which there is one at most.
+fn reached_pages(alloc: Global, contents: &Contents) -> Result<Vec<PageRef>, AllocError>
+    ensures { IfOk result (λ pages. pages.items ≡ stored_refs contents.now.catalogue ++ stored_refs contents.now.history ++ unshared (stored_refs contents.now.published) (stored_refs contents.now.catalogue)) }
+{
+    let catalogue = contents.catalogue.pages(alloc)?;
+    let history = contents.history.pages(alloc)?;
+    let published = contents.published.pages(alloc)?;
+    let mut pages = Vec::new(alloc);
+    pages.extend_from_slice(&catalogue)?;
+    pages.extend_from_slice(&history)?;
+    for page in &published {
+        if !is_among(page, &catalogue) {
+            pages.push(*page)?;
+        }
+    }
+    Ok(pages)
+}
+
+// Takes an extent, if each of its blocks is on the disk and free.
+fn take(used: &mut Used, extent: Extent) -> bool
+    ensures taken { result ≡ true → AreTaken used.old used.new (extent ∷ []) }
+    ensures refused { result ≡ false → CanTake used.old (extent ∷ []) → ⊥ }
+{
+    let is_free = used.is_free(extent);
+    if is_free {
+        used.take(extent);
+    }
+    is_free
+}
+
+// Takes the bodies of a catalogue's records, until one is not free.
+fn take_bodies(used: &mut Used, catalogue: &Catalogue) -> bool
+    ensures taken { result ≡ true → AreTaken used.old used.new (bodies_of (records_of catalogue.now)) }
+    ensures refused { result ≡ false → CanTake used.old (bodies_of (records_of catalogue.now)) → ⊥ }
+{
+    let mut i = catalogue.len();
+    while i > 0 {
+        i -= 1;
+        if !take(used, catalogue.at(i).extent) {
+            return false;
+        }
+    }
+    true
+}
+
+// Takes pages, until one is not free.
+fn take_pages(used: &mut Used, pages: &[PageRef]) -> bool
+    ensures taken { result ≡ true → AreTaken used.old used.new (extents_of pages.now) }
+    ensures refused { result ≡ false → CanTake used.old (extents_of pages.now) → ⊥ }
+{
+    let mut i = pages.len();
+    while i > 0 {
+        i -= 1;
+        if !take(used, pages[i].extent) {
+            return false;
+        }
+    }
+    true
+}
+
+// Whether a page is one of these pages.
+fn is_among(page: &PageRef, pages: &[PageRef]) -> bool
+    ensures { result ≡ list_any (same_page page.now) pages.now }
+{
+    pages.iter().any(|other| page == other)
+}

@@ -1,0 +1,133 @@
+//! Whether what a root says, and the lists behind it, keep the rules of an image.
+ghost use Rattle.std.specs.Prelude.{◌≡◌, ◌≤◌, true, false, max, All, IfOk, MatchOption};
+ghost use Rattle.rs_page.specs.Sheets.{IsStored};
+ghost use Rattle.rs_catalogue.specs.Catalogue.{records_of};
+ghost use Rattle.rs_changes.specs.History.{changes_of, last_of};
+ghost use Rattle.rs_image.specs.Whole.{IsWithin, IsSoundRecord, IsSoundChange, AreMoments, IsWhole};
+
+use crate::Contents;
+use crate::used::reached;
+use rs_body::is_sized;
+use rs_catalogue::Catalogue;
+use rs_changes::History;
+use rs_commit::Root;
+use rs_record::{Change, Record};
+use rs_time::Moment;
+use std::alloc::{AllocError, Global};
+
+// The greatest number of bytes of a body.
+const LONGEST_BODY: u32 = 16_777_216;
+
+/// Whether a root and the lists behind it keep the rules of an image of `size` bytes, whatever they
+/// say: the moments are in order, each record and each change is sound, the directory has exactly
+/// its blocks, and what the root reaches lies on the disk behind the slots, no two things with a
+/// block in common. All pages of the lists are on the disk.
+///
+/// # Errors
+///
+/// [`AllocError`] where the memory is refused.
+pub(crate) fn is_whole(
+    alloc: Global,
+    size: u64,
+    root: &Root,
+    contents: &Contents,
+) -> Result<bool, AllocError>
+    requires room { 1024 ≤ size }
+    requires catalogue { All IsStored contents.now.catalogue }
+    requires history { All IsStored contents.now.history }
+    requires published { All IsStored contents.now.published }
+    ensures yes { IfOk result (λ whole. whole ≡ true → IsWhole size root.now contents.now) }
+    ensures no { IfOk result (λ whole. whole ≡ false → ¬ IsWhole size root.now contents.now) }
+{
+    let header = &contents.header;
+    let is_sound = is_sized(root.directory, root.length)
+        && are_moments(contents)
+        && are_sound_records(header.start, header.last, &contents.catalogue)
+        && are_sound_changes(header.start, header.last, &contents.history)
+        && are_sound_records(header.start, header.at, &contents.published);
+    if !is_sound {
+        return Ok(false);
+    }
+    Ok(reached(alloc, size, root, contents)?.is_some())
+}
+
+// Whether formatting, the latest publication and the last command are in order, and the last command
+// is the publication or the last change.
+fn are_moments(contents: &Contents) -> bool
+    ensures yes { result ≡ true → AreMoments contents.now.header contents.now }
+    ensures no { result ≡ false → ¬ AreMoments contents.now.header contents.now }
+{
+    let header = &contents.header;
+    header.start <= header.at && header.at <= header.last && header.last == latest(contents)
+}
+
+// The later moment of the latest publication and of the last change, if there is one.
+fn latest(contents: &Contents) -> Moment
+    ensures { MatchOption (last_of (changes_of contents.now.history)) (result ≡ contents.now.header.at) (λ change. result ≡ max contents.now.header.at change.moment) }
+{
+    let at = contents.header.at;
+    let changes = contents.history.len();
+    if changes == 0 {
+        at
+    } else {
+        at.max(contents.history.at(changes - 1).moment)
+    }
+}
+
+// Whether each record of a catalogue is sound.
+fn are_sound_records(low: Moment, high: Moment, catalogue: &Catalogue) -> bool
+    ensures yes { result ≡ true → All (IsSoundRecord low high) (records_of catalogue.now) }
+    ensures no { result ≡ false → ¬ All (IsSoundRecord low high) (records_of catalogue.now) }
+{
+    for i in 0..catalogue.len() {
+        if !is_sound_record(low, high, catalogue.at(i)) {
+            return false;
+        }
+    }
+    true
+}
+
+// Whether each change of a history is sound.
+fn are_sound_changes(low: Moment, high: Moment, history: &History) -> bool
+    ensures yes { result ≡ true → All (IsSoundChange low high) (changes_of history.now) }
+    ensures no { result ≡ false → ¬ All (IsSoundChange low high) (changes_of history.now) }
+{
+    for i in 0..history.len() {
+        if !is_sound_change(low, high, history.at(i)) {
+            return false;
+        }
+    }
+    true
+}
+
+// Whether a record is from within these moments, its body no longer than one may be, and its extent
+// of the size for it.
+fn is_sound_record(low: Moment, high: Moment, record: &Record) -> bool
+    ensures yes { result ≡ true → IsSoundRecord low high record.now }
+    ensures no { result ≡ false → ¬ IsSoundRecord low high record.now }
+{
+    is_within(low, high, record.moment)
+        && record.length <= LONGEST_BODY
+        && is_sized(record.extent, record.length)
+}
+
+// Whether a change is from within these moments, and its body, if it has one, no longer than one may
+// be.
+fn is_sound_change(low: Moment, high: Moment, change: &Change) -> bool
+    ensures yes { result ≡ true → IsSoundChange low high change.now }
+    ensures no { result ≡ false → ¬ IsSoundChange low high change.now }
+{
+    let is_short = match &change.facts {
+        Some(facts) => facts.length <= LONGEST_BODY,
+        None => true,
+    };
+    is_short && is_within(low, high, change.moment)
+}
+
+// Whether a moment is after the first one and at most the second one.
+fn is_within(low: Moment, high: Moment, moment: Moment) -> bool
+    ensures yes { result ≡ true → IsWithin low high moment }
+    ensures no { result ≡ false → ¬ IsWithin low high moment }
+{
+    low < moment && moment <= high
+}
