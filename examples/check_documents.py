@@ -22,6 +22,8 @@ import xml.etree.ElementTree as ElementTree
 ROOT = pathlib.Path(__file__).resolve().parent.parent
 BASE = "http://127.0.0.1:8080"
 LIMIT = 5
+# The bytes of the disk: room for some hundred changes and resources.
+SIZE = 262_144
 SITEMAP = "{http://www.sitemaps.org/schemas/sitemap/0.9}"
 RS = "{http://www.openarchives.org/rs/terms/}"
 NAMES = ["a", "b/c", "x&y", "o'k", "x&amp;y", "%2E", "p(1)", "q;r=s,t", "m@h:1", "~u_v-w.x", "e!$*+", "long" + "n" * 60]
@@ -68,9 +70,9 @@ def script(seed, count):
 def run(lines):
     """The program's output for these lines, through the quick build."""
     built = os.environ.get("RS_SOURCE")
-    command = [built] if built else ["rt", "try", "--seconds", "60", "--"]
+    command = [built] if built else ["rt", "try", "--seconds", "600", "--"]
     result = subprocess.run(
-        command + ["mem", "65536", BASE, str(LIMIT)],
+        command + ["mem", str(SIZE), BASE, str(LIMIT)],
         input="".join(line + "\n" for line in lines).encode(),
         cwd=ROOT / "crates" / "rs_source",
         capture_output=True,

@@ -1,17 +1,18 @@
 //! How the slots are made.
-ghost use Rattle.std.specs.Prelude.{◌≡◌, ◌≤◌, ◌++◌, length, OnOk};
+ghost use Rattle.std.specs.Prelude.{◌≡◌, ◌≤◌, ◌++◌, length, IfOk, OnOk};
 ghost use Rattle.rs_disk.specs.Medium.{resting};
 ghost use Rattle.rs_disk.specs.Leaves.{Leaves, Runs};
 ghost use Rattle.rs_commit.specs.Commit.{SameBehind, OutsideOf, IsReady, behind};
 ghost use Rattle.rs_commit.specs.Format.{slot_bytes, formatted, fresh};
 
-use crate::Root;
 use crate::root::{VERSION, payload, put};
 use crate::settled::write_settled;
 use crate::slot::{OPEN, Slot};
+use crate::{Root, Slots};
 use rs_disk::{Disk, Fault};
 
-/// Makes the slots of a disk, so that it opens to `root`, which its first slot tells.
+/// Makes the slots of a disk, so that it opens to `root`, which its first slot tells, and gives them
+/// as they stand then.
 ///
 /// It is called after the directory was written, and its first sync settles both. The disk has
 /// blocks 0 and 1. It makes five device calls where none fails.
@@ -19,15 +20,29 @@ use rs_disk::{Disk, Fault};
 /// # Errors
 /// [`Fault`] where a device call failed. Nothing is promised of blocks 0 and 1 then; behind them a
 /// read gives what it gave.
-pub fn format_slots<D: Disk>(disk: &mut D, root: &Root) -> Result<(), Fault>
+pub fn format_slots<D: Disk>(disk: &mut D, root: &Root) -> Result<Slots, Fault>
     requires { 1024 ≤ (D.state disk.old).size }
     ensures runs { Runs (D.state disk.old) (D.state disk.new) result }
+    ensures slots { IfOk result (λ slots. slots ≡ fresh root.now) }
 
     // Behind the slots a read gives what it gave, and at each moment each image is one at entry.
     ensures outside { SameBehind (D.state disk.new).now.seen (D.state disk.old).now.seen }
     ensures any_moment { Leaves (D.state disk.old) (D.state disk.new) (λ _. OutsideOf (D.state disk.old).now) }
 
     // After it the first slot holds the root, and nothing is unsettled.
+    ensures made { OnOk result ((D.state disk.new).now ≡ resting (formatted root.now ++ behind (D.state disk.old).now.seen)) }
+    ensures ready { OnOk result (IsReady (fresh root.now) (D.state disk.new).now) }
+{
+    write_slots(disk, root)?;
+    Ok(Slots::fresh(*root))
+}
+
+// Writes both slots, and opens the first one.
+fn write_slots<D: Disk>(disk: &mut D, root: &Root) -> Result<(), Fault>
+    requires { 1024 ≤ (D.state disk.old).size }
+    ensures runs { Runs (D.state disk.old) (D.state disk.new) result }
+    ensures outside { SameBehind (D.state disk.new).now.seen (D.state disk.old).now.seen }
+    ensures any_moment { Leaves (D.state disk.old) (D.state disk.new) (λ _. OutsideOf (D.state disk.old).now) }
     ensures made { OnOk result ((D.state disk.new).now ≡ resting (formatted root.now ++ behind (D.state disk.old).now.seen)) }
     ensures ready { OnOk result (IsReady (fresh root.now) (D.state disk.new).now) }
 {

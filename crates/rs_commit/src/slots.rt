@@ -4,6 +4,7 @@ ghost use Rattle.std.specs.Bool.{OnTrue, OnFalse};
 ghost use Rattle.rs_disk.specs.Medium.{IsImage, over, resting};
 ghost use Rattle.rs_disk.specs.Leaves.{Leaves, Runs, Torn, TornFrom};
 ghost use Rattle.rs_commit.specs.Slots.{OpensTo, offset, other, pick, newer as newer_of, payload_of, IsLawfulRoot};
+ghost use Rattle.rs_commit.specs.Format.{fresh};
 ghost use Rattle.rs_commit.specs.Commit.{SameBehind, IsReady, OldOrNew, next, with_root, device_in_commit};
 
 use crate::root::payload;
@@ -40,6 +41,17 @@ impl Slots {
         ensures { result ≡ self.now.root }
     {
         self.root
+    }
+
+    /// The slots as they are made: the first one holds the root, and the spare is closed.
+    pub(crate) fn fresh(root: Root) -> Slots
+        ensures { result ≡ fresh root }
+    {
+        Slots {
+            slot: Slot::First,
+            root,
+            spare_open: false,
+        }
     }
 
     /// The slots by what they say, or `None` where they tell no root.
@@ -100,6 +112,7 @@ impl Slots {
 
         // What holds of every device, whatever the slots are.
         ensures runs { Runs (D.state disk.old) (D.state disk.new) (device_in_commit result) }
+        ensures keeps { (D.state disk.new).honest ≡ (D.state disk.old).honest }
         ensures outside { SameBehind (D.state disk.new).now.seen (D.state disk.old).now.seen }
 
         // Stopped at any moment, the disk opens to the old root or to the new one.
@@ -140,6 +153,7 @@ impl Slots {
     fn put_root<D: Disk>(&self, disk: &mut D, root: Root) -> Result<(), Fault>
         requires { 1024 ≤ (D.state disk.old).size }
         ensures runs { Runs (D.state disk.old) (D.state disk.new) result }
+        ensures keeps { (D.state disk.new).honest ≡ (D.state disk.old).honest }
         ensures outside { SameBehind (D.state disk.new).now.seen (D.state disk.old).now.seen }
         ensures any_moment { self.now.root.generation < root.generation → IsReady self.now (D.state disk.old).now
             → Leaves (D.state disk.old) (D.state disk.new) (λ _. OldOrNew (D.state disk.old).now self.now.root root) }
@@ -158,6 +172,7 @@ impl Slots {
 fn close_gate<D: Disk>(disk: &mut D, slot: Slot, is_open: bool) -> Result<(), Fault>
     requires { 1024 ≤ (D.state disk.old).size }
     ensures runs { Runs (D.state disk.old) (D.state disk.new) result }
+    ensures keeps { (D.state disk.new).honest ≡ (D.state disk.old).honest }
     ensures torn { Torn (offset slot) 1 (D.state disk.old).now.seen (D.state disk.new).now.seen }
     ensures any_moment { OnTrue is_open (Leaves (D.state disk.old) (D.state disk.new) (λ _. TornFrom (D.state disk.old).now (offset slot) 1)) }
     ensures closed { OnTrue is_open (OnOk result ((D.state disk.new).now ≡ resting (over (D.state disk.old).now.seen (offset slot) (0 ∷ [])))) }
@@ -173,6 +188,7 @@ fn close_gate<D: Disk>(disk: &mut D, slot: Slot, is_open: bool) -> Result<(), Fa
 fn write_behind<D: Disk>(disk: &mut D, slot: Slot, root: Root) -> Result<(), Fault>
     requires { 1024 ≤ (D.state disk.old).size }
     ensures runs { Runs (D.state disk.old) (D.state disk.new) result }
+    ensures keeps { (D.state disk.new).honest ≡ (D.state disk.old).honest }
     ensures torn { Torn (offset slot + 1) 53 (D.state disk.old).now.seen (D.state disk.new).now.seen }
     ensures any_moment { Leaves (D.state disk.old) (D.state disk.new) (λ _. TornFrom (D.state disk.old).now (offset slot + 1) 53) }
     ensures written { OnOk result ((D.state disk.new).now ≡ resting (over (D.state disk.old).now.seen (offset slot + 1) (payload_of root))) }
@@ -185,6 +201,7 @@ fn write_behind<D: Disk>(disk: &mut D, slot: Slot, root: Root) -> Result<(), Fau
 fn open_gate<D: Disk>(disk: &mut D, slot: Slot) -> Result<(), Fault>
     requires { 1024 ≤ (D.state disk.old).size }
     ensures runs { Runs (D.state disk.old) (D.state disk.new) result }
+    ensures keeps { (D.state disk.new).honest ≡ (D.state disk.old).honest }
     ensures torn { Torn (offset slot) 1 (D.state disk.old).now.seen (D.state disk.new).now.seen }
     ensures any_moment { Leaves (D.state disk.old) (D.state disk.new) (λ _. TornFrom (D.state disk.old).now (offset slot) 1) }
     ensures opened { OnOk result ((D.state disk.new).now ≡ resting (over (D.state disk.old).now.seen (offset slot) (1 ∷ []))) }

@@ -150,6 +150,17 @@ fn the_bytes_of_new_slots(rt: HostRuntime) -> Result<(), Fail> {
 }
 
 #[test]
+fn new_slots_take_a_commit(rt: HostRuntime) -> Result<(), Fail> {
+    let mut disk = MemoryDisk::new(rt.alloc(), 2048)?;
+    let mut slots = format_slots(&mut disk, &OLD)?;
+    assert_eq!(rt; slots.root(), OLD);
+    slots.commit(&mut disk, NEXT.directory, NEXT.length, &NEXT.sha256)?;
+    let (_, root) = open_slots(&mut disk)?;
+    assert_eq!(rt; root, NEXT);
+    Ok(())
+}
+
+#[test]
 fn the_bytes_of_a_commit(rt: HostRuntime) -> Result<(), Fail> {
     let mut disk = formatted(rt.alloc())?;
     let (mut slots, root) = open_slots(&mut disk)?;
@@ -293,7 +304,8 @@ fn a_fault_of_the_device(rt: HostRuntime) -> Result<(), Fail> {
     for k in 0..5 {
         let mut disk = MemoryDisk::new(alloc, 1536)?;
         disk.stop_after(k);
-        assert_eq!(rt; format_slots(&mut disk, &OLD), Err(Fault), "call {k}");
+        let made = format_slots(&mut disk, &OLD).map(|slots| slots.root());
+        assert_eq!(rt; made, Err(Fault), "call {k}");
     }
     Ok(())
 }

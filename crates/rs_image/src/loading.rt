@@ -10,7 +10,7 @@ ghost use Rattle.rs_model.specs.State.{Source};
 ghost use Rattle.rs_image.specs.declared.contents.Contents.{Contents};
 ghost use Rattle.rs_image.specs.Reach.{blocks_of_disk};
 ghost use Rattle.rs_image.specs.Whole.{IsWhole};
-ghost use Rattle.rs_image.specs.Tells.{Tells, state_in};
+ghost use Rattle.rs_image.specs.Tells.{AreListable, Tells, state_in};
 ghost use Rattle.rs_image.specs.Loading.{IsPlaced, spelled, IsLawful, AreOf, Hold};
 
 use crate::Contents;
@@ -40,6 +40,7 @@ use std::alloc::Global;
 /// - [`LoadFault::NoMemory`] where the memory is refused.
 pub fn load<D: Disk>(alloc: Global, disk: &mut D, root: &Root) -> Result<Contents, LoadFault>
     ensures whole { IfOk result (λ c. IsWhole (D.state disk.new).size root.now c) }
+    ensures listable { IfOk result AreListable }
 
     // What the disk holds is said of a device that has followed the model.
     ensures told { IfOk result (λ c. IsTrue (D.state disk.new).honest → Tells root.now c (D.state disk.new).now.seen (state_in (D.state disk.new).now.seen c)) }

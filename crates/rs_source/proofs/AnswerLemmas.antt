@@ -1,95 +1,114 @@
 -- The answer to each kind of request.
-use Rattle.std.proofs.Common.{◌≡◌, ℕ, List, [], ◌∷◌, Option, Some, None, Result, Ok, Err, ◌⊎◌, ◌<◌, ◌≤◌, length, refl, inl, inr, ap, sym, ◌∙◌, arith}
-use Rattle.rs_model.specs.State.{Source}
-use Rattle.rs_model.specs.Step.{step}
+use Rattle.std.proofs.Common.{◌≡◌, ℕ, List, [], Option, Some, None, Result, Ok, Err, Vec, Global, Bool, true, false, ◌⊎◌, ◌<◌, ◌≤◌, length, refl, inl, inr, ap, sym, subst, ◌∙◌, if◌then◌else◌, ◌↔◌, IsErrOf, IsTrue, OnOk, option_map}
+use Rattle.rs_disk.specs.Medium.{DiskState}
 use Rattle.rs_model.specs.declared.command.Command.{Command}
 use Rattle.rs_model.specs.declared.command.Reply.{Reply}
-use Rattle.rs_model.specs.declared.command.Refusal as model
+use Rattle.rs_lists.specs.declared.doc.Doc.{Doc}
+use Rattle.rs_lists.specs.Shown.{Shown}
+use Rattle.rs_caps.specs.DocumentTexts.{document_text}
+use Rattle.rs_caps.specs.Shows.{shown_of}
+use Rattle.rs_store.specs.Answered as stored
+use Rattle.rs_store.specs.Shows.{status_of}
+use Rattle.rs_store.specs.Source.{Stored, state_of}
+use Rattle.rs_store.specs.Views as views
+use Rattle.rs_store.specs.declared.reading.Status as counts
+use Rattle.rs_store.specs.declared.refusal.Refusal as denials
+use Rattle.rs_store.specs.declared.refusal.Refusal.TheVariants.{Closed}
 use Rattle.rs_source.specs.declared.refusal.Refusal.{Refusal}
-use Rattle.rs_source.specs.declared.refusal.Refusal.TheVariants.{BadLine, LongLine, Model, NoMemory}
-use Rattle.rs_source.specs.Answers.{outcome_text, reply_text, shown_text}
-use Rattle.rs_source.specs.Progress.{Answers, LineAnswers}
-use Rattle.rs_source.specs.Script.{Gives, LineGives, session}
-use Rattle.rs_source.specs.Session.{Session, moment_set, replied, shown, counted, refused, Answer, unchanged, stepped, shown_or, answer_to, answered}
-use Rattle.rs_source.specs.Lines.{line_limit}
-use Rattle.rs_source.specs.Requests.{request_of}
-use Rattle.std.proofs.lemmas.Bool.Decides.{nat_tests}
-use Rattle.rs_source.specs.Sources.{status_of}
+use Rattle.rs_source.specs.declared.refusal.Refusal.TheVariants.{BadLine, LongLine, NoSuchDocument, NoMemory, Source}
 use Rattle.rs_source.specs.declared.request.Request.{Request}
-use Rattle.rs_source.specs.declared.request.Request.TheVariants.{At, Status}
-use Rattle.rs_source.specs.declared.source.Status as counts
+use Rattle.rs_source.specs.declared.request.Request.TheVariants.{At, Run, Document, Body, Status}
+use Rattle.rs_source.specs.Answers.{outcome_text, shown_text}
+use Rattle.rs_source.specs.Bodies.{AnswersBody}
+use Rattle.rs_source.specs.Gives.{replied_as, counted_as, shown_as}
+use Rattle.rs_source.specs.Lines.{line_limit}
+use Rattle.rs_source.specs.Model.{shown_or}
+use Rattle.rs_source.specs.Progress.{RequestAnswers, LineAnswers}
+use Rattle.rs_source.specs.Requests.{request_of}
+use Rattle.rs_source.specs.Session.{Session, session, Outcome, moment_set, counted, refused, unchanged}
+use Rattle.rs_source.proofs.Documents.{one_text}
 
--- the source accepted the command
-pub accepted : (s next : Source) (command : Command) (now : ℕ) (reply : Reply) (P : List ℕ → Type 0)
-    → step s command now ≡ Ok (next, reply) → P (reply_text reply)
-    → Answers (session s now) (stepped (session s now) command (step s command now)) (session next now) P
-accepted s next command now reply P e w = record {
-  answer = record { outcome = replied reply; commands = (command, now) ∷ []; session = session next now };
-  gives = inl (rw e refl);
+-- a command was asked of the source
+pub ran : {D : Type 0} (device : D → DiskState) (old new : Stored D) (command : Command) (now : ℕ) (result : Result Reply denials.Refusal) (P : List ℕ → Type 0)
+    → stored.Answers device old new command now result → P (outcome_text (replied_as result))
+    → RequestAnswers device (session old now) (Ok (Run command)) (session new now) P
+ran device old new command now result P a w = record {
+  answer = record { outcome = replied_as result; commands = counted_as command now result; session = session new now };
+  gives = inl (record { result = result; answers = a; outcome = refl; commands = refl; now = refl });
   session_is = refl;
   written = w;
 }
 
--- the model refuses the command
-pub not_accepted : (s next : Source) (command : Command) (now : ℕ) (refusal : model.Refusal) (P : List ℕ → Type 0)
-    → step s command now ≡ Err refusal → next ≡ s → P (outcome_text (refused (Model refusal)))
-    → Answers (session s now) (stepped (session s now) command (step s command now)) (session next now) P
-not_accepted s next command now refusal P e same w = record {
-  answer = unchanged (session s now) (refused (Model refusal));
-  gives = inl (rw e refl);
-  session_is = rw same refl;
-  written = w;
-}
-
--- room was refused
-pub no_room : (s next : Source) (now : ℕ) (expected : Answer) (P : List ℕ → Type 0)
-    → next ≡ s → P (outcome_text (refused NoMemory)) → Answers (session s now) expected (session next now) P
-no_room s next now expected P same w = record {
-  answer = unchanged (session s now) (refused NoMemory);
-  gives = inr refl;
-  session_is = rw same refl;
-  written = w;
-}
-
--- the bytes are there
-pub shown_some : (s next : Source) (now : ℕ) (refusal : Refusal) (found : Option (List ℕ)) (bytes : List ℕ) (P : List ℕ → Type 0)
-    → found ≡ Some bytes → next ≡ s → P (shown_text bytes) → Answers (session s now) (shown_or (session s now) refusal found) (session next now) P
-shown_some s next now refusal found bytes P e same w = record {
-  answer = unchanged (session s now) (shown bytes);
-  gives = inl (rw e refl);
-  session_is = rw same refl;
-  written = w;
-}
-
--- the bytes are not there
-pub shown_none : (s next : Source) (now : ℕ) (refusal : Refusal) (found : Option (List ℕ)) (P : List ℕ → Type 0)
-    → found ≡ None → next ≡ s → P (outcome_text (refused refusal))
-    → Answers (session s now) (shown_or (session s now) refusal found) (session next now) P
-shown_none s next now refusal found P e same w = record {
-  answer = unchanged (session s now) (refused refusal);
-  gives = inl (rw e refl);
-  session_is = rw same refl;
+-- a body was asked of the source
+pub was_read : {D : Type 0} (device : D → DiskState) (old new : Stored D) (name : List ℕ) (now : ℕ) (result : Result (Vec ℕ Global) denials.Refusal) (P : List ℕ → Type 0)
+    → AnswersBody device old new name result → P (outcome_text (shown_as result))
+    → RequestAnswers device (session old now) (Ok (Body name)) (session new now) P
+was_read device old new name now result P a w = record {
+  answer = record { outcome = shown_as result; commands = []; session = session new now };
+  gives = inl (record { result = result; answers = a; outcome = refl; commands = refl; now = refl });
+  session_is = refl;
   written = w;
 }
 
 -- the moment is set
-pub moment_answered : (s : Source) (now t : ℕ) (P : List ℕ → Type 0)
-    → P (outcome_text moment_set) → Answers (session s now) (answer_to (session s now) (Ok (At t))) (session s t) P
-moment_answered s now t P w = record {
+pub moment_answered : {D : Type 0} (device : D → DiskState) (s : Stored D) (now t : ℕ) (P : List ℕ → Type 0)
+    → P (outcome_text moment_set) → RequestAnswers device (session s now) (Ok (At t)) (session s t) P
+moment_answered device s now t P w = record {
   answer = record { outcome = moment_set; commands = []; session = session s t };
   gives = inl refl;
   session_is = refl;
   written = w;
 }
 
+-- an open source answers
+when_open : (closed : Bool) (outcome : Outcome) → closed ≡ false → (if closed then refused (Source Closed) else outcome) ≡ outcome
+when_open closed outcome opened = ap (λ b. if b then refused (Source Closed) else outcome) opened
+
+-- a document is shown, or there is none
+pub document_answered : {D : Type 0} (device : D → DiskState) (s : Stored D) (now : ℕ) (doc : Doc) (view : Shown) (outcome : Outcome) (P : List ℕ → Type 0)
+    → s.is_closed ≡ false → view ≡ views.shown_of s.contents → shown_or NoSuchDocument (document_text view doc) ≡ outcome
+    → P (outcome_text outcome) → RequestAnswers device (session s now) (Ok (Document doc)) (session s now) P
+document_answered device s now doc view outcome P opened is e w =
+    let text = ap (λ v. document_text v doc) is ∙ one_text (device s.disk).now.seen s.contents doc in
+    let found = sym e ∙ ap (shown_or NoSuchDocument) text in
+    record {
+      answer = unchanged (session s now) outcome;
+      gives = inl (ap (unchanged (session s now)) (found ∙ sym (when_open s.is_closed (shown_or NoSuchDocument (document_text (shown_of (state_of device s)) doc)) opened)));
+      session_is = refl;
+      written = w;
+    }
+
+-- a closed source shows no document
+pub document_closed : {D : Type 0} (device : D → DiskState) (s : Stored D) (now : ℕ) (doc : Doc) (refusal : denials.Refusal) (P : List ℕ → Type 0)
+    → refusal ≡ Closed → s.is_closed ≡ true → P (outcome_text (refused (Source refusal)))
+    → RequestAnswers device (session s now) (Ok (Document doc)) (session s now) P
+document_closed device s now doc refusal P same closed w = record {
+  answer = unchanged (session s now) (refused (Source Closed));
+  gives = inl (rw closed refl);
+  session_is = refl;
+  written = subst (λ r. P (outcome_text (refused (Source r)))) same w;
+}
+
 -- what is held is counted
-pub counted_answered : (s : Source) (now : ℕ) (status : counts.Status) (P : List ℕ → Type 0)
-    → status ≡ status_of s → P (outcome_text (counted status)) → Answers (session s now) (answer_to (session s now) (Ok Status)) (session s now) P
-counted_answered s now status P e w = record {
+pub counted_answered : {D : Type 0} (device : D → DiskState) (s : Stored D) (now : ℕ) (status : counts.Status) (P : List ℕ → Type 0)
+    → s.is_closed ≡ false → status ≡ status_of (state_of device s) → P (outcome_text (counted status))
+    → RequestAnswers device (session s now) (Ok Status) (session s now) P
+counted_answered device s now status P opened e w = record {
   answer = unchanged (session s now) (counted status);
-  gives = inl (rw e refl);
+  gives = inl (ap (unchanged (session s now)) (ap counted e ∙ sym (when_open s.is_closed (counted (status_of (state_of device s))) opened)));
   session_is = refl;
   written = w;
+}
+
+-- and nothing of a closed source
+pub counted_closed : {D : Type 0} (device : D → DiskState) (s : Stored D) (now : ℕ) (refusal : denials.Refusal) (P : List ℕ → Type 0)
+    → refusal ≡ Closed → s.is_closed ≡ true → P (outcome_text (refused (Source refusal)))
+    → RequestAnswers device (session s now) (Ok Status) (session s now) P
+counted_closed device s now refusal P same closed w = record {
+  answer = unchanged (session s now) (refused (Source Closed));
+  gives = inl (rw closed refl);
+  session_is = refl;
+  written = subst (λ r. P (outcome_text (refused (Source r)))) same w;
 }
 
 -- no request
@@ -97,66 +116,99 @@ abbrev denied : Refusal → Result Request Refusal
 denied refusal = Err refusal
 
 -- the line asks for nothing, or room for what it asks was refused
-pub refused_answered : (s : Session) (found : Result Request Refusal) (refusal : Refusal) (P : List ℕ → Type 0)
-    → (Err refusal ≡ found) ⊎ (denied refusal ≡ denied NoMemory) → P (outcome_text (refused refusal)) → Answers s (answer_to s found) s P
-refused_answered s found refusal P (inl e) w = record {
+pub refused_answered : {D : Type 0} (device : D → DiskState) (s : Session (Stored D)) (found : Result Request Refusal) (refusal : Refusal) (P : List ℕ → Type 0)
+    → (Err refusal ≡ found) ⊎ (denied refusal ≡ denied NoMemory) → P (outcome_text (refused refusal)) → RequestAnswers device s found s P
+refused_answered device s found refusal P (inl e) w = record {
   answer = unchanged s (refused refusal);
-  gives = inl (ap (answer_to s) e);
+  gives = inl (rw (sym e) refl);
   session_is = refl;
   written = w;
 }
-refused_answered s found refusal P (inr e) w = record {
+refused_answered device s found refusal P (inr e) w = record {
   answer = unchanged s (refused refusal);
   gives = inr (let same : refusal ≡ NoMemory = cc in rw same refl);
   session_is = refl;
   written = w;
 }
 
-within : (s : Session) (line : List ℕ) → length line ≤ line_limit → answered s line ≡ answer_to s (request_of line)
-within s line le = grind (arith, nat_tests)
+abbrev asked : Request → Result Request Refusal
+asked request = Ok request
+
+-- the line asks for something
+pub understood : {D : Type 0} (device : D → DiskState) (s new : Session (Stored D)) (found : Result Request Refusal) (request : Request) (P : List ℕ → Type 0)
+    → (Ok request ≡ found) ⊎ (asked request ≡ denied NoMemory) → RequestAnswers device s (Ok request) new P → RequestAnswers device s found new P
+understood device s new found request P (inl e) given = subst (λ r. RequestAnswers device s r new P) e given
+understood device s new found request P (inr e) given = absurd cc
 
 -- a line that asks for nothing
-pub foreign_answered : (s : Session) (line : List ℕ) (P : List ℕ → Type 0)
-    → (length line ≤ line_limit) × (request_of line ≡ Err BadLine) → P (outcome_text (refused BadLine)) → LineAnswers s line s P
-foreign_answered s line P h w = record {
+pub foreign_answered : {D : Type 0} (device : D → DiskState) (s : Session (Stored D)) (line : List ℕ) (P : List ℕ → Type 0)
+    → (length line ≤ line_limit) × (request_of line ≡ Err BadLine) → P (outcome_text (refused BadLine)) → LineAnswers device s line s P
+foreign_answered device s line P h w = record {
   answer = unchanged s (refused BadLine);
-  gives = inl (sym (within s line h.0 ∙ ap (answer_to s) h.1));
+  gives = inr (h.0, inl (rw h.1 refl));
   session_is = refl;
   written = w;
 }
 
 -- a line past the limit
-pub long_answered : (s : Session) (line : List ℕ) (P : List ℕ → Type 0)
-    → line_limit < length line → P (outcome_text (refused LongLine)) → LineAnswers s line s P
-long_answered s line P h w = record {
+pub long_answered : {D : Type 0} (device : D → DiskState) (s : Session (Stored D)) (line : List ℕ) (P : List ℕ → Type 0)
+    → line_limit < length line → P (outcome_text (refused LongLine)) → LineAnswers device s line s P
+long_answered device s line P h w = record {
   answer = unchanged s (refused LongLine);
-  gives = inl (grind (arith, nat_tests));
+  gives = inl (h, refl);
   session_is = refl;
   written = w;
 }
 
 -- room for a line was refused
-pub no_room_for_line : (s : Session) (line : List ℕ) (P : List ℕ → Type 0)
-    → length line ≤ line_limit → P (outcome_text (refused NoMemory)) → LineAnswers s line s P
-no_room_for_line s line P le w = record {
+pub no_room_for_line : {D : Type 0} (device : D → DiskState) (s : Session (Stored D)) (line : List ℕ) (P : List ℕ → Type 0)
+    → length line ≤ line_limit → P (outcome_text (refused NoMemory)) → LineAnswers device s line s P
+no_room_for_line device s line P le w = record {
   answer = unchanged s (refused NoMemory);
-  gives = inr (le, refl);
+  gives = inr (le, inr refl);
   session_is = refl;
   written = w;
 }
 
--- a line within the limit may be answered what its request may
-line_gives : (s : Session) (line : List ℕ) (expected answer : Answer) → length line ≤ line_limit
-    → expected ≡ answered s line → Gives s expected answer → LineGives s line answer
-line_gives s line expected answer le e (inl same) = inl (same ∙ e)
-line_gives s line expected answer le e (inr same) = inr (le, same)
-
 -- a line of these bytes
-pub bytes_answered : (s new : Session) (bytes line : List ℕ) (P : List ℕ → Type 0) → (bytes ≡ line) × (length line ≤ line_limit)
-    → Answers s (answer_to s (request_of bytes)) new P → LineAnswers s line new P
-bytes_answered s new bytes line P h given = record {
+pub bytes_answered : {D : Type 0} (device : D → DiskState) (s new : Session (Stored D)) (bytes line : List ℕ) (P : List ℕ → Type 0)
+    → (bytes ≡ line) × (length line ≤ line_limit)
+    → RequestAnswers device s (request_of bytes) new P → LineAnswers device s line new P
+bytes_answered device s new bytes line P h given = record {
   answer = given.answer;
-  gives = line_gives s line (answer_to s (request_of bytes)) given.answer h.1 (ap (λ b. answer_to s (request_of b)) h.0 ∙ sym (within s line h.1)) given.gives;
+  gives = inr (h.1, rw (sym h.0) given.gives);
   session_is = given.session_is;
   written = given.written;
 }
+
+-- the body that was asked of the source is shown
+pub body_shown : {D : Type 0} (device : D → DiskState) (old new : Stored D) (name : List ℕ) (now : ℕ) (bytes : Vec ℕ Global) (written : List ℕ) (P : List ℕ → Type 0)
+    → AnswersBody device old new name (Ok bytes) → written ≡ bytes.items → P (shown_text written)
+    → RequestAnswers device (session old now) (Ok (Body name)) (session new now) P
+body_shown device old new name now bytes written P a same w = was_read device old new name now (Ok bytes) P a (subst (λ b. P (shown_text b)) same w)
+
+-- a source that refuses nothing is open
+pub is_open : {T : Type 0} (result : Result T denials.Refusal) (given : T) (closed : Bool) → result ≡ Ok given
+    → IsErrOf result Closed ↔ IsTrue closed → closed ≡ false
+is_open result given false is h = refl
+is_open result given true is h = let no : IsErrOf result Closed = h.1 refl in absurd cc
+
+-- and one that refuses whatever it is asked is closed
+pub is_closed : {T : Type 0} (result : Result T denials.Refusal) (refusal : denials.Refusal) (closed : Bool) → result ≡ Err refusal → refusal ≡ Closed
+    → IsErrOf result Closed ↔ IsTrue closed → closed ≡ true
+is_closed result refusal closed is same h = h.0 (is ∙ ap Err same)
+
+-- a document that has a length is there, and what was written of it is its text
+pub shown_whole : {T E : Type 0} (result : Result T E) (found : Option (List ℕ)) (count : ℕ) (W : List ℕ → Type 0) → option_map length found ≡ Some count
+    → OnOk result ((text : List ℕ) × (found ≡ Some text) × W (shown_text text))
+    → (text : List ℕ) × (found ≡ Some text) × OnOk result (W (shown_text text))
+shown_whole result None count W e h = absurd cc
+shown_whole (Err x) (Some text) count W e h = (text, refl, tt)
+shown_whole (Ok x) (Some text) count W e h =
+    let same : h.0 ≡ text = cc in
+    (text, refl, subst (λ t. W (shown_text t)) same h.2)
+
+-- a document that has no length is not there
+pub shown_none : (found : Option (List ℕ)) → option_map length found ≡ None → found ≡ None
+shown_none None e = refl
+shown_none (Some text) e = absurd cc

@@ -4,4 +4,7 @@ pub mod ForeignLemmas
 pub mod Breaks
 pub mod Cut
 pub mod Steps
+pub mod Models
+pub mod Chains
 pub mod Transcripts
+pub mod Documents

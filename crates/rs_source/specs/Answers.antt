@@ -4,11 +4,11 @@ use Rattle.std.specs.Fmt.{decimal}
 use Rattle.rs_time.specs.Moment.{moment_text}
 use Rattle.rs_model.specs.declared.command.Reply.{Reply}
 use Rattle.rs_model.specs.declared.command.Reply.TheVariants.{Created, Updated, Deleted, Published}
-use Rattle.rs_model.specs.declared.command.Refusal as model
-use Rattle.rs_model.specs.declared.command.Refusal.TheVariants.{TooLong, NotHeld, TooManyResources, TooManyChanges, Exhausted}
+use Rattle.rs_store.specs.declared.refusal.Refusal as stored
+use Rattle.rs_store.specs.declared.refusal.Refusal.TheVariants as names
+use Rattle.rs_store.specs.declared.reading.Status.{Status}
 use Rattle.rs_source.specs.declared.refusal.Refusal.{Refusal}
-use Rattle.rs_source.specs.declared.refusal.Refusal.TheVariants.{BadLine, LongLine, BadMoment, BadName, BadHex, BadType, NoSuchDocument, Model, NoMemory}
-use Rattle.rs_source.specs.declared.source.Status.{Status}
+use Rattle.rs_source.specs.declared.refusal.Refusal.TheVariants.{BadLine, LongLine, BadMoment, BadName, BadHex, BadType, NoSuchDocument, Source, NoMemory}
 use Rattle.rs_source.specs.Session.{Outcome, moment_set, replied, shown, counted, refused}
 
 -- a moment, and the end of the line
@@ -21,13 +21,18 @@ reply_text (Updated t) = codes "updated " ++ moment_end t
 reply_text (Deleted t) = codes "deleted " ++ moment_end t
 reply_text (Published number t) = (codes "published " ++ (decimal number ++ codes " ")) ++ moment_end t
 
--- the name of a refusal
-abbrev pub model_word : model.Refusal → List ℕ
-model_word TooLong = codes "TooLong"
-model_word NotHeld = codes "NotHeld"
-model_word TooManyResources = codes "TooManyResources"
-model_word TooManyChanges = codes "TooManyChanges"
-model_word Exhausted = codes "Exhausted"
+-- the name of a refusal of the source
+abbrev pub source_word : stored.Refusal → List ℕ
+source_word names.Closed = codes "Closed"
+source_word names.TooLong = codes "TooLong"
+source_word names.NotHeld = codes "NotHeld"
+source_word names.TooManyResources = codes "TooManyResources"
+source_word names.TooManyChanges = codes "TooManyChanges"
+source_word names.Exhausted = codes "Exhausted"
+source_word names.Full = codes "Full"
+source_word names.Device = codes "Device"
+source_word names.Damaged = codes "Damaged"
+source_word names.NoMemory = codes "NoMemory"
 
 abbrev pub word_of : Refusal → List ℕ
 word_of BadLine = codes "BadLine"
@@ -37,7 +42,7 @@ word_of BadName = codes "BadName"
 word_of BadHex = codes "BadHex"
 word_of BadType = codes "BadType"
 word_of NoSuchDocument = codes "NoSuchDocument"
-word_of (Model refusal) = model_word refusal
+word_of (Source refusal) = source_word refusal
 word_of NoMemory = codes "NoMemory"
 
 -- bytes, after their number

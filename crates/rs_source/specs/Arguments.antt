@@ -3,7 +3,9 @@ use Rattle.std.specs.Prelude.{ℕ, min, if◌then◌else◌, List, [], ◌∷◌
 use Rattle.std.specs.declared.io.ErrorKind.{ErrorKind}
 use Rattle.std.specs.declared.io.ErrorKind.TheVariants.{OutOfMemory}
 use Rattle.rs_source.specs.declared.program.ProgramError.{ProgramError}
-use Rattle.rs_source.specs.declared.program.ProgramError.TheVariants.{Usage, BadBase, BadLimit, NoMemory, Read, Write}
+use Rattle.rs_source.specs.declared.program.ProgramError.TheVariants.{Usage, BadBase, BadLimit, TooSmall, Device, NoMemory, Read, Write}
+use Rattle.rs_store.specs.declared.formatting.FormatFault.{FormatFault}
+use Rattle.rs_store.specs.declared.formatting.FormatFault.TheVariants as formatting
 use Rattle.rs_source.specs.declared.script.ScriptFault.{ScriptFault}
 use Rattle.rs_source.specs.declared.script.ScriptFault.TheVariants as fault
 use Rattle.rs_source.specs.Numbers.{number_in}
@@ -25,6 +27,8 @@ abbrev pub status_of : ProgramError → ℕ
 status_of Usage = 2
 status_of BadBase = 1
 status_of BadLimit = 1
+status_of TooSmall = 1
+status_of Device = 1
 status_of NoMemory = 1
 status_of Read = 1
 status_of Write = 1
@@ -38,3 +42,20 @@ unread_of _ = Usage
 abbrev pub error_of : ScriptFault → ProgramError
 error_of fault.Read = Read
 error_of fault.Write = Write
+
+-- and so is the fault of a formatting
+abbrev pub error_of_format : FormatFault → ProgramError
+error_of_format formatting.BadBase = BadBase
+error_of_format formatting.BadLimit = BadLimit
+error_of_format formatting.TooSmall = TooSmall
+error_of_format formatting.Device = Device
+error_of_format formatting.NoMemory = NoMemory
+
+-- the errors with which a source in memory does not begin
+abbrev pub IsOfStart : ProgramError → Type 0
+IsOfStart BadBase = Unit {0}
+IsOfStart BadLimit = Unit {0}
+IsOfStart TooSmall = Unit {0}
+IsOfStart Device = Unit {0}
+IsOfStart NoMemory = Unit {0}
+IsOfStart error = ⊥

@@ -3,8 +3,10 @@ pub mod Numbers
 pub mod Arguments
 pub mod Fields
 pub mod Requests
-pub mod Sources
 pub mod Session
+pub mod Model
+pub mod Bodies
+pub mod Gives
 pub mod Answers
 pub mod Script
 pub mod Kept

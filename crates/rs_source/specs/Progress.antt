@@ -1,44 +1,49 @@
 -- How far a script has come.
-use Rattle.std.specs.Prelude.{◌≡◌, ℕ, ◌⊎◌, List, ◌++◌, map, Option}
+use Rattle.std.specs.Prelude.{◌≡◌, ℕ, ◌⊎◌, List, ◌++◌, map, Option, Result}
 use Rattle.std.specs.Io.KnownBytes.{Consumes, IsAtEnd, Appends}
+use Rattle.rs_disk.specs.Medium.{DiskState}
 use Rattle.rs_model.specs.declared.command.Command.{Command}
+use Rattle.rs_store.specs.Source.{Stored}
+use Rattle.rs_source.specs.declared.refusal.Refusal.{Refusal}
+use Rattle.rs_source.specs.declared.request.Request.{Request}
 use Rattle.rs_source.specs.declared.line.Line.{Line}
 use Rattle.rs_source.specs.Answers.{outcome_text, output_of}
 use Rattle.rs_source.specs.Kept.{Keeps}
 use Rattle.rs_source.specs.Lines.{Splits, AreWholeLines, cut_return}
-use Rattle.rs_source.specs.Script.{Gives, LineGives, Transcript, ScriptGives}
+use Rattle.rs_source.specs.Gives.{Gives, LineGives}
+use Rattle.rs_source.specs.Script.{Transcript, ScriptGives}
 use Rattle.rs_source.specs.Session.{Session, Answer, Outcome}
 
--- one answer was given, the session is the one after it, and this holds of its text
-pub record Answers (old : Session) (expected : Answer) (new : Session) (Written : List ℕ → Type 0) : Type 0 where
-  pub answer : Answer
-  pub gives : Gives old expected answer
+-- a request was answered, the session is the one after it, and this holds of the answer's text
+pub record RequestAnswers {D : Type 0} (device : D → DiskState) (old : Session (Stored D)) (request : Result Request Refusal) (new : Session (Stored D)) (Written : List ℕ → Type 0) : Type 0 where
+  pub answer : Answer (Stored D)
+  pub gives : Gives device old request answer
   pub session_is : answer.session ≡ new
   pub written : Written (outcome_text answer.outcome)
 
 -- a line was answered, the session is the one after it, and this holds of the answer's text
-pub record LineAnswers (old : Session) (line : List ℕ) (new : Session) (Written : List ℕ → Type 0) : Type 0 where
-  pub answer : Answer
-  pub gives : LineGives old line answer
+pub record LineAnswers {D : Type 0} (device : D → DiskState) (old : Session (Stored D)) (line : List ℕ) (new : Session (Stored D)) (Written : List ℕ → Type 0) : Type 0 where
+  pub answer : Answer (Stored D)
+  pub gives : LineGives device old line answer
   pub session_is : answer.session ≡ new
   pub written : Written (outcome_text answer.outcome)
 
 -- these bytes came: whole lines, whose answers were written, and then what is kept of the next
-pub record Progress
-    (start : Session) (before : Option (List ℕ)) (input : List ℕ) (line : Line)
-    (after : Option (List ℕ)) (now : Session) : Type 0 where
+pub record Progress {D : Type 0} (device : D → DiskState)
+    (start : Session (Stored D)) (before : Option (List ℕ)) (input : List ℕ) (line : Line)
+    (after : Option (List ℕ)) (now : Session (Stored D)) : Type 0 where
   pub raws : List (List ℕ)
   pub rest : List ℕ
   pub outcomes : List Outcome
   pub commands : List (Command × ℕ)
   pub splits : Splits input raws rest
   pub kept : Keeps line rest
-  pub answered : Transcript start (map cut_return raws) outcomes commands now
+  pub answered : Transcript device start (map cut_return raws) outcomes commands now
   pub written : Appends before after (output_of outcomes)
 
 -- the lines of this input were answered, whatever of the answers was written
-abbrev pub Answered : Session → List ℕ → Session → Type 0
-Answered start input now = (outcomes : List Outcome) × (commands : List (Command × ℕ)) × ScriptGives start input outcomes commands now
+abbrev pub Answered : {D : Type 0} → (D → DiskState) → Session (Stored D) → List ℕ → Session (Stored D) → Type 0
+Answered device start input now = (outcomes : List Outcome) × (commands : List (Command × ℕ)) × ScriptGives device start input outcomes commands now
 
 -- the reader gave this input, and then a tail that was not looked at
 abbrev pub Gave : Option (List ℕ) → Option (List ℕ) → List ℕ → Type 0

@@ -3,26 +3,31 @@
 ghost use Rattle.std.specs.Prelude.{◌≡◌, ◌++◌, OnOk, OnErr, IsTrue};
 ghost use Rattle.std.specs.Io.KnownBytes.{Appends};
 ghost use Rattle.rs_io.specs.Watch.{watched, has_failed};
-ghost use Rattle.rs_source.specs.Answers.{moment_end, reply_text, status_text, outcome_text, word_of, model_word};
+ghost use Rattle.rs_source.specs.Answers.{moment_end, reply_text, status_text, outcome_text, word_of, source_word};
 ghost use Rattle.rs_source.specs.Session.{refused};
 
 use crate::refusal::Refusal;
-use crate::source::Status;
 use rs_io::{Watched, WriteFault};
 use rs_model::Reply;
+use rs_store::Status;
 use rs_time::Moment;
 use std::io::Write;
 
 /// The name of a refusal of the source.
-fn model_name(refusal: rs_model::Refusal) -> &'static str
-    ensures { result.now ≡ model_word refusal }
+fn source_name(refusal: rs_store::Refusal) -> &'static str
+    ensures { result.now ≡ source_word refusal }
 {
     match refusal {
-        rs_model::Refusal::TooLong => "TooLong",
-        rs_model::Refusal::NotHeld => "NotHeld",
-        rs_model::Refusal::TooManyResources => "TooManyResources",
-        rs_model::Refusal::TooManyChanges => "TooManyChanges",
-        rs_model::Refusal::Exhausted => "Exhausted",
+        rs_store::Refusal::Closed => "Closed",
+        rs_store::Refusal::TooLong => "TooLong",
+        rs_store::Refusal::NotHeld => "NotHeld",
+        rs_store::Refusal::TooManyResources => "TooManyResources",
+        rs_store::Refusal::TooManyChanges => "TooManyChanges",
+        rs_store::Refusal::Exhausted => "Exhausted",
+        rs_store::Refusal::Full => "Full",
+        rs_store::Refusal::Device => "Device",
+        rs_store::Refusal::Damaged => "Damaged",
+        rs_store::Refusal::NoMemory => "NoMemory",
     }
 }
 
@@ -38,7 +43,7 @@ fn name_of(refusal: Refusal) -> &'static str
         Refusal::BadHex => "BadHex",
         Refusal::BadType => "BadType",
         Refusal::NoSuchDocument => "NoSuchDocument",
-        Refusal::Model(refusal) => model_name(refusal),
+        Refusal::Source(refusal) => source_name(refusal),
         Refusal::NoMemory => "NoMemory",
     }
 }

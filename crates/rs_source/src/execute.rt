@@ -3,101 +3,129 @@
 ghost use Rattle.std.specs.Prelude.{Ok, OnOk, OnErr, IsTrue};
 ghost use Rattle.std.specs.Io.KnownBytes.{Appends};
 ghost use Rattle.rs_io.specs.Watch.{watched, has_failed};
-ghost use Rattle.rs_source.specs.Progress.{Answers};
+ghost use Rattle.rs_store.specs.Answered.{Answers};
+ghost use Rattle.rs_source.specs.Bodies.{AnswersBody};
+ghost use Rattle.rs_source.specs.Progress.{RequestAnswers};
 ghost use Rattle.rs_source.specs.Requests.{request_of};
-ghost use Rattle.rs_source.specs.Script.{session};
-ghost use Rattle.rs_source.specs.Session.{answer_to, answered};
-ghost use Rattle.rs_source.specs.declared.request.Request.TheVariants.{At, Run, Document, Body as Shown};
+ghost use Rattle.rs_source.specs.Session.{session};
+ghost use Rattle.rs_source.specs.declared.request.Request.TheVariants.{Run, Document, Body as Shown, Status as Counted};
 
 use crate::answer::{write_refusal, write_reply, write_status};
 use crate::refusal::Refusal;
 use crate::request::{Request, parse_request};
-use crate::source::{ScriptSource, ShowFault};
+use crate::show::{write_shown, write_shown_document};
+use rs_caps::document_length;
+use rs_disk::Disk;
 use rs_io::{Watched, WriteFault};
 use rs_lists::Doc;
-use rs_model::{Command, StepError};
+use rs_model::{Command, Reply};
 use rs_record::Name;
+use rs_store::Source;
 use rs_time::Moment;
 use std::alloc::Global;
 use std::io::Write;
 
+/// Asks a command of the source.
+fn ask<D: Disk>(
+    source: &mut Source<D>,
+    command: &Command,
+    now: Moment,
+) -> Result<Reply, rs_store::Refusal>
+    ensures { Answers D.state source.old source.new command.now now result }
+{
+    match command {
+        Command::Put { name, kind, bytes } => source.put(name, kind, bytes.bytes(), now),
+        Command::Delete { name } => source.delete(name, now),
+        Command::Publish => source.publish(now),
+    }
+}
+
 /// Answers `put`, `delete` or `publish`.
-#[tactic(auto, using(crate::proofs::AnswerLemmas::accepted, crate::proofs::AnswerLemmas::not_accepted, crate::proofs::AnswerLemmas::no_room))]
-fn run_command<S: ScriptSource, W: Write>(
-    alloc: Global,
-    source: &mut S,
-    command: Command,
+fn run_command<D: Disk, W: Write>(
+    source: &mut Source<D>,
+    command: &Command,
     now: Moment,
     writer: &mut Watched<W>,
 ) -> Result<(), WriteFault>
-    ensures answered { Answers (session (S.state source.old) now) (answer_to (session (S.state source.old) now) (Ok (Run command)))
-        (session (S.state source.new) now)
+    ensures answered { RequestAnswers D.state (session source.old now) (Ok (Run command.now)) (session source.new now)
         (λ text. OnOk result (Appends (W.contents (watched writer.old)) (W.contents (watched writer.new)) text)) }
     ensures failed { OnErr result (IsTrue (has_failed writer.new)) }
 {
-    match source.apply(alloc, command, now) {
+    match ask(source, command, now) {
         Ok(reply) => write_reply(reply, writer),
-        Err(StepError::Refused(refusal)) => write_refusal(Refusal::Model(refusal), writer),
-        Err(StepError::NoMemory) => write_refusal(Refusal::NoMemory, writer),
+        Err(refusal) => write_refusal(Refusal::Source(refusal), writer),
     }
 }
 
 /// Answers `show PATH` of a document.
-#[tactic(auto, using(crate::proofs::AnswerLemmas::shown_some, crate::proofs::AnswerLemmas::shown_none, crate::proofs::AnswerLemmas::no_room))]
-fn show_document<S: ScriptSource, W: Write>(
-    alloc: Global,
-    source: &S,
+fn show_document<D: Disk, W: Write>(
+    source: &Source<D>,
     doc: Doc,
     now: Moment,
     writer: &mut Watched<W>,
 ) -> Result<(), WriteFault>
-    ensures answered { Answers (session (S.state source.now) now) (answer_to (session (S.state source.now) now) (Ok (Document doc)))
-        (session (S.state source.now) now)
+    ensures answered { RequestAnswers D.state (session source.now now) (Ok (Document doc)) (session source.now now)
         (λ text. OnOk result (Appends (W.contents (watched writer.old)) (W.contents (watched writer.new)) text)) }
     ensures failed { OnErr result (IsTrue (has_failed writer.new)) }
 {
-    match source.show_document(alloc, doc, writer) {
-        Ok(()) => Ok(()),
-        Err(ShowFault::Missing) => write_refusal(Refusal::NoSuchDocument, writer),
-        Err(ShowFault::NoMemory) => write_refusal(Refusal::NoMemory, writer),
-        Err(ShowFault::Write) => Err(WriteFault),
+    let view = match source.view() {
+        Ok(view) => view,
+        Err(refusal) => return write_refusal(Refusal::Source(refusal), writer),
+    };
+    match document_length(&view, doc) {
+        Some(length) => write_shown_document(&view, doc, length, writer),
+        None => write_refusal(Refusal::NoSuchDocument, writer),
     }
 }
 
+/// Asks a body of the source.
+fn ask_body<D: Disk>(source: &mut Source<D>, name: &Name) -> Result<Vec<u8>, rs_store::Refusal>
+    ensures { AnswersBody D.state source.old source.new name.now result }
+{
+    source.body(name)
+}
+
 /// Answers `show /resource/NAME`.
-#[tactic(auto, using(crate::proofs::AnswerLemmas::shown_some, crate::proofs::AnswerLemmas::shown_none, crate::proofs::AnswerLemmas::no_room))]
-fn show_body<S: ScriptSource, W: Write>(
-    alloc: Global,
-    source: &mut S,
+fn show_body<D: Disk, W: Write>(
+    source: &mut Source<D>,
     name: &Name,
     now: Moment,
     writer: &mut Watched<W>,
 ) -> Result<(), WriteFault>
-    ensures answered { Answers (session (S.state source.old) now) (answer_to (session (S.state source.old) now) (Ok (Shown name.now)))
-        (session (S.state source.new) now)
+    ensures answered { RequestAnswers D.state (session source.old now) (Ok (Shown name.now)) (session source.new now)
         (λ text. OnOk result (Appends (W.contents (watched writer.old)) (W.contents (watched writer.new)) text)) }
     ensures failed { OnErr result (IsTrue (has_failed writer.new)) }
 {
-    match source.show_body(alloc, name, writer) {
-        Ok(()) => Ok(()),
-        Err(ShowFault::Missing) => {
-            write_refusal(Refusal::Model(rs_model::Refusal::NotHeld), writer)
-        }
-        Err(ShowFault::NoMemory) => write_refusal(Refusal::NoMemory, writer),
-        Err(ShowFault::Write) => Err(WriteFault),
+    match ask_body(source, name) {
+        Ok(bytes) => write_shown(bytes.as_slice(), writer),
+        Err(refusal) => write_refusal(Refusal::Source(refusal), writer),
+    }
+}
+
+/// Answers `status`.
+fn show_status<D: Disk, W: Write>(
+    source: &Source<D>,
+    now: Moment,
+    writer: &mut Watched<W>,
+) -> Result<(), WriteFault>
+    ensures answered { RequestAnswers D.state (session source.now now) (Ok Counted) (session source.now now)
+        (λ text. OnOk result (Appends (W.contents (watched writer.old)) (W.contents (watched writer.new)) text)) }
+    ensures failed { OnErr result (IsTrue (has_failed writer.new)) }
+{
+    match source.status() {
+        Ok(status) => write_status(status, writer),
+        Err(refusal) => write_refusal(Refusal::Source(refusal), writer),
     }
 }
 
 /// Answers a request. An `at` changes `now`, the moment at which commands come.
-fn answer_request<S: ScriptSource, W: Write>(
-    alloc: Global,
-    source: &mut S,
+fn answer_request<D: Disk, W: Write>(
+    source: &mut Source<D>,
     now: &mut Moment,
     request: Request,
     writer: &mut Watched<W>,
 ) -> Result<(), WriteFault>
-    ensures answered { Answers (session (S.state source.old) now.old) (answer_to (session (S.state source.old) now.old) (Ok request))
-        (session (S.state source.new) now.new)
+    ensures answered { RequestAnswers D.state (session source.old now.old) (Ok request) (session source.new now.new)
         (λ text. OnOk result (Appends (W.contents (watched writer.old)) (W.contents (watched writer.new)) text)) }
     ensures failed { OnErr result (IsTrue (has_failed writer.new)) }
 {
@@ -106,10 +134,10 @@ fn answer_request<S: ScriptSource, W: Write>(
             *now = moment;
             writer.put(b"ok\n")
         }
-        Request::Run(command) => run_command(alloc, source, command, *now, writer),
-        Request::Document(doc) => show_document(alloc, source, doc, *now, writer),
-        Request::Body(name) => show_body(alloc, source, &name, *now, writer),
-        Request::Status => write_status(source.status(), writer),
+        Request::Run(command) => run_command(source, &command, *now, writer),
+        Request::Document(doc) => show_document(source, doc, *now, writer),
+        Request::Body(name) => show_body(source, &name, *now, writer),
+        Request::Status => show_status(source, *now, writer),
     }
 }
 
@@ -119,20 +147,19 @@ fn answer_request<S: ScriptSource, W: Write>(
 /// # Errors
 ///
 /// [`WriteFault`] where the answer is not written whole. What the line asked for is done.
-pub fn answer_line<S: ScriptSource, W: Write>(
+pub fn answer_line<D: Disk, W: Write>(
     alloc: Global,
-    source: &mut S,
+    source: &mut Source<D>,
     now: &mut Moment,
     line: &[u8],
     writer: &mut Watched<W>,
 ) -> Result<(), WriteFault>
-    ensures answered { Answers (session (S.state source.old) now.old) (answer_to (session (S.state source.old) now.old) (request_of line.now))
-        (session (S.state source.new) now.new)
+    ensures answered { RequestAnswers D.state (session source.old now.old) (request_of line.now) (session source.new now.new)
         (λ text. OnOk result (Appends (W.contents (watched writer.old)) (W.contents (watched writer.new)) text)) }
     ensures failed { OnErr result (IsTrue (has_failed writer.new)) }
 {
     match parse_request(alloc, line) {
-        Ok(request) => answer_request(alloc, source, now, request, writer),
+        Ok(request) => answer_request(source, now, request, writer),
         Err(refusal) => write_refusal(refusal, writer),
     }
 }

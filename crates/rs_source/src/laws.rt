@@ -1,12 +1,17 @@
-//! Laws of the definitions: a transcript is a function of the input, and its commands make the
-//! state that it leaves.
+//! Laws of the definitions: what a script does is what the model does, and its commands make the state
+//! that it leaves.
 
-ghost use Rattle.std.specs.Prelude.{◌≡◌, ℕ, List};
+ghost use Rattle.std.specs.Prelude.{◌≡◌, ◌<◌, ◌+◌, ◌^◌, ℕ, List, map, flat_map, false, IsTrue};
+ghost use Rattle.rs_model.specs.State.{Source};
 ghost use Rattle.rs_model.specs.Step.{fold_of};
 ghost use Rattle.rs_model.specs.declared.command.Command.{Command};
-ghost use Rattle.rs_source.specs.Lines.{Splits};
-ghost use Rattle.rs_source.specs.Script.{ScriptGives, HasMemory};
+ghost use Rattle.rs_store.specs.Source.{Stored, Holds, state_of};
+ghost use Rattle.rs_source.specs.Lines.{Splits, script_lines};
+ghost use Rattle.rs_source.specs.Model.{answers_of};
+ghost use Rattle.rs_source.specs.Script.{ScriptGives, AreDecided, told};
 ghost use Rattle.rs_source.specs.Session.{Session, Outcome};
+
+use rs_disk::Disk;
 
 /// An input is cut into lines in one way.
 pub fn one_cut()
@@ -14,17 +19,24 @@ pub fn one_cut()
         → Splits input others tail → (raws ≡ others) × (rest ≡ tail) }
 {}
 
-/// Where no room is refused, a script's outcomes, commands and last session are a function of its
-/// input and its first session.
-pub fn one_transcript()
-    ensures { (old : Session) (input : List ℕ) (outcomes others : List Outcome) (commands more : List (Command × ℕ)) (new end : Session)
-        → ScriptGives old input outcomes commands new → ScriptGives old input others more end
-        → HasMemory outcomes → HasMemory others → (outcomes ≡ others) × (commands ≡ more) × (new ≡ end) }
+/// Where no refusal is the machine's, generations are left and the device has followed the model, what
+/// comes of a script is a function of its input and of the state and the moment at which it begins:
+/// each line is answered as the model answers it.
+pub fn one_transcript<D: Disk>()
+    ensures { (old new : Session (Stored D)) (input : List ℕ) (outcomes : List Outcome) (commands : List (Command × ℕ)) (raws : List (List ℕ)) (rest : List ℕ)
+        → ScriptGives D.state old input outcomes commands new → AreDecided outcomes
+        → IsTrue (D.state new.source.disk).honest → new.source.slots.root.generation + 1 < 2 ^ 64 → Splits input raws rest
+        → (outcomes ≡ map (λ a. a.outcome) (answers_of (told D.state old) (script_lines raws rest)))
+        × (commands ≡ flat_map (λ a. a.commands) (answers_of (told D.state old) (script_lines raws rest))) }
 {}
 
-/// The commands that the source accepted in a script, each at its moment, make the state that the
-/// script leaves.
-pub fn transcript_folds()
-    ensures { (old : Session) (input : List ℕ) (outcomes : List Outcome) (commands : List (Command × ℕ)) (new : Session)
-        → ScriptGives old input outcomes commands new → new.source ≡ fold_of old.source commands }
+/// The commands that a script counts, each at its moment, make the state that it leaves, unless the
+/// device failed and the source is closed.
+pub fn transcript_folds<D: Disk>()
+    ensures told { (old new : Session (Stored D)) (input : List ℕ) (outcomes : List Outcome) (commands : List (Command × ℕ))
+        → ScriptGives D.state old input outcomes commands new → new.source.is_closed ≡ false
+        → state_of D.state new.source ≡ fold_of (state_of D.state old.source) commands }
+    ensures held { (old new : Session (Stored D)) (input : List ℕ) (outcomes : List Outcome) (commands : List (Command × ℕ)) (s : Source)
+        → ScriptGives D.state old input outcomes commands new → Holds D.state old.source s → new.source.is_closed ≡ false
+        → Holds D.state new.source (fold_of s commands) }
 {}

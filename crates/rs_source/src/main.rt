@@ -1,7 +1,8 @@
 //! The script engine of a ResourceSync source (ANSI/NISO Z39.99-2017), and the program over it.
 //!
 //! A script is read line by line: each line asks something of a source, and is answered on the
-//! output. `rs_source mem SIZE BASE LIMIT` runs the script on standard input on a source in memory.
+//! output. `rs_source mem SIZE BASE LIMIT` runs the script on standard input on a new source, whose disk of
+//! SIZE bytes lies in memory.
 #![tactic(auto)]
 
 mod answer;
@@ -15,8 +16,7 @@ mod program;
 mod refusal;
 mod request;
 mod script;
-mod source;
-mod state;
+mod show;
 #[cfg(test)]
 mod tests;
 
@@ -28,12 +28,12 @@ use std::process::ExitCode;
 use std::rt::Env;
 use std::{env, io};
 
-/// `mem`: a new source in memory, and the script of standard input on it. SIZE is only read.
+/// `mem`: a new source on a disk in memory, and the script of standard input on it.
 fn run_mem<R: Input + Print + AllocGlobal>(
     rt: &R,
     arguments: &MemArguments<'_>,
 ) -> Result<(), ProgramError> {
-    let mut source = start(rt.alloc(), arguments.base, arguments.limit)?;
+    let mut source = start(rt.alloc(), arguments.size, arguments.base, arguments.limit)?;
     let Ok(output) = BufWriter::new(rt.alloc(), io::writer(rt)) else {
         return Err(ProgramError::NoMemory);
     };

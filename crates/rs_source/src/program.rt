@@ -1,15 +1,18 @@
 //! The program's commands: what their arguments ask for, and how they begin.
 
-ghost use Rattle.std.specs.Prelude.{◌≡◌, ◌<◌, ◌≤◌, ◌⊎◌, ◌↔◌, true, false, map, option_map, IfOk, IfErr, OnOk, IsErrOf};
+ghost use Rattle.std.specs.Prelude.{◌≡◌, ◌<◌, ◌≤◌, false, map, option_map, IfOk, IfErr, OnOk, IsErrOf, IsTrue};
 ghost use Rattle.std.specs.String.{string_bytes};
 ghost use Rattle.rs_model.specs.State.{start_of};
 ghost use Rattle.rs_record.specs.Base.{is_base};
-ghost use Rattle.rs_source.specs.Arguments.{error_of, mem_of, status_of, unread_of};
+ghost use Rattle.rs_directory.specs.Limit.{IsLimit};
+ghost use Rattle.rs_disk.specs.Memory.{state_of};
+ghost use Rattle.rs_store.specs.Source.{Holds};
+ghost use Rattle.rs_source.specs.Arguments.{error_of, error_of_format, IsOfStart, mem_of, status_of, unread_of};
 
 use crate::number::number;
 use crate::script::{ScriptFault, first_moment};
-use rs_model::State;
-use rs_record::{Base, BaseError};
+use rs_disk::MemoryDisk;
+use rs_store::{FormatFault, Source};
 use std::alloc::Global;
 use std::io::ErrorKind;
 use thiserror::Error;
@@ -26,6 +29,12 @@ pub enum ProgramError {
     /// LIMIT is not from 2 to 4,000.
     #[error("rs_source: BadLimit")]
     BadLimit,
+    /// SIZE is less than 8,192.
+    #[error("rs_source: TooSmall")]
+    TooSmall,
+    /// The disk failed before the script began.
+    #[error("rs_source: Device")]
+    Device,
     /// There is not enough memory to begin.
     #[error("rs_source: NoMemory")]
     NoMemory,
@@ -46,6 +55,8 @@ impl ProgramError {
             ProgramError::Usage => 2,
             ProgramError::BadBase
             | ProgramError::BadLimit
+            | ProgramError::TooSmall
+            | ProgramError::Device
             | ProgramError::NoMemory
             | ProgramError::Read
             | ProgramError::Write => 1,
@@ -60,6 +71,20 @@ impl From<ScriptFault> for ProgramError {
         match fault {
             ScriptFault::Read => ProgramError::Read,
             ScriptFault::Write => ProgramError::Write,
+        }
+    }
+}
+
+impl From<FormatFault> for ProgramError {
+    ghost from_gives = { λ fault error. error ≡ error_of_format fault };
+
+    fn from(fault: FormatFault) -> ProgramError {
+        match fault {
+            FormatFault::BadBase => ProgramError::BadBase,
+            FormatFault::BadLimit => ProgramError::BadLimit,
+            FormatFault::TooSmall => ProgramError::TooSmall,
+            FormatFault::Device => ProgramError::Device,
+            FormatFault::NoMemory => ProgramError::NoMemory,
         }
     }
 }
@@ -106,26 +131,32 @@ pub fn unread(kind: ErrorKind) -> ProgramError
     }
 }
 
-/// A source in memory, formatted at the moment 0 with this base and item limit.
+/// A source on a disk of `size` bytes in memory, formatted at the moment 0 with this base and item
+/// limit.
 ///
 /// # Errors
 ///
-/// [`ProgramError::BadBase`], then [`ProgramError::BadLimit`]; [`ProgramError::NoMemory`] where
-/// there is no room for the base.
-pub fn start(alloc: Global, base: &[u8], limit: u16) -> Result<State, ProgramError>
-    ensures ok { IfOk result (λ state. state ≡ start_of base.now limit 0) }
-    ensures bad_base { IsErrOf result ProgramError.BadBase ↔ (is_base base.now ≡ false) }
-    ensures bad_limit { IsErrOf result ProgramError.BadLimit → (is_base base.now ≡ true) × ((limit < 2) ⊎ (4000 < limit)) }
-    ensures in_range { OnOk result ((2 ≤ limit) × (limit ≤ 4000)) }
-    ensures err { IfErr result (λ error. (error ≡ ProgramError.BadBase) ⊎ ((error ≡ ProgramError.BadLimit) ⊎ (error ≡ ProgramError.NoMemory))) }
+/// [`ProgramError::BadBase`], then [`ProgramError::BadLimit`], then [`ProgramError::TooSmall`];
+/// [`ProgramError::NoMemory`] where there is no room for the disk or the base, and
+/// [`ProgramError::Device`] where there is none for what the disk notes.
+pub fn start(
+    alloc: Global,
+    size: u64,
+    base: &[u8],
+    limit: u16,
+) -> Result<Source<MemoryDisk>, ProgramError>
+    ensures holds { IfOk result (λ source. Holds state_of source (start_of base.now limit 0)) }
+    ensures bad_base { IsErrOf result ProgramError.BadBase → is_base base.now ≡ false }
+    ensures bad_limit { IsErrOf result ProgramError.BadLimit → IsTrue (is_base base.now) × (¬ IsLimit limit) }
+    ensures too_small { IsErrOf result ProgramError.TooSmall → IsTrue (is_base base.now) × IsLimit limit × (size < 8192) }
+    ensures in_range { OnOk result (IsTrue (is_base base.now) × IsLimit limit × (8192 ≤ size)) }
+    ensures err { IfErr result IsOfStart }
 {
-    let base = match Base::new(alloc, base) {
-        Ok(base) => base,
-        Err(BaseError::BadBase) => return Err(ProgramError::BadBase),
-        Err(BaseError::NoMemory) => return Err(ProgramError::NoMemory),
+    let Ok(disk) = MemoryDisk::new(alloc, size) else {
+        return Err(ProgramError::NoMemory);
     };
-    if limit < 2 || limit > 4000 {
-        return Err(ProgramError::BadLimit);
+    match Source::format(alloc, disk, base, limit, first_moment()) {
+        Ok(source) => Ok(source),
+        Err((_, fault)) => Err(fault.into()),
     }
-    Ok(State::start(alloc, base, limit, first_moment()))
 }

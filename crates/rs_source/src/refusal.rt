@@ -2,7 +2,8 @@
 
 use thiserror::Error;
 
-/// Why a line of a script is refused, or the source refuses what it asks for. Nothing changes.
+/// Why a line of a script is refused, or the source refuses what it asks for. Nothing
+/// changes, but where the device failed in a command: its step may stand then, and the source is closed.
 #[derive(Clone, Copy, Debug, PartialEq, Eq, Error)]
 pub enum Refusal {
     /// The line has no such form: its first word is unknown, or its fields are too few or too many.
@@ -26,10 +27,10 @@ pub enum Refusal {
     /// No document has the path, or the document of the path does not exist now.
     #[error("there is no such document")]
     NoSuchDocument,
-    /// The rules of the source refuse the request.
+    /// The source refuses the request.
     #[error("the source refuses")]
-    Model(rs_model::Refusal),
-    /// There is not enough memory.
+    Source(rs_store::Refusal),
+    /// There is not enough memory for the line.
     #[error("out of memory")]
     NoMemory,
 }

@@ -8,16 +8,18 @@ ghost use Rattle.rs_source.specs.Answers.{output_of};
 ghost use Rattle.rs_source.specs.Kept.{Keeps};
 ghost use Rattle.rs_source.specs.Lines.{AreWholeLines, HasNoBreak, line_of, with_break};
 ghost use Rattle.rs_source.specs.Progress.{LineAnswers, Progress, Answered, Came};
-ghost use Rattle.rs_source.specs.Script.{ScriptGives, session};
-ghost use Rattle.rs_source.specs.Session.{Session, Outcome};
+ghost use Rattle.rs_source.specs.Script.{ScriptGives};
+ghost use Rattle.rs_source.specs.Session.{Session, session, Outcome};
+ghost use Rattle.rs_store.specs.Source.{Stored};
 
 use crate::answer::write_refusal;
 use crate::bytes::position_of;
 use crate::execute::answer_line;
 use crate::line::{Content, Line};
 use crate::refusal::Refusal;
-use crate::source::ScriptSource;
+use rs_disk::Disk;
 use rs_io::{Watched, WriteFault};
+use rs_store::Source;
 use rs_time::Moment;
 use std::alloc::Global;
 use std::io::{Read, Write};
@@ -35,16 +37,16 @@ pub enum ScriptFault {
 }
 
 /// Answers the line that has come, with a line feed after it where `has_break`.
-fn answer_kept<S: ScriptSource, W: Write>(
+fn answer_kept<D: Disk, W: Write>(
     alloc: Global,
-    source: &mut S,
+    source: &mut Source<D>,
     now: &mut Moment,
     line: &Line,
     has_break: bool,
     writer: &mut Watched<W>,
 ) -> Result<(), WriteFault>
     ensures answered { (raw : List ℕ) → Keeps line.now raw
-        → LineAnswers (session (S.state source.old) now.old) (line_of has_break raw) (session (S.state source.new) now.new)
+        → LineAnswers D.state (session source.old now.old) (line_of has_break raw) (session source.new now.new)
         (λ text. OnOk result (Appends (W.contents (watched writer.old)) (W.contents (watched writer.new)) text)) }
     ensures failed { OnErr result (IsTrue (has_failed writer.new)) }
 {
@@ -57,20 +59,20 @@ fn answer_kept<S: ScriptSource, W: Write>(
 }
 
 /// More bytes of the input: `run`, without a line feed, and the line feed that ends the line.
-fn take_line<S: ScriptSource, W: Write>(
+fn take_line<D: Disk, W: Write>(
     alloc: Global,
-    source: &mut S,
+    source: &mut Source<D>,
     now: &mut Moment,
     line: &mut Line,
     run: &[u8],
     writer: &mut Watched<W>,
 ) -> Result<(), WriteFault>
-    ensures ok { OnOk result ((start : Session) (before : Option (List ℕ)) (input : List ℕ) → HasNoBreak run.now
-        → Progress start before input line.old (W.contents (watched writer.old)) (session (S.state source.old) now.old)
-        → Progress start before (input ++ with_break run.now) line.new (W.contents (watched writer.new)) (session (S.state source.new) now.new)) }
-    ensures err { OnErr result ((start : Session) (before : Option (List ℕ)) (input : List ℕ) → HasNoBreak run.now
-        → Progress start before input line.old (W.contents (watched writer.old)) (session (S.state source.old) now.old)
-        → Answered start (input ++ with_break run.now) (session (S.state source.new) now.new)
+    ensures ok { OnOk result ((start : Session (Stored D)) (before : Option (List ℕ)) (input : List ℕ) → HasNoBreak run.now
+        → Progress D.state start before input line.old (W.contents (watched writer.old)) (session source.old now.old)
+        → Progress D.state start before (input ++ with_break run.now) line.new (W.contents (watched writer.new)) (session source.new now.new)) }
+    ensures err { OnErr result ((start : Session (Stored D)) (before : Option (List ℕ)) (input : List ℕ) → HasNoBreak run.now
+        → Progress D.state start before input line.old (W.contents (watched writer.old)) (session source.old now.old)
+        → Answered D.state start (input ++ with_break run.now) (session source.new now.new)
         × AreWholeLines (input ++ with_break run.now)) }
     ensures failed { OnErr result (IsTrue (has_failed writer.new)) }
 {
@@ -81,21 +83,21 @@ fn take_line<S: ScriptSource, W: Write>(
 }
 
 /// More bytes of the input.
-fn take_piece<S: ScriptSource, W: Write>(
+fn take_piece<D: Disk, W: Write>(
     alloc: Global,
-    source: &mut S,
+    source: &mut Source<D>,
     now: &mut Moment,
     line: &mut Line,
     piece: &[u8],
     writer: &mut Watched<W>,
 ) -> Result<(), WriteFault>
-    ensures ok { OnOk result ((start : Session) (before : Option (List ℕ)) (input : List ℕ)
-        → Progress start before input line.old (W.contents (watched writer.old)) (session (S.state source.old) now.old)
-        → Progress start before (input ++ piece.now) line.new (W.contents (watched writer.new)) (session (S.state source.new) now.new)) }
-    ensures err { OnErr result ((start : Session) (before : Option (List ℕ)) (input : List ℕ)
-        → Progress start before input line.old (W.contents (watched writer.old)) (session (S.state source.old) now.old)
+    ensures ok { OnOk result ((start : Session (Stored D)) (before : Option (List ℕ)) (input : List ℕ)
+        → Progress D.state start before input line.old (W.contents (watched writer.old)) (session source.old now.old)
+        → Progress D.state start before (input ++ piece.now) line.new (W.contents (watched writer.new)) (session source.new now.new)) }
+    ensures err { OnErr result ((start : Session (Stored D)) (before : Option (List ℕ)) (input : List ℕ)
+        → Progress D.state start before input line.old (W.contents (watched writer.old)) (session source.old now.old)
         → (used : List ℕ) × (tail : List ℕ) × (piece.now ≡ used ++ tail)
-        × Answered start (input ++ used) (session (S.state source.new) now.new)
+        × Answered D.state start (input ++ used) (session source.new now.new)
         × AreWholeLines (input ++ used)) }
     ensures failed { OnErr result (IsTrue (has_failed writer.new)) }
 {
@@ -109,21 +111,21 @@ fn take_piece<S: ScriptSource, W: Write>(
 }
 
 /// The end of the input: the last line is answered, if there is one.
-fn take_end<S: ScriptSource, W: Write>(
+fn take_end<D: Disk, W: Write>(
     alloc: Global,
-    source: &mut S,
+    source: &mut Source<D>,
     now: &mut Moment,
     line: &Line,
     writer: &mut Watched<W>,
 ) -> Result<(), WriteFault>
-    ensures ok { OnOk result ((start : Session) (before : Option (List ℕ)) (input : List ℕ)
-        → Progress start before input line.now (W.contents (watched writer.old)) (session (S.state source.old) now.old)
+    ensures ok { OnOk result ((start : Session (Stored D)) (before : Option (List ℕ)) (input : List ℕ)
+        → Progress D.state start before input line.now (W.contents (watched writer.old)) (session source.old now.old)
         → (outcomes : List Outcome) × (commands : List (Command × ℕ))
-        × ScriptGives start input outcomes commands (session (S.state source.new) now.new)
+        × ScriptGives D.state start input outcomes commands (session source.new now.new)
         × Appends before (W.contents (watched writer.new)) (output_of outcomes)) }
-    ensures err { OnErr result ((start : Session) (before : Option (List ℕ)) (input : List ℕ)
-        → Progress start before input line.now (W.contents (watched writer.old)) (session (S.state source.old) now.old)
-        → Answered start input (session (S.state source.new) now.new)) }
+    ensures err { OnErr result ((start : Session (Stored D)) (before : Option (List ℕ)) (input : List ℕ)
+        → Progress D.state start before input line.now (W.contents (watched writer.old)) (session source.old now.old)
+        → Answered D.state start input (session source.new now.new)) }
     ensures failed { OnErr result (IsTrue (has_failed writer.new)) }
 {
     if line.is_empty() {
@@ -160,9 +162,9 @@ pub fn first_moment() -> Moment
 ///   whole are answered, and of a part of a line after them nothing is done.
 /// - [`ScriptFault::Write`]: the writer failed. What the lines up to the one asked for whose answer
 ///   was not written is done.
-pub fn script<S: ScriptSource, R: Read, W: Write>(
+pub fn script<D: Disk, R: Read, W: Write>(
     alloc: Global,
-    source: &mut S,
+    source: &mut Source<D>,
     reader: &mut Watched<R>,
     writer: &mut Watched<W>,
 ) -> Result<(), ScriptFault>
@@ -171,7 +173,7 @@ pub fn script<S: ScriptSource, R: Read, W: Write>(
         × Consumes (R.remaining (watched reader.old)) (R.remaining (watched reader.new)) input
         × IsAtEnd (R.remaining (watched reader.new))
         × Appends (W.contents (watched writer.old)) (W.contents (watched writer.new)) (output_of outcomes)
-        × ScriptGives (session (S.state source.old) 0) input outcomes commands (session (S.state source.new) last)) }
+        × ScriptGives D.state (session source.old 0) input outcomes commands (session source.new last)) }
 
     // The reader failed, or gave 2^40 bytes and more: its whole lines were answered, and a part of a
     // line after them was not.
@@ -180,14 +182,14 @@ pub fn script<S: ScriptSource, R: Read, W: Write>(
         × Consumes (R.remaining (watched reader.old)) (R.remaining (watched reader.new)) (input ++ part)
         × AreWholeLines input × HasNoBreak part
         × Appends (W.contents (watched writer.old)) (W.contents (watched writer.new)) (output_of outcomes)
-        × ScriptGives (session (S.state source.old) 0) input outcomes commands (session (S.state source.new) last)
+        × ScriptGives D.state (session source.old 0) input outcomes commands (session source.new last)
         × (IsTrue (has_failed reader.new) ⊎ (2 ^ 40 ≤ length (input ++ part))) }
 
     // The writer failed: what the lines so far asked for is done. They had come whole, or the input
     // had ended.
     ensures write { IsErrOf result ScriptFault.Write → (input : List ℕ) × (last : ℕ)
         × Came (R.remaining (watched reader.old)) (R.remaining (watched reader.new)) input
-        × Answered (session (S.state source.old) 0) input (session (S.state source.new) last)
+        × Answered D.state (session source.old 0) input (session source.new last)
         × IsTrue (has_failed writer.new) }
 {
     let mut line = Line::new(alloc);

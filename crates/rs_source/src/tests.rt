@@ -4,13 +4,14 @@ mod rows;
 
 use crate::memory::script_bytes;
 use crate::program::{ProgramError, mem_arguments, start};
-use rs_model::State;
+use rs_disk::MemoryDisk;
+use rs_store::Source;
 use std::alloc::Global;
 use std::test::Fail;
 
 /// A source formatted at the moment 0, with lists of at most two items.
-fn new_source(alloc: Global) -> Result<State, Fail> {
-    Ok(start(alloc, b"http://127.0.0.1:8080", 2)?)
+fn new_source(alloc: Global) -> Result<Source<MemoryDisk>, Fail> {
+    Ok(start(alloc, 65_536, b"http://127.0.0.1:8080", 2)?)
 }
 
 /// What a script writes on such a source.
@@ -57,19 +58,20 @@ fn arguments_are_read(rt: HostRuntime) -> Result<(), Fail> {
 }
 
 #[test]
-fn bad_bases_come_before_bad_limits(rt: HostRuntime) {
-    for (base, limit, wanted) in [
-        (b"http://a".as_slice(), 2, None),
-        (b"http://a", 4000, None),
-        (b"http://a", 1, Some(ProgramError::BadLimit)),
-        (b"http://a", 4001, Some(ProgramError::BadLimit)),
-        (b"http://", 1, Some(ProgramError::BadBase)),
-        (b"ftp://abc", 2, Some(ProgramError::BadBase)),
-        (b"http://a/", 65_535, Some(ProgramError::BadBase)),
+fn the_first_cause_ends_the_program(rt: HostRuntime) {
+    for (size, base, limit, wanted) in [
+        (8192, b"http://a".as_slice(), 2, None),
+        (65_536, b"http://a", 4000, None),
+        (8191, b"http://a", 2, Some(ProgramError::TooSmall)),
+        (0, b"http://a", 1, Some(ProgramError::BadLimit)),
+        (8192, b"http://a", 4001, Some(ProgramError::BadLimit)),
+        (8191, b"http://", 1, Some(ProgramError::BadBase)),
+        (8192, b"ftp://abc", 2, Some(ProgramError::BadBase)),
+        (8192, b"http://a/", 65_535, Some(ProgramError::BadBase)),
     ] {
         assert!(rt;
-            start(rt.alloc(), base, limit).err() == wanted,
-            "{base:?} {limit}"
+            start(rt.alloc(), size, base, limit).err() == wanted,
+            "{size} {base:?} {limit}"
         );
     }
 }
@@ -84,6 +86,8 @@ fn wrong_arguments_have_a_status_of_their_own(rt: HostRuntime) -> Result<(), Fai
         ),
         (ProgramError::BadBase, 1, "rs_source: BadBase"),
         (ProgramError::BadLimit, 1, "rs_source: BadLimit"),
+        (ProgramError::TooSmall, 1, "rs_source: TooSmall"),
+        (ProgramError::Device, 1, "rs_source: Device"),
         (ProgramError::NoMemory, 1, "rs_source: NoMemory"),
         (ProgramError::Read, 1, "rs_source: Read"),
         (ProgramError::Write, 1, "rs_source: Write"),

@@ -186,7 +186,8 @@ fn a_reader_fails_at_each_read(rt: HostRuntime) -> Result<(), Fail> {
                 ended == Err(ScriptFault::Read) && writer.into_inner().as_slice() == wanted,
                 "pieces of {piece}, read {fail_at}"
             );
-            assert!(rt; source.changes().len() == whole && source.number() == 0);
+            let status = source.status()?;
+            assert!(rt; status.changes as usize == whole && status.publication == 0);
         }
     }
     Ok(())

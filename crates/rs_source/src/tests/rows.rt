@@ -1,4 +1,9 @@
+use crate::memory::script_bytes;
+use crate::program::start;
+use crate::script::first_moment;
 use crate::tests::answers;
+use rs_disk::MemoryDisk;
+use rs_store::Source;
 use std::alloc::Global;
 use std::test::Fail;
 
@@ -251,5 +256,59 @@ fn change_lists_are_split(rt: HostRuntime) -> Result<(), Fail> {
         ),
         "{text}"
     );
+    Ok(())
+}
+
+#[test]
+fn a_disk_of_sixteen_blocks_is_soon_full(rt: HostRuntime) -> Result<(), Fail> {
+    let alloc = rt.alloc();
+    let mut input = Vec::new(alloc);
+    for length in [5_121, 5_120] {
+        input.extend_from_slice(b"put a ")?;
+        for _ in 0..length {
+            input.extend_from_slice(b"61")?;
+        }
+        input.extend_from_slice(b" text/plain\n")?;
+    }
+    input.extend_from_slice(b"delete a\nput b - text/plain\npublish\ndelete a\n")?;
+    let mut source = start(alloc, 8192, b"http://127.0.0.1:8080", 2)?;
+    let text = String::from_utf8(script_bytes(alloc, &mut source, input.as_slice())?)?;
+    assert!(rt;
+        text.as_str()
+            == "refused Full
+created 1970-01-01T00:00:00.001Z
+refused Full
+refused Full
+published 1 1970-01-01T00:00:00.002Z
+refused Full
+"
+    );
+    Ok(())
+}
+
+#[test]
+fn a_device_that_fails_closes_the_source(rt: HostRuntime) -> Result<(), Fail> {
+    let alloc = rt.alloc();
+    let (mut was_closed, mut was_served) = (false, false);
+    for call in 0..16 {
+        let mut disk = MemoryDisk::new(alloc, 65_536)?;
+        disk.fail_once(call);
+        let Ok(mut source) = Source::format(alloc, disk, b"http://a", 2, first_moment()) else {
+            continue;
+        };
+        let input = b"put a 61 text/plain\nstatus\nshow /resourcelist.xml\npublish\nput a b c\n";
+        let text = String::from_utf8(script_bytes(alloc, &mut source, input)?)?;
+        if text.starts_with("refused Device\n") {
+            was_closed = true;
+            assert!(rt;
+                text.as_str()
+                    == "refused Device\nrefused Closed\nrefused Closed\nrefused Closed\nrefused BadHex\n"
+            );
+        } else {
+            was_served = true;
+            assert!(rt; text.starts_with("created 1970-01-01T00:00:00.001Z\nresources 1 "));
+        }
+    }
+    assert!(rt; was_closed && was_served);
     Ok(())
 }

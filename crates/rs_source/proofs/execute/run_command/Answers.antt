@@ -1,14 +1,12 @@
--- The model's answer to the command, by the source's own clauses.
-use Rattle.rs_source.proofs.AnswerLemmas.{accepted, not_accepted}
+-- What the source answers to the command.
+use Rattle.std.proofs.Common.{Ok, Err}
+use Rattle.rs_source.proofs.AnswerLemmas.{ran}
 use Rattle.rs_source.proofs.execute.run_command.Goals as goal
 
 pub returns-in-Ok-clause-answered : goal.returns-in-Ok-clause-answered
 returns-in-Ok-clause-answered g c =
-    accepted (g.S.ScriptSource.state c.args.source.now) (g.S.ScriptSource.state c.apply.new.self) c.args.command c.args.now c.in-Ok.reply _
-    c.in-Ok.ensures.accepted c.write_reply.ensures.ok
+    ran g.D.Disk.state c.args.source.now c.ask.new.source c.args.command.now c.args.now (Ok c.in-Ok.reply) _ c.in-Ok.ensures c.write_reply.ensures.ok
 
-pub returns-in-Err-Refused-clause-answered : goal.returns-in-Err-Refused-clause-answered
-returns-in-Err-Refused-clause-answered g c =
-    let said = c.apply.ensures.refused c.in-Err-Refused.refusal in
-    not_accepted (g.S.ScriptSource.state c.args.source.now) (g.S.ScriptSource.state c.apply.new.self) c.args.command c.args.now c.in-Err-Refused.refusal _
-    (said.0 (cc)) c.in-Err-Refused.ensures.unchanged c.write_refusal.ensures.ok
+pub returns-in-Err-clause-answered : goal.returns-in-Err-clause-answered
+returns-in-Err-clause-answered g c =
+    ran g.D.Disk.state c.args.source.now c.ask.new.source c.args.command.now c.args.now (Err c.in-Err.refusal) _ c.in-Err.ensures c.write_refusal.ensures.ok

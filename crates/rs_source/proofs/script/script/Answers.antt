@@ -4,23 +4,23 @@ use Rattle.std.proofs.KnownBytes.{Consumes-nil, Consumes-trans, Consumes-kept, A
 use Rattle.rs_io.specs.Watch.{watched, has_failed}
 use Rattle.rs_source.specs.Answers.{output_of}
 use Rattle.rs_source.specs.Progress.{Progress}
-use Rattle.rs_source.specs.Script.{session}
+use Rattle.rs_source.specs.Session.{session}
 use Rattle.rs_source.proofs.Steps.{Progress-none, Progress-kept, Progress-whole, Consumes-end, Gave-front, count_more}
 use Rattle.rs_source.proofs.script.script.Goals as goal
 
 pub loop-init : goal.loop-init
 loop-init g c =
-    let start = session (g.S.ScriptSource.state c.args.source.now) 0 in
+    let start = session c.args.source.now 0 in
     let a = g.W.Write.contents (watched c.args.writer.now) in
-    let P : ℕ → Type 0 = λ now. Progress start a [] c.new-line.result a (session (g.S.ScriptSource.state c.args.source.now) now) in
-    ([], Consumes-nil (g.R.Read.remaining (watched c.args.reader.now)), subst P (sym c.first_moment-now.ensures) (Progress-none start a c.new-line.result c.new-line.ensures), omega arith)
+    let P : ℕ → Type 0 = λ now. Progress g.D.Disk.state start a [] c.new-line.result a (session c.args.source.now now) in
+    ([], Consumes-nil (g.R.Read.remaining (watched c.args.reader.now)), subst P (sym c.first_moment-now.ensures) (Progress-none g.D.Disk.state start a c.new-line.result c.new-line.ensures), omega arith)
 
 pub returns-in_default-clause-write : goal.returns-in_default-clause-write
 returns-in_default-clause-write g c = λ _.
     let before = g.R.Read.remaining (watched c.args.reader.now) in
     let after = g.R.Read.remaining (watched c.loop.reader) in
     let inv = c.loop.invariant in
-    let whole = Progress-whole _ _ inv.0 _ _ _ before after (0 ≤ 0) (inl (omega arith)) inv.1 inv.2 in
+    let whole = Progress-whole g.D.Disk.state _ _ inv.0 _ _ _ before after (0 ≤ 0) (inl (omega arith)) inv.1 inv.2 in
     (whole.0, c.loop.now, inl ((whole.1, whole.4), whole.9), (whole.2, whole.3, whole.7), c.in_default.ensures.failed)
 
 pub returns-in_default-read-clause-read : goal.returns-in_default-read-clause-read
@@ -28,15 +28,15 @@ returns-in_default-read-clause-read g c = λ _.
     let before = g.R.Read.remaining (watched c.args.reader.now) in
     let after = g.R.Read.remaining (watched c.read.new.self) in
     let inv = c.loop.invariant in
-    let p = Progress-kept _ _ inv.0 _ _ (g.W.Write.contents (watched c.flush.new.self)) _ c.flush.ensures.bytes inv.2 in
-    let whole = Progress-whole _ _ inv.0 _ _ _ before after (IsTrue (has_failed c.read.new.self)) (inl c.in_default-read.ensures.failed)
+    let p = Progress-kept g.D.Disk.state _ _ inv.0 _ _ (g.W.Write.contents (watched c.flush.new.self)) _ c.flush.ensures.bytes inv.2 in
+    let whole = Progress-whole g.D.Disk.state _ _ inv.0 _ _ _ before after (IsTrue (has_failed c.read.new.self)) (inl c.in_default-read.ensures.failed)
     (Consumes-kept before (g.R.Read.remaining (watched c.loop.reader)) after inv.0 inv.1 c.in_default-read.ensures.err) p in
     (whole.0, whole.1, whole.2, whole.3, c.loop.now, whole.4, whole.9, whole.5, whole.6, whole.7, whole.8)
 
 pub returns-clause-read : goal.returns-clause-read
 returns-clause-read g c = λ _.
     let inv = c.loop.invariant in
-    let whole = Progress-whole _ _ inv.0 _ _ _ (g.R.Read.remaining (watched c.args.reader.now)) (g.R.Read.remaining (watched c.loop.reader))
+    let whole = Progress-whole g.D.Disk.state _ _ inv.0 _ _ _ (g.R.Read.remaining (watched c.args.reader.now)) (g.R.Read.remaining (watched c.loop.reader))
     (IsTrue (has_failed c.loop.reader)) (inr (omega (arith, inv.3))) inv.1 inv.2 in
     (whole.0, whole.1, whole.2, whole.3, c.loop.now, whole.4, whole.9, whole.5, whole.6, whole.7, whole.8)
 
@@ -45,7 +45,7 @@ returns-in_default-take_end-clause-write g c = λ _.
     let before = g.R.Read.remaining (watched c.args.reader.now) in
     let after = g.R.Read.remaining (watched c.read.new.self) in
     let inv = c.loop.invariant in
-    let p = Progress-kept _ _ inv.0 _ _ (g.W.Write.contents (watched c.flush.new.self)) _ c.flush.ensures.bytes inv.2 in
+    let p = Progress-kept g.D.Disk.state _ _ inv.0 _ _ (g.W.Write.contents (watched c.flush.new.self)) _ c.flush.ensures.bytes inv.2 in
     let gave = Consumes-end before (g.R.Read.remaining (watched c.loop.reader)) after inv.0 c.read.new.buf c.in-Ok-read.count c.if-count-eq0.true inv.1 c.in-Ok-read.ensures.ok in
     (inv.0, c.take_end.new.now, inr (gave, c.in-Ok-read.ensures.end c.if-count-eq0.true (omega arith)), c.in_default-take_end.ensures.err _ _ inv.0 p, c.in_default-take_end.ensures.failed)
 
@@ -54,7 +54,7 @@ returns-in_default-flush-clause-write g c = λ _.
     let before = g.R.Read.remaining (watched c.args.reader.now) in
     let after = g.R.Read.remaining (watched c.read.new.self) in
     let inv = c.loop.invariant in
-    let p = Progress-kept _ _ inv.0 _ _ (g.W.Write.contents (watched c.flush.new.self)) _ c.flush.ensures.bytes inv.2 in
+    let p = Progress-kept g.D.Disk.state _ _ inv.0 _ _ (g.W.Write.contents (watched c.flush.new.self)) _ c.flush.ensures.bytes inv.2 in
     let gave = Consumes-end before (g.R.Read.remaining (watched c.loop.reader)) after inv.0 c.read.new.buf c.in-Ok-read.count c.if-count-eq0.true inv.1 c.in-Ok-read.ensures.ok in
     let end = c.in-Ok-take_end.ensures.ok _ _ inv.0 p in
     (inv.0, c.take_end.new.now, inr (gave, c.in-Ok-read.ensures.end c.if-count-eq0.true (omega arith)), (end.0, end.1, end.2), c.in_default-flush.ensures.failed)
@@ -64,7 +64,7 @@ returns-then-count-eq0-clause-ok g c =
     let before = g.R.Read.remaining (watched c.args.reader.now) in
     let after = g.R.Read.remaining (watched c.read.new.self) in
     let inv = c.loop.invariant in
-    let p = Progress-kept _ _ inv.0 _ _ (g.W.Write.contents (watched c.flush.new.self)) _ c.flush.ensures.bytes inv.2 in
+    let p = Progress-kept g.D.Disk.state _ _ inv.0 _ _ (g.W.Write.contents (watched c.flush.new.self)) _ c.flush.ensures.bytes inv.2 in
     let end = c.in-Ok-take_end.ensures.ok _ _ inv.0 p in (
       inv.0,
       end.0,
@@ -82,7 +82,7 @@ returns-in_default-take_piece-clause-write g c = λ _.
     let before = g.R.Read.remaining (watched c.args.reader.now) in
     let after = g.R.Read.remaining (watched c.read.new.self) in
     let inv = c.loop.invariant in
-    let p = Progress-kept _ _ inv.0 _ _ (g.W.Write.contents (watched c.flush.new.self)) _ c.flush.ensures.bytes inv.2 in
+    let p = Progress-kept g.D.Disk.state _ _ inv.0 _ _ (g.W.Write.contents (watched c.flush.new.self)) _ c.flush.ensures.bytes inv.2 in
     let e = c.in_default-take_piece.ensures.err _ _ inv.0 p in (
       inv.0 ++ e.0,
       c.take_piece.new.now,
@@ -95,7 +95,7 @@ pub loop-preserved : goal.loop-preserved
 loop-preserved g c =
     let inv = c.loop.invariant in
     let piece = take c.in-Ok-read.count c.read.new.buf in
-    let p = Progress-kept _ _ inv.0 _ _ (g.W.Write.contents (watched c.flush.new.self)) _ c.flush.ensures.bytes inv.2 in (
+    let p = Progress-kept g.D.Disk.state _ _ inv.0 _ _ (g.W.Write.contents (watched c.flush.new.self)) _ c.flush.ensures.bytes inv.2 in (
       inv.0 ++ piece,
       Consumes-trans (g.R.Read.remaining (watched c.args.reader.now)) (g.R.Read.remaining (watched c.loop.reader)) (g.R.Read.remaining (watched c.read.new.self))
           inv.0 piece inv.1 c.in-Ok-read.ensures.ok,

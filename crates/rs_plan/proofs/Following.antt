@@ -1,0 +1,99 @@
+-- The lists after each command, and that there is no room for one.
+use Rattle.std.proofs.Common.{◌≡◌, inr, ℕ, ◌+◌, ◌≤◌, Bool, List, [], ◌∷◌, ◌++◌, length, refl, sym, subst, arith}
+use Rattle.std.specs.Prelude.{All, IsSome, is_some}
+use Rattle.std.specs.List.{cons_option}
+use Rattle.std.proofs.lemmas.List.Elements.{All-head, All-tail}
+use Rattle.rs_extent.specs.declared.Extent.{Extent}
+use Rattle.rs_commit.specs.declared.root.Root.{Root}
+use Rattle.rs_record.specs.Changes.{bound, deleted}
+use Rattle.rs_page.specs.declared.place.Place.{Place}
+use Rattle.rs_page.specs.declared.place.Place.TheVariants.{Touched, Placed, Stored}
+use Rattle.rs_page.specs.Sheets.{Sheet, IsStored, placed_extent, placed_extents, stored_ref}
+use Rattle.rs_page.specs.Kept.{IsSublist, KeepsPages, stored_sheets}
+use Rattle.rs_catalogue.specs.Catalogue.{records_of}
+use Rattle.rs_catalogue.specs.Named.{named}
+use Rattle.rs_changes.specs.History.{changes_of}
+use Rattle.rs_model.specs.declared.command.Command.{Command}
+use Rattle.rs_model.specs.declared.command.Command.TheVariants.{Put, Delete, Publish}
+use Rattle.rs_model.specs.Names.{value_of, bind, unbind}
+use Rattle.rs_model.specs.State.{facts_of}
+use Rattle.rs_image.specs.declared.contents.Contents.{Contents}
+use Rattle.rs_plan.specs.Room.{AreUsed, Takes, HasNoRoom, lists_needed, body_needed}
+use Rattle.rs_plan.specs.Plans.{IsNext, LacksRoom}
+use Rattle.rs_plan.specs.Placed.{AreUnplaced, record_made}
+use Rattle.rs_plan.proofs.Turns.{put_turns, delete_turns, publish_turns}
+use Rattle.rs_plan.proofs.Bodies.{itself}
+
+-- a put
+pub put_next : (old c : Contents) (name kind bytes : List ℕ) (body : Extent) (moment : ℕ) → c.header ≡ record old.header { last = moment }
+    → named (records_of c.catalogue) ≡ bind name (record_made name kind bytes body moment) (named (records_of old.catalogue))
+    → changes_of c.history ≡ changes_of old.history ++ bound name (is_some (value_of name (named (records_of old.catalogue)))) moment (facts_of kind bytes) ∷ []
+    → c.published ≡ old.published → KeepsPages old.catalogue c.catalogue → KeepsPages old.history c.history → length c.catalogue ≤ 1 → length c.history ≤ 1
+    → IsNext old (Put name kind bytes) moment body c
+put_next old c name kind bytes body moment header records changes published catalogue history few few' = record {
+  turns = put_turns old c name kind bytes body moment header records changes published;
+  catalogue = catalogue;
+  history = history;
+  pages = (few, few', published);
+}
+
+-- a delete
+pub delete_next : (old c : Contents) (name : List ℕ) (body : Extent) (moment : ℕ) → c.header ≡ record old.header { last = moment }
+    → named (records_of c.catalogue) ≡ unbind name (named (records_of old.catalogue)) → changes_of c.history ≡ changes_of old.history ++ deleted name moment ∷ []
+    → c.published ≡ old.published → KeepsPages old.catalogue c.catalogue → KeepsPages old.history c.history → length c.catalogue ≤ 1 → length c.history ≤ 1
+    → IsNext old (Delete name) moment body c
+delete_next old c name body moment header records changes published catalogue history few few' = record {
+  turns = λ image there. delete_turns old c name moment header records changes published image;
+  catalogue = catalogue;
+  history = history;
+  pages = (few, few', published);
+}
+
+-- a publish
+same_pages : {T : Type 0} (old new : List (Sheet T)) → new ≡ old → KeepsPages old new
+same_pages {T} old new same = subst (λ (l : List (Sheet T)). IsSublist (stored_sheets l) (stored_sheets old)) (sym same) (itself (stored_sheets old))
+
+pub publish_next : (old c : Contents) (body : Extent) (moment : ℕ) → c.header ≡ record old.header { last = moment; number = old.header.number + 1; at = moment }
+    → c.catalogue ≡ old.catalogue → c.history ≡ old.history → c.published ≡ old.catalogue → IsNext old Publish moment body c
+publish_next old c body moment header catalogue history published = record {
+  turns = λ image there. publish_turns old c moment header catalogue history published image;
+  catalogue = same_pages old.catalogue c.catalogue catalogue;
+  history = same_pages old.history c.history history;
+  pages = (catalogue, history, published);
+}
+
+-- no page that is stored was given blocks
+none_one : (place : Place) (rest : List Extent) → IsSome (stored_ref place) → rest ≡ [] → cons_option (placed_extent place) rest ≡ []
+none_one Touched rest h none = none
+none_one (Placed e) rest h none = cc
+none_one (Stored ref) rest h none = none
+
+none_placed : {T : Type 0} (sheets : List (Sheet T)) → All IsStored sheets → placed_extents sheets ≡ []
+none_placed [] h = refl
+none_placed (sheet ∷ sheets) h = none_one sheet.place (placed_extents sheets) (All-head IsStored sheet sheets h) (none_placed sheets (All-tail IsStored sheet sheets h))
+
+pub all_unplaced : (old c : Contents) → All IsStored old.catalogue → All IsStored old.history → c.catalogue ≡ old.catalogue → c.history ≡ old.history → AreUnplaced c
+all_unplaced old c of_catalogue of_history catalogue history = record {
+  catalogue = none_placed c.catalogue (subst (All IsStored) (sym catalogue) of_catalogue);
+  history = none_placed c.history (subst (All IsStored) (sym history) of_history);
+}
+
+-- no block is taken for no body
+pub takes_none : (used : List Bool) → Takes used 0 (record { first = 0; blocks = 0 }) used
+takes_none used = record {
+  blocks = refl;
+  nowhere = λ none. refl;
+  lowest = λ some. absurd (omega arith);
+  sets = record {
+    size = refl;
+    within = λ b low high. absurd (omega arith);
+    before = λ b lt. refl;
+    after = λ b le. refl;
+  };
+}
+
+-- There is no room for lists where the body took its place.
+pub lacking : (size : ℕ) (root : Root) (old : Contents) (command : Command) (moment : ℕ) (used used' : List Bool) (body : Extent) (c : Contents) → AreUsed size root old used
+    → Takes used (body_needed command) body used' → IsNext old command moment body c → HasNoRoom used' (lists_needed c) → LacksRoom size root old command moment
+lacking size root old command moment used used' body c are_used takes next none =
+    record { used = used; are_used = are_used; fails = inr (used', body, c, takes, next, none) }

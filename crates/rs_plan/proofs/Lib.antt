@@ -1,0 +1,14 @@
+pub mod Extents
+pub mod Sublists
+pub mod Placing
+pub mod Pages
+pub mod Stored
+pub mod Listing
+pub mod Separate
+pub mod Unshared
+pub mod Turns
+pub mod Bodies
+pub mod Rules
+pub mod Parts
+pub mod Planned
+pub mod Following

@@ -1,0 +1,99 @@
+-- The parts of what a root reaches, and what is known of the pages after a command.
+use Rattle.std.proofs.Common.{true≢false, ◌≡◌, ◌⊎◌, inl, inr, ℕ, ◌≤◌, Bool, true, List, [], length, refl, sym, ◌∙◌, ap, subst}
+use Rattle.std.specs.Prelude.{All}
+use Rattle.rs_extent.specs.declared.Extent.{Extent}
+use Rattle.rs_body.specs.Blocks.{in_some, blocks_of, IsSized}
+use Rattle.rs_page.specs.declared.place.PageRef.{PageRef}
+use Rattle.rs_page.specs.Format.{ItemFormat}
+use Rattle.rs_page.specs.Placing.{Places}
+use Rattle.rs_page.specs.Sheets.{Sheet, IsStored, placed_extents, stored_ref, stored_refs, extents_of}
+use Rattle.rs_page.specs.Kept.{IsSublist, KeepsPages, AreApart, stored_sheets}
+use Rattle.rs_catalogue.specs.Catalogue.{records_of}
+use Rattle.rs_model.specs.declared.command.Command.{Command}
+use Rattle.rs_model.specs.declared.command.Command.TheVariants.{Put, Delete, Publish}
+use Rattle.rs_image.specs.declared.contents.Contents.{Contents}
+use Rattle.rs_image.specs.Reach.{unshared, bodies_of}
+use Rattle.rs_plan.specs.declared.plan.Plan.{Plan}
+use Rattle.rs_plan.specs.Room.{Takes, body_needed}
+use Rattle.rs_plan.specs.Plans.{body_of_command, ArePagesAfter, once_stored, places}
+use Rattle.rs_plan.proofs.Extents.{Disjoint}
+use Rattle.rs_plan.proofs.Sublists.{filter_mapped}
+use Rattle.rs_plan.proofs.Placing.{places_stored}
+use Rattle.rs_plan.proofs.Stored.{refs_kept}
+
+-- the blocks of the catalogue pages, of the change pages, of the published pages that are not shared, and of the bodies
+abbrev pub pages_in : Contents → List Extent
+pages_in c = extents_of (stored_refs c.catalogue)
+
+abbrev pub changes_in : Contents → List Extent
+changes_in c = extents_of (stored_refs c.history)
+
+abbrev pub shown_in : Contents → List Extent
+shown_in c = extents_of (unshared (stored_refs c.published) (stored_refs c.catalogue))
+
+abbrev pub bodies_in : Contents → List Extent
+bodies_in c = bodies_of (records_of c.catalogue)
+
+-- the lists of a plan once they are written, and the blocks that its pages were given
+abbrev pub written : Plan → Contents
+written p = once_stored p.contents
+
+abbrev pub given_pages : Plan → List Extent
+given_pages p = placed_extents p.contents.catalogue
+
+abbrev pub given_changes : Plan → List Extent
+given_changes p = placed_extents p.contents.history
+
+-- the body of a command has its blocks
+needed_blocks : (command : Command) → body_needed command ≡ blocks_of (length (body_of_command command))
+needed_blocks (Put name kind bytes) = refl
+needed_blocks (Delete name) = refl
+needed_blocks Publish = refl
+
+pub sized_body : (command : Command) (used used' : List Bool) (body : Extent) → Takes used (body_needed command) body used' → IsSized body (length (body_of_command command))
+sized_body command used used' body takes =
+    let n = needed_blocks command in
+    (takes.blocks ∙ n, λ none. takes.nowhere (n ∙ ap blocks_of none))
+
+-- stored pages that are kept, as references
+pub kept_part : {T : Type 0} (format : ItemFormat T) (used used' : List Bool) (old xs ys : List (Sheet T)) → KeepsPages old xs → Places format used xs used' ys
+    → IsSublist (stored_refs ys) (stored_refs old)
+kept_part {T} format used used' old xs ys keeps places =
+    let sheets : IsSublist (stored_sheets ys) (stored_sheets old) =
+    subst (λ (l : List (Sheet T)). IsSublist l (stored_sheets old)) (sym (places_stored format used used' xs ys places)) keeps in
+    subst (λ (l : List PageRef). IsSublist l (stored_refs old)) (refs_kept ys)
+    (subst (λ (l : List PageRef). IsSublist (stored_refs (stored_sheets ys)) l) (refs_kept old)
+    (filter_mapped (λ sheet. stored_ref sheet.place) (stored_sheets ys) (stored_sheets old) sheets))
+
+-- What is published after a command, of which nothing was written.
+pub record IsUnshared (before kept after published : List PageRef) (old : List Extent) : Type 0 where
+  pub comes : (b : ℕ) → in_some (extents_of (unshared published after)) b ≡ true → (in_some (extents_of before) b ≡ true) ⊎ (in_some old b ≡ true)
+  pub beside : Disjoint (in_some (extents_of kept)) (in_some (extents_of (unshared published after)))
+  pub apart : AreApart (extents_of (unshared published after))
+
+pub unshared_none : (before kept after published : List PageRef) (old : List Extent) → unshared published after ≡ [] → IsUnshared before kept after published old
+unshared_none before kept after published old none = record {
+  comes = λ b is. absurd (true≢false (sym is ∙ ap (λ (l : List PageRef). in_some (extents_of l) b) none));
+  beside = λ b is. ap (λ (l : List PageRef). in_some (extents_of l) b) none;
+  apart = subst (λ (l : List PageRef). AreApart (extents_of l)) (sym none) tt;
+}
+
+-- the published pages are those of before, or all those of the catalogue
+abbrev pub IsPublished : Contents → Contents → Type 0
+IsPublished old c = (c.published ≡ old.published) ⊎ ((c.published ≡ old.catalogue) × (c.catalogue ≡ old.catalogue))
+
+pub published_is : (old c : Contents) (command : Command) → ArePagesAfter old command c → IsPublished old c
+published_is old c (Put name kind bytes) pages = inl pages.2
+published_is old c (Delete name) pages = inl pages.2
+published_is old c Publish pages = inr (pages.2, pages.0)
+
+-- the pages after a command, once they are placed
+pub pages_placed : (old c next : Contents) (command : Command) → ArePagesAfter old command c → length next.catalogue ≤ 1 → length next.history ≤ 1 → next.published ≡ c.published
+    → (All IsStored c.catalogue → next.catalogue ≡ c.catalogue) → (All IsStored c.history → next.history ≡ c.history) → All IsStored old.catalogue → All IsStored old.history → ArePagesAfter old command next
+pages_placed old c next (Put name kind bytes) pages few few' published catalogue history of_old of_old' = (few, few', published ∙ pages.2)
+pages_placed old c next (Delete name) pages few few' published catalogue history of_old of_old' = (few, few', published ∙ pages.2)
+pages_placed old c next Publish pages few few' published catalogue history of_old of_old' = (
+  catalogue (subst (All IsStored) (sym pages.0) of_old) ∙ pages.0,
+  history (subst (All IsStored) (sym pages.1) of_old') ∙ pages.1,
+  published ∙ pages.2,
+)

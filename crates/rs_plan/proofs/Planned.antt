@@ -1,0 +1,381 @@
+-- What a command plans keeps all rules.
+use Rattle.std.proofs.Common.{◌≡◌, inl, inr, ℕ, ◌+◌, ◌<◌, ◌≤◌, Bool, true, false, ◌||◌, nat_lt, List, [], ◌∷◌, ◌++◌, length, map, max, refl, sym, ◌∙◌, ap, subst, arith}
+use Rattle.std.specs.Prelude.{All, MatchOption}
+use Rattle.std.proofs.lemmas.Bool.Decides.{nat_tests}
+use Rattle.rs_extent.specs.declared.Extent.{Extent}
+use Rattle.rs_body.specs.Blocks.{in_some, blocks_of, part, IsSized}
+use Rattle.rs_body.specs.Outside.{AreBeside}
+use Rattle.rs_commit.specs.declared.root.Root.{Root}
+use Rattle.rs_record.specs.declared.record.Record.{Record}
+use Rattle.rs_record.specs.declared.change.Change.{Change}
+use Rattle.rs_page.specs.declared.place.PageRef.{PageRef}
+use Rattle.rs_page.specs.Items.{record_format, change_format}
+use Rattle.rs_page.specs.Sheets.{Sheet, IsStored, stored_refs, stored}
+use Rattle.rs_page.specs.Kept.{IsSublist, AreApart, AreTaken, stored_sheets}
+use Rattle.rs_catalogue.specs.Catalogue.{records_of}
+use Rattle.rs_changes.specs.History.{changes_of, last_of}
+use Rattle.rs_directory.specs.declared.header.Header.{Header}
+use Rattle.rs_directory.specs.Directory.{directory_length, IsLawfulHeader, IsLawfulRef, AreLawfulRefs}
+use Rattle.rs_model.specs.declared.command.Command.{Command}
+use Rattle.rs_model.specs.Step.{next_state}
+use Rattle.rs_model.specs.Listed.{entry_of}
+use Rattle.rs_image.specs.declared.contents.Contents.{Contents}
+use Rattle.rs_image.specs.Reach.{blocks_of_disk, reach, is_kept, unshared, AreInside}
+use Rattle.rs_image.specs.Whole.{IsWhole, AreMoments, IsSoundRecord, IsSoundChange}
+use Rattle.rs_image.specs.Tells.{held_in, state_in, AreListable}
+use Rattle.rs_plan.specs.declared.plan.Plan.{Plan}
+use Rattle.rs_plan.specs.Room.{AreUsed, Takes, body_needed}
+use Rattle.rs_plan.specs.Plans.{body_of_command, ArePagesAfter, IsNext, places, planned_listing, planned_root, IsPlanned}
+use Rattle.rs_plan.specs.Placed.{AreUnplaced, IsPlaced, directory_bytes_of}
+use Rattle.rs_plan.proofs.Extents.{Disjoint, Within, not_true, not_both, turned, some_front, some_behind, taken_lowest, taken_both}
+use Rattle.rs_plan.proofs.Sublists.{mapped, all_of, some_of, apart_of}
+use Rattle.rs_plan.proofs.Placing.{places_items, places_length, places_stored, places_fitted, places_same}
+use Rattle.rs_plan.proofs.Stored.{stored_items, all_stored, count_refs, length_stored, same_refs, stored_some, stored_apart, lawful_refs, kept_refs}
+use Rattle.rs_plan.proofs.Listing.{length-directory}
+use Rattle.rs_plan.proofs.Separate.{AreSeparate, separated, apart_again, five_of, a_in, b_in, c_in, e_in, AreNew, separate_next}
+use Rattle.rs_plan.proofs.Unshared.{published_some, unshared_some, unshared_apart, unshared_itself, beside_kept}
+use Rattle.rs_plan.proofs.Turns.{same_state}
+use Rattle.rs_plan.proofs.Bodies.{AreBodies}
+use Rattle.rs_plan.proofs.Rules.{KeepsRules}
+use Rattle.rs_plan.proofs.Parts.{pages_in, changes_in, shown_in, bodies_in, written, given_pages, given_changes, sized_body, kept_part, IsUnshared, unshared_none, IsPublished, published_is, pages_placed}
+
+-- one of two tests
+or_left : (a b : Bool) → (a || b) ≡ false → a ≡ false
+or_left true b is = is
+or_left false b is = refl
+
+or_right : (a b : Bool) → b ≡ true → (a || b) ≡ true
+or_right true b is = refl
+or_right false b is = is
+
+not_low : (b : ℕ) → nat_lt b 2 ≡ false → 2 ≤ b
+not_low b is = grind (arith, nat_tests)
+
+module _ (size : ℕ) (root : Root) (old : Contents) (whole : IsWhole size root old) (listable : AreListable old) (command : Command) (moment : ℕ)
+    (used used₁ : List Bool) (are_used : AreUsed size root old used) (body : Extent) (takes : Takes used (body_needed command) body used₁)
+    (c : Contents) (next : IsNext old command moment body c) (rules : KeepsRules old body c) (unplaced : AreUnplaced c) (p : Plan) (placed : IsPlaced used₁ body c p)
+    (few_old : length old.catalogue ≤ 1) (few_catalogue : length c.catalogue ≤ 1) (few_history : length c.history ≤ 1) (few_published : length c.published ≤ 1) where
+  -- what the plan writes to was taken
+  taken : AreTaken used placed.after (places p)
+  taken =
+      subst (λ (e : Extent). AreTaken used placed.after (e ∷ given_pages p ++ given_changes p ++ p.directory ∷ [])) (sym placed.body_is)
+      (taken_both used placed.after_history placed.after (body ∷ given_pages p ++ given_changes p) (p.directory ∷ [])
+      (taken_both used placed.after_catalogue placed.after_history (body ∷ given_pages p) (given_changes p)
+      (taken_both used used₁ placed.after_catalogue (body ∷ []) (given_pages p) (taken_lowest used used₁ (body_needed command) body takes) placed.takes_catalogue)
+      placed.takes_history)
+      (taken_lowest placed.after_history placed.after (blocks_of (directory_bytes_of c)) p.directory placed.directory))
+
+  -- so it was free, and lies behind the slots on the disk
+  below : (b : ℕ) → in_some (places p) b ≡ true → b < blocks_of_disk size
+  below b is = omega (arith, taken.inside b is, are_used.blocks)
+
+  free : AreBeside (is_kept root old) (places p)
+  free b is = sym (are_used.each b (below b is)) ∙ taken.before b is
+
+  inside : AreInside size (places p)
+  inside b is = (not_low b (or_left (nat_lt b 2) (in_some (reach root old) b) (free b is)), below b is)
+
+  reached : Within (in_some (reach root old)) (is_kept root old)
+  reached b is = or_right (nat_lt b 2) (in_some (reach root old) b) is
+
+  -- the parts of the plan
+  in_body : Within (in_some (p.body ∷ [])) (in_some (places p))
+  in_body b is =
+      some_front (p.body ∷ given_pages p ++ given_changes p) (p.directory ∷ []) b
+      (some_front (p.body ∷ given_pages p) (given_changes p) b
+      (some_front (p.body ∷ []) (given_pages p) b is))
+
+  in_catalogue : Within (in_some (given_pages p)) (in_some (places p))
+  in_catalogue b is =
+      some_front (p.body ∷ given_pages p ++ given_changes p) (p.directory ∷ []) b
+      (some_front (p.body ∷ given_pages p) (given_changes p) b
+      (some_behind (p.body ∷ []) (given_pages p) b is))
+
+  in_history : Within (in_some (given_changes p)) (in_some (places p))
+  in_history b is =
+      some_front (p.body ∷ given_pages p ++ given_changes p) (p.directory ∷ []) b
+      (some_behind (p.body ∷ given_pages p) (given_changes p) b is)
+
+  in_directory : Within (in_some (p.directory ∷ [])) (in_some (places p))
+  in_directory b is = some_behind (p.body ∷ given_pages p ++ given_changes p) (p.directory ∷ []) b is
+
+  -- the pages that are kept
+  kept_catalogue : IsSublist (stored_refs p.contents.catalogue) (stored_refs old.catalogue)
+  kept_catalogue = kept_part record_format used₁ placed.after_catalogue old.catalogue c.catalogue p.contents.catalogue next.catalogue placed.catalogue
+
+  kept_history : IsSublist (stored_refs p.contents.history) (stored_refs old.history)
+  kept_history = kept_part change_format placed.after_catalogue placed.after_history old.history c.history p.contents.history next.history placed.history
+
+  -- the numbers of pages
+  long_catalogue : length p.contents.catalogue ≡ length c.catalogue
+  long_catalogue = places_length record_format used₁ placed.after_catalogue c.catalogue p.contents.catalogue placed.catalogue
+
+  long_history : length p.contents.history ≡ length c.history
+  long_history = places_length change_format placed.after_catalogue placed.after_history c.history p.contents.history placed.history
+
+  -- the pages after the command
+  pages : ArePagesAfter old command p.contents
+  pages =
+      pages_placed old c p.contents command next.pages (omega (arith, long_catalogue, few_catalogue)) (omega (arith, long_history, few_history)) placed.published
+      (λ all. places_same record_format used₁ placed.after_catalogue c.catalogue p.contents.catalogue all placed.catalogue)
+      (λ all. places_same change_format placed.after_catalogue placed.after_history c.history p.contents.history all placed.history)
+      whole.catalogue whole.history
+
+  published : IsPublished old p.contents
+  published = published_is old p.contents command pages
+
+  -- the items
+  same_records : records_of p.contents.catalogue ≡ records_of c.catalogue
+  same_records = places_items record_format used₁ placed.after_catalogue c.catalogue p.contents.catalogue placed.catalogue
+
+  same_changes : changes_of p.contents.history ≡ changes_of c.history
+  same_changes = places_items change_format placed.after_catalogue placed.after_history c.history p.contents.history placed.history
+
+  same_stored_records : records_of (stored record_format p.contents.catalogue) ≡ records_of c.catalogue
+  same_stored_records = stored_items record_format p.contents.catalogue ∙ same_records
+
+  same_stored_changes : changes_of (stored change_format p.contents.history) ≡ changes_of c.history
+  same_stored_changes = stored_items change_format p.contents.history ∙ same_changes
+
+  -- the state that the lists tell
+  turns : (image : List ℕ) → part p.body (length (body_of_command command)) image ≡ body_of_command command
+      → state_in image p.contents ≡ next_state (state_in image old) command moment
+  turns image there =
+      same_state p.contents.header c.header (map (held_in image) (records_of p.contents.catalogue)) (map (held_in image) (records_of c.catalogue))
+      (changes_of p.contents.history) (changes_of c.history) (map entry_of (records_of p.contents.published)) (map entry_of (records_of c.published))
+      placed.header (ap (λ (rs : List Record). map (held_in image) rs) same_records) same_changes
+      (ap (λ (sheets : List (Sheet Record)). map entry_of (records_of sheets)) placed.published)
+      ∙ next.turns image (subst (λ (e : Extent). part e (length (body_of_command command)) image ≡ body_of_command command) placed.body_is there)
+
+  next_placed : IsNext old command moment p.body p.contents
+  next_placed = record {
+    turns = turns;
+    catalogue = subst (λ (l : List (Sheet Record)). IsSublist l (stored_sheets old.catalogue))
+        (sym (places_stored record_format used₁ placed.after_catalogue c.catalogue p.contents.catalogue placed.catalogue)) next.catalogue;
+    history = subst (λ (l : List (Sheet Change)). IsSublist l (stored_sheets old.history))
+        (sym (places_stored change_format placed.after_catalogue placed.after_history c.history p.contents.history placed.history)) next.history;
+    pages = pages;
+  }
+
+  -- what is stored
+  stored_catalogue : All IsStored (stored record_format p.contents.catalogue)
+  stored_catalogue = all_stored record_format p.contents.catalogue placed.untouched_catalogue
+
+  stored_history : All IsStored (stored change_format p.contents.history)
+  stored_history = all_stored change_format p.contents.history placed.untouched_history
+
+  stored_published : All IsStored p.contents.published
+  stored_published = elim published [
+    | inl same ↦ subst (All IsStored) (sym same) whole.published
+    | inr listed ↦ subst (All IsStored) (sym listed.0) whole.catalogue
+  ]
+
+  count_catalogue : length (stored_refs (written p).catalogue) ≡ length c.catalogue
+  count_catalogue = count_refs (stored record_format p.contents.catalogue) stored_catalogue ∙ length_stored record_format p.contents.catalogue ∙ long_catalogue
+
+  count_history : length (stored_refs (written p).history) ≡ length c.history
+  count_history = count_refs (stored change_format p.contents.history) stored_history ∙ length_stored change_format p.contents.history ∙ long_history
+
+  count_published : length (stored_refs p.contents.published) ≡ length c.published
+  count_published = count_refs p.contents.published stored_published ∙ ap (λ (sheets : List (Sheet Record)). length sheets) placed.published
+
+  -- the entries of a directory
+  small_disk : blocks_of_disk size ≤ 8388608
+  small_disk = omega arith
+
+  lawful_catalogue : All IsLawfulRef (stored_refs (written p).catalogue)
+  lawful_catalogue =
+      lawful_refs record_format p.contents.catalogue (blocks_of_disk size) small_disk
+      (places_fitted record_format used₁ placed.after_catalogue c.catalogue p.contents.catalogue placed.catalogue unplaced.catalogue)
+      (all_of IsLawfulRef (stored_refs p.contents.catalogue) (stored_refs old.catalogue) kept_catalogue listable.catalogue.each)
+      (λ b is. inside b (in_catalogue b is))
+
+  lawful_history : All IsLawfulRef (stored_refs (written p).history)
+  lawful_history =
+      lawful_refs change_format p.contents.history (blocks_of_disk size) small_disk
+      (places_fitted change_format placed.after_catalogue placed.after_history c.history p.contents.history placed.history unplaced.history)
+      (all_of IsLawfulRef (stored_refs p.contents.history) (stored_refs old.history) kept_history listable.history.each)
+      (λ b is. inside b (in_history b is))
+
+  lawful_published : AreLawfulRefs (stored_refs p.contents.published)
+  lawful_published = elim published [
+    | inl same ↦ subst (λ (sheets : List (Sheet Record)). AreLawfulRefs (stored_refs sheets)) (sym same) listable.published
+    | inr listed ↦ subst (λ (sheets : List (Sheet Record)). AreLawfulRefs (stored_refs sheets)) (sym listed.0) listable.catalogue
+  ]
+
+  listable_next : AreListable (written p)
+  listable_next = record {
+    header = subst (λ (h : Header). IsLawfulHeader h) (sym placed.header) rules.header;
+    catalogue = record { each = lawful_catalogue; count = omega (arith, count_catalogue, few_catalogue) };
+    history = record { each = lawful_history; count = omega (arith, count_history, few_history) };
+    published = lawful_published;
+  }
+
+  -- the directory
+  long_listing : length (planned_listing p) ≡ directory_bytes_of c
+  long_listing =
+      length-directory p.contents.header (stored_refs (written p).catalogue) (stored_refs (written p).history) (stored_refs p.contents.published)
+      lawful_catalogue lawful_history lawful_published.each
+      ∙ ap (λ (h : Header). directory_length h
+      (length (stored_refs (written p).catalogue) + length (stored_refs (written p).history) + length (stored_refs p.contents.published))) placed.header
+      ∙ ap (directory_length c.header) (omega (arith, count_catalogue, count_history, count_published))
+
+  sized_directory : IsSized p.directory (length (planned_listing p))
+  sized_directory = (placed.directory.blocks ∙ ap blocks_of (sym long_listing), λ none. placed.directory.nowhere (ap blocks_of (sym long_listing ∙ none)))
+
+  -- the parts that the old root reaches, and those of the next one
+  was : AreSeparate root.directory (pages_in old) (changes_in old) (shown_in old) (bodies_in old)
+  was =
+      separated root.directory (pages_in old) (changes_in old) (shown_in old) (bodies_in old) whole.apart
+
+  few_refs : length (stored_refs old.catalogue) ≤ 1
+  few_refs = omega (arith, count_refs old.catalogue whole.catalogue, few_old)
+
+  alone : IsUnshared (stored_refs old.catalogue) (stored_refs p.contents.catalogue) (stored_refs (written p).catalogue) (stored_refs p.contents.published)
+      (shown_in old)
+  alone = elim published [
+    | inl same ↦
+        let refs : stored_refs p.contents.published ≡ stored_refs old.published = ap (λ (sheets : List (Sheet Record)). stored_refs sheets) same in
+        subst (λ (l : List PageRef). IsUnshared (stored_refs old.catalogue) (stored_refs p.contents.catalogue) (stored_refs (written p).catalogue) l
+        (shown_in old)) (sym refs)
+        (record {
+          comes = λ b is. published_some (stored_refs old.published) (stored_refs old.catalogue) b
+              (unshared_some (stored_refs old.published) (stored_refs (written p).catalogue) b is);
+          beside = beside_kept (stored_refs old.published) (stored_refs old.catalogue) (stored_refs (written p).catalogue) (stored_refs p.contents.catalogue)
+              few_refs (omega (arith, count_catalogue, few_catalogue)) kept_catalogue (kept_refs record_format p.contents.catalogue) was.ac;
+          apart = unshared_apart (stored_refs old.published) (stored_refs (written p).catalogue)
+              (omega (arith, ap (λ (l : List PageRef). length l) refs, count_published, few_published));
+        })
+    | inr listed ↦
+        let shown : stored_refs p.contents.published ≡ stored_refs old.catalogue = ap (λ (sheets : List (Sheet Record)). stored_refs sheets) listed.0 in
+        let held : stored_refs (written p).catalogue ≡ stored_refs old.catalogue =
+        ap (λ (sheets : List (Sheet Record)). stored_refs (stored record_format sheets)) listed.1 ∙ same_refs record_format old.catalogue whole.catalogue in
+        unshared_none (stored_refs old.catalogue) (stored_refs p.contents.catalogue) (stored_refs (written p).catalogue) (stored_refs p.contents.published)
+        (shown_in old)
+        (ap (λ (l : List PageRef). unshared l (stored_refs (written p).catalogue)) shown
+        ∙ ap (λ (l : List PageRef). unshared (stored_refs old.catalogue) l) held ∙ unshared_itself (stored_refs old.catalogue) few_refs)
+  ]
+
+  new : AreNew (is_kept root old) p.body (given_pages p) (given_changes p) p.directory
+  new = record { apart = taken.apart; beside = free }
+
+  bodies : AreBodies p.body (records_of old.catalogue) (records_of (stored record_format p.contents.catalogue))
+  bodies =
+      subst (λ (e : Extent). AreBodies e (records_of old.catalogue) (records_of (stored record_format p.contents.catalogue))) (sym placed.body_is)
+      (subst (λ (rs : List Record). AreBodies body (records_of old.catalogue) rs) (sym same_stored_records) rules.bodies)
+
+  -- no block of an old part is written
+  unwritten : (xs ys : List Extent) → Within (in_some xs) (in_some (reach root old)) → Within (in_some ys) (in_some (places p)) → Disjoint (in_some xs) (in_some ys)
+  unwritten xs ys of_old of_new b is = not_true (in_some ys b) (λ here. not_both (is_kept root old b) (reached b (of_old b is)) (free b (of_new b here)))
+
+  old_catalogue_in : Within (in_some (pages_in old)) (in_some (reach root old))
+  old_catalogue_in =
+      a_in root.directory (pages_in old) (changes_in old) (shown_in old) (bodies_in old)
+
+  old_history_in : Within (in_some (changes_in old)) (in_some (reach root old))
+  old_history_in =
+      b_in root.directory (pages_in old) (changes_in old) (shown_in old) (bodies_in old)
+
+  old_published_in : Within (in_some (shown_in old)) (in_some (reach root old))
+  old_published_in =
+      c_in root.directory (pages_in old) (changes_in old) (shown_in old) (bodies_in old)
+
+  old_bodies_in : Within (in_some (bodies_in old)) (in_some (reach root old))
+  old_bodies_in =
+      e_in root.directory (pages_in old) (changes_in old) (shown_in old) (bodies_in old)
+
+  some_kept_catalogue : Within (in_some (pages_in p.contents)) (in_some (pages_in old))
+  some_kept_catalogue =
+      some_of (pages_in p.contents) (pages_in old) (mapped (λ ref. ref.extent) (stored_refs p.contents.catalogue) (stored_refs old.catalogue) kept_catalogue)
+
+  some_kept_history : Within (in_some (changes_in p.contents)) (in_some (changes_in old))
+  some_kept_history =
+      some_of (changes_in p.contents) (changes_in old) (mapped (λ ref. ref.extent) (stored_refs p.contents.history) (stored_refs old.history) kept_history)
+
+  -- each list is apart
+  apart_catalogue : AreApart (pages_in (written p))
+  apart_catalogue =
+      stored_apart record_format p.contents.catalogue
+      (apart_of (pages_in p.contents) (pages_in old)
+      (mapped (λ ref. ref.extent) (stored_refs p.contents.catalogue) (stored_refs old.catalogue) kept_catalogue) was.in_a)
+      placed.takes_catalogue.apart
+      (unwritten (pages_in p.contents) (given_pages p) (λ b is. old_catalogue_in b (some_kept_catalogue b is)) in_catalogue)
+
+  apart_history : AreApart (changes_in (written p))
+  apart_history =
+      stored_apart change_format p.contents.history
+      (apart_of (changes_in p.contents) (changes_in old)
+      (mapped (λ ref. ref.extent) (stored_refs p.contents.history) (stored_refs old.history) kept_history) was.in_b)
+      placed.takes_history.apart
+      (unwritten (changes_in p.contents) (given_changes p) (λ b is. old_history_in b (some_kept_history b is)) in_history)
+
+  apart_bodies : AreApart (bodies_in (written p))
+  apart_bodies = bodies.apart was.in_e (turned (in_some (bodies_in old)) (in_some (p.body ∷ [])) (unwritten (bodies_in old) (p.body ∷ []) old_bodies_in in_body))
+
+  separate : AreSeparate p.directory (pages_in (written p)) (changes_in (written p))
+      (shown_in (written p)) (bodies_in (written p))
+  separate =
+      separate_next (is_kept root old) root.directory p.directory p.body
+      (pages_in old) (changes_in old) (shown_in old) (bodies_in old)
+      (pages_in (written p)) (changes_in (written p))
+      (shown_in (written p)) (bodies_in (written p))
+      (given_pages p) (given_changes p) (pages_in p.contents) (changes_in p.contents)
+      was reached new some_kept_catalogue some_kept_history
+      (stored_some record_format p.contents.catalogue) (stored_some change_format p.contents.history) alone.comes bodies.comes alone.beside
+      apart_catalogue apart_history alone.apart apart_bodies
+
+  inside_old : (b : ℕ) → in_some (reach root old) b ≡ true → (2 ≤ b) × (b < blocks_of_disk size)
+  inside_old b is = whole.inside b is
+
+  inside_next : AreInside size (reach (planned_root root p) (written p))
+  inside_next b is =
+      five_of p.directory (pages_in (written p)) (changes_in (written p))
+      (shown_in (written p)) (bodies_in (written p))
+      ((2 ≤ b) × (b < blocks_of_disk size)) b is
+      (λ here. inside b (in_directory b here))
+      (λ here. elim (stored_some record_format p.contents.catalogue b here) [ inl was ↦ inside_old b (old_catalogue_in b (some_kept_catalogue b was)) | inr is_new ↦ inside b (in_catalogue b is_new) ])
+      (λ here. elim (stored_some change_format p.contents.history b here) [ inl was ↦ inside_old b (old_history_in b (some_kept_history b was)) | inr is_new ↦ inside b (in_history b is_new) ])
+      (λ here. elim (alone.comes b here) [ inl was ↦ inside_old b (old_catalogue_in b was) | inr shown ↦ inside_old b (old_published_in b shown) ])
+      (λ here. elim (bodies.comes b here) [ inl was ↦ inside_old b (old_bodies_in b was) | inr is_new ↦ inside b (in_body b is_new) ])
+
+  -- the rules of the lists
+  moments_next : AreMoments p.contents.header (written p)
+  moments_next =
+      let there : AreMoments c.header (written p) = record {
+        start = rules.moments.start;
+        at = rules.moments.at;
+        last = subst (λ (l : List Change). MatchOption (last_of l) (c.header.last ≡ c.header.at) (λ x. c.header.last ≡ max c.header.at x.moment)) (sym same_stored_changes) rules.moments.last;
+      } in
+      subst (λ (h : Header). AreMoments h (written p)) (sym placed.header) there
+
+  whole_next : IsWhole size (planned_root root p) (written p)
+  whole_next = record {
+    catalogue = stored_catalogue;
+    history = stored_history;
+    published = stored_published;
+    moments = moments_next;
+    records = subst (λ (h : Header). All (IsSoundRecord h.start h.last) (records_of (stored record_format p.contents.catalogue))) (sym placed.header)
+        (subst (All (IsSoundRecord c.header.start c.header.last)) (sym same_stored_records) rules.records);
+    changes = subst (λ (h : Header). All (IsSoundChange h.start h.last) (changes_of (stored change_format p.contents.history))) (sym placed.header)
+        (subst (All (IsSoundChange c.header.start c.header.last)) (sym same_stored_changes) rules.changes);
+    listed = subst (λ (h : Header). All (IsSoundRecord h.start h.at) (records_of p.contents.published)) (sym placed.header)
+        (subst (λ (sheets : List (Sheet Record)). All (IsSoundRecord c.header.start c.header.at) (records_of sheets)) (sym placed.published) rules.listed);
+    directory = sized_directory;
+    apart = apart_again p.directory (pages_in (written p)) (changes_in (written p))
+        (shown_in (written p)) (bodies_in (written p)) separate;
+    inside = inside_next;
+  }
+
+  pub planned : IsPlanned size root old command moment p
+  planned = record {
+    next = next_placed;
+    free = free;
+    apart = taken.apart;
+    inside = inside;
+    catalogue = placed.untouched_catalogue;
+    history = placed.untouched_history;
+    body = subst (λ (e : Extent). IsSized e (length (body_of_command command))) (sym placed.body_is) (sized_body command used used₁ body takes);
+    directory = sized_directory;
+    listable = listable_next;
+    whole = whole_next;
+  }

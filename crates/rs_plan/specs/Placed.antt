@@ -1,0 +1,45 @@
+-- How the lists after a command are given blocks.
+use Rattle.std.specs.Prelude.{◌≡◌, ℕ, ◌+◌, Bool, List, [], length, All}
+use Rattle.rs_extent.specs.declared.Extent.{Extent}
+use Rattle.rs_fixity.specs.Digests.{digests}
+use Rattle.rs_record.specs.declared.record.Record.{Record}
+use Rattle.rs_body.specs.Blocks.{blocks_of}
+use Rattle.rs_page.specs.Items.{record_format, change_format}
+use Rattle.rs_page.specs.Sheets.{IsTouched, placed_extents}
+use Rattle.rs_page.specs.Placing.{Places}
+use Rattle.rs_page.specs.Kept.{AreTaken}
+use Rattle.rs_directory.specs.Directory.{directory_length}
+use Rattle.rs_image.specs.declared.contents.Contents.{Contents}
+use Rattle.rs_plan.specs.declared.plan.Plan.{Plan}
+use Rattle.rs_plan.specs.Room.{Takes}
+
+-- the record of a body in an extent
+abbrev pub record_made : List ℕ → List ℕ → List ℕ → Extent → ℕ → Record
+record_made name kind bytes body moment =
+    record { name = name; kind = kind; length = length bytes; digests = digests bytes; moment = moment; extent = body }
+
+-- no page has blocks that it is not written to
+pub record AreUnplaced (c : Contents) : Type 0 where
+  pub catalogue : placed_extents c.catalogue ≡ []
+  pub history : placed_extents c.history ≡ []
+
+-- how many bytes the directory of these lists has, once all pages are stored
+abbrev pub directory_bytes_of : Contents → ℕ
+directory_bytes_of c = directory_length c.header (length c.catalogue + length c.history + length c.published)
+
+-- The pages of these lists, and then their directory, took blocks of a disk: first those of the catalogue, then those of
+-- the history. Nothing else of the lists changed.
+pub record IsPlaced (used : List Bool) (body : Extent) (c : Contents) (p : Plan) : Type 0 where
+  pub after_catalogue : List Bool
+  pub after_history : List Bool
+  pub after : List Bool
+  pub catalogue : Places record_format used c.catalogue after_catalogue p.contents.catalogue
+  pub history : Places change_format after_catalogue c.history after_history p.contents.history
+  pub takes_catalogue : AreTaken used after_catalogue (placed_extents p.contents.catalogue)
+  pub takes_history : AreTaken after_catalogue after_history (placed_extents p.contents.history)
+  pub untouched_catalogue : All (λ sheet. ¬ IsTouched sheet.place) p.contents.catalogue
+  pub untouched_history : All (λ sheet. ¬ IsTouched sheet.place) p.contents.history
+  pub directory : Takes after_history (blocks_of (directory_bytes_of c)) p.directory after
+  pub header : p.contents.header ≡ c.header
+  pub published : p.contents.published ≡ c.published
+  pub body_is : p.body ≡ body

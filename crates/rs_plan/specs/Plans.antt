@@ -1,0 +1,96 @@
+-- What a command is about to write.
+use Rattle.std.specs.Prelude.{◌≡◌, ◌⊎◌, ◌≤◌, ℕ, Bool, List, [], ◌∷◌, ◌++◌, length, All}
+use Rattle.rs_extent.specs.declared.Extent.{Extent}
+use Rattle.rs_fixity.specs.Digests.{digests}
+use Rattle.rs_body.specs.Blocks.{part, IsSized}
+use Rattle.rs_body.specs.Outside.{AreBeside}
+use Rattle.rs_commit.specs.declared.root.Root.{Root}
+use Rattle.rs_commit.specs.Commit.{next}
+use Rattle.rs_model.specs.Step.{next_state}
+use Rattle.rs_model.specs.declared.command.Command.{Command}
+use Rattle.rs_model.specs.declared.command.Command.TheVariants.{Put, Delete, Publish}
+use Rattle.rs_page.specs.Items.{record_format, change_format}
+use Rattle.rs_page.specs.Sheets.{IsTouched, placed_extents, stored}
+use Rattle.rs_page.specs.Pages.{IsWritten}
+use Rattle.rs_page.specs.Kept.{KeepsPages, AreApart}
+use Rattle.rs_image.specs.declared.contents.Contents.{Contents}
+use Rattle.rs_image.specs.Reach.{is_kept, AreInside}
+use Rattle.rs_image.specs.Whole.{IsWhole}
+use Rattle.rs_image.specs.Tells.{state_in, listing, AreListable}
+use Rattle.rs_plan.specs.declared.plan.Plan.{Plan}
+use Rattle.rs_plan.specs.Room.{AreUsed, Takes, HasNoRun, HasNoRoom, lists_needed, body_needed}
+
+-- the body that a command writes
+abbrev pub body_of_command : Command → List ℕ
+body_of_command (Put name kind bytes) = bytes
+body_of_command (Delete name) = []
+body_of_command Publish = []
+
+-- The pages after a command: a publication lists the pages of the catalogue, and touches none; any other command leaves what is
+-- published. A catalogue and a history have one page, or none where they are empty.
+abbrev pub ArePagesAfter : Contents → Command → Contents → Type 0
+ArePagesAfter old (Put name kind bytes) c = (length c.catalogue ≤ 1) × (length c.history ≤ 1) × (c.published ≡ old.published)
+ArePagesAfter old (Delete name) c = (length c.catalogue ≤ 1) × (length c.history ≤ 1) × (c.published ≡ old.published)
+ArePagesAfter old Publish c = (c.catalogue ≡ old.catalogue) × (c.history ≡ old.history) × (c.published ≡ old.catalogue)
+
+-- The lists after a command at its moment: where its body stands in an extent, they tell the next state, of whatever the old
+-- lists tell; and their stored pages are pages of the old ones.
+pub record IsNext (old : Contents) (command : Command) (moment : ℕ) (body : Extent) (c : Contents) : Type 0 where
+  pub turns : (image : List ℕ) → part body (length (body_of_command command)) image ≡ body_of_command command
+      → state_in image c ≡ next_state (state_in image old) command moment
+  pub catalogue : KeepsPages old.catalogue c.catalogue
+  pub history : KeepsPages old.history c.history
+  pub pages : ArePagesAfter old command c
+
+-- A command lacks room: with those blocks used that the root reaches, its body has no run; or it takes the lowest, and then
+-- the pages that it touches and its directory have not all one, each being given the lowest of its own size in turn.
+pub record LacksRoom (size : ℕ) (root : Root) (old : Contents) (command : Command) (moment : ℕ) : Type 0 where
+  pub used : List Bool
+  pub are_used : AreUsed size root old used
+  pub fails : HasNoRun used (body_needed command)
+      ⊎ ((used' : List Bool) × (body : Extent) × (c : Contents) × Takes used (body_needed command) body used'
+      × IsNext old command moment body c × HasNoRoom used' (lists_needed c))
+
+-- the lists once their pages are stored
+abbrev pub once_stored : Contents → Contents
+once_stored c =
+    record {
+      header = c.header;
+      catalogue = stored record_format c.catalogue;
+      history = stored change_format c.history;
+      published = c.published;
+    }
+
+-- what a plan writes to, in the order in which it was found: the body, the catalogue pages, the change pages, the directory
+abbrev pub places : Plan → List Extent
+places p =
+    p.body ∷ placed_extents p.contents.catalogue ++ placed_extents p.contents.history ++ p.directory ∷ []
+
+-- the bytes of the directory that it writes
+abbrev pub planned_listing : Plan → List ℕ
+planned_listing p = listing (once_stored p.contents)
+
+-- the root that it leads to
+abbrev pub planned_root : Root → Plan → Root
+planned_root root p = next root p.directory (length (planned_listing p)) (digests (planned_listing p)).sha256
+
+-- A plan leads from these lists to those after a command: what it writes goes into blocks that the root does not reach, no two
+-- parts of it into the same; each part has a place of its size; and what the next root reaches keeps all rules.
+pub record IsPlanned (size : ℕ) (root : Root) (old : Contents) (command : Command) (moment : ℕ) (p : Plan) : Type 0 where
+  pub next : IsNext old command moment p.body p.contents
+  pub free : AreBeside (is_kept root old) (places p)
+  pub apart : AreApart (places p)
+  pub inside : AreInside size (places p)
+  pub catalogue : All (λ sheet. ¬ IsTouched sheet.place) p.contents.catalogue
+  pub history : All (λ sheet. ¬ IsTouched sheet.place) p.contents.history
+  pub body : IsSized p.body (length (body_of_command command))
+  pub directory : IsSized p.directory (length (planned_listing p))
+  pub listable : AreListable (once_stored p.contents)
+  pub whole : IsWhole size (planned_root root p) (once_stored p.contents)
+
+-- All that a plan writes stands in an image.
+pub record AreWritten (p : Plan) (bytes image : List ℕ) : Type 0 where
+  pub body : part p.body (length bytes) image ≡ bytes
+  pub catalogue : All (IsWritten record_format image) p.contents.catalogue
+  pub history : All (IsWritten change_format image) p.contents.history
+  pub directory : part p.directory (length (planned_listing p)) image ≡ planned_listing p

@@ -1,0 +1,160 @@
+//! How a command is planned: which lists it leads to, and which blocks its writes take.
+
+ghost use Rattle.std.specs.Prelude.{◌≡◌, ◌<◌, ◌≤◌, ◌+◌, ◌^◌, length, IfOk, IsErrOf, IsNone, IsSome};
+ghost use Rattle.rs_image.specs.Tells.{AreListable};
+ghost use Rattle.rs_image.specs.Whole.{IsWhole};
+ghost use Rattle.rs_catalogue.specs.Catalogue.{records_of};
+ghost use Rattle.rs_catalogue.specs.Named.{named};
+ghost use Rattle.rs_changes.specs.History.{changes_of};
+ghost use Rattle.rs_model.specs.Names.{value_of};
+ghost use Rattle.rs_model.specs.State.{longest_body, most_resources, most_changes};
+ghost use Rattle.rs_model.specs.declared.command.Command.TheVariants.{Put, Delete, Publish};
+ghost use Rattle.rs_plan.specs.Plans.{IsPlanned, LacksRoom};
+
+mod lists;
+mod placing;
+#[cfg(test)]
+mod tests;
+
+use crate::plan::Plan;
+use lists::{lists_after_delete, lists_after_publish, lists_after_put};
+use placing::{place_lists, take_lowest};
+use rs_commit::Root;
+use rs_extent::Extent;
+use rs_image::{Contents, used_of};
+use rs_page::Full;
+use rs_record::{MediaType, Name};
+use rs_time::Moment;
+use std::alloc::{AllocError, Global};
+use thiserror::Error;
+
+/// Why a command has no plan.
+#[derive(Clone, Copy, Debug, PartialEq, Eq, Error)]
+pub enum PlanFault {
+    /// Something that has to be written has no run of free blocks.
+    #[error("the disk is full")]
+    Full,
+    /// A growth of memory was refused.
+    #[error("out of memory")]
+    NoMemory,
+}
+
+impl From<Full> for PlanFault {
+    ghost use Rattle.rs_plan.specs.declared.planning.PlanFault.{PlanFault};
+
+    ghost from_gives = { λ _ fault. fault ≡ PlanFault.Full };
+
+    fn from(_: Full) -> PlanFault {
+        PlanFault::Full
+    }
+}
+
+impl From<AllocError> for PlanFault {
+    ghost use Rattle.rs_plan.specs.declared.planning.PlanFault.{PlanFault};
+
+    ghost from_gives = { λ _ fault. fault ≡ PlanFault.NoMemory };
+
+    fn from(_: AllocError) -> PlanFault {
+        PlanFault::NoMemory
+    }
+}
+
+/// Plans to bind a name to a body of this media type, at this moment. The root and its lists are
+/// whole on a disk of `size` bytes, and the command is one that a source accepts.
+///
+/// # Errors
+///
+/// - [`PlanFault::Full`] where the body, a page or the directory has no run of free blocks.
+/// - [`PlanFault::NoMemory`] where a growth of memory is refused.
+pub fn plan_put(
+    alloc: Global,
+    size: u64,
+    root: &Root,
+    contents: &Contents,
+    name: &Name,
+    kind: &MediaType,
+    bytes: &[u8],
+    moment: Moment,
+) -> Result<Plan, PlanFault>
+    requires room { 1024 ≤ size }
+    requires whole { IsWhole size root.now contents.now }
+    requires listable { AreListable contents.now }
+    requires body { length bytes.now ≤ longest_body }
+    requires resources { IsNone (value_of name.now (named (records_of contents.now.catalogue))) → length (records_of contents.now.catalogue) < most_resources }
+    requires changes { length (changes_of contents.now.history) < most_changes }
+    requires later { contents.now.header.last < moment }
+    ensures planned { IfOk result (IsPlanned size root.now contents.now (Put name.now kind.now bytes.now) moment) }
+    ensures full { IsErrOf result PlanFault.Full → LacksRoom size root.now contents.now (Put name.now kind.now bytes.now) moment }
+{
+    let mut used = used_of(alloc, size, root, contents)?;
+    let Some(body) = take_lowest(&mut used, bytes.len() as u32) else {
+        return Err(PlanFault::Full);
+    };
+    let lists = lists_after_put(alloc, contents, name, kind, bytes, body, moment)?;
+    let plan = place_lists(used, body, lists)?;
+    Ok(plan)
+}
+
+/// Plans to unbind a name that is held, at this moment. The root and its lists are whole on a disk
+/// of `size` bytes, and the command is one that a source accepts.
+///
+/// # Errors
+///
+/// - [`PlanFault::Full`] where a page or the directory has no run of free blocks.
+/// - [`PlanFault::NoMemory`] where a growth of memory is refused.
+pub fn plan_delete(
+    alloc: Global,
+    size: u64,
+    root: &Root,
+    contents: &Contents,
+    name: &Name,
+    moment: Moment,
+) -> Result<Plan, PlanFault>
+    requires room { 1024 ≤ size }
+    requires whole { IsWhole size root.now contents.now }
+    requires listable { AreListable contents.now }
+    requires held { IsSome (value_of name.now (named (records_of contents.now.catalogue))) }
+    requires changes { length (changes_of contents.now.history) < most_changes }
+    requires later { contents.now.header.last < moment }
+    ensures planned { IfOk result (IsPlanned size root.now contents.now (Delete name.now) moment) }
+    ensures full { IsErrOf result PlanFault.Full → LacksRoom size root.now contents.now (Delete name.now) moment }
+{
+    let used = used_of(alloc, size, root, contents)?;
+    let lists = lists_after_delete(alloc, contents, name, moment)?;
+    let plan = place_lists(used, NO_BODY, lists)?;
+    Ok(plan)
+}
+
+/// Plans to list all resources that are held, at this moment. The root and its lists are whole on a
+/// disk of `size` bytes, and the command is one that a source accepts.
+///
+/// # Errors
+///
+/// - [`PlanFault::Full`] where the directory has no run of free blocks.
+/// - [`PlanFault::NoMemory`] where a growth of memory is refused.
+pub fn plan_publish(
+    alloc: Global,
+    size: u64,
+    root: &Root,
+    contents: &Contents,
+    moment: Moment,
+) -> Result<Plan, PlanFault>
+    requires room { 1024 ≤ size }
+    requires whole { IsWhole size root.now contents.now }
+    requires listable { AreListable contents.now }
+    requires numbers { contents.now.header.number + 1 < 2 ^ 64 }
+    requires later { contents.now.header.last < moment }
+    ensures planned { IfOk result (IsPlanned size root.now contents.now Publish moment) }
+    ensures full { IsErrOf result PlanFault.Full → LacksRoom size root.now contents.now Publish moment }
+{
+    let used = used_of(alloc, size, root, contents)?;
+    let lists = lists_after_publish(alloc, contents, moment)?;
+    let plan = place_lists(used, NO_BODY, lists)?;
+    Ok(plan)
+}
+
+// The blocks of a body that is not written.
+const NO_BODY: Extent = Extent {
+    first: 0,
+    blocks: 0,
+};

@@ -1,0 +1,178 @@
+//! The lists after a command.
+
+ghost use Rattle.std.specs.Prelude.{◌≡◌, ◌<◌, ◌≤◌, ◌+◌, ◌^◌, [], ◌∷◌, ◌++◌, length, is_some, IfOk, IsNone, IsSome};
+ghost use Rattle.rs_time.specs.Moment.{IsMoment};
+ghost use Rattle.rs_fixity.specs.Digests.{digests};
+ghost use Rattle.rs_record.specs.Changes.{bound, deleted};
+ghost use Rattle.rs_page.specs.Kept.{KeepsPages};
+ghost use Rattle.rs_page.specs.Sheets.{placed_extents};
+ghost use Rattle.rs_catalogue.specs.Catalogue.{records_of};
+ghost use Rattle.rs_catalogue.specs.Named.{named};
+ghost use Rattle.rs_changes.specs.History.{changes_of};
+ghost use Rattle.rs_model.specs.Names.{value_of, bind, unbind};
+ghost use Rattle.rs_model.specs.State.{longest_body, most_resources, most_changes, facts_of};
+ghost use Rattle.rs_image.specs.Whole.{AreMoments};
+ghost use Rattle.rs_plan.specs.Placed.{AreUnplaced, record_made};
+
+use rs_catalogue::Catalogue;
+use rs_directory::Header;
+use rs_extent::Extent;
+use rs_fixity::digests_of;
+use rs_image::Contents;
+use rs_record::{Change, Facts, MediaType, Name, Record};
+use rs_time::Moment;
+use std::alloc::{AllocError, Global};
+
+/// The lists where the name is bound to a body of this type in an extent, at a moment.
+///
+/// # Errors
+///
+/// [`AllocError`] where the memory is refused.
+pub(crate) fn lists_after_put(
+    alloc: Global,
+    old: &Contents,
+    name: &Name,
+    kind: &MediaType,
+    bytes: &[u8],
+    body: Extent,
+    moment: Moment,
+) -> Result<Contents, AllocError>
+    requires moments { AreMoments old.now.header old.now }
+    requires body { length bytes.now ≤ longest_body }
+    requires resources { IsNone (value_of name.now (named (records_of old.now.catalogue))) → length (records_of old.now.catalogue) < most_resources }
+    requires changes { length (changes_of old.now.history) < most_changes }
+    requires later { old.now.header.last < moment }
+    ensures header { IfOk result (λ lists. lists.header ≡ record old.now.header { last = moment }) }
+    ensures records { IfOk result (λ lists. named (records_of lists.catalogue) ≡ bind name.now (record_made name.now kind.now bytes.now body moment) (named (records_of old.now.catalogue))) }
+    ensures changes { IfOk result (λ lists. changes_of lists.history ≡ changes_of old.now.history
+        ++ bound name.now (is_some (value_of name.now (named (records_of old.now.catalogue)))) moment (facts_of kind.now bytes.now) ∷ []) }
+    ensures published { IfOk result (λ lists. lists.published ≡ old.now.published) }
+    ensures catalogue_pages { IfOk result (λ lists. KeepsPages old.now.catalogue lists.catalogue) }
+    ensures history_pages { IfOk result (λ lists. KeepsPages old.now.history lists.history) }
+    ensures unplaced { IfOk result AreUnplaced }
+    ensures moment { IfOk result (λ _. IsMoment moment) }
+    ensures one_page { IfOk result (λ _. length old.now.catalogue ≤ 1) }
+{
+    let digests = digests_of(bytes);
+    let length = bytes.len() as u32;
+    let record = Record {
+        name: name.copy(alloc)?,
+        kind: kind.copy(alloc)?,
+        length,
+        digests,
+        moment,
+        extent: body,
+    };
+    let facts = Facts {
+        kind: kind.copy(alloc)?,
+        length,
+        digests,
+    };
+    let again = old.catalogue.get(name).is_some();
+    let change = Change::bound(name.copy(alloc)?, again, moment, facts);
+    lists_with(alloc, old, old.catalogue.with(alloc, record)?, change)
+}
+
+/// The lists without a name that is held, at a moment.
+///
+/// # Errors
+///
+/// [`AllocError`] where the memory is refused.
+pub(crate) fn lists_after_delete(
+    alloc: Global,
+    old: &Contents,
+    name: &Name,
+    moment: Moment,
+) -> Result<Contents, AllocError>
+    requires moments { AreMoments old.now.header old.now }
+    requires held { IsSome (value_of name.now (named (records_of old.now.catalogue))) }
+    requires changes { length (changes_of old.now.history) < most_changes }
+    requires later { old.now.header.last < moment }
+    ensures header { IfOk result (λ lists. lists.header ≡ record old.now.header { last = moment }) }
+    ensures records { IfOk result (λ lists. named (records_of lists.catalogue) ≡ unbind name.now (named (records_of old.now.catalogue))) }
+    ensures changes { IfOk result (λ lists. changes_of lists.history ≡ changes_of old.now.history ++ deleted name.now moment ∷ []) }
+    ensures published { IfOk result (λ lists. lists.published ≡ old.now.published) }
+    ensures catalogue_pages { IfOk result (λ lists. KeepsPages old.now.catalogue lists.catalogue) }
+    ensures history_pages { IfOk result (λ lists. KeepsPages old.now.history lists.history) }
+    ensures unplaced { IfOk result AreUnplaced }
+    ensures moment { IfOk result (λ _. IsMoment moment) }
+    ensures one_page { IfOk result (λ _. length old.now.catalogue ≤ 1) }
+{
+    let change = Change::deleted(name.copy(alloc)?, moment);
+    lists_with(alloc, old, old.catalogue.without(alloc, name)?, change)
+}
+
+// The lists of this catalogue, with a change at their end, at its moment.
+fn lists_with(
+    alloc: Global,
+    old: &Contents,
+    catalogue: Catalogue,
+    change: Change,
+) -> Result<Contents, AllocError>
+    requires moments { AreMoments old.now.header old.now }
+    requires changes { length (changes_of old.now.history) < most_changes }
+    requires later { old.now.header.last < «change».moment }
+    ensures header { IfOk result (λ lists. lists.header ≡ record old.now.header { last = «change».moment }) }
+    ensures catalogue { IfOk result (λ lists. lists.catalogue ≡ catalogue) }
+    ensures changes { IfOk result (λ lists. changes_of lists.history ≡ changes_of old.now.history ++ «change» ∷ []) }
+    ensures published { IfOk result (λ lists. lists.published ≡ old.now.published) }
+    ensures history_pages { IfOk result (λ lists. KeepsPages old.now.history lists.history) }
+    ensures unplaced { IfOk result (λ lists. placed_extents lists.history ≡ []) }
+    ensures moment { IfOk result (λ _. IsMoment «change».moment) }
+    ensures one_page { IfOk result (λ _. length old.now.catalogue ≤ 1) }
+{
+    // Reading it shows what its type keeps.
+    let _resources = old.catalogue.len();
+    let header = header_at(alloc, &old.header, change.moment)?;
+    Ok(Contents {
+        header,
+        catalogue,
+        history: old.history.with(alloc, change)?,
+        published: old.published.copy(alloc)?,
+    })
+}
+
+/// The lists where all resources that are held are published, at a moment.
+///
+/// # Errors
+///
+/// [`AllocError`] where the memory is refused.
+pub(crate) fn lists_after_publish(
+    alloc: Global,
+    old: &Contents,
+    moment: Moment,
+) -> Result<Contents, AllocError>
+    requires { old.now.header.number + 1 < 2 ^ 64 }
+    ensures header { IfOk result (λ lists. lists.header ≡ record old.now.header { last = moment; number = old.now.header.number + 1; at = moment }) }
+    ensures catalogue { IfOk result (λ lists. lists.catalogue ≡ old.now.catalogue) }
+    ensures history { IfOk result (λ lists. lists.history ≡ old.now.history) }
+    ensures published { IfOk result (λ lists. lists.published ≡ old.now.catalogue) }
+    ensures moment { IfOk result (λ _. IsMoment moment) }
+{
+    let mut header = header_at(alloc, &old.header, moment)?;
+    header.number += 1;
+    header.at = moment;
+    Ok(Contents {
+        header,
+        catalogue: old.catalogue.copy(alloc)?,
+        history: old.history.copy(alloc)?,
+        published: old.catalogue.copy(alloc)?,
+    })
+}
+
+// The header where the last command came at this moment.
+fn header_at(alloc: Global, old: &Header, moment: Moment) -> Result<Header, AllocError>
+    ensures header { IfOk result (λ header. header ≡ record old.now { last = moment }) }
+    ensures moment { IfOk result (λ _. IsMoment moment) }
+{
+    // Reading it shows what its type keeps.
+    let _ms = moment.ms();
+    Ok(Header {
+        base: old.base.copy(alloc)?,
+        limit: old.limit,
+        start: old.start,
+        last: moment,
+        number: old.number,
+        at: old.at,
+    })
+}

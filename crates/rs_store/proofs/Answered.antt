@@ -1,0 +1,364 @@
+-- What a source answers, by how far a command came.
+use Rattle.std.proofs.Common.{◌≡◌, ◌⊎◌, inl, inr, ℕ, Bool, true, false, List, length, refl, sym, ◌∙◌, ap, ap₂, subst, arith, Option, Some, None, Result, Ok, Err, if◌then◌else◌}
+use Rattle.rs_disk.specs.Medium.{Medium, DiskState, IsImage, IsMedium, resting}
+use Rattle.rs_disk.specs.Leaves.{Leaves}
+use Rattle.rs_disk.proofs.Steps.{started, goes_on, weaker}
+use Rattle.rs_disk.proofs.Images.{resting_image}
+use Rattle.rs_body.specs.Outside.{WritesOutside}
+use Rattle.rs_commit.specs.declared.root.Root.{Root}
+use Rattle.rs_commit.specs.Commit.{SameBehind, IsReady, OldOrNew}
+use Rattle.rs_model.specs.State.{Source}
+use Rattle.rs_model.specs.Step.{step, next_state, reply_to, moment_at, state_after, refusal_of, accepted_unless}
+use Rattle.rs_model.specs.declared.command.Command.{Command}
+use Rattle.rs_model.specs.declared.command.Reply.{Reply}
+use Rattle.rs_model.specs.declared.command.Refusal as model
+use Rattle.rs_model.specs.declared.command.Refusal.TheVariants as decides
+use Rattle.rs_image.specs.declared.contents.Contents.{Contents}
+use Rattle.rs_image.specs.Reach.{is_kept}
+use Rattle.rs_image.specs.Whole.{IsWhole}
+use Rattle.rs_image.specs.Tells.{Tells, StandsFor, state_in}
+use Rattle.rs_image.proofs.Frame.{tells_behind}
+use Rattle.rs_plan.specs.declared.plan.Plan.{Plan}
+use Rattle.rs_plan.specs.declared.planning.PlanFault.{PlanFault}
+use Rattle.rs_plan.specs.declared.planning.PlanFault.TheVariants.{Full as NoRoom, NoMemory as NoPlanMemory}
+use Rattle.rs_store.specs.declared.refusal.Refusal.{Refusal}
+use Rattle.rs_store.specs.declared.refusal.Refusal.TheVariants.{Closed, TooLong, NotHeld, TooManyResources, TooManyChanges, Exhausted, Full, Device, Damaged, NoMemory}
+use Rattle.rs_store.specs.Source.{Stored, Holds, state_of}
+use Rattle.rs_store.specs.Refusals.{named_as, or_spent, is_spent, decided, HasFailed}
+use Rattle.rs_plan.specs.Plans.{body_of_command, once_stored, planned_root, IsPlanned, LacksRoom, AreWritten}
+use Rattle.rs_store.specs.Writing.{of_plan, AreLists}
+use Rattle.rs_store.specs.Commands.{IsCause, Leads}
+use Rattle.rs_store.specs.Answered.{moment_unless, IsUnchanged, GoesOn, Answers}
+use Rattle.rs_store.proofs.Stays.{ready_after, stands_meanwhile, told_after, stands_now, state_kept, state_behind, reach_kept}
+use Rattle.rs_store.proofs.Follows.{state_follows, tells_next}
+
+-- the answers of a source, and of the model
+abbrev refusing : Refusal → Result Reply Refusal
+refusing r = Err r
+
+abbrev accepting : Source → Reply → Result (Source × Reply) model.Refusal
+accepting s r = Ok (s, r)
+
+-- a moment or a refusal
+pub unless_err : (o : Option Refusal) (m : ℕ) (r : Refusal) → Err r ≡ moment_unless o m → o ≡ Some r
+unless_err None m r is = absurd cc
+unless_err (Some q) m r is = cc
+
+pub unless_ok : (o : Option Refusal) (m n : ℕ) → Ok n ≡ moment_unless o m → (o ≡ None) × (n ≡ m)
+unless_ok None m n is = (refl, cc)
+unless_ok (Some q) m n is = absurd cc
+
+no_device : NoMemory ≡ Device → ⊥
+no_device is = absurd cc
+
+none_some : (o : Option Refusal) (q : Refusal) → o ≡ None → o ≡ Some q → ⊥
+none_some o q none some = absurd cc
+
+-- what is decided at once is none of these
+IsEarly : Refusal → Type 0
+IsEarly Full = ⊥
+IsEarly Device = ⊥
+IsEarly Damaged = ⊥
+IsEarly NoMemory = ⊥
+IsEarly r = Unit {0}
+
+early_named : (x : model.Refusal) → IsEarly (named_as x)
+unfolding IsEarly
+early_named decides.TooLong = tt
+early_named decides.NotHeld = tt
+early_named decides.TooManyResources = tt
+early_named decides.TooManyChanges = tt
+early_named decides.Exhausted = tt
+
+early : (closed : Bool) (o : Option model.Refusal) (spent : Bool) (r : Refusal) → (if closed then Some Closed else or_spent o spent) ≡ Some r → IsEarly r
+unfolding IsEarly
+early true o spent r is = let same : Closed ≡ r = cc in subst IsEarly same tt
+early false (Some x) spent r is = let same : named_as x ≡ r = cc in subst IsEarly same (early_named x)
+early false None true r is = let same : Exhausted ≡ r = cc in subst IsEarly same tt
+early false None false r is = absurd cc
+
+-- where nothing is refused at once, the model accepts
+allowed : (closed : Bool) (o : Option model.Refusal) (spent : Bool) → (if closed then Some Closed else or_spent o spent) ≡ None → o ≡ None
+allowed true o spent is = absurd cc
+allowed false (Some x) spent is = absurd cc
+allowed false None spent is = refl
+
+stepped : (s : Source) (command : Command) (now : ℕ) → refusal_of s command ≡ None
+    → step s command now ≡ Ok (next_state s command (moment_at s now), reply_to s command (moment_at s now))
+stepped s command now is = ap (λ (o : Option model.Refusal). accepted_unless o (next_state s command (moment_at s now), reply_to s command (moment_at s now))) is
+
+not_device : (r : Refusal) → IsEarly r → r ≡ Device → ⊥
+unfolding IsEarly
+not_device r is same = subst IsEarly same is
+
+module _ {D : Type 0} (device : D → DiskState) (medium : (disk : D) → IsMedium (device disk).size (device disk).now) (old : Stored D) (command : Command) (now : ℕ) where
+  early_cause : (new : Stored D) (r : Refusal) → IsEarly r → decided old (state_of device old) command ≡ Some r → IsCause device old new command now r
+  unfolding IsEarly
+  early_cause new Closed is given = given
+  early_cause new TooLong is given = given
+  early_cause new NotHeld is given = given
+  early_cause new TooManyResources is given = given
+  early_cause new TooManyChanges is given = given
+  early_cause new Exhausted is given = given
+  early_cause new Full is given = absurd is
+  early_cause new Device is given = absurd is
+  early_cause new Damaged is given = absurd is
+  early_cause new NoMemory is given = absurd is
+
+  kept_leads : (new : Stored D) (s : Source) (r : Refusal) → (r ≡ Device → ⊥) → Holds device new s → Leaves (device old.disk) (device new.disk) (λ _ image. StandsFor image s)
+      → Leads device old new s command now (Err r)
+  kept_leads new s Closed other holds leaves = (holds, leaves)
+  kept_leads new s TooLong other holds leaves = (holds, leaves)
+  kept_leads new s NotHeld other holds leaves = (holds, leaves)
+  kept_leads new s TooManyResources other holds leaves = (holds, leaves)
+  kept_leads new s TooManyChanges other holds leaves = (holds, leaves)
+  kept_leads new s Exhausted other holds leaves = (holds, leaves)
+  kept_leads new s Full other holds leaves = (holds, leaves)
+  kept_leads new s Device other holds leaves = absurd (other refl)
+  kept_leads new s Damaged other holds leaves = (holds, leaves)
+  kept_leads new s NoMemory other holds leaves = (holds, leaves)
+
+  -- the state that is held is the one that the lists tell
+  tells_state : (s : Source) → Holds device old s → state_of device old ≡ s
+  tells_state s holds = (holds.told (device old.disk).now.seen (medium old.disk).image).state
+
+  -- a refusal that leaves what was in memory
+  kept_answers : (new : Stored D) (r : Refusal) → IsCause device old new command now r → (r ≡ Device → ⊥)
+      → ((q : Refusal) → decided old (state_of device old) command ≡ Some q → (r ≡ q) × (new ≡ old))
+      → new.is_closed ≡ old.is_closed → IsUnchanged device old new
+      → ((s : Source) → Holds device old s → Holds device new s × Leaves (device old.disk) (device new.disk) (λ _ image. StandsFor image s))
+      → GoesOn device old new → Answers device old new command now (Err r)
+  kept_answers new r cause other given closed same leads goes =
+      record {
+        decides = λ q is. ap refusing (given q is).0;
+        untouched = λ q is. (given q is).1;
+        refused = λ q is. let here : r ≡ q = cc in subst (λ (x : Refusal). IsCause device old new command now x) here cause;
+        accepted = tt;
+        generation = tt;
+        leads = λ s holds. kept_leads new s r other (leads s holds).0 (leads s holds).1;
+        closes = λ is. let here : r ≡ Device = cc in absurd (other here);
+        stays_open = λ _. closed;
+        unchanged = λ q is not_it. same;
+        goes_on = goes;
+      }
+
+  nothing_done : IsUnchanged device old old
+  nothing_done = record { slots = refl; contents = refl; state = refl }
+
+  no_call : GoesOn device old old
+  no_call = record { size = refl; keeps = refl; calls = omega arith; faults = omega arith }
+
+  at_rest : (s : Source) → Holds device old s → Holds device old s × Leaves (device old.disk) (device old.disk) (λ _ image. StandsFor image s)
+  at_rest s holds =
+      (holds, started (device old.disk) (λ _ image. StandsFor image s) (stands_now old.slots old.contents s (device old.disk) (medium old.disk) holds.ready holds.told))
+
+  -- refused at once
+  pub at_once : (r : Refusal) → decided old (state_of device old) command ≡ Some r → Answers device old old command now (Err r)
+  at_once r is =
+      let of_early : IsEarly r = early old.is_closed (refusal_of (state_of device old) command) (is_spent old) r is in
+      kept_answers old r (early_cause old r of_early is) (not_device r of_early) (λ q other. let same : r ≡ q = cc in (same, refl)) refl nothing_done at_rest no_call
+
+  -- without a plan
+  pub unplanned : (fault : PlanFault) → decided old (state_of device old) command ≡ None
+      → (fault ≡ NoRoom → LacksRoom (device old.disk).size old.slots.root old.contents command (moment_at (state_of device old) now))
+      → Answers device old old command now (Err (of_plan fault))
+  unplanned NoRoom is room =
+      kept_answers old Full (is, room refl) (λ (same : Full ≡ Device). absurd cc) (λ q other. absurd cc) refl nothing_done at_rest no_call
+  unplanned NoPlanMemory is room =
+      kept_answers old NoMemory is (λ (same : NoMemory ≡ Device). absurd cc) (λ q other. absurd cc) refl nothing_done at_rest no_call
+
+  -- with a plan
+  module _ (p : Plan) (bytes : List ℕ) (whole : IsWhole (device old.disk).size old.slots.root old.contents)
+      (free : decided old (state_of device old) command ≡ None) (body : body_of_command command ≡ bytes)
+      (planned : IsPlanned (device old.disk).size old.slots.root old.contents command (moment_at (state_of device old) now) p)
+      (mid : D) (run : WritesOutside (is_kept old.slots.root old.contents) (device old.disk) (device mid)) where
+    kept_state : state_in (device mid).now.seen old.contents ≡ state_of device old
+    kept_state =
+        state_kept (is_kept old.slots.root old.contents) (device old.disk).size old.slots.root old.contents (device old.disk).now.seen (device mid).now.seen whole
+        (reach_kept old.slots.root old.contents) run.seen
+
+    -- memory was refused
+    pub stopped : GoesOn device old (record { disk = mid; slots = old.slots; contents = old.contents; is_closed = old.is_closed })
+        → Answers device old (record { disk = mid; slots = old.slots; contents = old.contents; is_closed = old.is_closed }) command now (Err NoMemory)
+    stopped goes =
+        kept_answers (record { disk = mid; slots = old.slots; contents = old.contents; is_closed = old.is_closed }) NoMemory free
+        (λ (is : NoMemory ≡ Device). absurd (no_device is)) (λ q other. absurd (none_some (decided old (state_of device old) command) q free other)) refl
+        (record { slots = refl; contents = refl; state = kept_state })
+        (λ s holds. (
+          record {
+            is_open = holds.is_open;
+            ready = ready_after old.slots old.contents (device old.disk) (device mid) holds.ready run;
+            told = told_after old.slots old.contents s (device old.disk) (medium old.disk) holds.ready holds.told (device mid) run;
+          },
+          stands_meanwhile old.slots old.contents s (device old.disk) (medium old.disk) holds.ready holds.told (device mid) run,
+        ))
+        goes
+
+    next : Source → Source
+    next s = next_state s command (moment_at s now)
+
+    after_step : (s : Source) → Holds device old s → state_after s (step s command now) ≡ next s
+    unfolding next
+    after_step s holds =
+        let is : refusal_of s command ≡ None =
+        subst (λ (x : Source). refusal_of x command ≡ None) (tells_state s holds) (allowed old.is_closed (refusal_of (state_of device old) command) (is_spent old) free) in
+        ap (λ (x : Result (Source × Reply) model.Refusal). state_after s x) (stepped s command now is)
+
+    -- the device failed
+    broken : (new : Stored D) → new.is_closed ≡ true → HasFailed (device old.disk) (device new.disk)
+        → ((s : Source) → Holds device old s → Leaves (device old.disk) (device new.disk) (λ _ image. StandsFor image s ⊎ StandsFor image (next s)))
+        → GoesOn device old new → Answers device old new command now (Err Device)
+    unfolding next
+    broken new closed failed leaves goes =
+        record {
+          decides = λ q is. absurd cc;
+          untouched = λ q is. absurd cc;
+          refused = λ q is. let here : Device ≡ q = cc in subst (λ (x : Refusal). IsCause device old new command now x) here (free, failed);
+          accepted = tt;
+          generation = tt;
+          leads = λ s holds. subst (λ (t : Source). Leaves (device old.disk) (device new.disk) (λ _ image. StandsFor image s ⊎ StandsFor image t))
+              (sym (after_step s holds)) (leaves s holds);
+          closes = λ _. closed;
+          stays_open = λ is. absurd (is refl);
+          unchanged = λ q is other. let here : q ≡ Device = cc in absurd (other here);
+          goes_on = goes;
+        }
+
+    early_leaves : (t : Source → Source) (s : Source) → Holds device old s → Leaves (device old.disk) (device mid) (λ _ image. StandsFor image s ⊎ StandsFor image (t s))
+    early_leaves t s holds =
+        weaker (device old.disk) (device mid) (λ _ image. StandsFor image s) (λ _ image. StandsFor image s ⊎ StandsFor image (t s)) (λ m image stands. inl stands)
+        (stands_meanwhile old.slots old.contents s (device old.disk) (medium old.disk) holds.ready holds.told (device mid) run)
+
+    pub broken_off : (new : Stored D) → new.disk ≡ mid → new.is_closed ≡ true → HasFailed (device old.disk) (device new.disk)
+        → GoesOn device old new → Answers device old new command now (Err Device)
+    unfolding next
+    broken_off new disk closed failed goes =
+        broken new closed failed
+        (λ s holds. subst (λ (d : D). Leaves (device old.disk) (device d) (λ _ image. StandsFor image s ⊎ StandsFor image (next s))) (sym disk) (early_leaves next s holds))
+        goes
+
+    -- all was written, and the root was to change
+    module _ (there : AreWritten p bytes (device mid).now.seen) (lists : AreLists (once_stored p.contents)) (size : (device mid).size ≡ (device old.disk).size)
+        (root : Root) (root_is : root ≡ planned_root old.slots.root p) where
+      long : length (device mid).now.seen ≡ (device old.disk).size
+      long = (medium mid).image.size ∙ (medium mid).settled ∙ size
+
+      tells_new : (s : Source) → Holds device old s → Tells root (once_stored p.contents) (device mid).now.seen (next s)
+      unfolding next
+      tells_new s holds =
+          let told = told_after old.slots old.contents s (device old.disk) (medium old.disk) holds.ready holds.told (device mid) run
+          (device mid).now.seen (medium mid).image in
+          let there_next = tells_next (device old.disk).size old.slots.root old.contents command (moment_at (state_of device old) now) p bytes (device mid).now.seen s
+          planned body there lists long told in
+          let moment : Tells (planned_root old.slots.root p) (once_stored p.contents) (device mid).now.seen (next_state s command (moment_at s now)) =
+          subst (λ (x : Source). Tells (planned_root old.slots.root p) (once_stored p.contents) (device mid).now.seen (next_state s command (moment_at x now)))
+          (tells_state s holds) there_next in
+          subst (λ (r : Root). Tells r (once_stored p.contents) (device mid).now.seen (next_state s command (moment_at s now))) (sym root_is) moment
+
+      flipped : (one two : List ℕ) → SameBehind one two → SameBehind two one
+      flipped one two same = record { size = sym same.size; bytes = sym same.bytes }
+
+      outcome : (s : Source) → Holds device old s → (image : List ℕ) → OldOrNew (device mid).now old.slots.root root image → StandsFor image s ⊎ StandsFor image (next s)
+      unfolding next
+      outcome s holds image (inl (opens, (e, left, same))) =
+          inl (
+            old.slots.root,
+            opens,
+            (
+              old.contents,
+              tells_behind old.slots.root old.contents e image s (flipped image e same)
+                  (told_after old.slots old.contents s (device old.disk) (medium old.disk) holds.ready holds.told (device mid) run e left),
+            ),
+          )
+      outcome s holds image (inr (opens, same)) =
+          inr (
+            root,
+            opens,
+            (
+              once_stored p.contents,
+              tells_behind root (once_stored p.contents) (device mid).now.seen image (next s)
+                  (flipped image (device mid).now.seen same) (tells_new s holds),
+            ),
+          )
+
+      meanwhile : (last : D) → (IsReady old.slots (device mid).now → Leaves (device mid) (device last) (λ _. OldOrNew (device mid).now old.slots.root root))
+          → (s : Source) → Holds device old s → Leaves (device old.disk) (device last) (λ _ image. StandsFor image s ⊎ StandsFor image (next s))
+      unfolding next
+      meanwhile last any s holds =
+          goes_on (device old.disk) (device mid) (device last) (λ _ image. StandsFor image s ⊎ StandsFor image (next s)) (early_leaves next s holds)
+          (weaker (device mid) (device last) (λ _. OldOrNew (device mid).now old.slots.root root) (λ _ image. StandsFor image s ⊎ StandsFor image (next s))
+          (λ m image left. outcome s holds image left)
+          (any (ready_after old.slots old.contents (device old.disk) (device mid) holds.ready run)))
+
+      pub not_committed : (new : Stored D) → (IsReady old.slots (device mid).now → Leaves (device mid) (device new.disk) (λ _. OldOrNew (device mid).now old.slots.root root))
+          → new.is_closed ≡ true → HasFailed (device old.disk) (device new.disk) → GoesOn device old new → Answers device old new command now (Err Device)
+      not_committed new any closed failed goes = broken new closed failed (meanwhile new.disk any) goes
+
+      pub committed : (new : Stored D) (reply : Reply) (settled : List ℕ)
+          → (IsReady old.slots (device mid).now → Leaves (device mid) (device new.disk) (λ _. OldOrNew (device mid).now old.slots.root root))
+          → new.slots.root ≡ root → new.contents ≡ once_stored p.contents → new.is_closed ≡ old.is_closed
+          → (IsReady old.slots (device mid).now → IsReady new.slots (device new.disk).now)
+          → SameBehind (device new.disk).now.seen (device mid).now.seen → (device new.disk).now ≡ resting settled
+          → reply ≡ reply_to (state_of device old) command (moment_at (state_of device old) now)
+          → GoesOn device old new → Answers device old new command now (Ok reply)
+      unfolding next
+      committed new reply settled any at contents closed ready same rests replied goes =
+          let moment = moment_at (state_of device old) now in
+          let seen = (device mid).now.seen in
+          let last = (device new.disk).now.seen in
+          let state : state_of device new ≡ next_state (state_of device old) command moment =
+          ap (λ (c : Contents). state_in last c) contents
+          ∙ state_behind (device old.disk).size (planned_root old.slots.root p) (once_stored p.contents) seen last planned.whole (flipped last seen same)
+          ∙ state_follows (device old.disk).size old.slots.root old.contents command moment p bytes seen planned body there
+          ∙ ap (λ (s : Source). next_state s command moment) kept_state in
+          let is : refusal_of (state_of device old) command ≡ None = allowed old.is_closed (refusal_of (state_of device old) command) (is_spent old) free in
+          let steps : step (state_of device old) command now ≡ Ok (state_of device new, reply) =
+          stepped (state_of device old) command now is
+          ∙ ap₂ accepting (sym state) (sym replied) in
+          record {
+            decides = λ q other. absurd cc;
+            untouched = λ q other. absurd cc;
+            refused = λ q other. absurd cc;
+            accepted = steps;
+            generation = ap (λ (r : Root). r.generation) (at ∙ root_is);
+            leads = λ s holds.
+                let of : state_of device old ≡ s = tells_state s holds in
+                let t : next s ≡ state_of device new = ap (λ (x : Source). next_state x command (moment_at x now)) (sym of) ∙ sym state in
+                let image_is : (image : List ℕ) → IsImage (device new.disk).now image → image ≡ last =
+                λ image left. resting_image settled image (subst (λ (m : Medium). IsImage m image) rests left) ∙ sym (ap (λ (m : Medium). m.seen) rests) in
+                let told : Tells new.slots.root new.contents last (state_of device new) =
+                subst (λ (x : Source). Tells new.slots.root new.contents last x) t
+                (subst (λ (r : Root). Tells r new.contents last (next s)) (sym at)
+                (subst (λ (c : Contents). Tells root c last (next s)) (sym contents)
+                (tells_behind root (once_stored p.contents) seen last (next s) (flipped last seen same) (tells_new s holds)))) in (
+                  state_of device new,
+                  subst (λ (x : Source). step x command now ≡ Ok (state_of device new, reply)) of steps,
+                  record {
+                    is_open = closed ∙ holds.is_open;
+                    ready = ready (ready_after old.slots old.contents (device old.disk) (device mid) holds.ready run);
+                    told = λ image left. subst (λ (l : List ℕ). Tells new.slots.root new.contents l (state_of device new)) (sym (image_is image left)) told;
+                  },
+                  subst (λ (x : Source). Leaves (device old.disk) (device new.disk) (λ _ image. StandsFor image s ⊎ StandsFor image x)) t (meanwhile new.disk any s holds),
+                );
+            closes = λ other. absurd cc;
+            stays_open = λ _. closed;
+            unchanged = λ q other. absurd cc;
+            goes_on = goes;
+          }
+
+-- what the end of a command promises, whatever command a plan is of
+abbrev pub Promised : {D : Type 0} → (D → DiskState) → List ℕ → Plan → Reply → Stored D → Result Reply Refusal → Stored D → Type 0
+Promised device bytes p reply new result old =
+    (command : Command) (now : ℕ) → decided old (state_of device old) command ≡ None → body_of_command command ≡ bytes
+    → IsPlanned (device old.disk).size old.slots.root old.contents command (moment_at (state_of device old) now) p
+    → reply ≡ reply_to (state_of device old) command (moment_at (state_of device old) now)
+    → Answers device old new command now result
+
+-- what is said of the parts of an opened source is said of the source
+pub of_source : {D : Type 0} (P : ℕ → Root → Contents → ℕ → Type 0) (device : D → DiskState) (opened old : Stored D) → opened ≡ old
+    → (size : ℕ) (root : Root) (moment at : ℕ) → size ≡ (device opened.disk).size → root ≡ opened.slots.root → moment ≡ at
+    → P size root opened.contents moment → P (device old.disk).size old.slots.root old.contents at
+of_source {D} P device opened old same size root moment at one two three given =
+    subst (λ (s : Stored D). P (device s.disk).size s.slots.root s.contents at) same
+    (subst (λ (n : ℕ). P n opened.slots.root opened.contents at) one
+    (subst (λ (r : Root). P size r opened.contents at) two (subst (λ (m : ℕ). P size root opened.contents m) three given)))

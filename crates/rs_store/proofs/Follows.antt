@@ -1,0 +1,138 @@
+-- What stands after all of a plan is written: the next root tells the next state.
+use Rattle.std.proofs.Common.{true≢false, ◌≡◌, ◌⊎◌, inl, inr, ⊎_elim, ℕ, ◌≤◌, Bool, true, false, List, [], ◌∷◌, ◌++◌, map, filter, length, refl, sym, ◌∙◌, ap, ap₂, subst, arith, Option, Some, None}
+use Rattle.std.specs.Prelude.{All, IfSome, is_some}
+use Rattle.std.proofs.lemmas.List.Elements.{All-nil, All-cons, All-head, All-tail, All-filter}
+use Rattle.rs_body.specs.Blocks.{part}
+use Rattle.rs_commit.specs.declared.root.Root.{Root}
+use Rattle.rs_record.specs.declared.record.Record.{Record}
+use Rattle.rs_record.specs.declared.change.Change.{Change}
+use Rattle.rs_model.specs.State.{Source}
+use Rattle.rs_model.specs.Step.{next_state}
+use Rattle.rs_model.specs.declared.command.Command.{Command}
+use Rattle.rs_model.specs.declared.command.Command.TheVariants.{Put, Delete, Publish}
+use Rattle.rs_page.specs.declared.place.PageRef.{PageRef}
+use Rattle.rs_page.specs.Format.{ItemFormat}
+use Rattle.rs_page.specs.Items.{record_format, change_format}
+use Rattle.rs_page.specs.Sheets.{Sheet, IsStored, stored_ref, stored_refs, stored, items_of}
+use Rattle.rs_page.specs.Pages.{IsPage, Stands}
+use Rattle.rs_page.specs.Kept.{IsSublist, stored_sheets, KeepsPages}
+use Rattle.rs_page.proofs.Standing.{written_stand, standing_are_pages, pages_stand}
+use Rattle.rs_catalogue.specs.Catalogue.{AreHeld, IsCatalogue, HoldsCatalogue}
+use Rattle.rs_catalogue.proofs.Joined.{joined, fewer_refs}
+use Rattle.rs_changes.specs.History.{AreKept, IsHistory, HoldsHistory}
+use Rattle.rs_changes.proofs.Joined.{joined as joined_changes, fewer_refs as fewer_changes}
+use Rattle.rs_image.specs.declared.contents.Contents.{Contents}
+use Rattle.rs_image.specs.Whole.{IsWhole}
+use Rattle.rs_image.specs.Tells.{Tells, state_in, held_in}
+use Rattle.rs_plan.specs.declared.plan.Plan.{Plan}
+use Rattle.rs_plan.specs.Plans.{body_of_command, ArePagesAfter, once_stored, planned_root, IsPlanned, AreWritten}
+use Rattle.rs_store.specs.Writing.{AreLists}
+
+-- what holds of a list holds of each part of it, ..
+all_sub : {A : Type 0} (P : A → Type 0) (xs ys : List A) → All P ys → IsSublist xs ys → All P xs
+all_sub P [] ys all sub = All-nil P
+all_sub P (x ∷ xs) [] all sub = absurd sub
+all_sub P (x ∷ xs) (y ∷ ys) all (inl (same, rest)) =
+    All-cons P x xs (subst P (sym same) (All-head P y ys all)) (all_sub P xs ys (All-tail P y ys all) rest)
+all_sub P (x ∷ xs) (y ∷ ys) all (inr rest) = all_sub P (x ∷ xs) ys (All-tail P y ys all) rest
+
+-- .. and of all of it where it holds of what a test passes, and of what it does not
+true_or_false : (b : Bool) → (b ≡ true) ⊎ (b ≡ false)
+true_or_false true = inl refl
+true_or_false false = inr refl
+
+passed : {A : Type 0} (q : A → Bool) (x : A) (xs : List A) → q x ≡ true → filter q (x ∷ xs) ≡ x ∷ filter q xs
+passed q x xs is = rw is
+
+left_out : {A : Type 0} (q : A → Bool) (x : A) (xs : List A) → q x ≡ false → filter q (x ∷ xs) ≡ filter q xs
+left_out q x xs is = rw is
+
+all_from : {A : Type 0} (P : A → Type 0) (q : A → Bool) → ((x : A) → q x ≡ false → P x) → (xs : List A) → All P (filter q xs) → All P xs
+all_from P q others [] all = All-nil P
+all_from {A} P q others (x ∷ xs) all = ⊎_elim
+    (λ is. let same : All P (x ∷ filter q xs) = subst (λ (l : List A). All P l) (passed q x xs is) all in
+    All-cons P x xs (All-head P x (filter q xs) same) (all_from P q others xs (All-tail P x (filter q xs) same)))
+    (λ is. let same : All P (filter q xs) = subst (λ (l : List A). All P l) (left_out q x xs is) all in
+    All-cons P x xs (others x is) (all_from P q others xs same))
+    (true_or_false (q x))
+
+nothing : {A : Type 0} (P : A → Type 0) (o : Option A) → is_some o ≡ false → IfSome o P
+nothing P None is = tt
+nothing P (Some x) is = absurd (true≢false is)
+
+-- Pages that were kept stand where the old ones do.
+kept_stand : {T : Type 0} (format : ItemFormat T) (old new : List (Sheet T)) (image : List ℕ) → KeepsPages old new
+    → All (Stands format image) old → All (Stands format image) new
+kept_stand {T} format old new image kept stand =
+    all_from (Stands format image) (λ sheet. is_some (stored_ref sheet.place))
+    (λ sheet is. nothing (λ (ref : PageRef). IsPage format ref image sheet.items) (stored_ref sheet.place) is) new
+    (all_sub (Stands format image) (stored_sheets new) (stored_sheets old)
+    (All-filter (λ sheet. is_some (stored_ref sheet.place)) (Stands format image) old stand) kept)
+
+-- Once they are stored, pages have the same items.
+items_stored : {T : Type 0} (format : ItemFormat T) (sheets : List (Sheet T)) → items_of (stored format sheets) ≡ items_of sheets
+items_stored format [] = refl
+items_stored format (sheet ∷ sheets) = ap (λ items. sheet.items ++ items) (items_stored format sheets)
+
+once_state : (image : List ℕ) (c : Contents) → state_in image (once_stored c) ≡ state_in image c
+once_state image c =
+    ap₂ (λ (records : List Record) (changes : List Change). record (state_in image c) { held = map (held_in image) records; changes = changes })
+    (items_stored record_format c.catalogue) (items_stored change_format c.history)
+
+-- The lists are on the disk as what was kept of the old ones and what was written.
+held_catalogue : (sheets : List (Sheet Record)) (image : List ℕ) → IsCatalogue sheets → length sheets ≤ 1 → All IsStored sheets
+    → All (Stands record_format image) sheets → HoldsCatalogue (stored_refs sheets) image (map (λ sheet. sheet.items) sheets)
+held_catalogue sheets image is one all stand =
+    record {
+      hold = standing_are_pages record_format sheets image all stand;
+      held = subst AreHeld (sym (joined sheets)) is.held;
+      one = omega (arith, fewer_refs sheets);
+    }
+
+held_history : (sheets : List (Sheet Change)) (image : List ℕ) → IsHistory sheets → length sheets ≤ 1 → All IsStored sheets
+    → All (Stands change_format image) sheets → HoldsHistory (stored_refs sheets) image (map (λ sheet. sheet.items) sheets)
+held_history sheets image is one all stand =
+    record {
+      hold = standing_are_pages change_format sheets image all stand;
+      kept = subst AreKept (sym (joined_changes sheets)) is.kept;
+      one = omega (arith, fewer_changes sheets);
+    }
+
+abbrev HoldsSheets : List (Sheet Record) → List ℕ → Type 0
+HoldsSheets sheets image = HoldsCatalogue (stored_refs sheets) image (map (λ sheet. sheet.items) sheets)
+
+held_published : (command : Command) (old c : Contents) (image : List ℕ) → ArePagesAfter old command c → HoldsSheets old.catalogue image → HoldsSheets old.published image
+    → HoldsSheets c.published image
+held_published (Put name kind bytes) old c image after catalogue published = subst (λ (l : List (Sheet Record)). HoldsSheets l image) (sym after.2) published
+held_published (Delete name) old c image after catalogue published = subst (λ (l : List (Sheet Record)). HoldsSheets l image) (sym after.2) published
+held_published Publish old c image after catalogue published = subst (λ (l : List (Sheet Record)). HoldsSheets l image) (sym after.2) catalogue
+
+-- The state of the lists is the next one, where the body stands.
+pub state_follows : (size : ℕ) (root : Root) (old : Contents) (command : Command) (moment : ℕ) (p : Plan) (bytes image : List ℕ)
+    → IsPlanned size root old command moment p → body_of_command command ≡ bytes → AreWritten p bytes image
+    → state_in image (once_stored p.contents) ≡ next_state (state_in image old) command moment
+state_follows size root old command moment p bytes image planned body there =
+    let stands : part p.body (length (body_of_command command)) image ≡ body_of_command command =
+    subst (λ (l : List ℕ). part p.body (length l) image ≡ l) (sym body) there.body in
+    once_state image p.contents ∙ planned.next.turns image stands
+
+pub tells_next : (size : ℕ) (root : Root) (old : Contents) (command : Command) (moment : ℕ) (p : Plan) (bytes image : List ℕ) (s : Source)
+    → IsPlanned size root old command moment p → body_of_command command ≡ bytes → AreWritten p bytes image → AreLists (once_stored p.contents)
+    → length image ≡ size → Tells root old image s
+    → Tells (planned_root root p) (once_stored p.contents) image (next_state s command moment)
+tells_next size root old command moment p bytes image s planned body there lists long told =
+    let c = p.contents in
+    let records : All (Stands record_format image) old.catalogue = pages_stand record_format old.catalogue image told.whole.catalogue told.catalogue.hold in
+    let changes : All (Stands change_format image) old.history = pages_stand change_format old.history image told.whole.history told.history.hold in
+    record {
+      listable = planned.listable;
+      directory = there.directory;
+      digest = refl;
+      catalogue = held_catalogue (stored record_format c.catalogue) image lists.catalogue lists.one_catalogue_page planned.whole.catalogue
+          (written_stand record_format c.catalogue image (kept_stand record_format old.catalogue c.catalogue image planned.next.catalogue records) there.catalogue);
+      history = held_history (stored change_format c.history) image lists.history lists.one_history_page planned.whole.history
+          (written_stand change_format c.history image (kept_stand change_format old.history c.history image planned.next.history changes) there.history);
+      published = held_published command old c image planned.next.pages told.catalogue told.published;
+      whole = subst (λ (n : ℕ). IsWhole n (planned_root root p) (once_stored c)) (sym long) planned.whole;
+      state = state_follows size root old command moment p bytes image planned body there ∙ ap (λ (t : Source). next_state t command moment) told.state;
+    }

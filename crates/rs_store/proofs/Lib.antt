@@ -1,0 +1,10 @@
+pub mod Places
+pub mod Written
+pub mod Bounds
+pub mod Stays
+pub mod Follows
+pub mod Answered
+pub mod Lookups
+pub mod Opened
+pub mod Found
+pub mod Started

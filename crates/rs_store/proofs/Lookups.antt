@@ -1,0 +1,27 @@
+-- A name is held where a record has it.
+use Rattle.std.proofs.Common.{◌≡◌, ℕ, List, [], ◌∷◌, map, refl, ◌∙◌, ap, Option, Some, None}
+use Rattle.std.specs.Prelude.{is_some, is_none, not, option_map}
+use Rattle.rs_record.specs.declared.record.Record.{Record}
+use Rattle.rs_model.specs.declared.value.Held.{Held}
+use Rattle.rs_model.specs.Names.{Names, value_of, map_values}
+use Rattle.rs_catalogue.specs.Named.{named}
+use Rattle.rs_catalogue.proofs.Shown.{value-map_values}
+use Rattle.rs_image.specs.Tells.{held_in}
+
+shown : (image : List ℕ) (records : List Record) → map (held_in image) records ≡ map_values (λ r. (held_in image r).1) (named records)
+shown image [] = refl
+shown image (r ∷ records) = ap (λ (l : Names Held). held_in image r ∷ l) (shown image records)
+
+mapped : {A B : Type 0} (f : A → B) (o : Option A) → is_some (option_map f o) ≡ is_some o
+mapped f None = refl
+mapped f (Some x) = refl
+
+pub lacking : {A : Type 0} (o : Option A) → is_none o ≡ not (is_some o)
+lacking None = refl
+lacking (Some x) = refl
+
+pub held_found : (image name : List ℕ) (records : List Record) → is_some (value_of name (map (held_in image) records)) ≡ is_some (value_of name (named records))
+held_found image name records =
+    ap (λ (m : Names Held). is_some (value_of name m)) (shown image records)
+    ∙ ap is_some (value-map_values (λ (r : Record). (held_in image r).1) name (named records))
+    ∙ mapped (λ (r : Record). (held_in image r).1) (value_of name (named records))

@@ -1,0 +1,86 @@
+-- What an opening finds: where no state is stood for, and when a source holds what its lists tell.
+use Rattle.std.proofs.Common.{◌≡◌, ◌≤◌, ◌<◌, ℕ, false, List, ◌∷◌, Some, length, sym, ◌∙◌, ap, subst, refl, arith}
+use Rattle.std.proofs.lemmas.List.{length-append, length-take}
+use Rattle.rs_extent.specs.declared.Extent.{Extent}
+use Rattle.rs_disk.specs.Medium.{Medium, DiskState, IsImage, resting}
+use Rattle.rs_disk.proofs.Images.{resting_image}
+use Rattle.rs_body.specs.Blocks.{part, IsSized}
+use Rattle.rs_body.proofs.Sets.{within_true, some_first}
+use Rattle.rs_commit.specs.declared.root.Root.{Root}
+use Rattle.rs_commit.specs.Slots.{Standing, current}
+use Rattle.rs_commit.specs.Commit.{IsReady}
+use Rattle.rs_model.specs.State.{Source}
+use Rattle.rs_image.specs.declared.contents.Contents.{Contents}
+use Rattle.rs_image.specs.Reach.{AreInside}
+use Rattle.rs_image.specs.Tells.{Tells, StandsFor, listing, state_in}
+use Rattle.rs_page.specs.declared.page.load.LoadFault.{LoadFault}
+use Rattle.rs_page.specs.declared.page.load.LoadFault.TheVariants as lists
+use Rattle.rs_store.specs.declared.opening.OpenFault.TheVariants.{Damaged}
+use Rattle.rs_store.specs.Opening.{of_lists}
+use Rattle.rs_store.specs.Source.{Holds}
+
+-- a directory has bytes
+pub some_bytes : (c : Contents) → 2 ≤ length (listing c)
+some_bytes c = simp length-append (omega arith)
+
+-- where a directory lies, a disk has more than the slots
+has_room : (size n : ℕ) (e : Extent) (es : List Extent) → IsSized e n → 1 ≤ n → AreInside size (e ∷ es) → 1024 ≤ size
+has_room size n e es sized some inside =
+    let one : 1 ≤ e.blocks = omega (arith, sized.0) in
+    let first = inside e.first (some_first e es e.first (within_true e e.first (omega arith) (omega arith))) in
+    omega (arith, first.0, first.1)
+
+-- a disk of which something is told has room for the slots
+pub told_room : (root : Root) (c : Contents) (image : List ℕ) (s : Source) → Tells root c image s → 1024 ≤ length image
+told_room root c image s told =
+    let same : length (part root.directory root.length image) ≡ length (listing c) = ap length told.directory in
+    let some : 1 ≤ root.length = omega (arith, same, some_bytes c, length-take {A = ℕ}) in
+    has_room (length image) root.length root.directory _ told.whole.directory some told.whole.inside
+
+-- so where there is none, no state is stood for
+pub small_tells_nothing : (image : List ℕ) → length image < 1024 → (s : Source) → StandsFor image s → ⊥
+small_tells_nothing image small s stands =
+    absurd (omega (arith, told_room stands.0 stands.2.0 image s stands.2.1))
+
+some_same : (a b : Standing) → Some a ≡ Some b → a ≡ b
+some_same a b e = cc
+
+-- where the root of the slots tells nothing, no state is stood for
+pub untold_stands_for_nothing : (image : List ℕ) (slots : Standing) (root : Root) → current image ≡ Some slots → slots.root ≡ root
+    → ((c : Contents) (s : Source) → Tells root c image s → ⊥) → (s : Source) → StandsFor image s → ⊥
+untold_stands_for_nothing image slots root stand is untold s stands =
+    let there = stands.1 in
+    let same : there.0 ≡ slots = some_same there.0 slots (sym there.1 ∙ stand) in
+    let root_same : stands.0 ≡ root = sym there.2 ∙ ap (λ (x : Standing). x.root) same ∙ is in
+    untold stands.2.0 s (subst (λ (r : Root). Tells r stands.2.0 image s) root_same stands.2.1)
+
+-- What a source holds whose disk rests and whose lists are told.
+pub holds_told : {D : Type 0} (device : D → DiskState) (disk : D) (slots : Standing) (c : Contents) (seen : List ℕ)
+    → IsReady slots (device disk).now → (device disk).now ≡ resting seen → Tells slots.root c seen (state_in seen c)
+    → Holds device (record { disk = disk; slots = slots; contents = c; is_closed = false }) (state_in (device disk).now.seen c)
+holds_told device disk slots c seen ready rests told =
+    let same : (device disk).now.seen ≡ seen = ap (λ (m : Medium). m.seen) rests in
+    let state : state_in seen c ≡ state_in (device disk).now.seen c = ap (λ (l : List ℕ). state_in l c) (sym same) in
+    record {
+      is_open = refl;
+      ready = ready;
+      told = λ image is.
+          let there : image ≡ seen = resting_image seen image (subst (λ (m : Medium). IsImage m image) rests is) in
+          subst (λ (l : List ℕ). Tells slots.root c l (state_in (device disk).now.seen c)) (sym there)
+          (subst (λ (s : Source). Tells slots.root c seen s) state told);
+    }
+
+-- what stands for the state that is told
+pub stands_told : {D : Type 0} (device : D → DiskState) (disk : D) (slots : Standing) (c : Contents) (seen : List ℕ)
+    → (device disk).now ≡ resting seen → current seen ≡ Some slots → Tells slots.root c seen (state_in seen c)
+    → StandsFor seen (state_in (device disk).now.seen c)
+stands_told device disk slots c seen rests stand told =
+    let same : (device disk).now.seen ≡ seen = ap (λ (m : Medium). m.seen) rests in
+    let state : state_in seen c ≡ state_in (device disk).now.seen c = ap (λ (l : List ℕ). state_in l c) (sym same) in
+    (slots.root, (slots, stand, refl), (c, subst (λ (s : Source). Tells slots.root c seen s) state told))
+
+-- a fault of the lists is answered as Damaged where it is that alone
+pub damaged_lists : (fault : LoadFault) → of_lists fault ≡ Damaged → fault ≡ lists.Damaged
+damaged_lists lists.Damaged e = refl
+damaged_lists lists.Device e = cc
+damaged_lists lists.NoMemory e = cc

@@ -1,0 +1,123 @@
+-- What was just formatted tells the state of a source at its start.
+use Rattle.std.proofs.Common.{◌≡◌, ◌≤◌, ◌<◌, ◌*◌, ℕ, false, true, List, [], ◌∷◌, Result, Ok, Err, length, take, drop, sym, ◌∙◌, ap, subst, refl, arith, ⊎_elim}
+use Rattle.std.specs.Prelude.{OnOk}
+use Rattle.std.proofs.lemmas.Bool.{false≢true}
+use Rattle.std.proofs.lemmas.List.Elements.{All-nil}
+use Rattle.rs_extent.specs.declared.Extent.{Extent}
+use Rattle.rs_disk.specs.Medium.{Medium, DiskState, IsImage, resting}
+use Rattle.rs_disk.proofs.Images.{resting_image}
+use Rattle.rs_body.specs.Blocks.{part, blocks_of, in_some}
+use Rattle.rs_body.proofs.Sets.{within_is, some_split}
+use Rattle.rs_commit.specs.Commit.{SameBehind, IsReady}
+use Rattle.rs_commit.specs.Format.{fresh}
+use Rattle.rs_commit.specs.declared.root.Root.{Root}
+use Rattle.rs_commit.specs.Slots.{Standing}
+use Rattle.rs_record.specs.declared.record.Record.{Record}
+use Rattle.rs_record.specs.declared.change.Change.{Change}
+use Rattle.rs_page.specs.Sheets.{Sheet}
+use Rattle.rs_directory.specs.declared.header.Header.{Header}
+use Rattle.rs_image.specs.declared.contents.Contents.{Contents}
+use Rattle.rs_model.specs.State.{start_of}
+use Rattle.rs_page.specs.Sheets.{IsStored}
+use Rattle.rs_directory.specs.Directory.{IsLawfulHeader, IsLawfulRef}
+use Rattle.rs_image.specs.Reach.{blocks_of_disk}
+use Rattle.rs_image.specs.Whole.{IsWhole, IsSoundRecord, IsSoundChange}
+use Rattle.rs_image.specs.Tells.{Tells, listing}
+use Rattle.rs_store.specs.Source.{Holds}
+use Rattle.rs_store.specs.declared.formatting.Blank.{Blank}
+use Rattle.rs_store.specs.Formatting.{first_header, first_contents, first_root, IsBlank}
+use Rattle.rs_store.proofs.Opened.{some_bytes}
+
+-- what a call leaves either way
+pub either_way : {T E P : Type 0} (r : Result T E) → P → OnOk r P
+either_way (Ok x) p = p
+either_way (Err e) p = tt
+
+-- what lies from block 2 on is behind the slots
+pub part_behind : (e : Extent) (n : ℕ) (one two : List ℕ) → e.first ≡ 2 → SameBehind one two → part e n one ≡ part e n two
+part_behind e n one two is same =
+    ap (λ (k : ℕ). take n (drop (512 * k) one)) is ∙ ap (λ (l : List ℕ). take n l) same.bytes ∙ sym (ap (λ (k : ℕ). take n (drop (512 * k) two)) is)
+
+one_block : (e : Extent) (n size b : ℕ) → e.first ≡ 2 → e.blocks ≡ blocks_of n → n ≤ 512 → 16 ≤ blocks_of_disk size → in_some (e ∷ []) b ≡ true → (2 ≤ b) × (b < blocks_of_disk size)
+one_block e n size b first blocks small room is =
+    ⊎_elim (λ there. let at = within_is e b there in (omega (arith, at.0), omega (arith, at.1))) (λ none. absurd (false≢true none)) (some_split e [] b is)
+
+-- what the root of a formatting reaches keeps all rules
+pub first_whole : (base : List ℕ) (limit moment size : ℕ) → length (listing (first_contents base limit moment)) ≤ 512 → 16 ≤ blocks_of_disk size
+    → IsWhole size (first_root (first_contents base limit moment)) (first_contents base limit moment)
+first_whole base limit moment size small room =
+    let c = first_contents base limit moment in
+    let h = first_header base limit moment in
+    record {
+      catalogue = All-nil IsStored;
+      history = All-nil IsStored;
+      published = All-nil IsStored;
+      moments = record { start = omega arith; at = omega arith; last = refl };
+      records = All-nil (IsSoundRecord moment moment);
+      changes = All-nil (IsSoundChange moment moment);
+      listed = All-nil (IsSoundRecord moment moment);
+      directory = (refl, λ none. absurd (omega (arith, some_bytes c)));
+      apart = (λ b is. refl, tt);
+      inside = λ b is. one_block (first_root c).directory (length (listing c)) size b refl refl small room is;
+    }
+
+-- where its directory stands, its lists are told, and they are those of a source at its start
+pub first_told : (base : List ℕ) (limit moment : ℕ) (image : List ℕ) → IsLawfulHeader (first_header base limit moment)
+    → length (listing (first_contents base limit moment)) ≤ 512 → 16 ≤ blocks_of_disk (length image)
+    → part (first_root (first_contents base limit moment)).directory (length (listing (first_contents base limit moment))) image ≡ listing (first_contents base limit moment)
+    → Tells (first_root (first_contents base limit moment)) (first_contents base limit moment) image (start_of base limit moment)
+first_told base limit moment image lawful small room reads =
+    record {
+      listable = record {
+        header = lawful;
+        catalogue = record { each = All-nil IsLawfulRef; count = omega arith };
+        history = record { each = All-nil IsLawfulRef; count = omega arith };
+        published = record { each = All-nil IsLawfulRef; count = omega arith };
+      };
+      directory = reads;
+      digest = refl;
+      catalogue = record { hold = tt; held = record { ordered = refl; room = omega arith }; one = omega arith };
+      history = record { hold = tt; kept = record { rising = refl; room = omega arith }; one = omega arith };
+      published = record { hold = tt; held = record { ordered = refl; room = omega arith }; one = omega arith };
+      whole = first_whole base limit moment (length image) small room;
+      state = refl;
+    }
+
+-- the lists of a formatting, from their parts
+pub made_contents : (base : List ℕ) (limit moment : ℕ) (h : Header) (a : List (Sheet Record)) (b : List (Sheet Change)) (p : List (Sheet Record))
+    → h ≡ first_header base limit moment → a ≡ [] → b ≡ [] → p ≡ []
+    → record { header = h; catalogue = a; history = b; published = p } ≡ first_contents base limit moment
+made_contents base limit moment h a b p e f g k = λ i. record { header = e i; catalogue = f i; history = g i; published = k i }
+
+-- the same of whatever is what a formatting writes
+told_of : (base : List ℕ) (limit moment : ℕ) (image : List ℕ) → 16 ≤ blocks_of_disk (length image) → (c : Contents) → c ≡ first_contents base limit moment
+    → (root : Root) → root ≡ first_root c → IsLawfulHeader c.header → length (listing c) ≤ 512 → part root.directory (length (listing c)) image ≡ listing c
+    → Tells root c image (start_of base limit moment)
+told_of base limit moment image room c e =
+    let P : Contents → Type 0 = λ c. (root : Root) → root ≡ first_root c → IsLawfulHeader c.header → length (listing c) ≤ 512
+    → part root.directory (length (listing c)) image ≡ listing c → Tells root c image (start_of base limit moment) in
+    let first = first_contents base limit moment in
+    subst P (sym e)
+    (λ root f lawful small.
+    let Q : Root → Type 0 = λ r. part r.directory (length (listing first)) image ≡ listing first → Tells r first image (start_of base limit moment) in
+    subst Q (sym f) (λ reads. first_told base limit moment image lawful small room reads))
+
+-- What a source holds that was just formatted.
+pub first_holds : {D : Type 0} (device : D → DiskState) (disk : D) (slots : Standing) (base : List ℕ) (limit moment : ℕ) (b : Blank)
+    → IsBlank base limit moment b → slots ≡ fresh b.root → IsReady (fresh b.root) (device disk).now → (device disk).now ≡ resting (device disk).now.seen
+    → part b.root.directory (length b.directory.items) (device disk).now.seen ≡ b.directory.items → 16 ≤ blocks_of_disk (length (device disk).now.seen)
+    → Holds device (record { disk = disk; slots = slots; contents = b.contents; is_closed = false }) (start_of base limit moment)
+first_holds device disk slots base limit moment b is made ready rests reads room =
+    let seen = (device disk).now.seen in
+    let stands : part b.root.directory (length (listing b.contents)) seen ≡ listing b.contents =
+    subst (λ (l : List ℕ). part b.root.directory (length l) seen ≡ l) is.directory reads in
+    let told : Tells b.root b.contents seen (start_of base limit moment) =
+    told_of base limit moment seen room b.contents is.contents b.root is.root is.lawful is.small stands in
+    record {
+      is_open = refl;
+      ready = subst (λ (s : Standing). IsReady s (device disk).now) (sym made) ready;
+      told = λ image at.
+          let there : image ≡ seen = resting_image seen image (subst (λ (m : Medium). IsImage m image) rests at) in
+          subst (λ (s : Standing). Tells s.root b.contents image (start_of base limit moment)) (sym made)
+          (subst (λ (l : List ℕ). Tells b.root b.contents l (start_of base limit moment)) (sym there) told);
+    }

@@ -1,0 +1,107 @@
+use Rattle.std.proofs.Common.{arith, ◌≡◌, inl, inr, ◌≤◌, ℕ, true, List, length, refl, ◌∙◌, ap, subst, Result, Ok, Err, IsErrOf}
+use Rattle.rs_disk.specs.Medium.{DiskState}
+use Rattle.rs_disk.specs.Leaves.{Runs}
+use Rattle.rs_extent.specs.declared.Extent.{Extent}
+use Rattle.rs_commit.specs.declared.root.Root.{Root}
+use Rattle.rs_commit.specs.declared.faults.CommitFault.{CommitFault}
+use Rattle.rs_commit.specs.declared.faults.CommitFault.TheVariants.{Device as Failed, Exhausted as Spent}
+use Rattle.rs_commit.specs.Slots.{other}
+use Rattle.rs_commit.specs.Commit.{next, with_root, device_in_commit}
+use Rattle.rs_image.specs.declared.contents.Contents.{Contents}
+use Rattle.rs_image.specs.Reach.{is_kept}
+use Rattle.rs_store.specs.declared.refusal.Refusal.TheVariants.{Device, NoMemory}
+use Rattle.rs_store.specs.declared.writing.WriteFault.{WriteFault}
+use Rattle.rs_store.specs.declared.writing.Written.{Written}
+use Rattle.rs_store.specs.Source.{Stored}
+use Rattle.rs_store.specs.Refusals.{HasFailed}
+use Rattle.rs_plan.specs.Plans.{once_stored, planned_root, planned_listing}
+use Rattle.rs_plan.specs.declared.plan.Plan.{Plan}
+use Rattle.rs_store.specs.Writing.{IsDigestOf, AreLists}
+use Rattle.rs_store.proofs.Answered.{Promised, stopped, broken_off, not_committed, committed}
+use Rattle.rs_store.proofs.source.Source.finish.Goals as goal
+
+same_root : (r : Root) (p : Plan) (directory : Extent) (w : Written) → directory ≡ p.directory → IsDigestOf (once_stored p.contents) w
+    → next r directory w.length w.sha256 ≡ planned_root r p
+same_root r p directory w is digest =
+    ap (λ (d : Extent). next r d w.length w.sha256) is ∙ ap (λ (n : ℕ). next r p.directory n w.sha256) digest.len
+    ∙ ap (λ (h : List ℕ). next r p.directory (length (planned_listing p)) h) digest.sha256
+
+commit_failed : (old mid new : DiskState) (result : Result (Unit {0}) CommitFault) (fault : CommitFault) → result ≡ Err fault → (IsErrOf result Spent → ⊥)
+    → old.faults ≤ mid.faults → Runs mid new (device_in_commit result) → HasFailed old new
+commit_failed old mid new (Ok x) fault is spare le runs = absurd cc
+commit_failed old mid new (Err Spent) fault is spare le runs = absurd (spare refl)
+commit_failed old mid new (Err Failed) fault is spare le runs = elim runs.cause [ inl more ↦ inl (omega (arith, more, le)) | inr last ↦ inr last ]
+
+pub returns-in-Err-NoMemory : goal.returns-in-Err-NoMemory
+returns-in-Err-NoMemory g c =
+    let device = g.D.Disk.state in
+    let o : Stored g.row.D.Denot = record { disk = c.self.inside.disk; slots = c.self.inside.slots; contents = c.self.inside.contents; is_closed = c.self.inside.is_closed } in
+    let new : Stored g.row.D.Denot = record { disk = c.write_plan.new.disk; slots = c.self.inside.slots; contents = c.self.inside.contents; is_closed = c.self.inside.is_closed } in
+    subst (Promised device c.args.bytes.now c.args.plan c.args.reply new (Err NoMemory)) c.self.view_is
+    (λ command now free body planned replied.
+    stopped device g.met.D.Disk.holds o command now c.args.plan c.args.bytes.now c.self.invariant.whole free body planned c.write_plan.new.disk
+    (c.write_plan.ensures.outside (is_kept o.slots.root o.contents) planned.free)
+    (record { size = c.write_plan.ensures.size; keeps = c.write_plan.ensures.keeps; calls = c.write_plan.ensures.calls; faults = c.write_plan.ensures.faults }))
+
+pub returns-in-Err-Device : goal.returns-in-Err-Device
+returns-in-Err-Device g c =
+    let device = g.D.Disk.state in
+    let o : Stored g.row.D.Denot = record { disk = c.self.inside.disk; slots = c.self.inside.slots; contents = c.self.inside.contents; is_closed = c.self.inside.is_closed } in
+    let new : Stored g.row.D.Denot = record { disk = c.write_plan.new.disk; slots = c.self.inside.slots; contents = c.self.inside.contents; is_closed = true } in
+    subst (Promised device c.args.bytes.now c.args.plan c.args.reply new (Err Device)) c.self.view_is
+    (λ command now free body planned replied.
+    broken_off device g.met.D.Disk.holds o command now c.args.plan c.args.bytes.now c.self.invariant.whole free body planned c.write_plan.new.disk
+    (c.write_plan.ensures.outside (is_kept o.slots.root o.contents) planned.free) new refl refl
+    (c.write_plan.ensures.device (subst (λ (x : WriteFault). c.write_plan.result ≡ Err x) c.in-Err-Device.field-0-is c.in-Err-Device.is))
+    (record { size = c.write_plan.ensures.size; keeps = c.write_plan.ensures.keeps; calls = c.write_plan.ensures.calls; faults = c.write_plan.ensures.faults }))
+
+pub returns : goal.returns
+returns g c =
+    let device = g.D.Disk.state in
+    let o : Stored g.row.D.Denot = record { disk = c.self.inside.disk; slots = c.self.inside.slots; contents = c.self.inside.contents; is_closed = c.self.inside.is_closed } in
+    let new : Stored g.row.D.Denot =
+    record { disk = c.commit-committed.new.disk; slots = c.commit-committed.new.self; contents = c.write_plan.new.plan.contents; is_closed = c.self.inside.is_closed } in
+    let p = c.args.plan in
+    let root : Root = next o.slots.root c.write_plan.new.plan.directory c.in-Ok.written.length c.in-Ok.written.sha256 in
+    let root_is : root ≡ planned_root o.slots.root p = same_root o.slots.root p c.write_plan.new.plan.directory c.in-Ok.written c.write_plan.ensures.places.1 c.in-Ok.ensures.written in
+    let lists : AreLists (once_stored p.contents) = subst (λ (l : Contents). AreLists l) c.in-Ok.ensures.contents c.in-Ok.ensures.lists in
+    subst (Promised device c.args.bytes.now c.args.plan c.args.reply new (Ok c.args.reply)) c.self.view_is
+    (λ command now free body planned replied.
+    committed device g.met.D.Disk.holds o command now p c.args.bytes.now c.self.invariant.whole free body planned c.write_plan.new.disk
+    (c.write_plan.ensures.outside (is_kept o.slots.root o.contents) planned.free)
+    c.in-Ok.ensures.reads lists c.write_plan.ensures.size root root_is new c.args.reply
+    (with_root (device c.write_plan.new.disk).now.seen (other c.self.inside.slots.slot) c.commit-committed.new.self.root)
+    c.commit-committed.ensures.any_moment c.in-Ok-committed.ensures.root c.in-Ok.ensures.contents refl
+    c.in-Ok-committed.ensures.ready c.commit-committed.ensures.outside c.in-Ok-committed.ensures.written replied
+    (record {
+      size = c.commit-committed.ensures.runs.size ∙ c.write_plan.ensures.size;
+      keeps = c.commit-committed.ensures.keeps ∙ c.write_plan.ensures.keeps;
+      calls = omega (arith, c.commit-committed.ensures.runs.calls, c.write_plan.ensures.calls);
+      faults = omega (arith, c.commit-committed.ensures.runs.faults, c.write_plan.ensures.faults);
+    }))
+
+pub returns-in-Err : goal.returns-in-Err
+returns-in-Err g c =
+    let device = g.D.Disk.state in
+    let o : Stored g.row.D.Denot = record { disk = c.self.inside.disk; slots = c.self.inside.slots; contents = c.self.inside.contents; is_closed = c.self.inside.is_closed } in
+    let new : Stored g.row.D.Denot = record { disk = c.commit-committed.new.disk; slots = c.commit-committed.new.self; contents = c.self.inside.contents; is_closed = true } in
+    let p = c.args.plan in
+    let root : Root = next o.slots.root c.write_plan.new.plan.directory c.in-Ok.written.length c.in-Ok.written.sha256 in
+    let root_is : root ≡ planned_root o.slots.root p = same_root o.slots.root p c.write_plan.new.plan.directory c.in-Ok.written c.write_plan.ensures.places.1 c.in-Ok.ensures.written in
+    let lists : AreLists (once_stored p.contents) = subst (λ (l : Contents). AreLists l) c.in-Ok.ensures.contents c.in-Ok.ensures.lists in
+    let generation : c.self.inside.slots.root.generation ≡ c.args.self.now.slots.root.generation =
+    ap (λ (s : Stored g.row.D.Denot). s.slots.root.generation) c.self.view_is in
+    let spare : IsErrOf c.commit-committed.result Spent → ⊥ = λ is. let over = c.commit-committed.ensures.exhausted.0 is in omega (arith, over, generation, c.requires.spare) in
+    subst (Promised device c.args.bytes.now c.args.plan c.args.reply new (Err Device)) c.self.view_is
+    (λ command now free body planned replied.
+    not_committed device g.met.D.Disk.holds o command now p c.args.bytes.now c.self.invariant.whole free body planned c.write_plan.new.disk
+    (c.write_plan.ensures.outside (is_kept o.slots.root o.contents) planned.free)
+    c.in-Ok.ensures.reads lists c.write_plan.ensures.size root root_is new
+    c.commit-committed.ensures.any_moment refl
+    (commit_failed (device o.disk) (device c.write_plan.new.disk) (device new.disk) c.commit-committed.result _ c.in-Err.is spare c.write_plan.ensures.faults c.commit-committed.ensures.runs)
+    (record {
+      size = c.commit-committed.ensures.runs.size ∙ c.write_plan.ensures.size;
+      keeps = c.commit-committed.ensures.keeps ∙ c.write_plan.ensures.keeps;
+      calls = omega (arith, c.commit-committed.ensures.runs.calls, c.write_plan.ensures.calls);
+      faults = omega (arith, c.commit-committed.ensures.runs.faults, c.write_plan.ensures.faults);
+    }))

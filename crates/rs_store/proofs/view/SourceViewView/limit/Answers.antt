@@ -1,0 +1,17 @@
+use Rattle.std.proofs.Common.{subst, arith}
+use Rattle.rs_image.specs.declared.contents.Contents.{Contents}
+use Rattle.rs_lists.specs.Shown.{IsShown}
+use Rattle.rs_store.specs.Views.{shown_of}
+use Rattle.rs_store.proofs.view.SourceViewView.limit.Goals as goal
+
+pub returns-clause-bounds : goal.returns-clause-bounds
+returns-clause-bounds g c =
+    let P : Contents → Type 0 = λ l. IsShown (shown_of l) in
+    subst P c.contents-contents.ensures
+    (record {
+      low = c.items.ensures.low;
+      high = c.items.ensures.high;
+      published = c.len-published.ensures.lawful.held.room;
+      changes = c.len-changes.ensures.lawful.kept.room;
+      first = omega arith;
+    })

@@ -1,0 +1,51 @@
+-- What a source answers to a command.
+use Rattle.std.specs.Prelude.{◌≡◌, ◌≤◌, ◌+◌, ℕ, true, Option, Some, None, Result, Ok, Err, IfOk, IsErrOf}
+use Rattle.rs_disk.specs.Medium.{DiskState}
+use Rattle.rs_model.specs.State.{Source}
+use Rattle.rs_model.specs.Step.{step}
+use Rattle.rs_model.specs.declared.command.Command.{Command}
+use Rattle.rs_model.specs.declared.command.Reply.{Reply}
+use Rattle.rs_store.specs.declared.refusal.Refusal.{Refusal}
+use Rattle.rs_store.specs.declared.refusal.Refusal.TheVariants.{Device}
+use Rattle.rs_store.specs.Source.{Stored, Holds, state_of}
+use Rattle.rs_store.specs.Refusals.{decided}
+use Rattle.rs_store.specs.Commands.{IsCause, Leads}
+
+-- a moment, unless there is a refusal
+abbrev pub moment_unless : Option Refusal → ℕ → Result ℕ Refusal
+moment_unless None moment = Ok moment
+moment_unless (Some refusal) moment = Err refusal
+
+-- What is in memory is as it was, and tells the same state.
+pub record IsUnchanged {D : Type 0} (device : D → DiskState) (old new : Stored D) : Type 0 where
+  pub slots : new.slots ≡ old.slots
+  pub contents : new.contents ≡ old.contents
+  pub state : state_of device new ≡ state_of device old
+
+-- Two sources have disks of one size that were as honest, and neither count of the first one's is greater.
+pub record GoesOn {D : Type 0} (device : D → DiskState) (old new : Stored D) : Type 0 where
+  pub size : (device new.disk).size ≡ (device old.disk).size
+  pub keeps : (device new.disk).honest ≡ (device old.disk).honest
+  pub calls : (device old.disk).calls ≤ (device new.disk).calls
+  pub faults : (device old.disk).faults ≤ (device new.disk).faults
+
+-- What a source answers to a command that comes at `now`, and what it is then.
+-- `decides`, `untouched`: what is decided before anything is asked of memory or the disk is answered, and nothing changes.
+-- `refused`: the cause of each refusal is there.
+-- `accepted`: what is accepted is the step of the state that the lists tell, and its reply.
+-- `generation`: each accepted command takes one generation of the root.
+-- `leads`: of a source that holds a state, what is held then, and what each image of a crash meanwhile stands for.
+-- `closes`, `stays_open`: it is closed where the device failed, and there alone.
+-- `unchanged`: any other refusal leaves what was in memory.
+-- `goes_on`: whatever the answer, the disk has its size, and its counts do not fall.
+pub record Answers {D : Type 0} (device : D → DiskState) (old new : Stored D) (command : Command) (now : ℕ) (result : Result Reply Refusal) : Type 0 where
+  pub decides : (r : Refusal) → decided old (state_of device old) command ≡ Some r → result ≡ Err r
+  pub untouched : (r : Refusal) → decided old (state_of device old) command ≡ Some r → new ≡ old
+  pub refused : (r : Refusal) → IsErrOf result r → IsCause device old new command now r
+  pub accepted : IfOk result (λ reply. step (state_of device old) command now ≡ Ok (state_of device new, reply))
+  pub generation : IfOk result (λ _. new.slots.root.generation ≡ old.slots.root.generation + 1)
+  pub leads : (s : Source) → Holds device old s → Leads device old new s command now result
+  pub closes : IsErrOf result Device → new.is_closed ≡ true
+  pub stays_open : (IsErrOf result Device → ⊥) → new.is_closed ≡ old.is_closed
+  pub unchanged : (r : Refusal) → IsErrOf result r → (r ≡ Device → ⊥) → IsUnchanged device old new
+  pub goes_on : GoesOn device old new

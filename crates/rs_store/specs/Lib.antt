@@ -1,0 +1,11 @@
+pub mod Source
+pub mod Refusals
+pub mod Commands
+pub mod Inside
+pub mod Writing
+pub mod Answered
+pub mod Opening
+pub mod Formatting
+pub mod Shows
+pub mod Bodies
+pub mod Views

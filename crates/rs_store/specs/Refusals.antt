@@ -1,0 +1,37 @@
+-- Why a source refuses a command.
+use Rattle.std.specs.Prelude.{◌⊎◌, ◌<◌, ◌≤◌, ◌+◌, ◌^◌, Bool, nat_le, if◌then◌else◌, Option, Some, None}
+use Rattle.rs_disk.specs.Medium.{DiskState}
+use Rattle.rs_model.specs.State.{Source}
+use Rattle.rs_model.specs.Step.{refusal_of}
+use Rattle.rs_model.specs.declared.command.Command.{Command}
+use Rattle.rs_model.specs.declared.command.Refusal as model
+use Rattle.rs_model.specs.declared.command.Refusal.TheVariants as decides
+use Rattle.rs_store.specs.declared.refusal.Refusal.{Refusal}
+use Rattle.rs_store.specs.declared.refusal.Refusal.TheVariants.{Closed, TooLong, NotHeld, TooManyResources, TooManyChanges, Exhausted}
+use Rattle.rs_store.specs.Source.{Stored}
+
+-- a refusal of the model, by the same name
+abbrev pub named_as : model.Refusal → Refusal
+named_as decides.TooLong = TooLong
+named_as decides.NotHeld = NotHeld
+named_as decides.TooManyResources = TooManyResources
+named_as decides.TooManyChanges = TooManyChanges
+named_as decides.Exhausted = Exhausted
+
+-- the generation of the root is at its last value
+abbrev pub is_spent : {D : Type 0} → Stored D → Bool
+is_spent source = nat_le (2 ^ 64) (source.slots.root.generation + 1)
+
+-- what the model refuses, and then that no generation is left
+abbrev pub or_spent : Option model.Refusal → Bool → Option Refusal
+or_spent (Some refusal) spent = Some (named_as refusal)
+or_spent None spent = if spent then Some Exhausted else None
+
+-- Why a command is refused before anything is asked of memory or the disk, if it is: a closed source refuses all, then come
+-- the causes of the model in their order, and then the generation.
+abbrev pub decided : {D : Type 0} → Stored D → Source → Command → Option Refusal
+decided source s command = if source.is_closed then Some Closed else or_spent (refusal_of s command) (is_spent source)
+
+-- a device call failed in between, or the calls stand at their last value
+abbrev pub HasFailed : DiskState → DiskState → Type 0
+HasFailed before after = (before.faults < after.faults) ⊎ (2 ^ 64 ≤ after.calls + 1)

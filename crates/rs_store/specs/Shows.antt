@@ -1,0 +1,31 @@
+-- What a source shows of its state.
+use Rattle.std.specs.Prelude.{◌≡◌, ℕ, List, length}
+use Rattle.rs_fixity.specs.Digests.{digests}
+use Rattle.rs_record.specs.declared.facts.Facts.{Facts}
+use Rattle.rs_model.specs.declared.value.Held.{Held}
+use Rattle.rs_model.specs.State.{Source}
+use Rattle.rs_store.specs.declared.reading.Status.{Status}
+use Rattle.rs_store.specs.declared.refusal.Refusal.{Refusal}
+use Rattle.rs_store.specs.declared.refusal.Refusal.TheVariants.{Closed, NotHeld, Device, Damaged, NoMemory}
+
+-- bytes have the length and the SHA-256 that were recorded of them
+pub record AreAsRecorded (facts : Facts) (bytes : List ℕ) : Type 0 where
+  pub len : length bytes ≡ facts.length
+  pub sha256 : (digests bytes).sha256 ≡ facts.digests.sha256
+
+-- the bytes of a held resource have their recorded SHA-256
+abbrev pub HasItsDigest : Held → Type 0
+HasItsDigest held = (digests held.bytes).sha256 ≡ held.entry.facts.digests.sha256
+
+-- the refusals of a reading of a body
+abbrev pub IsOfBody : Refusal → Type 0
+IsOfBody Closed = Unit {0}
+IsOfBody NotHeld = Unit {0}
+IsOfBody Device = Unit {0}
+IsOfBody Damaged = Unit {0}
+IsOfBody NoMemory = Unit {0}
+IsOfBody refusal = ⊥
+
+-- how many resources are held and changes kept, the number of the latest publication, the moment of the last command
+abbrev pub status_of : Source → Status
+status_of s = record { resources = length s.held; changes = length s.changes; publication = s.number; last = s.last }

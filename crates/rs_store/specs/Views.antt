@@ -1,0 +1,23 @@
+-- What a view shows of a source.
+use Rattle.rs_catalogue.specs.Catalogue.{records_of}
+use Rattle.rs_changes.specs.History.{changes_of}
+use Rattle.rs_image.specs.declared.contents.Contents.{Contents}
+use Rattle.rs_lists.specs.Shown.{Shown}
+use Rattle.rs_store.specs.declared.view.SourceView.{SourceView}
+
+-- the latest publication as it is stored, and all changes, of which the first part has number 0
+abbrev pub shown_of : Contents → Shown
+shown_of c =
+    record {
+      base = c.header.base;
+      limit = c.header.limit;
+      start = c.header.start;
+      number = c.header.number;
+      at = c.header.at;
+      published = records_of c.published;
+      changes = changes_of c.history;
+      first = 0;
+    }
+
+abbrev pub shown_by : {D : Type 0} → SourceView D → Shown
+shown_by view = shown_of view.source.now.contents

@@ -1,0 +1,50 @@
+-- What it is to write a plan.
+use Rattle.std.specs.Prelude.{◌≡◌, ◌≤◌, ℕ, List, length}
+use Rattle.rs_fixity.specs.Digests.{digests}
+use Rattle.rs_commit.specs.declared.root.Root.{Root}
+use Rattle.rs_model.specs.declared.command.Command.{Command}
+use Rattle.rs_page.specs.declared.page.store.StoreFault.{StoreFault}
+use Rattle.rs_page.specs.declared.page.store.StoreFault.TheVariants.{Device as NoDevice, NoMemory as NoPageMemory}
+use Rattle.rs_catalogue.specs.Catalogue.{IsCatalogue}
+use Rattle.rs_changes.specs.History.{IsHistory}
+use Rattle.rs_image.specs.declared.contents.Contents.{Contents}
+use Rattle.rs_image.specs.Tells.{listing}
+use Rattle.rs_plan.specs.declared.plan.Plan.{Plan}
+use Rattle.rs_plan.specs.declared.planning.PlanFault.{PlanFault}
+use Rattle.rs_plan.specs.declared.planning.PlanFault.TheVariants.{Full as NoRoom, NoMemory as NoPlanMemory}
+use Rattle.rs_store.specs.declared.refusal.Refusal.{Refusal}
+use Rattle.rs_store.specs.declared.refusal.Refusal.TheVariants.{Full, NoMemory as OutOfMemory}
+use Rattle.rs_store.specs.declared.writing.WriteFault.{WriteFault}
+use Rattle.rs_store.specs.declared.writing.WriteFault.TheVariants.{Device, NoMemory}
+use Rattle.rs_store.specs.declared.writing.Written.{Written}
+use Rattle.rs_plan.specs.Plans.{IsPlanned, body_of_command}
+
+-- a page that was not stored
+abbrev pub of_store : StoreFault → WriteFault
+of_store NoDevice = Device
+of_store NoPageMemory = NoMemory
+
+-- a command that has no plan
+abbrev pub of_plan : PlanFault → Refusal
+of_plan NoRoom = Full
+of_plan NoPlanMemory = OutOfMemory
+
+-- the length and the digest of the directory of these lists
+pub record IsDigestOf (c : Contents) (w : Written) : Type 0 where
+  pub len : w.length ≡ length (listing c)
+  pub sha256 : w.sha256 ≡ (digests (listing c)).sha256
+
+-- The lists of a catalogue and of a history, which have one page, or none where they are empty.
+pub record AreLists (c : Contents) : Type 0 where
+  pub catalogue : IsCatalogue c.catalogue
+  pub history : IsHistory c.history
+  pub one_catalogue_page : length c.catalogue ≤ 1
+  pub one_history_page : length c.history ≤ 1
+  pub one_published_page : length c.published ≤ 1
+
+-- A plan is of some command that writes these bytes.
+pub record IsPlanOfSome (size : ℕ) (root : Root) (old : Contents) (bytes : List ℕ) (p : Plan) : Type 0 where
+  pub command : Command
+  pub moment : ℕ
+  pub written : body_of_command command ≡ bytes
+  pub planned : IsPlanned size root old command moment p

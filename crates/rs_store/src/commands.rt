@@ -1,0 +1,163 @@
+//! The commands of a source.
+
+ghost use Rattle.std.specs.Prelude.{◌≡◌, ◌<◌, ◌+◌, ◌^◌, ℕ, false, None, if◌then◌else◌};
+ghost use Rattle.rs_model.specs.Step.{moment_at, reply_to};
+ghost use Rattle.rs_model.specs.declared.command.Command.{Command};
+ghost use Rattle.rs_model.specs.declared.command.Command.TheVariants.{Put, Delete, Publish};
+ghost use Rattle.rs_model.specs.declared.command.Reply.TheVariants.{Created, Updated};
+ghost use Rattle.rs_store.specs.Source.{state_of};
+ghost use Rattle.rs_store.specs.Refusals.{decided};
+ghost use Rattle.rs_plan.specs.Plans.{IsPlanned, body_of_command};
+ghost use Rattle.rs_store.specs.Writing.{of_plan, IsPlanOfSome};
+ghost use Rattle.rs_store.specs.Answered.{Answers};
+
+use crate::writing::{WriteFault, write_plan};
+use crate::{Refusal, Source};
+use rs_disk::Disk;
+use rs_model::Reply;
+use rs_plan::{Plan, PlanFault, plan_delete, plan_publish, plan_put};
+use rs_record::{MediaType, Name};
+use rs_time::Moment;
+
+impl From<PlanFault> for Refusal {
+    ghost from_gives = { λ fault refusal. refusal ≡ of_plan fault };
+
+    fn from(fault: PlanFault) -> Refusal {
+        match fault {
+            PlanFault::Full => Refusal::Full,
+            PlanFault::NoMemory => Refusal::NoMemory,
+        }
+    }
+}
+
+impl<D: Disk> Source<D> {
+    /// Binds the name to these bytes, of this media type: the resource is created, or updated where the
+    /// name is held. The command comes at the moment `now`, and is accepted at this one, or at one
+    /// millisecond after the last accepted command where that is later.
+    ///
+    /// The reply tells the moment. It comes after all is settled: from then on the source holds the
+    /// resource whatever happens. A crash before it leaves the resource as it was, or as it will be.
+    ///
+    /// # Errors
+    ///
+    /// - [`Refusal::Closed`] after a fault of the device.
+    /// - [`Refusal::TooLong`], [`Refusal::TooManyResources`], [`Refusal::TooManyChanges`] and
+    ///   [`Refusal::Exhausted`], of several the first, before anything is asked of memory or the disk.
+    /// - [`Refusal::Full`] where the body, a page or the directory has no run of free blocks.
+    /// - [`Refusal::NoMemory`] where a growth of memory is refused.
+    /// - [`Refusal::Device`] where a device call failed: the source is closed then, and what the disk
+    ///   holds is the resource as it was, or as it would be.
+    ///
+    /// After each other error nothing has changed.
+    pub fn put(
+        &mut self,
+        name: &Name,
+        kind: &MediaType,
+        bytes: &[u8],
+        now: Moment,
+    ) -> Result<Reply, Refusal>
+        ensures { Answers D.state self.old self.new (Put name.now kind.now bytes.now) now result }
+    {
+        let moment = self.moment_of_put(name, bytes, now)?;
+        let is_held = self.holds(name);
+        let root = self.slots.root();
+        let size = self.disk.size();
+        let plan = plan_put(
+            self.alloc,
+            size,
+            &root,
+            &self.contents,
+            name,
+            kind,
+            bytes,
+            moment,
+        )?;
+        self.finish(plan, bytes, put_reply(is_held, moment))
+    }
+
+    /// Unbinds the name: the resource is deleted. The command comes at the moment `now`, and is accepted
+    /// at this one, or at one millisecond after the last accepted command where that is later.
+    ///
+    /// The reply tells the moment. It comes after all is settled, as with [`Source::put`].
+    ///
+    /// # Errors
+    ///
+    /// As with [`Source::put`]; [`Refusal::NotHeld`] is in the place of the first two causes of the
+    /// model, and nothing is too long.
+    pub fn delete(&mut self, name: &Name, now: Moment) -> Result<Reply, Refusal>
+        ensures { Answers D.state self.old self.new (Delete name.now) now result }
+    {
+        let moment = self.moment_of_delete(name, now)?;
+        let root = self.slots.root();
+        let size = self.disk.size();
+        let plan = plan_delete(self.alloc, size, &root, &self.contents, name, moment)?;
+        self.finish(plan, &[], Reply::Deleted(moment))
+    }
+
+    /// Lists all resources that are held, as the next publication. The command comes at the moment
+    /// `now`, and is accepted at this one, or at one millisecond after the last accepted command where
+    /// that is later.
+    ///
+    /// The reply tells the number of the publication and the moment. It comes after all is settled, as
+    /// with [`Source::put`].
+    ///
+    /// # Errors
+    ///
+    /// As with [`Source::put`]; of the causes of the model there is [`Refusal::Exhausted`] alone.
+    pub fn publish(&mut self, now: Moment) -> Result<Reply, Refusal>
+        ensures { Answers D.state self.old self.new Publish now result }
+    {
+        let moment = self.moment_of_publish(now)?;
+        let number = self.contents.header.number + 1;
+        let root = self.slots.root();
+        let size = self.disk.size();
+        let plan = plan_publish(self.alloc, size, &root, &self.contents, moment)?;
+        self.finish(plan, &[], Reply::Published(number, moment))
+    }
+
+    // Writes a plan and changes the root; then what is in memory goes along.
+    fn finish(&mut self, mut plan: Plan, bytes: &[u8], reply: Reply) -> Result<Reply, Refusal>
+        requires is_open { self.old.is_closed ≡ false }
+        requires spare { self.old.slots.root.generation + 1 < 2 ^ 64 }
+        requires planned { IsPlanOfSome (D.state self.old.disk).size self.old.slots.root self.old.contents bytes.now plan }
+        ensures { (command : Command) (now : ℕ) → decided self.old (state_of D.state self.old) command ≡ None → body_of_command command ≡ bytes.now
+            → IsPlanned (D.state self.old.disk).size self.old.slots.root self.old.contents command (moment_at (state_of D.state self.old) now) plan
+            → reply ≡ reply_to (state_of D.state self.old) command (moment_at (state_of D.state self.old) now)
+            → Answers D.state self.old self.new command now result }
+    {
+        let written = match write_plan(self.alloc, &mut self.disk, &mut plan, bytes) {
+            Ok(written) => written,
+            Err(WriteFault::NoMemory) => return Err(Refusal::NoMemory),
+            Err(WriteFault::Device) => {
+                self.is_closed = true;
+                return Err(Refusal::Device);
+            }
+        };
+        let committed = self.slots.commit(
+            &mut self.disk,
+            plan.directory,
+            written.length,
+            &written.sha256,
+        );
+        match committed {
+            Ok(()) => {}
+            Err(_) => {
+                self.is_closed = true;
+                return Err(Refusal::Device);
+            }
+        }
+        self.contents = plan.contents;
+        Ok(reply)
+    }
+}
+
+// The reply to a put.
+fn put_reply(is_held: bool, moment: Moment) -> Reply
+    ensures { result ≡ (if is_held then Updated moment else Created moment) }
+{
+    if is_held {
+        Reply::Updated(moment)
+    } else {
+        Reply::Created(moment)
+    }
+}

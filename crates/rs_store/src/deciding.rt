@@ -1,0 +1,141 @@
+//! What is decided of a command before anything is asked of memory or the disk.
+
+ghost use Rattle.std.specs.Prelude.{◌≡◌, ◌<◌, ◌≤◌, ◌+◌, ◌^◌, ℕ, List, [], ◌∷◌, length, false, not, is_some, is_none, IfOk, OnOk, IsNone, IsSome};
+ghost use Rattle.rs_model.specs.Names.{value_of};
+ghost use Rattle.rs_model.specs.State.{longest_body, most_resources, most_changes};
+ghost use Rattle.rs_model.specs.Step.{moment_at, change_refusal, first_cause, is_held, is_out_of_moments};
+ghost use Rattle.rs_catalogue.specs.Named.{named};
+ghost use Rattle.rs_catalogue.specs.Catalogue.{records_of};
+ghost use Rattle.rs_changes.specs.History.{changes_of};
+ghost use Rattle.rs_model.specs.declared.command.Command.TheVariants.{Put, Delete, Publish};
+ghost use Rattle.rs_model.specs.declared.command.Refusal.TheVariants as decides;
+ghost use Rattle.rs_store.specs.Source.{state_of};
+ghost use Rattle.rs_store.specs.Refusals.{decided, is_spent, or_spent};
+ghost use Rattle.rs_store.specs.Answered.{moment_unless};
+
+use crate::{Refusal, Source};
+use rs_disk::Disk;
+use rs_record::Name;
+use rs_time::Moment;
+
+// The greatest number of bytes of a body.
+const LONGEST_BODY: usize = 16_777_216;
+
+// The greatest number of resources that are held.
+const MOST_RESOURCES: usize = 50_000;
+
+// The greatest number of changes that are kept.
+const MOST_CHANGES: usize = 50_000;
+
+impl<D: Disk> Source<D> {
+    /// The moment of a put of these bytes that comes at `now`, or why it is refused at once.
+    pub(crate) fn moment_of_put(
+        &self,
+        name: &Name,
+        bytes: &[u8],
+        now: Moment,
+    ) -> Result<Moment, Refusal>
+        ensures decided { (kind : List ℕ) → result ≡ moment_unless (decided self.now (state_of D.state self.now) (Put name.now kind bytes.now)) (moment_at (state_of D.state self.now) now) }
+        ensures open { OnOk result (self.now.is_closed ≡ false) }
+        ensures later { IfOk result (λ moment. self.now.contents.header.last < moment) }
+        ensures spare { OnOk result (self.now.slots.root.generation + 1 < 2 ^ 64) }
+        ensures changes { OnOk result (length (changes_of self.now.contents.history) < most_changes) }
+        ensures body { OnOk result (length bytes.now ≤ longest_body) }
+        ensures resources { OnOk result (IsNone (value_of name.now (named (records_of self.now.contents.catalogue))) → length (records_of self.now.contents.catalogue) < most_resources) }
+    {
+        if self.is_closed {
+            return Err(Refusal::Closed);
+        }
+        if bytes.len() > LONGEST_BODY {
+            return Err(Refusal::TooLong);
+        }
+        if !self.holds(name) && self.resources() >= MOST_RESOURCES {
+            return Err(Refusal::TooManyResources);
+        }
+        let moment = self.moment_of_change(now)?;
+        Ok(moment)
+    }
+
+    /// The moment of a delete that comes at `now`, or why it is refused at once.
+    pub(crate) fn moment_of_delete(&self, name: &Name, now: Moment) -> Result<Moment, Refusal>
+        ensures decided { result ≡ moment_unless (decided self.now (state_of D.state self.now) (Delete name.now)) (moment_at (state_of D.state self.now) now) }
+        ensures open { OnOk result (self.now.is_closed ≡ false) }
+        ensures later { IfOk result (λ moment. self.now.contents.header.last < moment) }
+        ensures spare { OnOk result (self.now.slots.root.generation + 1 < 2 ^ 64) }
+        ensures changes { OnOk result (length (changes_of self.now.contents.history) < most_changes) }
+        ensures held { OnOk result (IsSome (value_of name.now (named (records_of self.now.contents.catalogue)))) }
+    {
+        if self.is_closed {
+            return Err(Refusal::Closed);
+        }
+        if !self.holds(name) {
+            return Err(Refusal::NotHeld);
+        }
+        let moment = self.moment_of_change(now)?;
+        Ok(moment)
+    }
+
+    /// The moment of a publish that comes at `now`, or why it is refused at once.
+    pub(crate) fn moment_of_publish(&self, now: Moment) -> Result<Moment, Refusal>
+        ensures decided { result ≡ moment_unless (decided self.now (state_of D.state self.now) Publish) (moment_at (state_of D.state self.now) now) }
+        ensures open { OnOk result (self.now.is_closed ≡ false) }
+        ensures later { IfOk result (λ moment. self.now.contents.header.last < moment) }
+        ensures spare { OnOk result (self.now.slots.root.generation + 1 < 2 ^ 64) }
+        ensures number { OnOk result (self.now.contents.header.number + 1 < 2 ^ 64) }
+    {
+        if self.is_closed {
+            return Err(Refusal::Closed);
+        }
+        if self.contents.header.number == u64::MAX {
+            return Err(Refusal::Exhausted);
+        }
+        let moment = self.next_moment(now)?;
+        Ok(moment)
+    }
+
+    // The moment of a put or a delete that the resources allow.
+    fn moment_of_change(&self, now: Moment) -> Result<Moment, Refusal>
+        ensures decided { result ≡ moment_unless (or_spent (change_refusal (state_of D.state self.now)) (is_spent self.now)) (moment_at (state_of D.state self.now) now) }
+        ensures later { IfOk result (λ moment. self.now.contents.header.last < moment) }
+        ensures spare { OnOk result (self.now.slots.root.generation + 1 < 2 ^ 64) }
+        ensures changes { OnOk result (length (changes_of self.now.contents.history) < most_changes) }
+    {
+        if self.contents.history.len() >= MOST_CHANGES {
+            return Err(Refusal::TooManyChanges);
+        }
+        let moment = self.next_moment(now)?;
+        Ok(moment)
+    }
+
+    /// Whether the name is held.
+    pub(crate) fn holds(&self, name: &Name) -> bool
+        ensures held { result ≡ is_held (state_of D.state self.now) name.now }
+        ensures lacks { not result ≡ is_none (value_of name.now (state_of D.state self.now).held) }
+        ensures found { result ≡ is_some (value_of name.now (named (records_of self.now.contents.catalogue))) }
+    {
+        self.contents.catalogue.get(name).is_some()
+    }
+
+    // How many resources are held.
+    fn resources(&self) -> usize
+        ensures held { result ≡ length (state_of D.state self.now).held }
+        ensures records { result ≡ length (records_of self.now.contents.catalogue) }
+    {
+        self.contents.catalogue.len()
+    }
+
+    // The moment of a command that is allowed otherwise.
+    fn next_moment(&self, now: Moment) -> Result<Moment, Refusal>
+        ensures decided { result ≡ moment_unless (or_spent (first_cause ((is_out_of_moments (state_of D.state self.now), decides.Exhausted) ∷ [])) (is_spent self.now)) (moment_at (state_of D.state self.now) now) }
+        ensures later { IfOk result (λ moment. self.now.contents.header.last < moment) }
+        ensures spare { OnOk result (self.now.slots.root.generation + 1 < 2 ^ 64) }
+    {
+        let Some(moment) = Moment::after(self.contents.header.last, now) else {
+            return Err(Refusal::Exhausted);
+        };
+        if self.slots.root().generation == u64::MAX {
+            return Err(Refusal::Exhausted);
+        }
+        Ok(moment)
+    }
+}

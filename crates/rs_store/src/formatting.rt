@@ -1,0 +1,229 @@
+//! How a source is made.
+
+ghost use Rattle.std.specs.Prelude.{◌≡◌, ◌↔◌, ◌+◌, ◌*◌, ◌<◌, ◌≤◌, false, length, IfOk, OnOk, IfErr, IsErrAnd, IsErrOf, IsTrue};
+ghost use Rattle.rs_disk.specs.Medium.{resting};
+ghost use Rattle.rs_disk.specs.Leaves.{Runs};
+ghost use Rattle.rs_body.specs.Blocks.{IsOnDisk, part};
+ghost use Rattle.rs_record.specs.Base.{is_base};
+ghost use Rattle.rs_commit.specs.Commit.{IsReady};
+ghost use Rattle.rs_commit.specs.Format.{fresh};
+ghost use Rattle.rs_directory.specs.Limit.{IsLimit};
+ghost use Rattle.rs_model.specs.State.{start_of};
+ghost use Rattle.rs_image.specs.Reach.{blocks_of_disk};
+ghost use Rattle.rs_store.specs.Source.{Holds};
+ghost use Rattle.rs_store.specs.Refusals.{HasFailed};
+ghost use Rattle.rs_store.specs.Opening.{disk_of};
+ghost use Rattle.rs_store.specs.Formatting.{first_header as header_of, IsBlank};
+
+use crate::Source;
+use rs_body::{blocks_for, write_body};
+use rs_catalogue::Catalogue;
+use rs_changes::History;
+use rs_commit::{Root, Slots, format_slots};
+use rs_directory::{Header, Limit, directory_bytes, directory_size};
+use rs_disk::{Disk, Fault};
+use rs_extent::Extent;
+use rs_fixity::digests_of;
+use rs_image::Contents;
+use rs_record::{Base, BaseError};
+use rs_time::Moment;
+use std::alloc::{AllocError, Global};
+use thiserror::Error;
+
+// The bytes of 16 blocks.
+const SMALLEST_DISK: u64 = 8192;
+
+/// Why no source was made, in the order in which the causes count: of several the first is answered.
+/// `NoMemory` stands outside this order.
+#[derive(Clone, Copy, Debug, PartialEq, Eq, Error)]
+pub enum FormatFault {
+    /// The base is no lawful one.
+    #[error("the base is not lawful")]
+    BadBase,
+    /// The item limit is less than 2 or more than 4,000.
+    #[error("the item limit is not from 2 to 4000")]
+    BadLimit,
+    /// The disk has fewer than 16 blocks of 512 bytes.
+    #[error("the disk has fewer than 8192 bytes")]
+    TooSmall,
+    /// A device call failed.
+    #[error("the device failed")]
+    Device,
+    /// A growth of memory was refused.
+    #[error("out of memory")]
+    NoMemory,
+}
+
+impl From<AllocError> for FormatFault {
+    ghost use Rattle.rs_store.specs.declared.formatting.FormatFault.{FormatFault};
+
+    ghost from_gives = { λ _ fault. fault ≡ FormatFault.NoMemory };
+
+    fn from(_: AllocError) -> FormatFault {
+        FormatFault::NoMemory
+    }
+}
+
+/// What is written of a source that was just formatted.
+#[derive(Debug, Drop)]
+struct Blank {
+    /// Its lists, which are empty.
+    contents: Contents,
+    /// Its root.
+    root: Root,
+    /// The bytes of its directory.
+    directory: Vec<u8>,
+}
+
+impl<D: Disk> Source<D> {
+    /// Makes a source on a disk, in place of whatever the disk holds: nothing is held, there are no
+    /// changes, and the empty list is published as number 0. `base` is the front of each URI of the
+    /// source; a list of more items than `limit`, which is 2 to 4,000, is cut into parts of that many.
+    ///
+    /// # Errors
+    ///
+    /// The disk is handed back with each. After [`FormatFault::Device`] nothing is promised of what
+    /// it holds; after every other one it is untouched.
+    ///
+    /// - [`FormatFault::BadBase`], [`FormatFault::BadLimit`] and [`FormatFault::TooSmall`] exactly
+    ///   where their cause is there and none before it.
+    /// - [`FormatFault::Device`] where a device call failed.
+    /// - [`FormatFault::NoMemory`] where a growth of memory was refused.
+    pub fn format(
+        alloc: Global,
+        disk: D,
+        base: &[u8],
+        limit: u16,
+        now: Moment,
+    ) -> Result<Source<D>, (D, FormatFault)>
+        // Of every device, since nothing is read.
+        ensures holds { IfOk result (λ source. Holds D.state source (start_of base.now limit now)) }
+
+        ensures bad_base { IsErrAnd result (λ e. e.1 ≡ FormatFault.BadBase) ↔ (is_base base.now ≡ false) }
+        ensures bad_limit { IsErrAnd result (λ e. e.1 ≡ FormatFault.BadLimit) ↔ (IsTrue (is_base base.now) × (¬ IsLimit limit)) }
+        ensures too_small { IsErrAnd result (λ e. e.1 ≡ FormatFault.TooSmall) ↔ (IsTrue (is_base base.now) × IsLimit limit × (blocks_of_disk (D.state disk).size < 16)) }
+        ensures device { IfErr result (λ e. e.1 ≡ FormatFault.Device → HasFailed (D.state disk) (D.state e.0)) }
+        ensures untouched { IfErr result (λ e. ¬ (e.1 ≡ FormatFault.Device) → e.0 ≡ disk) }
+
+        // Whatever it answers.
+        ensures size { (D.state (disk_of result)).size ≡ (D.state disk).size }
+        ensures lasts { IsTrue (D.state (disk_of result)).honest → IsTrue (D.state disk).honest }
+        ensures calls { (D.state disk).calls ≤ (D.state (disk_of result)).calls }
+        ensures faults { (D.state disk).faults ≤ (D.state (disk_of result)).faults }
+    {
+        let mut disk = disk;
+        let blank = match lay_out(alloc, disk.size(), base, limit, now) {
+            Ok(blank) => blank,
+            Err(fault) => return Err((disk, fault)),
+        };
+        match write_blank(&mut disk, &blank) {
+            Ok(slots) => Ok(Source {
+                disk,
+                slots,
+                contents: blank.contents,
+                is_closed: false,
+                alloc,
+            }),
+            Err(_) => Err((disk, FormatFault::Device)),
+        }
+    }
+}
+
+// What is to be written of a source that is formatted now, on a disk of this many bytes.
+fn lay_out(
+    alloc: Global,
+    size: u64,
+    base: &[u8],
+    limit: u16,
+    now: Moment,
+) -> Result<Blank, FormatFault>
+    ensures blank { IfOk result (IsBlank base.now limit now) }
+    ensures room { OnOk result (16 ≤ blocks_of_disk size) }
+    ensures limit { OnOk result (IsLimit limit) }
+    ensures base { OnOk result (IsTrue (is_base base.now)) }
+    ensures bad_base { IsErrOf result FormatFault.BadBase ↔ (is_base base.now ≡ false) }
+    ensures bad_limit { IsErrOf result FormatFault.BadLimit ↔ (IsTrue (is_base base.now) × (¬ IsLimit limit)) }
+    ensures too_small { IsErrOf result FormatFault.TooSmall ↔ (IsTrue (is_base base.now) × IsLimit limit × (blocks_of_disk size < 16)) }
+    ensures device { ¬ IsErrOf result FormatFault.Device }
+{
+    let header = first_header(alloc, size, base, limit, now)?;
+    let directory = directory_bytes(alloc, &header, &[], &[], &[])?;
+    let length = directory_size(&header, 0);
+    let sha256 = digests_of(&directory).sha256;
+    let root = Root {
+        generation: 1,
+        directory: Extent {
+            first: 2,
+            blocks: blocks_for(length),
+        },
+        length,
+        sha256,
+    };
+    let contents = Contents {
+        header,
+        catalogue: Catalogue::empty(alloc),
+        history: History::empty(alloc),
+        published: Catalogue::empty(alloc),
+    };
+    Ok(Blank {
+        contents,
+        root,
+        directory,
+    })
+}
+
+// The header of a source that is formatted now, on a disk of this many bytes.
+fn first_header(
+    alloc: Global,
+    size: u64,
+    base: &[u8],
+    limit: u16,
+    now: Moment,
+) -> Result<Header, FormatFault>
+    ensures header { IfOk result (λ header. header ≡ header_of base.now limit now) }
+    ensures room { OnOk result (16 ≤ blocks_of_disk size) }
+    ensures limit { OnOk result (IsLimit limit) }
+    ensures base { OnOk result (IsTrue (is_base base.now)) }
+    ensures bad_base { IsErrOf result FormatFault.BadBase ↔ (is_base base.now ≡ false) }
+    ensures bad_limit { IsErrOf result FormatFault.BadLimit ↔ (IsTrue (is_base base.now) × (¬ IsLimit limit)) }
+    ensures too_small { IsErrOf result FormatFault.TooSmall ↔ (IsTrue (is_base base.now) × IsLimit limit × (blocks_of_disk size < 16)) }
+    ensures device { ¬ IsErrOf result FormatFault.Device }
+{
+    let base = match Base::new(alloc, base) {
+        Err(BaseError::BadBase) => return Err(FormatFault::BadBase),
+        made => made,
+    };
+    let Some(limit) = Limit::new(limit) else {
+        return Err(FormatFault::BadLimit);
+    };
+    if size < SMALLEST_DISK {
+        return Err(FormatFault::TooSmall);
+    }
+    let Ok(base) = base else {
+        return Err(FormatFault::NoMemory);
+    };
+    Ok(Header {
+        base,
+        limit,
+        start: now,
+        last: now,
+        number: 0,
+        at: now,
+    })
+}
+
+// Writes the directory, and then the slots, of which the first sync settles both.
+fn write_blank<D: Disk>(disk: &mut D, blank: &Blank) -> Result<Slots, Fault>
+    requires slots { 1024 ≤ (D.state disk.old).size }
+    requires behind { blank.now.root.directory.first ≡ 2 }
+    requires room { IsOnDisk blank.now.root.directory (D.state disk.old).size }
+    requires fits { length blank.now.directory.items ≤ 512 * blank.now.root.directory.blocks }
+    ensures runs { Runs (D.state disk.old) (D.state disk.new) result }
+    ensures slots { IfOk result (λ slots. slots ≡ fresh blank.now.root) }
+    ensures ready { OnOk result (IsReady (fresh blank.now.root) (D.state disk.new).now) }
+    ensures resting { OnOk result ((D.state disk.new).now ≡ resting (D.state disk.new).now.seen) }
+    ensures reads { OnOk result (part blank.now.root.directory (length blank.now.directory.items) (D.state disk.new).now.seen ≡ blank.now.directory.items) }
+{
+    write_body(disk, blank.root.directory, &blank.directory)?;
+    format_slots(disk, &blank.root)
+}

@@ -1,0 +1,26 @@
+//! A source on a disk: each command is whole or absent, whatever moment a crash comes at.
+//!
+//! A [`Source`] is formatted on a disk or opened from one, and keeps there the resources that it holds,
+//! the changes to them and its latest publication. [`Source::put`], [`Source::delete`] and
+//! [`Source::publish`] do one step of the model, or refuse it; the others show what the source holds.
+#![tactic(auto)]
+
+mod commands;
+mod deciding;
+mod formatting;
+mod opening;
+mod reading;
+mod refusal;
+mod source;
+mod view;
+mod writing;
+
+pub use formatting::FormatFault;
+pub use opening::OpenFault;
+pub use reading::Status;
+pub use refusal::Refusal;
+pub use source::Source;
+pub use view::SourceView;
+
+#[cfg(test)]
+mod tests;

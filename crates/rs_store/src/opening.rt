@@ -1,0 +1,174 @@
+//! How a source is opened.
+
+ghost use Rattle.std.specs.Prelude.{◌≡◌, ◌≤◌, None, Some, false, IfOk, IfErr, IsSome, OnOk, IsErrOf, IsTrue};
+ghost use Rattle.rs_disk.specs.Medium.{IsImage, resting};
+ghost use Rattle.rs_disk.specs.Leaves.{Leaves, Rests};
+ghost use Rattle.rs_commit.specs.Slots.{current};
+ghost use Rattle.rs_commit.specs.Commit.{IsReady, AreSettled};
+ghost use Rattle.rs_model.specs.State.{Source as State};
+ghost use Rattle.rs_image.specs.Tells.{StandsFor, Tells, state_in};
+ghost use Rattle.rs_store.specs.Inside.{IsKept};
+ghost use Rattle.rs_store.specs.Source.{Holds, state_of};
+ghost use Rattle.rs_store.specs.Refusals.{HasFailed};
+ghost use Rattle.rs_store.specs.Opening.{disk_of};
+
+use crate::Source;
+use rs_catalogue::LoadFault;
+use rs_commit::{SlotFault, Slots, open_slots};
+use rs_disk::{Disk, Fault};
+use rs_image::{Contents, load};
+use std::alloc::Global;
+use thiserror::Error;
+
+// The bytes of the two slots.
+const SLOTS_SIZE: u64 = 1024;
+
+/// Why no source was opened.
+#[derive(Clone, Copy, Debug, PartialEq, Eq, Error)]
+pub enum OpenFault {
+    /// The disk holds no source: no slot is open, an open one has an unknown version, or both are
+    /// open with equal generations.
+    #[error("the disk holds no source")]
+    NotASource,
+    /// The disk holds a source, of which a rule of the format is broken.
+    #[error("the source is damaged")]
+    Damaged,
+    /// A device call failed.
+    #[error("the device failed")]
+    Device,
+    /// A growth of memory was refused.
+    #[error("out of memory")]
+    NoMemory,
+}
+
+impl From<Fault> for OpenFault {
+    ghost use Rattle.rs_store.specs.declared.opening.OpenFault.{OpenFault};
+
+    ghost from_gives = { λ _ fault. fault ≡ OpenFault.Device };
+
+    fn from(_: Fault) -> OpenFault {
+        OpenFault::Device
+    }
+}
+
+impl From<SlotFault> for OpenFault {
+    ghost use Rattle.rs_store.specs.Opening.{of_slots};
+
+    ghost from_gives = { λ fault made. made ≡ of_slots fault };
+
+    fn from(fault: SlotFault) -> OpenFault {
+        match fault {
+            SlotFault::NotASource => OpenFault::NotASource,
+            SlotFault::Device => OpenFault::Device,
+        }
+    }
+}
+
+impl From<LoadFault> for OpenFault {
+    ghost use Rattle.rs_store.specs.Opening.{of_lists};
+
+    ghost from_gives = { λ fault made. made ≡ of_lists fault };
+
+    fn from(fault: LoadFault) -> OpenFault {
+        match fault {
+            LoadFault::Damaged => OpenFault::Damaged,
+            LoadFault::Device => OpenFault::Device,
+            LoadFault::NoMemory => OpenFault::NoMemory,
+        }
+    }
+}
+
+impl<D: Disk> Source<D> {
+    /// Opens the source on a disk, whatever the disk holds.
+    ///
+    /// It begins with one sync, so that nothing is unsettled, and writes nothing. It checks the
+    /// directory, all pages and all extents; the bodies are not read, and whether the changes lead
+    /// to what is held is not looked at.
+    ///
+    /// # Errors
+    ///
+    /// The disk is handed back with each.
+    ///
+    /// - [`OpenFault::NotASource`] exactly where the slots tell no root.
+    /// - [`OpenFault::Damaged`] where the root tells no state: a rule of the format is broken.
+    /// - [`OpenFault::Device`] where a device call failed.
+    /// - [`OpenFault::NoMemory`] where a growth of memory was refused.
+    ///
+    /// One of the first two comes only where the device and the memory allowed to find out.
+    pub fn open(alloc: Global, disk: D) -> Result<Source<D>, (D, OpenFault)>
+        ensures is_open { IfOk result (λ source. source.is_closed ≡ false) }
+
+        // What the disk holds is said of a device that has followed the model.
+        ensures holds { IfOk result (λ source. IsTrue (D.state source.disk).honest → Holds D.state source (state_of D.state source) × StandsFor (D.state disk).now.seen (state_of D.state source)) }
+        ensures slots { IfOk result (λ source. IsTrue (D.state source.disk).honest → current (D.state disk).now.seen ≡ Some source.slots) }
+        ensures not_a_source { IfErr result (λ e. e.1 ≡ OpenFault.NotASource → IsTrue (D.state e.0).honest → current (D.state disk).now.seen ≡ None) }
+        ensures a_source { IfErr result (λ e. e.1 ≡ OpenFault.Damaged → IsTrue (D.state e.0).honest → IsSome (current (D.state disk).now.seen)) }
+        ensures damaged { IfErr result (λ e. e.1 ≡ OpenFault.Damaged → IsTrue (D.state e.0).honest → (s : State) → ¬ StandsFor (D.state disk).now.seen s) }
+        ensures device { IfErr result (λ e. e.1 ≡ OpenFault.Device → HasFailed (D.state disk) (D.state e.0)) }
+
+        // Whatever it answers, a crash within it leaves an image of its entry, and a read gives what
+        // it gave.
+        ensures any_moment { Leaves (D.state disk) (D.state (disk_of result)) (λ _. IsImage (D.state disk).now) }
+        ensures seen { (D.state (disk_of result)).now.seen ≡ (D.state disk).now.seen }
+        ensures size { (D.state (disk_of result)).size ≡ (D.state disk).size }
+        ensures lasts { IsTrue (D.state (disk_of result)).honest → IsTrue (D.state disk).honest }
+        ensures faults { (D.state disk).faults ≤ (D.state (disk_of result)).faults }
+    {
+        let mut disk = disk;
+        match recover(alloc, &mut disk) {
+            Ok((slots, contents)) => Ok(Source {
+                disk,
+                slots,
+                contents,
+                is_closed: false,
+                alloc,
+            }),
+            Err(fault) => Err((disk, fault)),
+        }
+    }
+}
+
+// Settles what a disk holds, and reads the source that it holds.
+fn recover<D: Disk>(alloc: Global, disk: &mut D) -> Result<(Slots, Contents), OpenFault>
+    ensures kept { IfOk result (λ x. IsKept (D.state disk.new).size x.0 x.1) }
+    ensures resting { OnOk result ((D.state disk.new).now ≡ resting (D.state disk.old).now.seen) }
+    ensures slots { IfOk result (λ x. IsTrue (D.state disk.new).honest → current (D.state disk.old).now.seen ≡ Some x.0) }
+    ensures ready { IfOk result (λ x. IsTrue (D.state disk.new).honest → IsReady x.0 (D.state disk.new).now) }
+    ensures told { IfOk result (λ x. IsTrue (D.state disk.new).honest → Tells x.0.root x.1 (D.state disk.old).now.seen (state_in (D.state disk.old).now.seen x.1)) }
+    ensures not_a_source { IsErrOf result OpenFault.NotASource → IsTrue (D.state disk.new).honest → current (D.state disk.old).now.seen ≡ None }
+    ensures a_source { IsErrOf result OpenFault.Damaged → IsTrue (D.state disk.new).honest → IsSome (current (D.state disk.old).now.seen) }
+    ensures damaged { IsErrOf result OpenFault.Damaged → IsTrue (D.state disk.new).honest → (s : State) → ¬ StandsFor (D.state disk.old).now.seen s }
+    ensures device { IsErrOf result OpenFault.Device → HasFailed (D.state disk.old) (D.state disk.new) }
+    ensures any_moment { Leaves (D.state disk.old) (D.state disk.new) (λ _. IsImage (D.state disk.old).now) }
+    ensures seen { (D.state disk.new).now.seen ≡ (D.state disk.old).now.seen }
+    ensures size { (D.state disk.new).size ≡ (D.state disk.old).size }
+    ensures lasts { IsTrue (D.state disk.new).honest → IsTrue (D.state disk.old).honest }
+    ensures faults { (D.state disk.old).faults ≤ (D.state disk.new).faults }
+{
+    disk.sync()?;
+    read_source(alloc, disk)
+}
+
+// Reads the source that a disk holds.
+fn read_source<D: Disk>(alloc: Global, disk: &mut D) -> Result<(Slots, Contents), OpenFault>
+    ensures kept { IfOk result (λ x. IsKept (D.state disk.new).size x.0 x.1) }
+    ensures slots { IfOk result (λ x. IsTrue (D.state disk.new).honest → current (D.state disk.old).now.seen ≡ Some x.0) }
+    ensures ready { IfOk result (λ x. IsTrue (D.state disk.new).honest → AreSettled (D.state disk.old).now → IsReady x.0 (D.state disk.new).now) }
+    ensures told { IfOk result (λ x. IsTrue (D.state disk.new).honest → Tells x.0.root x.1 (D.state disk.old).now.seen (state_in (D.state disk.old).now.seen x.1)) }
+    ensures not_a_source { IsErrOf result OpenFault.NotASource → IsTrue (D.state disk.new).honest → current (D.state disk.old).now.seen ≡ None }
+    ensures a_source { IsErrOf result OpenFault.Damaged → IsTrue (D.state disk.new).honest → IsSome (current (D.state disk.old).now.seen) }
+    ensures damaged { IsErrOf result OpenFault.Damaged → IsTrue (D.state disk.new).honest → (s : State) → ¬ StandsFor (D.state disk.old).now.seen s }
+    ensures device { IsErrOf result OpenFault.Device → HasFailed (D.state disk.old) (D.state disk.new) }
+    ensures rests { Rests (D.state disk.old) (D.state disk.new) }
+    ensures size { (D.state disk.new).size ≡ (D.state disk.old).size }
+    ensures lasts { IsTrue (D.state disk.new).honest → IsTrue (D.state disk.old).honest }
+    ensures faults { (D.state disk.old).faults ≤ (D.state disk.new).faults }
+{
+    let (slots, root) = open_slots(disk)?;
+    // Behind the slots of so small a disk no directory has room.
+    if disk.size() < SLOTS_SIZE {
+        return Err(OpenFault::Damaged);
+    }
+    let contents = load(alloc, disk, &root)?;
+    Ok((slots, contents))
+}

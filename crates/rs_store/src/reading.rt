@@ -1,0 +1,233 @@
+//! What a source shows.
+
+ghost use Rattle.std.specs.Prelude.{◌≡◌, ◌↔◌, ◌≤◌, false, map, IfOk, IfErr, IfSome, IsOk, IsErrOf, IsOkUnless, Some, IsTrue};
+ghost use Rattle.rs_disk.specs.Leaves.{Rests};
+ghost use Rattle.rs_model.specs.Names.{value_of, is_ordered};
+ghost use Rattle.rs_model.specs.State.{body_of, entries};
+ghost use Rattle.rs_model.specs.Step.{is_held};
+ghost use Rattle.rs_model.specs.Listed.{entry_of};
+ghost use Rattle.rs_catalogue.specs.Named.{named};
+ghost use Rattle.rs_catalogue.specs.Catalogue.{records_of};
+ghost use Rattle.rs_changes.specs.History.{changes_of};
+ghost use Rattle.rs_store.specs.Source.{state_of};
+ghost use Rattle.rs_store.specs.Refusals.{HasFailed};
+ghost use Rattle.rs_store.specs.Shows.{AreAsRecorded, HasItsDigest, IsOfBody, status_of};
+ghost use Rattle.rs_store.specs.Views.{shown_of, shown_by};
+
+use crate::{Refusal, Source, SourceView};
+use rs_body::{BodyFault, read_body};
+use rs_catalogue::Catalogue;
+use rs_changes::History;
+use rs_disk::Disk;
+use rs_record::{Change, Name, Record};
+use rs_time::Moment;
+use std::alloc::{AllocError, Global};
+
+/// What a source says of itself in numbers.
+#[derive(Clone, Copy, Debug, PartialEq, Eq)]
+pub struct Status {
+    /// How many resources are held: at most 50,000.
+    pub resources: u32,
+    /// How many changes are kept: at most 50,000.
+    pub changes: u32,
+    /// The number of the latest publication, which is 0 at first.
+    pub publication: u64,
+    /// The moment of the last accepted command, or of formatting.
+    pub last: Moment,
+}
+
+impl From<BodyFault> for Refusal {
+    ghost use Rattle.rs_store.specs.Bodies.{of_body};
+
+    ghost from_gives = { λ fault refusal. refusal ≡ of_body fault };
+
+    fn from(fault: BodyFault) -> Refusal {
+        match fault {
+            BodyFault::Device => Refusal::Device,
+            BodyFault::Damaged => Refusal::Damaged,
+            BodyFault::NoMemory => Refusal::NoMemory,
+        }
+    }
+}
+
+impl<D: Disk> Source<D> {
+    /// Whether a command met a fault of the device, so that the source has to be opened again.
+    pub fn is_closed(&self) -> bool
+        ensures { result ≡ self.now.is_closed }
+    {
+        self.is_closed
+    }
+
+    /// The disk, as it is.
+    pub fn into_disk(self) -> D
+        ensures { result ≡ self.disk }
+    {
+        self.disk
+    }
+
+    /// The body of a name, which is read from the disk and has its recorded length and SHA-256.
+    /// Nothing changes but what the disk counts.
+    ///
+    /// # Errors
+    ///
+    /// - [`Refusal::Closed`] exactly where the source is closed.
+    /// - [`Refusal::NotHeld`] exactly where it is open and the name is not held.
+    /// - [`Refusal::Device`] where the device failed. The source stays open.
+    /// - [`Refusal::Damaged`] where the bytes do not have the recorded SHA-256.
+    /// - [`Refusal::NoMemory`] where the memory for the bytes is refused.
+    pub fn body(&mut self, name: &Name) -> Result<Vec<u8>, Refusal>
+        // What the disk holds is said of a device that has followed the model; that the bytes are as
+        // recorded, of every device.
+        ensures reads { IfOk result (λ bytes. IsTrue (D.state self.new.disk).honest → body_of name.now (state_of D.state self.old) ≡ Some bytes.items) }
+        ensures recorded { IfOk result (λ bytes. IfSome (value_of name.now (state_of D.state self.old).held) (λ held. AreAsRecorded held.entry.facts bytes.items)) }
+
+        ensures closed { IsErrOf result Refusal.Closed ↔ IsTrue self.old.is_closed }
+        ensures not_held { IsErrOf result Refusal.NotHeld ↔ ((self.old.is_closed ≡ false) × (is_held (state_of D.state self.old) name.now ≡ false)) }
+        ensures damaged { IsErrOf result Refusal.Damaged → IsTrue (D.state self.new.disk).honest → IfSome (value_of name.now (state_of D.state self.old).held) (λ held. ¬ HasItsDigest held) }
+        ensures device { IsErrOf result Refusal.Device → HasFailed (D.state self.old.disk) (D.state self.new.disk) }
+        ensures others { IfErr result IsOfBody }
+
+        ensures slots { self.new.slots ≡ self.old.slots }
+        ensures contents { self.new.contents ≡ self.old.contents }
+        ensures is_closed { self.new.is_closed ≡ self.old.is_closed }
+        ensures rests { Rests (D.state self.old.disk) (D.state self.new.disk) }
+        ensures size { (D.state self.new.disk).size ≡ (D.state self.old.disk).size }
+        ensures lasts { IsTrue (D.state self.new.disk).honest → IsTrue (D.state self.old.disk).honest }
+        ensures faults { (D.state self.old.disk).faults ≤ (D.state self.new.disk).faults }
+    {
+        if self.is_closed {
+            return Err(Refusal::Closed);
+        }
+        let Some(record) = self.contents.catalogue.get(name) else {
+            return Err(Refusal::NotHeld);
+        };
+        let sha256 = record.digests.sha256;
+        let (extent, length) = (record.extent, record.length);
+        let mut bytes = Vec::new(self.alloc);
+        read_body(&mut self.disk, extent, length, &sha256, &mut bytes)?;
+        Ok(bytes)
+    }
+
+    /// The records of the resources that are held, in the strictly ascending order of the bytes of
+    /// their names.
+    ///
+    /// # Errors
+    ///
+    /// [`Refusal::Closed`] exactly where the source is closed; [`Refusal::NoMemory`] where the
+    /// memory is refused.
+    pub fn records(&self) -> Result<Vec<Record>, Refusal>
+        ensures entries { IfOk result (λ records. map entry_of records.items ≡ entries (state_of D.state self.now).held) }
+        ensures stored { IfOk result (λ records. records.items ≡ records_of self.now.contents.catalogue) }
+        ensures ascending { IfOk result (λ records. IsTrue (is_ordered (named records.items))) }
+        ensures closed { IsErrOf result Refusal.Closed ↔ IsTrue self.now.is_closed }
+        ensures no_memory { self.now.is_closed ≡ false → IsOkUnless result Refusal.NoMemory }
+    {
+        if self.is_closed {
+            return Err(Refusal::Closed);
+        }
+        Ok(records_in(self.alloc, &self.contents.catalogue)?)
+    }
+
+    /// The records of the latest publication, in the strictly ascending order of the bytes of their
+    /// names. The extent of such a record is the one that its body had then, which may hold another
+    /// body by now.
+    ///
+    /// # Errors
+    ///
+    /// [`Refusal::Closed`] exactly where the source is closed; [`Refusal::NoMemory`] where the
+    /// memory is refused.
+    pub fn published(&self) -> Result<Vec<Record>, Refusal>
+        ensures entries { IfOk result (λ records. map entry_of records.items ≡ (state_of D.state self.now).listed) }
+        ensures stored { IfOk result (λ records. records.items ≡ records_of self.now.contents.published) }
+        ensures ascending { IfOk result (λ records. IsTrue (is_ordered (named records.items))) }
+        ensures closed { IsErrOf result Refusal.Closed ↔ IsTrue self.now.is_closed }
+        ensures no_memory { self.now.is_closed ≡ false → IsOkUnless result Refusal.NoMemory }
+    {
+        if self.is_closed {
+            return Err(Refusal::Closed);
+        }
+        Ok(records_in(self.alloc, &self.contents.published)?)
+    }
+
+    /// The changes, the earliest first.
+    ///
+    /// # Errors
+    ///
+    /// [`Refusal::Closed`] exactly where the source is closed; [`Refusal::NoMemory`] where the
+    /// memory is refused.
+    pub fn changes(&self) -> Result<Vec<Change>, Refusal>
+        ensures changes { IfOk result (λ changes. changes.items ≡ (state_of D.state self.now).changes) }
+        ensures closed { IsErrOf result Refusal.Closed ↔ IsTrue self.now.is_closed }
+        ensures no_memory { self.now.is_closed ≡ false → IsOkUnless result Refusal.NoMemory }
+    {
+        if self.is_closed {
+            return Err(Refusal::Closed);
+        }
+        Ok(changes_in(self.alloc, &self.contents.history)?)
+    }
+
+    /// How many resources are held and changes are kept, the number of the latest publication, and
+    /// the moment of the last accepted command. It takes no memory.
+    ///
+    /// # Errors
+    ///
+    /// [`Refusal::Closed`] exactly where the source is closed.
+    pub fn status(&self) -> Result<Status, Refusal>
+        ensures status { IfOk result (λ status. status ≡ status_of (state_of D.state self.now)) }
+        ensures closed { IsErrOf result Refusal.Closed ↔ IsTrue self.now.is_closed }
+        ensures only { IsOkUnless result Refusal.Closed }
+    {
+        if self.is_closed {
+            return Err(Refusal::Closed);
+        }
+        let contents = &self.contents;
+        Ok(Status {
+            resources: contents.catalogue.len() as u32,
+            changes: contents.history.len() as u32,
+            publication: contents.header.number,
+            last: contents.header.last,
+        })
+    }
+
+    /// A view of the source, from which its lists are written. It borrows the source, and copies
+    /// nothing and takes no memory.
+    ///
+    /// # Errors
+    ///
+    /// [`Refusal::Closed`] exactly where the source is closed.
+    pub fn view(&self) -> Result<SourceView<'_, D>, Refusal>
+        ensures shows { IfOk result (λ view. shown_by view ≡ shown_of self.now.contents) }
+        ensures closed { IsErrOf result Refusal.Closed ↔ IsTrue self.now.is_closed }
+        ensures only { IsOkUnless result Refusal.Closed }
+    {
+        if self.is_closed {
+            return Err(Refusal::Closed);
+        }
+        Ok(SourceView { source: self })
+    }
+}
+
+// Copies of the records of a catalogue, in their order.
+fn records_in(alloc: Global, catalogue: &Catalogue) -> Result<Vec<Record>, AllocError>
+    ensures records { IfOk result (λ records. records.items ≡ records_of catalogue.now) }
+    ensures ascending { IfOk result (λ records. IsTrue (is_ordered (named records.items))) }
+{
+    let len = catalogue.len();
+    let mut records = Vec::with_capacity(alloc, len)?;
+    for i in 0..len {
+        records.push(catalogue.at(i).copy(alloc)?)?;
+    }
+    Ok(records)
+}
+
+// Copies of the changes of a history, in their order.
+fn changes_in(alloc: Global, history: &History) -> Result<Vec<Change>, AllocError>
+    ensures { IfOk result (λ changes. changes.items ≡ changes_of history.now) }
+{
+    let len = history.len();
+    let mut changes = Vec::with_capacity(alloc, len)?;
+    for i in 0..len {
+        changes.push(history.at(i).copy(alloc)?)?;
+    }
+    Ok(changes)
+}

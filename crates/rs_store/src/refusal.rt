@@ -1,0 +1,52 @@
+//! Why a source does not do what it is asked.
+
+ghost use Rattle.std.specs.Prelude.{◌≡◌};
+
+use std::alloc::AllocError;
+use thiserror::Error;
+
+/// Why a source does not do what it is asked, in the order in which the causes count: of several the
+/// first is answered. `NoMemory` stands outside this order.
+#[derive(Clone, Copy, Debug, PartialEq, Eq, Error)]
+pub enum Refusal {
+    /// A command met a fault of the device earlier. The source has to be opened again.
+    #[error("the source is closed")]
+    Closed,
+    /// A put of a body of more than 16,777,216 bytes.
+    #[error("the body is longer than 16777216 bytes")]
+    TooLong,
+    /// The resource is not held.
+    #[error("the resource is not held")]
+    NotHeld,
+    /// A put of a name that is not held, where 50,000 are.
+    #[error("50000 resources are held")]
+    TooManyResources,
+    /// A put or a delete where 50,000 changes are kept.
+    #[error("50000 changes are kept")]
+    TooManyChanges,
+    /// No moment, no publication number or no generation is left.
+    #[error("no moment, publication number or generation is left")]
+    Exhausted,
+    /// The disk has no run of free blocks for something that has to be written.
+    #[error("the disk is full")]
+    Full,
+    /// A device call failed.
+    #[error("the device failed")]
+    Device,
+    /// A body does not have its recorded SHA-256.
+    #[error("the body is damaged")]
+    Damaged,
+    /// A growth of memory was refused.
+    #[error("out of memory")]
+    NoMemory,
+}
+
+impl From<AllocError> for Refusal {
+    ghost use Rattle.rs_store.specs.declared.refusal.Refusal.{Refusal};
+
+    ghost from_gives = { λ _ refusal. refusal ≡ Refusal.NoMemory };
+
+    fn from(_: AllocError) -> Refusal {
+        Refusal::NoMemory
+    }
+}

@@ -1,0 +1,5 @@
+//! A source over a memory disk.
+mod commands;
+mod formatting;
+mod opening;
+mod reading;

@@ -1,0 +1,192 @@
+//! Writing what a plan says.
+
+ghost use Rattle.std.specs.Prelude.{◌≡◌, ◌⊎◌, ◌<◌, ◌≤◌, ◌+◌, ◌++◌, ◌^◌, ℕ, Bool, List, length, vec_len, All, IfOk, OnOk, IsErrOf};
+ghost use Rattle.rs_body.specs.Blocks.{part, IsOnDisk, IsSized};
+ghost use Rattle.rs_body.specs.Outside.{IsBeside, AreBeside, WritesOutside};
+ghost use Rattle.rs_page.specs.Items.{record_format, change_format};
+ghost use Rattle.rs_page.specs.Sheets.{IsTouched, placed_extents};
+ghost use Rattle.rs_page.specs.Pages.{IsWritten};
+ghost use Rattle.rs_page.specs.Kept.{AreApart, AreOnDisk};
+ghost use Rattle.rs_image.specs.Reach.{AreInside};
+ghost use Rattle.rs_image.specs.Tells.{listing, AreListable};
+ghost use Rattle.rs_store.specs.Refusals.{HasFailed};
+ghost use Rattle.rs_plan.specs.Plans.{once_stored, places, planned_listing, AreWritten};
+ghost use Rattle.rs_store.specs.Writing.{of_store, IsDigestOf, AreLists};
+
+use rs_body::write_body;
+use rs_directory::directory_bytes;
+use rs_disk::{Disk, Fault};
+use rs_extent::Extent;
+use rs_fixity::digests_of;
+use rs_image::Contents;
+use rs_page::StoreFault;
+use rs_plan::Plan;
+use std::alloc::{AllocError, Global};
+use thiserror::Error;
+
+/// Why not all of a plan was written.
+#[derive(Clone, Copy, Debug, PartialEq, Eq, Error)]
+pub(crate) enum WriteFault {
+    /// The device failed.
+    #[error("the device failed")]
+    Device,
+    /// The memory for the bytes of a page or of the directory was refused.
+    #[error("out of memory")]
+    NoMemory,
+}
+
+impl From<Fault> for WriteFault {
+    ghost use Rattle.rs_store.specs.declared.writing.WriteFault.TheVariants.{Device};
+
+    ghost from_gives = { λ _ fault. fault ≡ Device };
+
+    fn from(_: Fault) -> WriteFault {
+        WriteFault::Device
+    }
+}
+
+impl From<StoreFault> for WriteFault {
+    ghost from_gives = { λ of fault. fault ≡ of_store of };
+
+    fn from(fault: StoreFault) -> WriteFault {
+        match fault {
+            StoreFault::Device => WriteFault::Device,
+            StoreFault::NoMemory => WriteFault::NoMemory,
+        }
+    }
+}
+
+impl From<AllocError> for WriteFault {
+    ghost use Rattle.rs_store.specs.declared.writing.WriteFault.TheVariants.{NoMemory};
+
+    ghost from_gives = { λ _ fault. fault ≡ NoMemory };
+
+    fn from(_: AllocError) -> WriteFault {
+        WriteFault::NoMemory
+    }
+}
+
+/// A directory that was written, as a root names it.
+#[derive(Clone, Copy, Debug, PartialEq, Eq)]
+pub(crate) struct Written {
+    /// Its length in bytes.
+    pub length: u32,
+    /// The SHA-256 of its bytes.
+    pub sha256: [u8; 32],
+}
+
+/// Writes all of a plan: the body, each page that was given blocks, and the directory. Its lists are
+/// stored ones then. No slot is touched, and nothing else on the disk changes, whether it succeeds
+/// or not: each set of blocks beside the plan's places stays as it is, at every moment of the run.
+///
+/// # Errors
+///
+/// - [`WriteFault::NoMemory`] where the memory for the bytes of a page or of the directory is refused.
+/// - [`WriteFault::Device`] where the device fails.
+///
+/// After each of them the places of the plan may hold anything.
+pub(crate) fn write_plan<D: Disk>(
+    alloc: Global,
+    disk: &mut D,
+    plan: &mut Plan,
+    bytes: &[u8],
+) -> Result<Written, WriteFault>
+    requires inside { AreInside (D.state disk.old).size (places plan.old) }
+    requires apart { AreApart (places plan.old) }
+    requires catalogue { All (λ sheet. ¬ IsTouched sheet.place) plan.old.contents.catalogue }
+    requires history { All (λ sheet. ¬ IsTouched sheet.place) plan.old.contents.history }
+    requires body { IsSized plan.old.body (length bytes.now) }
+    requires directory { IsSized plan.old.directory (length (planned_listing plan.old)) }
+    requires listable { AreListable (once_stored plan.old.contents) }
+    ensures contents { OnOk result (plan.new.contents ≡ once_stored plan.old.contents) }
+    ensures lists { OnOk result (AreLists plan.new.contents) }
+    ensures written { IfOk result (IsDigestOf (once_stored plan.old.contents)) }
+    ensures reads { OnOk result (AreWritten plan.old bytes.now (D.state disk.new).now.seen) }
+    ensures device { IsErrOf result WriteFault.Device → HasFailed (D.state disk.old) (D.state disk.new) }
+
+    // Whatever it answers.
+    ensures places { (plan.new.body ≡ plan.old.body) × (plan.new.directory ≡ plan.old.directory) }
+    ensures outside { (kept : ℕ → Bool) → AreBeside kept (places plan.old) → WritesOutside kept (D.state disk.old) (D.state disk.new) }
+    ensures size { (D.state disk.new).size ≡ (D.state disk.old).size }
+    ensures keeps { (D.state disk.new).honest ≡ (D.state disk.old).honest }
+    ensures calls { (D.state disk.old).calls ≤ (D.state disk.new).calls }
+    ensures faults { (D.state disk.old).faults ≤ (D.state disk.new).faults }
+{
+    write_body(disk, plan.body, bytes)?;
+    write_pages(alloc, disk, &mut plan.contents)?;
+    write_directory(alloc, disk, plan.directory, &plan.contents)
+}
+
+// Writes each page that was given blocks.
+fn write_pages<D: Disk>(
+    alloc: Global,
+    disk: &mut D,
+    contents: &mut Contents,
+) -> Result<(), WriteFault>
+    requires catalogue { All (λ sheet. ¬ IsTouched sheet.place) contents.old.catalogue }
+    requires history { All (λ sheet. ¬ IsTouched sheet.place) contents.old.history }
+    requires room { AreOnDisk (placed_extents contents.old.catalogue ++ placed_extents contents.old.history) (D.state disk.old).size }
+    requires apart { AreApart (placed_extents contents.old.catalogue ++ placed_extents contents.old.history) }
+    ensures ok { OnOk result (contents.new ≡ once_stored contents.old) }
+    ensures catalogue { OnOk result (All (IsWritten record_format (D.state disk.new).now.seen) contents.old.catalogue) }
+    ensures history { OnOk result (All (IsWritten change_format (D.state disk.new).now.seen) contents.old.history) }
+    ensures device { IsErrOf result WriteFault.Device → HasFailed (D.state disk.old) (D.state disk.new) }
+    ensures outside { (kept : ℕ → Bool) → AreBeside kept (placed_extents contents.old.catalogue ++ placed_extents contents.old.history)
+        → WritesOutside kept (D.state disk.old) (D.state disk.new) }
+    ensures size { (D.state disk.new).size ≡ (D.state disk.old).size }
+    ensures keeps { (D.state disk.new).honest ≡ (D.state disk.old).honest }
+    ensures calls { (D.state disk.old).calls ≤ (D.state disk.new).calls }
+    ensures faults { (D.state disk.old).faults ≤ (D.state disk.new).faults }
+{
+    contents.catalogue.store_touched(alloc, disk)?;
+    contents.history.store_touched(alloc, disk)?;
+    Ok(())
+}
+
+// Writes the directory of these lists.
+fn write_directory<D: Disk>(
+    alloc: Global,
+    disk: &mut D,
+    extent: Extent,
+    contents: &Contents,
+) -> Result<Written, WriteFault>
+    requires room { IsOnDisk extent (D.state disk.old).size }
+    requires sized { IsSized extent (length (listing contents.now)) }
+    ensures written { IfOk result (IsDigestOf contents.now) }
+    ensures lists { OnOk result (AreLists contents.now) }
+    ensures reads { OnOk result (part extent (length (listing contents.now)) (D.state disk.new).now.seen ≡ listing contents.now) }
+    ensures device { IsErrOf result WriteFault.Device → HasFailed (D.state disk.old) (D.state disk.new) }
+    ensures outside { (kept : ℕ → Bool) → IsBeside kept extent → WritesOutside kept (D.state disk.old) (D.state disk.new) }
+    ensures size { (D.state disk.new).size ≡ (D.state disk.old).size }
+    ensures keeps { (D.state disk.new).honest ≡ (D.state disk.old).honest }
+    ensures calls { (D.state disk.old).calls ≤ (D.state disk.new).calls }
+    ensures faults { (D.state disk.old).faults ≤ (D.state disk.new).faults }
+{
+    let bytes = directory_of(alloc, contents)?;
+    let digests = digests_of(&bytes);
+    let sha256 = digests.sha256;
+    let written = Written {
+        length: bytes.len() as u32,
+        sha256,
+    };
+    write_body(disk, extent, &bytes)?;
+    Ok(written)
+}
+
+// The bytes of the directory of these lists.
+fn directory_of(alloc: Global, contents: &Contents) -> Result<Vec<u8>, AllocError>
+    ensures bytes { IfOk result (λ bytes. bytes.items ≡ listing contents.now) }
+    ensures fits { IfOk result (λ bytes. vec_len bytes < 2 ^ 32) }
+    ensures lists { AreLists contents.now }
+{
+    // Counting shows what the lists keep.
+    let _counts = (
+        contents.catalogue.len(),
+        contents.history.len(),
+        contents.published.len(),
+    );
+    let catalogue = contents.catalogue.pages(alloc)?;
+    let changes = contents.history.pages(alloc)?;
+    let published = contents.published.pages(alloc)?;
+    directory_bytes(alloc, &contents.header, &catalogue, &changes, &published)
+}
