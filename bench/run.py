@@ -2,8 +2,7 @@
 """Measures the proved program: `make bench` builds it first. Prints one line a figure; docs/BENCH.md keeps them.
 
   skip    a line of 40,000,000 bytes without an end, beside `wc -c` on the same pipe
-  lists   a Resource List and a Change List of 4,000 entries, beside Python's xml.etree making the same text
-  parts   50,000 resources with item limit 4,000: all parts one after another
+  lists   a Resource List and a Change List of 1,000 entries, beside Python's xml.etree making the same text
 """
 import pathlib
 import resource
@@ -17,8 +16,12 @@ PROGRAM = ROOT / "crates" / "rs_source" / "out" / "rs_source"
 BASE = "http://127.0.0.1:8080"
 
 
+# The bytes of the disk: room for the resources below, and for their pages twice.
+SIZE = 16_777_216
+
+
 def program(limit):
-    return [str(PROGRAM), "mem", "65536", BASE, str(limit)]
+    return [str(PROGRAM), "mem", str(SIZE), BASE, str(limit)]
 
 
 def best(times, action):
@@ -77,7 +80,7 @@ def by_etree(text):
 
 
 def lists():
-    front = puts(4000) + b"publish\n"
+    front = puts(1000) + b"publish\n"
     for path in ["/resourcelist.xml", "/changelist.xml"]:
         seconds, size = shown(4000, front, [path], 40)
         output = subprocess.run(program(4000), input=front + f"show {path}\n".encode(), capture_output=True, check=True).stdout
@@ -86,19 +89,12 @@ def lists():
         print(f"lists: {path} {size} bytes, {rate(seconds, size):.0f} MB/s; xml.etree {rate(theirs, size):.0f} MB/s, {theirs / seconds:.0f} times")
 
 
-def parts():
-    front = puts(50000) + b"publish\n"
-    paths = [f"/resourcelist/1/{k}.xml" for k in range(13)]
-    seconds, size = shown(4000, front, paths, 5)
-    print(f"parts: 13 parts of 50,000 resources, {size} bytes, {rate(seconds, size):.0f} MB/s")
-
-
 def main():
     if not PROGRAM.exists():
         sys.exit("build the program first: make build")
-    chosen = sys.argv[1:] or ["skip", "lists", "parts"]
+    chosen = sys.argv[1:] or ["skip", "lists"]
     for name in chosen:
-        {"skip": skip, "lists": lists, "parts": parts}[name]()
+        {"skip": skip, "lists": lists}[name]()
 
 
 main()

@@ -4,9 +4,12 @@
 `make build` makes the program. Each run of it has a C library whose N-th malloc or realloc answers that there is no
 memory, for N from 1 until none is left to refuse (`cc` builds that library into a temporary folder). Where a growth is
 refused
-  - before the script begins, the program writes nothing and ends with `rs_source: NoMemory` and status 1;
+  - before the script begins, the program writes nothing and ends with `rs_source: NoMemory` and status 1, or with
+    `rs_source: Device` where it was the disk's note of a write;
   - within a line, exactly that line is answered `refused NoMemory`, and all other lines as in a run of the script
-    without it: so nothing was changed, and later lines work.
+    without it: so nothing was changed, and later lines work;
+  - for the disk's note of a write, that line is answered `refused Device`, all lines before it as ever, and each later
+    line that asks the source `refused Closed`.
 The script has every line and every document, bodies that grow, and bad lines. It is given at once, and in pieces of
 7 bytes and of one byte. Exit status 1 where anything differs.
 """
@@ -21,6 +24,10 @@ import time
 ROOT = pathlib.Path(__file__).resolve().parent.parent
 PROGRAM = [str(ROOT / "crates" / "rs_source" / "out" / "rs_source"), "mem", "65536", "http://127.0.0.1:8080", "2"]
 REFUSED = b"refused NoMemory\n"
+FAILED = b"refused Device\n"
+CLOSED = b"refused Closed\n"
+# What lines are answered for which the source is not asked.
+UNASKED = {b"ok\n"} | {b"refused " + name + b"\n" for name in [b"BadLine", b"BadMoment", b"BadName", b"BadHex", b"BadType", b"LongLine"]}
 SHIM = r"""
 #include <stddef.h>
 #include <stdlib.h>
@@ -108,14 +115,19 @@ def answers(output):
 def wrong(result, clean, piece):
     """What is wrong with a run, or nothing."""
     status, output, error = result
-    if status == 1 and error == b"rs_source: NoMemory\n":
-        return output != b"" and "an output before NoMemory"
+    if status == 1 and error in (b"rs_source: NoMemory\n", b"rs_source: Device\n"):
+        return output != b"" and "an output before the end"
     if status != 0 or error != b"":
         return f"status {status}, {error}"
     given = answers(output)
     refused = [i for i, answer in enumerate(given) if answer == REFUSED]
     if len(given) != len(LINES) or len(refused) > 1:
         return f"{len(given)} answers, refused {refused}"
+    if FAILED in given:
+        place = given.index(FAILED)
+        usual = answers(clean)
+        wanted = usual[:place] + [FAILED] + [answer if answer in UNASKED else CLOSED for answer in usual[place + 1:]]
+        return given != wanted and f"other answers around the fault in line {place}"
     if not refused:
         return output != clean and "other answers, and none refused"
     place = refused[0]
@@ -137,7 +149,7 @@ def main():
                 refused_at += 1
                 result = run(LINES, piece, shim, refused_at)
                 quiet = quiet + 1 if result[1] == clean else 0
-                lines += REFUSED in result[1]
+                lines += REFUSED in result[1] or FAILED in result[1]
                 if found := wrong(result, clean, piece):
                     faults += 1
                     print(f"growth {refused_at}, pieces of {piece or 'all'}: {found}")
