@@ -1,5 +1,9 @@
 //! A source over a memory disk.
+mod asking;
 mod commands;
 mod formatting;
+mod limits;
 mod opening;
 mod reading;
+mod refusing;
+mod stopping;

@@ -1,10 +1,11 @@
 //! Sources that are made, beside the bytes that they have to leave, which were spelled by another
 //! program from the tables of the format.
 
+use super::asking::at;
 use crate::{FormatFault, Source};
 use rs_disk::{Disk, MemoryDisk};
-use rs_time::Moment;
 use std::alloc::Global;
+use std::process::Abort;
 use std::test::Fail;
 
 // The first 54 bytes of the first slot: generation 1, and a directory of 68 bytes in block 2.
@@ -31,7 +32,7 @@ fn answer(
     limit: u16,
 ) -> Result<(Option<FormatFault>, u64), Fail> {
     let disk = MemoryDisk::new(alloc, size)?;
-    let now = Moment::new(0).ok_or("a moment")?;
+    let now = at(0)?;
     match Source::format(alloc, disk, base, limit, now) {
         Ok(source) => Ok((None, source.into_disk().calls())),
         Err((disk, fault)) => Ok((Some(fault), disk.calls())),
@@ -43,48 +44,62 @@ fn part(bytes: &[u8], from: usize, to: usize) -> &[u8] {
     bytes.get(from..to).unwrap_or(&[])
 }
 
-#[test]
-fn the_bytes_of_a_new_source(rt: HostRuntime) -> Result<(), Fail> {
-    let alloc = rt.alloc();
+/// A disk with bytes behind the gate of the first slot and behind the new directory.
+fn disk_with_bytes(alloc: Global) -> Result<MemoryDisk, Fail> {
     let mut disk = MemoryDisk::new(alloc, 8192)?;
     disk.write(0, &[0xEE; 16])?;
     disk.write(1088, &[0xEE; 16])?;
-    let now = Moment::new(0).ok_or("a moment")?;
-    let source = match Source::format(alloc, disk, BASE, 2, now) {
-        Ok(source) => source,
-        Err((_, fault)) => return Err(fault.into()),
-    };
-    let disk = source.into_disk();
-    for choice in [[].as_slice(), &[0xEE], &[0]] {
-        let image = disk.image(choice)?;
-        assert_eq!(rt; part(&image, 0, 54), SLOT.as_slice());
-        assert_eq!(rt; part(&image, 54, 58), [0, 0, 0, 0].as_slice());
-        assert_eq!(rt; part(&image, 510, 516), [0, 0, 0, 1, 0, 0].as_slice());
-        assert_eq!(rt; part(&image, 1024, 1092), DIRECTORY.as_slice());
-        assert_eq!(rt; part(&image, 1092, 1094), [0xEE, 0xEE].as_slice());
+    Ok(disk)
+}
+
+/// The source that is made on a disk at this moment.
+fn formatted(
+    alloc: Global,
+    disk: MemoryDisk,
+    limit: u16,
+    now: u64,
+) -> Result<Source<MemoryDisk>, Fail> {
+    match Source::format(alloc, disk, BASE, limit, at(now)?) {
+        Ok(source) => Ok(source),
+        Err((_, fault)) => Err(fault.into()),
     }
+}
+
+/// Looks whether an image has the bytes of a new source.
+fn is_of_new_source(rt: &impl Abort, image: &[u8]) {
+    assert_eq!(rt; part(image, 0, 54), SLOT.as_slice());
+    assert_eq!(rt; part(image, 54, 58), [0, 0, 0, 0].as_slice());
+    assert_eq!(rt; part(image, 510, 516), [0, 0, 0, 1, 0, 0].as_slice());
+    assert_eq!(rt; part(image, 1024, 1092), DIRECTORY.as_slice());
+    assert_eq!(rt; part(image, 1092, 1094), [0xEE, 0xEE].as_slice());
+}
+
+#[test]
+fn the_bytes_of_a_new_source(rt: HostRuntime) -> Result<(), Fail> {
+    let disk = disk_with_bytes(rt.alloc())?;
+    let disk = formatted(rt.alloc(), disk, 2, 0)?.into_disk();
+    for choice in [[].as_slice(), &[0xEE], &[0]] {
+        is_of_new_source(&rt, &disk.image(choice)?);
+    }
+    Ok(())
+}
+
+/// Looks whether a source holds nothing, has published nothing, and was made at this moment.
+fn is_new(rt: &impl Abort, source: &Source<MemoryDisk>, now: u64) -> Result<(), Fail> {
+    let status = source.status()?;
+    assert_eq!(rt; (status.resources, status.changes), (0, 0));
+    assert_eq!(rt; (status.publication, status.last.ms()), (0, now));
+    assert!(rt; source.records()?.is_empty());
+    assert!(rt; source.published()?.is_empty());
+    assert!(rt; source.changes()?.is_empty());
     Ok(())
 }
 
 #[test]
 fn the_state_of_a_new_source(rt: HostRuntime) -> Result<(), Fail> {
-    let alloc = rt.alloc();
-    let now = Moment::new(951_782_400_000).ok_or("a moment")?;
-    let disk = MemoryDisk::new(alloc, 65536)?;
-    let source = match Source::format(alloc, disk, BASE, 4000, now) {
-        Ok(source) => source,
-        Err((_, fault)) => return Err(fault.into()),
-    };
-    let status = source.status()?;
-    assert_eq!(rt; status.resources, 0);
-    assert_eq!(rt; status.changes, 0);
-    assert_eq!(rt; status.publication, 0);
-    assert_eq!(rt; status.last, now);
-    assert_eq!(rt; source.records()?.len(), 0);
-    assert_eq!(rt; source.published()?.len(), 0);
-    assert_eq!(rt; source.changes()?.len(), 0);
-    assert!(rt; !source.is_closed());
-    Ok(())
+    let disk = MemoryDisk::new(rt.alloc(), 65536)?;
+    let source = formatted(rt.alloc(), disk, 4000, 951_782_400_000)?;
+    is_new(&rt, &source, 951_782_400_000)
 }
 
 #[test]
@@ -117,7 +132,7 @@ fn the_first_cause_is_answered(rt: HostRuntime) -> Result<(), Fail> {
 fn answer_at(alloc: Global, k: u64) -> Result<(Option<FormatFault>, u64), Fail> {
     let mut disk = MemoryDisk::new(alloc, 8192)?;
     disk.fail_once(k);
-    let now = Moment::new(0).ok_or("a moment")?;
+    let now = at(0)?;
     match Source::format(alloc, disk, b"http://a", 2, now) {
         Ok(_) => Ok((None, 0)),
         Err((disk, fault)) => Ok((Some(fault), disk.faults())),

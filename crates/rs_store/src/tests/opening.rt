@@ -4,6 +4,7 @@
 use crate::{OpenFault, Source};
 use rs_disk::{Disk, MemoryDisk};
 use std::alloc::Global;
+use std::process::Abort;
 use std::test::Fail;
 
 // The first 54 bytes of an open slot: generation 4, and a directory of 200 bytes in block 2.
@@ -110,21 +111,29 @@ fn fault_of(alloc: Global, disk: MemoryDisk) -> Option<OpenFault> {
     }
 }
 
-#[test]
-fn what_an_opening_finds(rt: HostRuntime) -> Result<(), Fail> {
-    let alloc = rt.alloc();
-    let disk = disk_of(alloc, 4096)?;
+/// How many device calls an opening makes.
+fn calls_of_opening(alloc: Global, disk: MemoryDisk) -> Result<u64, Fail> {
     let calls = disk.calls();
-    let source = opened(alloc, disk)?;
+    let disk = opened(alloc, disk)?.into_disk();
+    Ok(disk.calls().wrapping_sub(calls))
+}
+
+/// Looks at what the source on that disk says of itself in numbers.
+fn counts(rt: &impl Abort, source: &Source<MemoryDisk>) -> Result<(), Fail> {
     let status = source.status()?;
-    assert_eq!(rt; status.resources, 2);
-    assert_eq!(rt; status.changes, 2);
+    assert_eq!(rt; (status.resources, status.changes), (2, 2));
     assert_eq!(rt; status.publication, 1);
     assert_eq!(rt; status.last.ms(), 951_782_400_002);
-    assert!(rt; !source.is_closed());
-    // The sync, two slots, the directory and three pages.
-    assert_eq!(rt; source.into_disk().calls().wrapping_sub(calls), 7);
     Ok(())
+}
+
+#[test]
+fn what_an_opening_finds(rt: HostRuntime) -> Result<(), Fail> {
+    // The sync, two slots, the directory and three pages.
+    let calls = calls_of_opening(rt.alloc(), disk_of(rt.alloc(), 4096)?)?;
+    assert_eq!(rt; calls, 7);
+    let source = opened(rt.alloc(), disk_of(rt.alloc(), 4096)?)?;
+    counts(&rt, &source)
 }
 
 #[test]
