@@ -9,14 +9,14 @@ SCRIPT ?= examples/first.script
 BASE ?= http://127.0.0.1:8080
 RT ?= rt
 
-.PHONY: demo test build bench memory documents
+.PHONY: demo test build bench memory documents proofs-by-hand
 
 # `rt try` builds without proving: quick, and no more than an unproved build.
 demo:
 	@echo "# demo: built the quick way, unproved ('make build' proves it first)"
 	@cd crates/rs_source && $(RT) try --seconds 60 -- mem 65536 $(BASE) 2 < ../../$(SCRIPT)
 
-test: documents
+test: documents proofs-by-hand
 	$(RT) ci
 
 # The proved program; its path is printed.
@@ -28,8 +28,13 @@ build:
 documents:
 	@python3 examples/check_documents.py || exit 1
 
+# Names each proof that is written by hand, and fails at one that is not expected (docs/FILE-DISK.md).
+proofs-by-hand:
+	@python3 examples/check_hand_proofs.py
+
 bench: build
 	python3 bench/run.py
+	python3 bench/puts.py
 
 memory: build
 	@python3 examples/check_memory.py

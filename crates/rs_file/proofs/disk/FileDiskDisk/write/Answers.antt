@@ -1,0 +1,14 @@
+use Rattle.std.proofs.Common.{◌≤◌, ◌+◌, ℕ, false, length, subst}
+use Rattle.rs_file.proofs.Replaying.{write_sound, write_tears}
+use Rattle.rs_file.proofs.disk.FileDiskDisk.write.Goals as goal
+
+pub invariant_of-self-in-Err-clause-sound : goal.invariant_of-self-in-Err-clause-sound
+invariant_of-self-in-Err-clause-sound g c =
+    let d = c.args.self.now in
+    let fits : c.args.at + length c.args.bytes.now ≤ d.size = subst (λ (k : ℕ). c.args.at + length c.args.bytes.now ≤ k) d.long c.requires in
+    write_sound g.S.Start.first g.S.Start.torn d.size d.file.log.events c.write.new.self.log.events c.args.at c.args.bytes.now false c.in-Err.ensures.noted fits d.sound
+
+pub returns-in-Err-clause-tears : goal.returns-in-Err-clause-tears
+returns-in-Err-clause-tears g c =
+    let d = c.args.self.now in
+    write_tears g.S.Start.first g.S.Start.torn d.size d.file.log.events c.write.new.self.log.events c.args.at c.args.bytes.now c.in-Err.ensures.noted

@@ -1,0 +1,4 @@
+pub mod Events
+pub mod Replay
+pub mod File
+pub mod Honest

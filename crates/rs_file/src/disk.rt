@@ -1,0 +1,165 @@
+//! A file as a disk.
+ghost use Rattle.std.specs.Prelude.{◌≡◌, ◌≤◌};
+ghost use Rattle.rs_disk.specs.Medium.{IsMedium, resting};
+ghost use Rattle.rs_file.specs.Replay.{replay};
+
+use crate::Start;
+use crate::calls::RecordedFile;
+use rs_disk::{Disk, Fault};
+use std::fs::File;
+use std::marker::PhantomData;
+
+/// A disk over a file of the operating system.
+///
+/// Its size is the length that the file had when it was opened. It meets the contract of
+/// [`Disk`], with the replay of the record of its calls as its state: what a reader has to trust
+/// beside the proofs is that each call of `read`, `write` and `sync` makes the call of the system
+/// that it notes, that [`open`](FileDisk::open) and [`create`](FileDisk::create) settle what the
+/// file holds, and that after a crash the file holds one of the images that the state names.
+///
+/// Once a sync has failed, the system may have dropped what was written, and a later sync may
+/// succeed all the same. So no further call of the system is made: each call answers [`Fault`] and
+/// is counted. The system has no offset from 2^63 on: a call that reaches there fails.
+#[derive(Drop)]
+pub struct FileDisk<S: Start> {
+    file: RecordedFile,
+    size: u64,
+    calls: u64,
+    faults: u64,
+    start: PhantomData<S>,
+    ghost long: { (replay S.Start.first S.Start.torn size file.log.events).size ≡ size },
+    ghost counted: { (replay S.Start.first S.Start.torn size file.log.events).calls ≡ calls },
+    ghost failed: { (replay S.Start.first S.Start.torn size file.log.events).faults ≡ faults },
+    ghost fewer: { faults ≤ calls },
+    ghost sound: { IsMedium size (replay S.Start.first S.Start.torn size file.log.events).now },
+}
+
+impl<S: Start> FileDisk<S> {
+    ghost use Rattle.rs_file.specs.Replay.{opened};
+    ghost use Rattle.rs_file.specs.File.{state_of, events_of};
+    ghost use Rattle.std.specs.Prelude.{◌≡◌, ◌↔◌, ◌+◌, ◌≤◌, ◌^◌, [], IsTrue};
+
+    // A file of this length as a disk on which no call was made.
+    pub(crate) fn over(file: File, size: u64) -> FileDisk<S>
+        ensures state { state_of S.Start result ≡ opened S.Start.first size }
+        ensures first { IsTrue (state_of S.Start result).honest → (state_of S.Start result).now ≡ resting S.Start.first }
+        ensures events { events_of result ≡ [] }
+    {
+        FileDisk {
+            file: RecordedFile::new(file),
+            size,
+            calls: 0,
+            faults: 0,
+            start: PhantomData,
+        }
+    }
+
+    // Whether the count of calls stands at its last value.
+    fn is_spent(&self) -> bool
+        ensures { IsTrue result ↔ (2 ^ 64 ≤ (state_of S.Start self.now).calls + 1) }
+    {
+        self.calls == u64::MAX
+    }
+}
+
+// Each method has the clauses of the trait, and then its own: each counted call is noted with its
+// answer, and once a sync has failed each call fails.
+impl<S: Start> Disk for FileDisk<S> {
+    ghost use Rattle.std.specs.Prelude.{◌≡◌, ◌+◌, ◌<◌, ◌≤◌, ◌^◌, ◌∷◌, length, take, drop, is_ok, OnOk, OnErr, IsErr, IsTrue};
+    ghost use Rattle.rs_disk.specs.Calls.{Counts, Stays, Writes, Tears, Settles};
+    ghost use Rattle.rs_file.specs.Events.{sync_failed, WasRead, WasWritten, WasSynced};
+    ghost use Rattle.rs_file.specs.File.{state_of, events_of, sound_of};
+
+    ghost state = { λ d. state_of S.Start d };
+
+    ghost holds = { λ d. sound_of S.Start d };
+
+    fn size(&self) -> u64 {
+        self.size
+    }
+
+    fn calls(&self) -> u64 {
+        self.calls
+    }
+
+    fn faults(&self) -> u64 {
+        self.faults
+    }
+
+    fn read(&mut self, at: u64, into: &mut [u8]) -> Result<(), Fault>
+        requires { at + length into.old ≤ (state_of S.Start self.old).size }
+        ensures counts { Counts (state_of S.Start self.old) (state_of S.Start self.new) result }
+        ensures stays { Stays (state_of S.Start self.old) (state_of S.Start self.new) }
+        ensures gives { IsTrue (state_of S.Start self.new).honest → OnOk result (into.new ≡ take (length into.old) (drop at (state_of S.Start self.old).now.seen)) }
+        ensures keeps { IsTrue (state_of S.Start self.old).honest → OnOk result (into.new ≡ take (length into.old) (drop at (state_of S.Start self.old).now.seen)) → IsTrue (state_of S.Start self.new).honest }
+
+        ensures noted { (state_of S.Start self.old).calls + 1 < 2 ^ 64 → events_of self.new ≡ WasRead at (is_ok result) into.new ∷ events_of self.old }
+        ensures stopped { IsTrue (sync_failed (events_of self.old)) → IsErr result }
+    {
+        if self.is_spent() {
+            return Err(Fault);
+        }
+        match self.file.read(at, into) {
+            Ok(()) => {
+                self.calls += 1;
+                Ok(())
+            }
+            Err(fault) => {
+                self.calls += 1;
+                self.faults += 1;
+                Err(fault)
+            }
+        }
+    }
+
+    fn write(&mut self, at: u64, bytes: &[u8]) -> Result<(), Fault>
+        requires { at + length bytes.now ≤ (state_of S.Start self.old).size }
+        ensures counts { Counts (state_of S.Start self.old) (state_of S.Start self.new) result }
+        ensures writes { OnOk result (Writes at bytes.now (state_of S.Start self.old) (state_of S.Start self.new)) }
+        ensures tears { OnErr result (Tears at (length bytes.now) (state_of S.Start self.old) (state_of S.Start self.new)) }
+        ensures keeps { (state_of S.Start self.new).honest ≡ (state_of S.Start self.old).honest }
+
+        ensures noted { (state_of S.Start self.old).calls + 1 < 2 ^ 64 → events_of self.new ≡ WasWritten at (is_ok result) bytes.now ∷ events_of self.old }
+        ensures stopped { IsTrue (sync_failed (events_of self.old)) → IsErr result }
+    {
+        if self.is_spent() {
+            return Err(Fault);
+        }
+        match self.file.write(at, bytes) {
+            Ok(()) => {
+                self.calls += 1;
+                Ok(())
+            }
+            Err(fault) => {
+                self.calls += 1;
+                self.faults += 1;
+                Err(fault)
+            }
+        }
+    }
+
+    fn sync(&mut self) -> Result<(), Fault>
+        ensures counts { Counts (state_of S.Start self.old) (state_of S.Start self.new) result }
+        ensures settles { OnOk result (Settles (state_of S.Start self.old) (state_of S.Start self.new)) }
+        ensures stays { OnErr result (Stays (state_of S.Start self.old) (state_of S.Start self.new)) }
+        ensures keeps { (state_of S.Start self.new).honest ≡ (state_of S.Start self.old).honest }
+
+        ensures noted { (state_of S.Start self.old).calls + 1 < 2 ^ 64 → events_of self.new ≡ WasSynced (is_ok result) ∷ events_of self.old }
+        ensures stopped { IsTrue (sync_failed (events_of self.old)) → IsErr result }
+    {
+        if self.is_spent() {
+            return Err(Fault);
+        }
+        match self.file.sync() {
+            Ok(()) => {
+                self.calls += 1;
+                Ok(())
+            }
+            Err(fault) => {
+                self.calls += 1;
+                self.faults += 1;
+                Err(fault)
+            }
+        }
+    }
+}
