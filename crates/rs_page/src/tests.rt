@@ -98,6 +98,25 @@ fn store_placed<T: PageItem>(
     page.store(rt.alloc(), disk)
 }
 
+// Places a page of these items on a disk of four blocks whose block 2 is used, and stores it. It gets the
+// lowest free block, and is stored as the same bytes as on the other disk.
+fn is_stored_as<T: PageItem>(
+    rt: &(impl Abort + AllocGlobal),
+    items: Vec<T>,
+    at: PageRef,
+    other: &MemoryDisk,
+) -> Result<(), Fail> {
+    let mut used = Used::new(rt.alloc(), 4)?;
+    take(rt, &mut used, 2);
+    let mut page = page_of(rt, items);
+    page.place_in(&mut used)?;
+    let mut disk = MemoryDisk::new(rt.alloc(), 2048)?;
+    store_placed(rt, &mut page, &mut disk)?;
+    assert_eq!(rt; page.place(), Place::Stored(at));
+    assert_eq!(rt; disk.image(&[])?.as_slice(), other.image(&[])?.as_slice());
+    Ok(())
+}
+
 #[test]
 fn a_page_of_changes_is_spelled_by_the_table(rt: HostRuntime) -> Result<(), Fail> {
     let at = in_block_3(29, SHA256_OF_CHANGES);
@@ -106,26 +125,23 @@ fn a_page_of_changes_is_spelled_by_the_table(rt: HostRuntime) -> Result<(), Fail
     assert_eq!(rt; read.place(), Place::Stored(at));
     let wants: [(&[u8], u64); 2] = [(b"a/b", 0), (b"c", 1)];
     assert_eq!(rt; read.items().len(), 2);
+    let mut items = Vec::new(rt.alloc());
     for (change, (name, later)) in read.items().iter().zip(wants) {
         assert_eq!(rt; change.what, What::Deleted);
         assert_eq!(rt; change.name.bytes(), name);
         assert_eq!(rt; change.moment.ms().checked_sub(MOMENT), Some(later));
-    }
-
-    // Written again, it is the same bytes, in the lowest block that is free.
-    let mut used = Used::new(rt.alloc(), 4)?;
-    take(&rt, &mut used, 2);
-    let mut items = Vec::new(rt.alloc());
-    for (name, later) in wants {
         items.push(deletion(&rt, name, later)?)?;
     }
-    let mut page = page_of(&rt, items);
-    page.place_in(&mut used)?;
-    let mut other = MemoryDisk::new(rt.alloc(), 2048)?;
-    store_placed(&rt, &mut page, &mut other)?;
-    assert_eq!(rt; page.place(), Place::Stored(at));
-    assert_eq!(rt; other.image(&[])?.as_slice(), disk.image(&[])?.as_slice());
-    Ok(())
+    is_stored_as(&rt, items, at, &disk)
+}
+
+// Looks whether a record is of `a/b` with the body `hello` in block 5.
+fn is_hello(rt: &impl Abort, record: &Record) {
+    assert_eq!(rt; record.name.bytes(), b"a/b".as_slice());
+    assert_eq!(rt; record.kind.bytes(), b"text/plain".as_slice());
+    assert_eq!(rt; (record.length, record.moment.ms()), (5, MOMENT));
+    assert_eq!(rt; record.digests, rs_fixity::digests_of(b"hello"));
+    assert_eq!(rt; (record.extent.first, record.extent.blocks), (5, 1));
 }
 
 #[test]
@@ -136,29 +152,12 @@ fn a_page_of_records_is_spelled_by_the_table(rt: HostRuntime) -> Result<(), Fail
     let copied = read.copy(rt.alloc())?;
     assert_eq!(rt; copied.place(), Place::Stored(at));
     assert_eq!(rt; copied.items().len(), 1);
-    let body = Extent {
-        first: 5,
-        blocks: 1,
-    };
     let mut items = Vec::new(rt.alloc());
     for record in copied.items() {
-        assert_eq!(rt; record.name.bytes(), b"a/b".as_slice());
-        assert_eq!(rt; record.kind.bytes(), b"text/plain".as_slice());
-        assert_eq!(rt; record.length, 5);
-        assert_eq!(rt; record.digests, rs_fixity::digests_of(b"hello"));
-        assert_eq!(rt; record.moment.ms(), MOMENT);
-        assert_eq!(rt; record.extent, body);
+        is_hello(&rt, record);
         items.push(record.copy(rt.alloc())?)?;
     }
-    let mut used = Used::new(rt.alloc(), 4)?;
-    take(&rt, &mut used, 2);
-    let mut page = page_of(&rt, items);
-    page.place_in(&mut used)?;
-    let mut other = MemoryDisk::new(rt.alloc(), 2048)?;
-    store_placed(&rt, &mut page, &mut other)?;
-    assert_eq!(rt; page.place(), Place::Stored(at));
-    assert_eq!(rt; other.image(&[])?.as_slice(), disk.image(&[])?.as_slice());
-    Ok(())
+    is_stored_as(&rt, items, at, &disk)
 }
 
 #[test]

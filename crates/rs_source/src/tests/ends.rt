@@ -1,11 +1,14 @@
 use crate::memory::script_bytes;
 use crate::script::{ScriptFault, script};
 use crate::tests::new_source;
+use rs_disk::MemoryDisk;
 use rs_io::Watched;
+use rs_store::Source;
 use std::alloc::Global;
 use std::cell::Cell;
 use std::io;
 use std::io::{ErrorKind, Read, Write};
+use std::process::Abort;
 use std::test::Fail;
 
 /// A reader of `front`, then of `count` times `byte`, then of `back`.
@@ -162,103 +165,169 @@ fn the_limit_is_without_the_end(rt: HostRuntime) -> Result<(), Fail> {
     Ok(())
 }
 
+/// Runs a script of three commands over a reader that fails, and looks whether the whole lines that came
+/// before were answered, and no others.
+fn fails_reading(
+    rt: &(impl Abort + AllocGlobal),
+    source: &mut Source<MemoryDisk>,
+    piece: usize,
+    fail_at: usize,
+) -> Result<(), Fail> {
+    const CREATED: &[u8] = b"created 1970-01-01T00:00:00.001Z\ncreated 1970-01-01T00:00:00.002Z\n";
+    let held_back = Cell::new(0);
+    let mut reader = Watched::new(Pieces {
+        rest: COMMANDS,
+        piece,
+        calls: 0,
+        fail_at,
+        held_back: &held_back,
+    });
+    let mut writer = Watched::new(Vec::new(rt.alloc()));
+    let ended = script(rt.alloc(), source, &mut reader, &mut writer);
+    let come = COMMANDS.len() - reader.get_ref().rest.len().min(COMMANDS.len());
+    let whole = COMMANDS[..come].iter().filter(|b| **b == b'\n').count();
+    let wanted = &CREATED[..33 * whole.min(2)];
+    assert!(rt;
+        ended == Err(ScriptFault::Read),
+        "pieces of {piece}, read {fail_at}"
+    );
+    assert!(rt;
+        writer.into_inner().as_slice() == wanted,
+        "pieces of {piece}, read {fail_at}"
+    );
+    let status = source.status()?;
+    assert!(rt; status.changes as usize == whole && status.publication == 0);
+    Ok(())
+}
+
+const COMMANDS: &[u8] = b"put a - a/b\nput b - a/b\npublish";
+
 #[test]
 fn a_reader_fails_at_each_read(rt: HostRuntime) -> Result<(), Fail> {
-    let held_back = Cell::new(0);
-    let input = b"put a - a/b\nput b - a/b\npublish";
-    let created = b"created 1970-01-01T00:00:00.001Z\ncreated 1970-01-01T00:00:00.002Z\n";
-    for piece in [1, 5, 12, input.len()] {
-        for fail_at in 0..=input.len().div_ceil(piece) {
+    for piece in [1, 5, 12, COMMANDS.len()] {
+        for fail_at in 0..=COMMANDS.len().div_ceil(piece) {
             let mut source = new_source(rt.alloc())?;
-            let mut reader = Watched::new(Pieces {
-                rest: input,
-                piece,
-                calls: 0,
-                fail_at,
-                held_back: &held_back,
-            });
-            let mut writer = Watched::new(Vec::new(rt.alloc()));
-            let ended = script(rt.alloc(), &mut source, &mut reader, &mut writer);
-            let come = input.len() - reader.get_ref().rest.len().min(input.len());
-            let whole = input[..come].iter().filter(|b| **b == b'\n').count();
-            let wanted = &created[..33 * whole.min(2)];
-            assert!(rt;
-                ended == Err(ScriptFault::Read) && writer.into_inner().as_slice() == wanted,
-                "pieces of {piece}, read {fail_at}"
-            );
-            let status = source.status()?;
-            assert!(rt; status.changes as usize == whole && status.publication == 0);
+            fails_reading(&rt, &mut source, piece, fail_at)?;
         }
     }
     Ok(())
 }
 
-/// What a script of the first lines writes on a new source, and what `status` answers then.
-fn after(alloc: Global, lines: &[&[u8]]) -> Result<(Vec<u8>, Vec<u8>), Fail> {
+/// What a script wrote, how it ended, and what `status` answers then.
+#[derive(Drop)]
+struct Outcome {
+    written: Vec<u8>,
+    ended: Result<(), ScriptFault>,
+    status: Vec<u8>,
+}
+
+/// Runs a script over a writer that fails from one of its calls on.
+fn fails_writing(
+    rt: &HostRuntime,
+    source: &mut Source<MemoryDisk>,
+    input: &[u8],
+    fail_at: usize,
+) -> Result<Outcome, Fail> {
+    let held_back = Cell::new(0);
+    let mut reader = Watched::new(input);
+    let mut writer = Watched::new(Held {
+        bytes: Vec::new(rt.alloc()),
+        calls: 0,
+        fail_at,
+        held_back: &held_back,
+    });
+    let ended = script(rt.alloc(), source, &mut reader, &mut writer);
+    let status = script_bytes(rt.alloc(), source, b"status")?;
+    Ok(Outcome {
+        written: writer.into_inner().bytes,
+        ended,
+        status,
+    })
+}
+
+/// The outcome of a script on a new source, over such a writer.
+fn outcome_of(rt: &HostRuntime, input: &[u8], fail_at: usize) -> Result<Outcome, Fail> {
+    let mut source = new_source(rt.alloc())?;
+    fails_writing(rt, &mut source, input, fail_at)
+}
+
+const LINES: [&[u8]; 9] = [
+    b"put a 6162 a/b\n",
+    b"show /resource/a\n",
+    b"publish\n",
+    b"show /resourcelist.xml\n",
+    b"no line\n",
+    b"put b - a/b\n",
+    b"delete a\n",
+    b"show /changelist/0.xml\n",
+    b"status",
+];
+
+/// The outcomes of the first lines of this script: of none, of one and so on.
+fn outcomes(rt: &HostRuntime) -> Result<Vec<Outcome>, Fail> {
+    let mut input = Vec::new(rt.alloc());
+    let mut outcomes = Vec::new(rt.alloc());
+    outcomes.push(outcome_of(rt, &input, usize::MAX)?)?;
+    for line in LINES {
+        input.extend_from_slice(line)?;
+        outcomes.push(outcome_of(rt, &input, usize::MAX)?)?;
+    }
+    Ok(outcomes)
+}
+
+/// How many lines were done of a script whose writer failed at this call.
+fn lines_done(outcomes: &[Outcome], written: &[u8], fail_at: usize) -> usize {
+    if fail_at == 0 {
+        return 0;
+    }
+    let whole = outcomes
+        .iter()
+        .filter(|outcome| outcome.written.len() <= written.len())
+        .count();
+    whole.min(LINES.len())
+}
+
+/// Looks whether a writer that failed at this call has the front of what the whole script writes, and the
+/// source has done the lines whose answers it has, and the next one.
+fn is_front(rt: &impl Abort, outcomes: &[Outcome], found: &Outcome, fail_at: usize) {
+    let done = lines_done(outcomes, &found.written, fail_at);
+    if let Some(stage) = outcomes.get(done) {
+        assert!(rt;
+            found.status.as_slice() == stage.status.as_slice(),
+            "{done} lines, at {fail_at}"
+        );
+    }
+    if let Some(whole) = outcomes.last() {
+        assert!(rt;
+            whole.written.as_slice().starts_with(&found.written),
+            "at {fail_at}"
+        );
+    }
+}
+
+/// The bytes of the whole script.
+fn whole_script(alloc: Global) -> Result<Vec<u8>, Fail> {
     let mut input = Vec::new(alloc);
-    for line in lines {
+    for line in LINES {
         input.extend_from_slice(line)?;
     }
-    let mut source = new_source(alloc)?;
-    let output = script_bytes(alloc, &mut source, input.as_slice())?;
-    let status = script_bytes(alloc, &mut source, b"status")?;
-    Ok((output, status))
+    Ok(input)
 }
 
 #[test]
 fn a_writer_fails_at_each_call(rt: HostRuntime) -> Result<(), Fail> {
-    let held_back = Cell::new(0);
-    let lines = [
-        b"put a 6162 a/b\n".as_slice(),
-        b"show /resource/a\n",
-        b"publish\n",
-        b"show /resourcelist.xml\n",
-        b"no line\n",
-        b"put b - a/b\n",
-        b"delete a\n",
-        b"show /changelist/0.xml\n",
-        b"status",
-    ];
-    let mut input = Vec::new(rt.alloc());
-    let mut stages = Vec::new(rt.alloc());
-    stages.push(after(rt.alloc(), &lines[..0])?)?;
-    for (i, line) in lines.iter().enumerate() {
-        input.extend_from_slice(line)?;
-        stages.push(after(rt.alloc(), &lines[..i + 1])?)?;
-    }
+    let outcomes = outcomes(&rt)?;
+    let input = whole_script(rt.alloc())?;
     let mut failures = 0;
     for fail_at in 0..200 {
-        let mut source = new_source(rt.alloc())?;
-        let mut reader = Watched::new(input.as_slice());
-        let mut writer = Watched::new(Held {
-            bytes: Vec::new(rt.alloc()),
-            calls: 0,
-            fail_at,
-            held_back: &held_back,
-        });
-        let ended = script(rt.alloc(), &mut source, &mut reader, &mut writer);
-        let written = writer.get_ref().bytes.as_slice();
-        let whole = stages.iter().filter(|s| s.0.len() <= written.len()).count();
-        let done = if fail_at == 0 {
-            0
-        } else {
-            whole.min(lines.len())
-        };
-        let status = script_bytes(rt.alloc(), &mut source, b"status")?;
-        if let Some((_, wanted)) = stages.get(done) {
-            assert!(rt;
-                status.as_slice() == wanted.as_slice(),
-                "after {done} lines, at {fail_at}"
-            );
+        let found = outcome_of(&rt, &input, fail_at)?;
+        is_front(&rt, &outcomes, &found, fail_at);
+        if found.ended == Ok(()) {
+            let whole = outcomes.last().map(|whole| whole.written.len());
+            assert!(rt; whole == Some(found.written.len()), "at {fail_at}");
+            break;
         }
-        if let Some((output, _)) = stages.last() {
-            assert!(rt; output.as_slice().starts_with(written), "at {fail_at}");
-            if ended == Ok(()) {
-                assert!(rt; written.len() == output.len() && done == lines.len());
-                break;
-            }
-        }
-        assert!(rt; ended == Err(ScriptFault::Write), "at {fail_at}");
+        assert!(rt; found.ended == Err(ScriptFault::Write), "at {fail_at}");
         failures = fail_at;
     }
     assert!(rt; failures > 20, "{failures}");

@@ -272,32 +272,40 @@ fn a_disk_of_sixteen_blocks_is_soon_full(rt: HostRuntime) -> Result<(), Fail> {
     }
     input.extend_from_slice(b"delete a\nput b - text/plain\npublish\ndelete a\n")?;
     let mut source = start(alloc, 8192, b"http://127.0.0.1:8080", 2)?;
-    let text = String::from_utf8(script_bytes(alloc, &mut source, input.as_slice())?)?;
+    let output = script_bytes(alloc, &mut source, input.as_slice())?;
     assert!(rt;
-        text.as_str()
-            == "refused Full
+        output.as_slice()
+            == b"refused Full
 created 1970-01-01T00:00:00.001Z
 refused Full
 refused Full
 published 1 1970-01-01T00:00:00.002Z
 refused Full
 "
+                .as_slice()
     );
     Ok(())
 }
 
+/// What a script writes on a new source whose disk fails at this call, if it is made all the same.
+fn text_with_fault(alloc: Global, call: u64) -> Result<Option<String>, Fail> {
+    let mut disk = MemoryDisk::new(alloc, 65_536)?;
+    disk.fail_once(call);
+    let Ok(mut source) = Source::format(alloc, disk, b"http://a", 2, first_moment()) else {
+        return Ok(None);
+    };
+    let input = b"put a 61 text/plain\nstatus\nshow /resourcelist.xml\npublish\nput a b c\n";
+    let output = script_bytes(alloc, &mut source, input)?;
+    Ok(Some(String::from_utf8(output)?))
+}
+
 #[test]
 fn a_device_that_fails_closes_the_source(rt: HostRuntime) -> Result<(), Fail> {
-    let alloc = rt.alloc();
     let (mut was_closed, mut was_served) = (false, false);
     for call in 0..16 {
-        let mut disk = MemoryDisk::new(alloc, 65_536)?;
-        disk.fail_once(call);
-        let Ok(mut source) = Source::format(alloc, disk, b"http://a", 2, first_moment()) else {
+        let Some(text) = text_with_fault(rt.alloc(), call)? else {
             continue;
         };
-        let input = b"put a 61 text/plain\nstatus\nshow /resourcelist.xml\npublish\nput a b c\n";
-        let text = String::from_utf8(script_bytes(alloc, &mut source, input)?)?;
         if text.starts_with("refused Device\n") {
             was_closed = true;
             assert!(rt;

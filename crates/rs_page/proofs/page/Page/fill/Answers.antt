@@ -1,4 +1,4 @@
-use Rattle.std.proofs.Common.{◌≡◌, ◌<◌, List, length, ap, sym, subst}
+use Rattle.std.proofs.Common.{◌≡◌, ◌<◌, length, ap, sym, subst}
 use Rattle.std.specs.Prelude.{slice_get, slice_set, IfSome}
 use Rattle.rs_page.specs.Sheets.{Sheet}
 use Rattle.rs_page.proofs.Filled.{at_place}
