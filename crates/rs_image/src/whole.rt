@@ -102,13 +102,13 @@ fn are_sound_changes(low: Moment, high: Moment, history: &History) -> bool
 
 // Whether a record is from within these moments, its body no longer than one may be, and its extent
 // of the size for it.
-fn is_sound_record(low: Moment, high: Moment, record: &Record) -> bool
-    ensures yes { result ≡ true → IsSoundRecord low high record.now }
-    ensures no { result ≡ false → ¬ IsSoundRecord low high record.now }
+fn is_sound_record(low: Moment, high: Moment, item: &Record) -> bool
+    ensures yes { result ≡ true → IsSoundRecord low high item.now }
+    ensures no { result ≡ false → ¬ IsSoundRecord low high item.now }
 {
-    is_within(low, high, record.moment)
-        && record.length <= LONGEST_BODY
-        && is_sized(record.extent, record.length)
+    is_within(low, high, item.moment)
+        && item.length <= LONGEST_BODY
+        && is_sized(item.extent, item.length)
 }
 
 // Whether a change is from within these moments, and its body, if it has one, no longer than one may
