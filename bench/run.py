@@ -17,7 +17,7 @@ BASE = "http://127.0.0.1:8080"
 
 
 # The bytes of the disk: room for the resources below, and for their pages twice.
-SIZE = 16_777_216
+SIZE = 2_097_152
 
 
 def program(limit):
@@ -82,7 +82,7 @@ def by_etree(text):
 def lists():
     front = puts(1000) + b"publish\n"
     for path in ["/resourcelist.xml", "/changelist.xml"]:
-        seconds, size = shown(4000, front, [path], 40)
+        seconds, size = shown(4000, front, [path], 2000)
         output = subprocess.run(program(4000), input=front + f"show {path}\n".encode(), capture_output=True, check=True).stdout
         start = output.index(b"<?xml")
         theirs = by_etree(output[start:])
