@@ -55,7 +55,7 @@ named-without name old new i found is = ap named is ∙ (named-remove old i ∙ 
 pub has_bound : (name : List ℕ) (r : Record) (old new : List Record) → named new ≡ bind name r (named old) → HasName name new
 has_bound name r old new is = rw (is, value-bind name r (named old)) refl
 
-same_name : (x y : List ℕ) → by_bytes x y ≡ Equal → x ≡ y
+pub same_name : (x y : List ℕ) → by_bytes x y ≡ Equal → x ≡ y
 same_name x y h = (bytes_eq-Decides x y).0 (sym (is_eq-slice_cmp x y) ∙ ap is_eq h)
 
 -- a record is found by its own name

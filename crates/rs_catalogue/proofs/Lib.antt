@@ -1,5 +1,6 @@
 pub mod Places
 pub mod Held
+pub mod FilledIn
 pub mod Ascending
 pub mod Beside
 pub mod Shown

@@ -1,4 +1,5 @@
 pub mod Named
+pub mod Filled
 pub mod Catalogue
 pub mod Inside
 pub mod Laws

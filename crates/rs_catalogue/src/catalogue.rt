@@ -5,6 +5,7 @@ ghost use Rattle.std.specs.Option.{option_copied};
 ghost use Rattle.rs_model.specs.Names.{value_of, bind, unbind, is_ordered};
 ghost use Rattle.rs_model.specs.State.{most_resources};
 ghost use Rattle.rs_page.specs.Items.{record_filled};
+ghost use Rattle.rs_catalogue.specs.Filled.{fill_in, sheets_filled};
 ghost use Rattle.rs_page.specs.Sheets.{placed_extents, stored_ref, stored_refs};
 ghost use Rattle.rs_catalogue.specs.Named.{named, HasName};
 ghost use Rattle.rs_page.specs.Kept.{KeepsPages, stored_sheets};
@@ -150,6 +151,7 @@ impl Catalogue {
         ensures filled { IfSome (value_of name.now (named (records_of self.old))) (λ r. named (records_of self.new) ≡ bind name.now (record_filled digests r) (named (records_of self.old))) }
         ensures places { map (λ sheet. sheet.place) self.new ≡ map (λ sheet. sheet.place) self.old }
         ensures lengths { map (λ sheet. length sheet.items) self.new ≡ map (λ sheet. length sheet.items) self.old }
+        ensures pages { self.new ≡ sheets_filled name.now digests self.old }
     {
         let Some(page) = &mut self.page else {
             return;
@@ -198,8 +200,10 @@ fn fill_page(page: &mut Page<Record>, name: &Name, digests: Digests)
     ensures filled { IfSome (value_of name.now (named page.old.items)) (λ r. named page.new.items ≡ bind name.now (record_filled digests r) (named page.old.items)) }
     ensures place { page.new.place ≡ page.old.place }
     ensures lengths { length page.new.items ≡ length page.old.items }
+    ensures items { page.new.items ≡ fill_in name.now digests page.old.items }
 {
-    if let Ok(i) = place_of(page.items(), name) {
-        page.fill(i, digests);
+    match place_of(page.items(), name) {
+        Ok(i) => page.fill(i, digests),
+        Err(_) => {}
     }
 }

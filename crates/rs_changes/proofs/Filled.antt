@@ -7,6 +7,7 @@ use Rattle.rs_fixity.specs.declared.Digests.{Digests}
 use Rattle.rs_record.specs.declared.change.Change.{Change}
 use Rattle.rs_page.specs.Items.{change_filled}
 use Rattle.rs_changes.specs.History.{is_rising, is_after, AreKept}
+use Rattle.rs_changes.specs.Filled.{fill_end}
 use Rattle.rs_changes.proofs.Rising.{both_of, first_of, second_of}
 
 get-end : (before : List Change) (last : Change) → slice_get (before ++ last ∷ []) (length before) ≡ Some last
@@ -64,3 +65,15 @@ kept-filled digests old new some kept filled lengths =
       rising = subst (λ (changes : List Change). IsTrue (is_rising changes)) (sym (filled ends.0 ends.1 ends.2)) (rising-filled digests ends.0 ends.1 was);
       room = omega (arith, lengths, kept.room);
     }
+
+pub filled_behind : (digests : Digests) (before : List Change) (last : Change) → fill_end digests (before ++ last ∷ []) ≡ before ++ change_filled digests last ∷ []
+filled_behind digests [] last = refl
+filled_behind digests (x ∷ []) last = refl
+filled_behind digests (x ∷ y ∷ before) last = ap (λ rest. x ∷ rest) (filled_behind digests (y ∷ before) last)
+
+-- what was filled at the end is what was told of its end
+pub filled_exact : (digests : Digests) (old new : List Change) → 1 ≤ length old
+    → ((before : List Change) (last : Change) → old ≡ before ++ last ∷ [] → new ≡ before ++ change_filled digests last ∷ []) → new ≡ fill_end digests old
+filled_exact digests old new some filled =
+    let ends = end_of old some in
+    filled ends.0 ends.1 ends.2 ∙ sym (ap (λ changes. fill_end digests changes) ends.2 ∙ filled_behind digests ends.0 ends.1)

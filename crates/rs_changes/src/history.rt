@@ -4,6 +4,7 @@ ghost use Rattle.std.specs.Prelude.{◌≡◌, ◌≤◌, ◌<◌, ◌++◌, ℕ
 ghost use Rattle.rs_record.specs.declared.change.Change.{Change};
 ghost use Rattle.rs_model.specs.State.{most_changes};
 ghost use Rattle.rs_page.specs.Items.{change_filled};
+ghost use Rattle.rs_changes.specs.Filled.{fill_end, history_filled};
 ghost use Rattle.rs_page.specs.Kept.{KeepsPages, stored_sheets};
 ghost use Rattle.rs_page.specs.Sheets.{placed_extents, stored_ref, stored_refs};
 ghost use Rattle.rs_changes.specs.History.{changes_of, last_of, AreKept, IsHistory, EndsUnstored, part_start, part_end};
@@ -145,6 +146,7 @@ impl History {
         ensures filled { (before : List Change) (last : Change) → changes_of self.old ≡ before ++ last ∷ [] → changes_of self.new ≡ before ++ change_filled digests last ∷ [] }
         ensures places { map (λ sheet. sheet.place) self.new ≡ map (λ sheet. sheet.place) self.old }
         ensures lengths { map (λ sheet. length sheet.items) self.new ≡ map (λ sheet. length sheet.items) self.old }
+        ensures pages { self.new ≡ history_filled digests self.old }
     {
         let Some(page) = &mut self.page else {
             return;
@@ -177,6 +179,7 @@ fn fill_last_of(page: &mut Page<Change>, digests: Digests)
     ensures filled { (before : List Change) (last : Change) → page.old.items ≡ before ++ last ∷ [] → page.new.items ≡ before ++ change_filled digests last ∷ [] }
     ensures place { page.new.place ≡ page.old.place }
     ensures lengths { length page.new.items ≡ length page.old.items }
+    ensures items { page.new.items ≡ fill_end digests page.old.items }
 {
     let last = page.items().len() - 1;
     page.fill(last, digests);

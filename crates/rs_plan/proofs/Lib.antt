@@ -12,3 +12,5 @@ pub mod Rules
 pub mod Parts
 pub mod Planned
 pub mod Following
+pub mod Drafts
+pub mod Drafted

@@ -1,3 +1,4 @@
 pub mod Room
 pub mod Plans
 pub mod Placed
+pub mod Drafts

@@ -2,6 +2,8 @@
 use Rattle.std.specs.Prelude.{◌≡◌, ℕ, ◌+◌, Bool, List, [], length, All}
 use Rattle.rs_extent.specs.declared.Extent.{Extent}
 use Rattle.rs_fixity.specs.Digests.{digests}
+use Rattle.rs_fixity.specs.declared.Digests.{Digests}
+use Rattle.rs_record.specs.declared.facts.Facts.{Facts}
 use Rattle.rs_record.specs.declared.record.Record.{Record}
 use Rattle.rs_body.specs.Blocks.{blocks_of}
 use Rattle.rs_page.specs.Items.{record_format, change_format}
@@ -13,10 +15,18 @@ use Rattle.rs_image.specs.declared.contents.Contents.{Contents}
 use Rattle.rs_plan.specs.declared.plan.Plan.{Plan}
 use Rattle.rs_plan.specs.Room.{Takes}
 
--- the record of a body in an extent
+-- the record of a body of n bytes in an extent, with these digests
+abbrev pub record_of_body : List ℕ → List ℕ → ℕ → Digests → Extent → ℕ → Record
+record_of_body name kind n digests body moment =
+    record { name = name; kind = kind; length = n; digests = digests; moment = moment; extent = body }
+
+-- the record of these bytes
 abbrev pub record_made : List ℕ → List ℕ → List ℕ → Extent → ℕ → Record
-record_made name kind bytes body moment =
-    record { name = name; kind = kind; length = length bytes; digests = digests bytes; moment = moment; extent = body }
+record_made name kind bytes body moment = record_of_body name kind (length bytes) (digests bytes) body moment
+
+-- what is known of a body of n bytes, with these digests
+abbrev pub facts_of_body : List ℕ → ℕ → Digests → Facts
+facts_of_body kind n digests = record { kind = kind; length = n; digests = digests }
 
 -- no page has blocks that it is not written to
 pub record AreUnplaced (c : Contents) : Type 0 where

@@ -1,7 +1,9 @@
 //! What a command is about to write.
 
 use rs_extent::Extent;
+use rs_fixity::Digests;
 use rs_image::Contents;
+use rs_record::Name;
 
 /// What a command is about to write, and where.
 #[derive(Debug, Drop)]
@@ -12,4 +14,19 @@ pub struct Plan {
     pub body: Extent,
     /// The blocks of the directory.
     pub directory: Extent,
+}
+
+impl Plan {
+    ghost use Rattle.std.specs.Prelude.{◌≡◌};
+    ghost use Rattle.rs_plan.specs.Drafts.{AwaitsBody, plan_filled};
+
+    /// Gives the body that a draft binds to this name its digests. Everything else stays as it is, and
+    /// no memory is taken.
+    pub fn fill(&mut self, name: &Name, digests: Digests)
+        requires { AwaitsBody name.now self.old }
+        ensures { self.new ≡ plan_filled name.now digests self.old }
+    {
+        self.contents.catalogue.fill(name, digests);
+        self.contents.history.fill_last(digests);
+    }
 }

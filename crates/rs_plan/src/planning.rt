@@ -1,6 +1,6 @@
 //! How a command is planned: which lists it leads to, and which blocks its writes take.
 
-ghost use Rattle.std.specs.Prelude.{◌≡◌, ◌<◌, ◌≤◌, ◌+◌, ◌^◌, length, IfOk, IsErrOf, IsNone, IsSome};
+ghost use Rattle.std.specs.Prelude.{◌≡◌, ◌<◌, ◌≤◌, ◌+◌, ◌^◌, ℕ, List, length, IfOk, IsErrOf, IsNone, IsSome};
 ghost use Rattle.rs_image.specs.Tells.{AreListable};
 ghost use Rattle.rs_image.specs.Whole.{IsWhole};
 ghost use Rattle.rs_catalogue.specs.Catalogue.{records_of};
@@ -9,7 +9,9 @@ ghost use Rattle.rs_changes.specs.History.{changes_of};
 ghost use Rattle.rs_model.specs.Names.{value_of};
 ghost use Rattle.rs_model.specs.State.{longest_body, most_resources, most_changes};
 ghost use Rattle.rs_model.specs.declared.command.Command.TheVariants.{Put, Delete, Publish};
+ghost use Rattle.rs_fixity.specs.Digests.{digests};
 ghost use Rattle.rs_plan.specs.Plans.{IsPlanned, LacksRoom};
+ghost use Rattle.rs_plan.specs.Drafts.{AwaitsBody, plan_filled};
 
 mod lists;
 mod placing;
@@ -21,6 +23,7 @@ use lists::{lists_after_delete, lists_after_publish, lists_after_put};
 use placing::{place_lists, take_lowest};
 use rs_commit::Root;
 use rs_extent::Extent;
+use rs_fixity::{Digests, digests_of};
 use rs_image::{Contents, used_of};
 use rs_page::Full;
 use rs_record::{MediaType, Name};
@@ -59,7 +62,62 @@ impl From<AllocError> for PlanFault {
     }
 }
 
-/// Plans to bind a name to a body of this media type, at this moment. The root and its lists are
+/// Plans to bind a name to a body of this media type, of `body_length` bytes, whose digests are not
+/// known yet, at this moment: [`Plan::fill`] gives them to the plan. The root and its lists are whole on a disk
+/// of `size` bytes, and the command is one that a source accepts.
+///
+/// # Errors
+///
+/// - [`PlanFault::Full`] where the body, a page or the directory has no run of free blocks.
+/// - [`PlanFault::NoMemory`] where a growth of memory is refused.
+pub fn draft_put(
+    alloc: Global,
+    size: u64,
+    root: &Root,
+    contents: &Contents,
+    name: &Name,
+    kind: &MediaType,
+    body_length: u32,
+    moment: Moment,
+) -> Result<Plan, PlanFault>
+    requires room { 1024 ≤ size }
+    requires whole { IsWhole size root.now contents.now }
+    requires listable { AreListable contents.now }
+    requires body { body_length ≤ longest_body }
+    requires resources { IsNone (value_of name.now (named (records_of contents.now.catalogue))) → length (records_of contents.now.catalogue) < most_resources }
+    requires changes { length (changes_of contents.now.history) < most_changes }
+    requires later { contents.now.header.last < moment }
+    ensures awaits { IfOk result (AwaitsBody name.now) }
+    ensures planned { IfOk result (λ plan. (bytes : List ℕ) → length bytes ≡ body_length
+        → IsPlanned size root.now contents.now (Put name.now kind.now bytes) moment (plan_filled name.now (digests bytes) plan)) }
+    ensures full { IsErrOf result PlanFault.Full → (bytes : List ℕ) → length bytes ≡ body_length
+        → LacksRoom size root.now contents.now (Put name.now kind.now bytes) moment }
+{
+    let mut used = used_of(alloc, size, root, contents)?;
+    let Some(body) = take_lowest(&mut used, body_length) else {
+        return Err(PlanFault::Full);
+    };
+    let lists = lists_after_put(
+        alloc,
+        contents,
+        name,
+        kind,
+        body_length,
+        UNKNOWN,
+        body,
+        moment,
+    )?;
+    let plan = place_lists(used, body, lists)?;
+    Ok(plan)
+}
+
+// In the place of digests that are not known yet.
+const UNKNOWN: Digests = Digests {
+    md5: [0; 16],
+    sha256: [0; 32],
+};
+
+/// Plans to bind a name to these bytes, of this media type, at this moment. The root and its lists are
 /// whole on a disk of `size` bytes, and the command is one that a source accepts.
 ///
 /// # Errors
@@ -86,12 +144,9 @@ pub fn plan_put(
     ensures planned { IfOk result (IsPlanned size root.now contents.now (Put name.now kind.now bytes.now) moment) }
     ensures full { IsErrOf result PlanFault.Full → LacksRoom size root.now contents.now (Put name.now kind.now bytes.now) moment }
 {
-    let mut used = used_of(alloc, size, root, contents)?;
-    let Some(body) = take_lowest(&mut used, bytes.len() as u32) else {
-        return Err(PlanFault::Full);
-    };
-    let lists = lists_after_put(alloc, contents, name, kind, bytes, body, moment)?;
-    let plan = place_lists(used, body, lists)?;
+    let body_length = bytes.len() as u32;
+    let mut plan = draft_put(alloc, size, root, contents, name, kind, body_length, moment)?;
+    plan.fill(name, digests_of(bytes));
     Ok(plan)
 }
 

@@ -19,7 +19,7 @@ use Rattle.rs_source.specs.declared.refusal.Refusal.TheVariants.{BadLine, LongLi
 use Rattle.rs_source.specs.declared.request.Request.{Request}
 use Rattle.rs_source.specs.declared.request.Request.TheVariants.{At, Run, Document, Body, Status}
 use Rattle.rs_source.specs.Answers.{outcome_text, shown_text}
-use Rattle.rs_source.specs.Bodies.{AnswersBody}
+use Rattle.rs_store.specs.AnswersBody.{AnswersBody}
 use Rattle.rs_source.specs.Gives.{replied_as, counted_as, shown_as}
 use Rattle.rs_source.specs.Lines.{line_limit}
 use Rattle.rs_source.specs.Model.{shown_or}

@@ -12,11 +12,11 @@ use Rattle.rs_image.specs.Tells.{Tells, state_in}
 use Rattle.rs_store.specs.Answered.{Answers}
 use Rattle.rs_store.specs.Source.{Stored, Holds, state_of}
 use Rattle.rs_store.specs.declared.refusal.Refusal as stored
-use Rattle.rs_store.specs.declared.refusal.Refusal.TheVariants.{Closed, TooLong, NotHeld, TooManyResources, TooManyChanges, Exhausted, Full, Device, Damaged, NoMemory}
+use Rattle.rs_store.specs.declared.refusal.Refusal.TheVariants.{Closed, TooLong, NotHeld, TooManyResources, TooManyChanges, Exhausted, Full, ReadFault, ShortBody, Device, Damaged, NoMemory}
 use Rattle.rs_source.specs.declared.refusal.Refusal.{Refusal}
 use Rattle.rs_source.specs.declared.request.Request.{Request}
 use Rattle.rs_source.specs.declared.request.Request.TheVariants.{At, Run, Document, Body, Status}
-use Rattle.rs_source.specs.Bodies.{AnswersBody}
+use Rattle.rs_store.specs.AnswersBody.{AnswersBody}
 use Rattle.rs_source.specs.Gives.{replied_as, counted_as, RequestGives, LineGives}
 use Rattle.rs_source.specs.Requests.{request_of}
 use Rattle.rs_source.specs.Script.{IsMachine}
@@ -78,6 +78,8 @@ module _ {D : Type 0} (device : D → DiskState) (old : Stored D) where
   run_follows new command now (Err Exhausted) commands is a = refused_follows new command now Exhausted commands (λ e. absurd cc) is a (λ s held. (a.leads s held).0)
   run_follows new command now (Err Full) commands is a = refused_follows new command now Full commands (λ e. absurd cc) is a (λ s held. (a.leads s held).0)
   run_follows new command now (Err Damaged) commands is a = refused_follows new command now Damaged commands (λ e. absurd cc) is a (λ s held. (a.leads s held).0)
+  run_follows new command now (Err ReadFault) commands is a = absurd (a.refused ReadFault refl)
+  run_follows new command now (Err ShortBody) commands is a = absurd (a.refused ShortBody refl)
   run_follows new command now (Err NoMemory) commands is a = refused_follows new command now NoMemory commands (λ e. absurd cc) is a (λ s held. (a.leads s held).0)
 
   -- a body was asked
@@ -132,6 +134,8 @@ module _ {D : Type 0} (device : D → DiskState) (old : Session (Stored D)) (ans
   run_rises command (Err Device) a o = absurd (models (subst IsMachine (sym o) tt))
   run_rises command (Err Closed) a o = absurd (models (subst IsMachine (sym o) tt))
   run_rises command (Err Full) a o = absurd (models (subst IsMachine (sym o) tt))
+  run_rises command (Err ReadFault) a o = absurd (a.refused ReadFault refl)
+  run_rises command (Err ShortBody) a o = absurd (a.refused ShortBody refl)
   run_rises command (Err Damaged) a o = absurd (models (subst IsMachine (sym o) tt))
   run_rises command (Err NoMemory) a o = absurd (models (subst IsMachine (sym o) tt))
   run_rises command (Err TooLong) a o = alike_rises answer.session.source (a.unchanged TooLong refl (λ e. absurd cc)).slots

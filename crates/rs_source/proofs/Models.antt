@@ -15,14 +15,14 @@ use Rattle.rs_store.specs.Refusals.{decided, or_spent, named_as}
 use Rattle.rs_store.specs.Shows.{status_of}
 use Rattle.rs_store.specs.Source.{Stored, state_of}
 use Rattle.rs_store.specs.declared.refusal.Refusal as stored
-use Rattle.rs_store.specs.declared.refusal.Refusal.TheVariants.{Closed, TooLong, NotHeld, TooManyResources, TooManyChanges, Exhausted, Full, Device, Damaged, NoMemory}
+use Rattle.rs_store.specs.declared.refusal.Refusal.TheVariants.{Closed, TooLong, NotHeld, TooManyResources, TooManyChanges, Exhausted, Full, ReadFault, ShortBody, Device, Damaged, NoMemory}
 use Rattle.rs_caps.specs.DocumentTexts.{document_text}
 use Rattle.rs_caps.specs.Shows.{shown_of}
 use Rattle.rs_source.specs.declared.refusal.Refusal.{Refusal}
 use Rattle.rs_source.specs.declared.refusal.Refusal.TheVariants as refusals
 use Rattle.rs_source.specs.declared.request.Request.{Request}
 use Rattle.rs_source.specs.declared.request.Request.TheVariants.{At, Run, Document, Body, Status}
-use Rattle.rs_source.specs.Bodies.{AnswersBody}
+use Rattle.rs_store.specs.AnswersBody.{AnswersBody}
 use Rattle.rs_source.specs.Gives.{replied_as, counted_as, shown_as, if_open, RequestGives, LineGives}
 use Rattle.rs_source.specs.Lines.{line_limit}
 use Rattle.rs_source.specs.Model.{stepped, shown_or, answer_to, answered}
@@ -92,6 +92,8 @@ module _ {D : Type 0} (device : D → DiskState) (old : Session (Stored D)) (ans
   run_same command (Err Full) a left o c n = machine_refused Full tt o
   run_same command (Err Device) a left o c n = machine_refused Device tt o
   run_same command (Err Damaged) a left o c n = machine_refused Damaged tt o
+  run_same command (Err ReadFault) a left o c n = absurd (a.refused ReadFault refl)
+  run_same command (Err ShortBody) a left o c n = absurd (a.refused ShortBody refl)
   run_same command (Err NoMemory) a left o c n = machine_refused NoMemory tt o
   run_same command (Err TooLong) a left o c n =
       run_refused command TooLong (λ e. absurd cc) left (a.refused TooLong refl) o c n (a.unchanged TooLong refl (λ e. absurd cc)).state
@@ -127,6 +129,8 @@ module _ {D : Type 0} (device : D → DiskState) (old : Session (Stored D)) (ans
   read_same name (Err Damaged) a honest o c n = machine_refused Damaged tt o
   read_same name (Err NoMemory) a honest o c n = machine_refused NoMemory tt o
   read_same name (Err TooLong) a honest o c n = absurd a.others
+  read_same name (Err ReadFault) a honest o c n = absurd a.others
+  read_same name (Err ShortBody) a honest o c n = absurd a.others
   read_same name (Err TooManyResources) a honest o c n = absurd a.others
   read_same name (Err TooManyChanges) a honest o c n = absurd a.others
   read_same name (Err Exhausted) a honest o c n = absurd a.others

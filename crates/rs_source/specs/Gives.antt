@@ -15,7 +15,7 @@ use Rattle.rs_source.specs.declared.refusal.Refusal.{Refusal}
 use Rattle.rs_source.specs.declared.refusal.Refusal.TheVariants as refusals
 use Rattle.rs_source.specs.declared.request.Request.{Request}
 use Rattle.rs_source.specs.declared.request.Request.TheVariants.{At, Run, Document, Body, Status}
-use Rattle.rs_source.specs.Bodies.{AnswersBody}
+use Rattle.rs_store.specs.AnswersBody.{AnswersBody}
 use Rattle.rs_source.specs.Lines.{line_limit}
 use Rattle.rs_source.specs.Model.{shown_or}
 use Rattle.rs_source.specs.Requests.{request_of}

@@ -5,7 +5,6 @@ pub mod Fields
 pub mod Requests
 pub mod Session
 pub mod Model
-pub mod Bodies
 pub mod Gives
 pub mod Answers
 pub mod Script

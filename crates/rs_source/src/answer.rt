@@ -25,6 +25,8 @@ fn source_name(refusal: rs_store::Refusal) -> &'static str
         rs_store::Refusal::TooManyChanges => "TooManyChanges",
         rs_store::Refusal::Exhausted => "Exhausted",
         rs_store::Refusal::Full => "Full",
+        rs_store::Refusal::ReadFault => "ReadFault",
+        rs_store::Refusal::ShortBody => "ShortBody",
         rs_store::Refusal::Device => "Device",
         rs_store::Refusal::Damaged => "Damaged",
         rs_store::Refusal::NoMemory => "NoMemory",

@@ -4,7 +4,6 @@ ghost use Rattle.std.specs.Prelude.{Ok, OnOk, OnErr, IsTrue};
 ghost use Rattle.std.specs.Io.KnownBytes.{Appends};
 ghost use Rattle.rs_io.specs.Watch.{watched, has_failed};
 ghost use Rattle.rs_store.specs.Answered.{Answers};
-ghost use Rattle.rs_source.specs.Bodies.{AnswersBody};
 ghost use Rattle.rs_source.specs.Progress.{RequestAnswers};
 ghost use Rattle.rs_source.specs.Requests.{request_of};
 ghost use Rattle.rs_source.specs.Session.{session};
@@ -78,13 +77,6 @@ fn show_document<D: Disk, W: Write>(
     }
 }
 
-/// Asks a body of the source.
-fn ask_body<D: Disk>(source: &mut Source<D>, name: &Name) -> Result<Vec<u8>, rs_store::Refusal>
-    ensures { AnswersBody D.state source.old source.new name.now result }
-{
-    source.body(name)
-}
-
 /// Answers `show /resource/NAME`.
 fn show_body<D: Disk, W: Write>(
     source: &mut Source<D>,
@@ -96,7 +88,7 @@ fn show_body<D: Disk, W: Write>(
         (λ text. OnOk result (Appends (W.contents (watched writer.old)) (W.contents (watched writer.new)) text)) }
     ensures failed { OnErr result (IsTrue (has_failed writer.new)) }
 {
-    match ask_body(source, name) {
+    match source.body(name) {
         Ok(bytes) => write_shown(bytes.as_slice(), writer),
         Err(refusal) => write_refusal(Refusal::Source(refusal), writer),
     }

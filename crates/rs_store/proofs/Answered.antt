@@ -22,7 +22,7 @@ use Rattle.rs_plan.specs.declared.plan.Plan.{Plan}
 use Rattle.rs_plan.specs.declared.planning.PlanFault.{PlanFault}
 use Rattle.rs_plan.specs.declared.planning.PlanFault.TheVariants.{Full as NoRoom, NoMemory as NoPlanMemory}
 use Rattle.rs_store.specs.declared.refusal.Refusal.{Refusal}
-use Rattle.rs_store.specs.declared.refusal.Refusal.TheVariants.{Closed, TooLong, NotHeld, TooManyResources, TooManyChanges, Exhausted, Full, Device, Damaged, NoMemory}
+use Rattle.rs_store.specs.declared.refusal.Refusal.TheVariants.{Closed, TooLong, NotHeld, TooManyResources, TooManyChanges, Exhausted, Full, ReadFault, ShortBody, Device, Damaged, NoMemory}
 use Rattle.rs_store.specs.Source.{Stored, Holds, state_of}
 use Rattle.rs_store.specs.Refusals.{named_as, or_spent, is_spent, decided, HasFailed}
 use Rattle.rs_plan.specs.Plans.{body_of_command, once_stored, planned_root, IsPlanned, LacksRoom, AreWritten}
@@ -59,6 +59,8 @@ IsEarly : Refusal → Type 0
 IsEarly Full = ⊥
 IsEarly Device = ⊥
 IsEarly Damaged = ⊥
+IsEarly ReadFault = ⊥
+IsEarly ShortBody = ⊥
 IsEarly NoMemory = ⊥
 IsEarly r = Unit {0}
 
@@ -103,6 +105,8 @@ module _ {D : Type 0} (device : D → DiskState) (medium : (disk : D) → IsMedi
   early_cause new Full is given = absurd is
   early_cause new Device is given = absurd is
   early_cause new Damaged is given = absurd is
+  early_cause new ReadFault is given = absurd is
+  early_cause new ShortBody is given = absurd is
   early_cause new NoMemory is given = absurd is
 
   kept_leads : (new : Stored D) (s : Source) (r : Refusal) → (r ≡ Device → ⊥) → Holds device new s → Leaves (device old.disk) (device new.disk) (λ _ image. StandsFor image s)
@@ -116,6 +120,8 @@ module _ {D : Type 0} (device : D → DiskState) (medium : (disk : D) → IsMedi
   kept_leads new s Full other holds leaves = (holds, leaves)
   kept_leads new s Device other holds leaves = absurd (other refl)
   kept_leads new s Damaged other holds leaves = (holds, leaves)
+  kept_leads new s ReadFault other holds leaves = (holds, leaves)
+  kept_leads new s ShortBody other holds leaves = (holds, leaves)
   kept_leads new s NoMemory other holds leaves = (holds, leaves)
 
   -- the state that is held is the one that the lists tell

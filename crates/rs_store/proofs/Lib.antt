@@ -8,3 +8,4 @@ pub mod Lookups
 pub mod Opened
 pub mod Found
 pub mod Started
+pub mod Received

@@ -8,7 +8,7 @@ use Rattle.rs_model.specs.declared.command.Command.{Command}
 use Rattle.rs_model.specs.declared.command.Reply.{Reply}
 use Rattle.rs_image.specs.Tells.{StandsFor}
 use Rattle.rs_store.specs.declared.refusal.Refusal.{Refusal}
-use Rattle.rs_store.specs.declared.refusal.Refusal.TheVariants.{Full, Device, Damaged, NoMemory}
+use Rattle.rs_store.specs.declared.refusal.Refusal.TheVariants.{Full, ReadFault, ShortBody, Device, Damaged, NoMemory}
 use Rattle.rs_store.specs.Source.{Stored, Holds, state_of}
 use Rattle.rs_store.specs.Refusals.{decided, HasFailed}
 use Rattle.rs_plan.specs.Plans.{LacksRoom}
@@ -20,6 +20,8 @@ IsCause device old new command now Full =
 IsCause device old new command now Device =
     (decided old (state_of device old) command ≡ None) × HasFailed (device old.disk) (device new.disk)
 IsCause device old new command now Damaged = ⊥
+IsCause device old new command now ReadFault = ⊥
+IsCause device old new command now ShortBody = ⊥
 IsCause device old new command now NoMemory = decided old (state_of device old) command ≡ None
 IsCause device old new command now refusal = decided old (state_of device old) command ≡ Some refusal
 

@@ -9,3 +9,5 @@ pub mod Formatting
 pub mod Shows
 pub mod Bodies
 pub mod Views
+pub mod Received
+pub mod AnswersBody

@@ -1,8 +1,9 @@
 -- What a source shows of its state.
-use Rattle.std.specs.Prelude.{◌≡◌, ℕ, List, length}
+use Rattle.std.specs.Prelude.{◌≡◌, ℕ, List, length, Option, option_map}
 use Rattle.rs_fixity.specs.Digests.{digests}
 use Rattle.rs_record.specs.declared.facts.Facts.{Facts}
 use Rattle.rs_model.specs.declared.value.Held.{Held}
+use Rattle.rs_model.specs.Names.{value_of}
 use Rattle.rs_model.specs.State.{Source}
 use Rattle.rs_store.specs.declared.reading.Status.{Status}
 use Rattle.rs_store.specs.declared.refusal.Refusal.{Refusal}
@@ -25,6 +26,17 @@ IsOfBody Device = Unit {0}
 IsOfBody Damaged = Unit {0}
 IsOfBody NoMemory = Unit {0}
 IsOfBody refusal = ⊥
+
+-- the media type that is recorded of a name
+abbrev pub kind_of : List ℕ → Source → Option (List ℕ)
+kind_of name s = option_map (λ held. held.entry.facts.kind) (value_of name s.held)
+
+-- the refusals of a question for a media type
+abbrev pub IsOfKind : Refusal → Type 0
+IsOfKind Closed = Unit {0}
+IsOfKind NotHeld = Unit {0}
+IsOfKind NoMemory = Unit {0}
+IsOfKind refusal = ⊥
 
 -- how many resources are held and changes kept, the number of the latest publication, the moment of the last command
 abbrev pub status_of : Source → Status

@@ -58,7 +58,7 @@ impl<D: Disk> Source<D> {
     ) -> Result<Reply, Refusal>
         ensures { Answers D.state self.old self.new (Put name.now kind.now bytes.now) now result }
     {
-        let moment = self.moment_of_put(name, bytes, now)?;
+        let moment = self.moment_of_put(name, bytes.len() as u64, now)?;
         let is_held = self.holds(name);
         let root = self.slots.root();
         let size = self.disk.size();
@@ -115,8 +115,13 @@ impl<D: Disk> Source<D> {
         self.finish(plan, &[], Reply::Published(number, moment))
     }
 
-    // Writes a plan and changes the root; then what is in memory goes along.
-    fn finish(&mut self, mut plan: Plan, bytes: &[u8], reply: Reply) -> Result<Reply, Refusal>
+    /// Writes a plan and changes the root; then what is in memory goes along.
+    pub(crate) fn finish(
+        &mut self,
+        mut plan: Plan,
+        bytes: &[u8],
+        reply: Reply,
+    ) -> Result<Reply, Refusal>
         requires is_open { self.old.is_closed ≡ false }
         requires spare { self.old.slots.root.generation + 1 < 2 ^ 64 }
         requires planned { IsPlanOfSome (D.state self.old.disk).size self.old.slots.root self.old.contents bytes.now plan }
@@ -151,8 +156,8 @@ impl<D: Disk> Source<D> {
     }
 }
 
-// The reply to a put.
-fn put_reply(is_held: bool, moment: Moment) -> Reply
+/// The reply to a put.
+pub(crate) fn put_reply(is_held: bool, moment: Moment) -> Reply
     ensures { result ≡ (if is_held then Updated moment else Created moment) }
 {
     if is_held {

@@ -19,7 +19,7 @@ use rs_record::Name;
 use rs_time::Moment;
 
 // The greatest number of bytes of a body.
-const LONGEST_BODY: usize = 16_777_216;
+const LONGEST_BODY: u64 = 16_777_216;
 
 // The greatest number of resources that are held.
 const MOST_RESOURCES: usize = 50_000;
@@ -28,25 +28,26 @@ const MOST_RESOURCES: usize = 50_000;
 const MOST_CHANGES: usize = 50_000;
 
 impl<D: Disk> Source<D> {
-    /// The moment of a put of these bytes that comes at `now`, or why it is refused at once.
+    /// The moment of a put of so many bytes that comes at `now`, or why it is refused at once.
     pub(crate) fn moment_of_put(
         &self,
         name: &Name,
-        bytes: &[u8],
+        body_length: u64,
         now: Moment,
     ) -> Result<Moment, Refusal>
-        ensures decided { (kind : List ℕ) → result ≡ moment_unless (decided self.now (state_of D.state self.now) (Put name.now kind bytes.now)) (moment_at (state_of D.state self.now) now) }
+        ensures decided { (kind bytes : List ℕ) → length bytes ≡ body_length
+            → result ≡ moment_unless (decided self.now (state_of D.state self.now) (Put name.now kind bytes)) (moment_at (state_of D.state self.now) now) }
         ensures open { OnOk result (self.now.is_closed ≡ false) }
         ensures later { IfOk result (λ moment. self.now.contents.header.last < moment) }
         ensures spare { OnOk result (self.now.slots.root.generation + 1 < 2 ^ 64) }
         ensures changes { OnOk result (length (changes_of self.now.contents.history) < most_changes) }
-        ensures body { OnOk result (length bytes.now ≤ longest_body) }
+        ensures body { OnOk result (body_length ≤ longest_body) }
         ensures resources { OnOk result (IsNone (value_of name.now (named (records_of self.now.contents.catalogue))) → length (records_of self.now.contents.catalogue) < most_resources) }
     {
         if self.is_closed {
             return Err(Refusal::Closed);
         }
-        if bytes.len() > LONGEST_BODY {
+        if body_length > LONGEST_BODY {
             return Err(Refusal::TooLong);
         }
         if !self.holds(name) && self.resources() >= MOST_RESOURCES {

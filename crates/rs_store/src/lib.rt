@@ -1,7 +1,7 @@
 //! A source on a disk: each command is whole or absent, whatever moment a crash comes at.
 //!
 //! A [`Source`] is formatted on a disk or opened from one, and keeps there the resources that it holds,
-//! the changes to them and its latest publication. [`Source::put`], [`Source::delete`] and
+//! the changes to them and its latest publication. [`Source::put`], [`Source::put_from`], [`Source::delete`] and
 //! [`Source::publish`] do one step of the model, or refuse it; the others show what the source holds.
 #![tactic(auto)]
 
@@ -10,6 +10,7 @@ mod deciding;
 mod formatting;
 mod opening;
 mod reading;
+mod receiving;
 mod refusal;
 mod source;
 mod view;

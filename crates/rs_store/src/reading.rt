@@ -11,7 +11,8 @@ ghost use Rattle.rs_catalogue.specs.Catalogue.{records_of};
 ghost use Rattle.rs_changes.specs.History.{changes_of};
 ghost use Rattle.rs_store.specs.Source.{state_of};
 ghost use Rattle.rs_store.specs.Refusals.{HasFailed};
-ghost use Rattle.rs_store.specs.Shows.{AreAsRecorded, HasItsDigest, IsOfBody, status_of};
+ghost use Rattle.rs_store.specs.Shows.{AreAsRecorded, HasItsDigest, IsOfBody, IsOfKind, kind_of, status_of};
+ghost use Rattle.rs_store.specs.AnswersBody.{AnswersBody};
 ghost use Rattle.rs_store.specs.Views.{shown_of, shown_by};
 
 use crate::{Refusal, Source, SourceView};
@@ -19,7 +20,7 @@ use rs_body::{BodyFault, read_body};
 use rs_catalogue::Catalogue;
 use rs_changes::History;
 use rs_disk::Disk;
-use rs_record::{Change, Name, Record};
+use rs_record::{Change, MediaType, Name, Record};
 use rs_time::Moment;
 use std::alloc::{AllocError, Global};
 
@@ -76,6 +77,13 @@ impl<D: Disk> Source<D> {
     /// - [`Refusal::Damaged`] where the bytes do not have the recorded SHA-256.
     /// - [`Refusal::NoMemory`] where the memory for the bytes is refused.
     pub fn body(&mut self, name: &Name) -> Result<Vec<u8>, Refusal>
+        ensures { AnswersBody D.state self.old self.new name.now result }
+    {
+        self.read_held(name)
+    }
+
+    // The body of a name, clause by clause.
+    fn read_held(&mut self, name: &Name) -> Result<Vec<u8>, Refusal>
         // What the disk holds is said of a device that has followed the model; that the bytes are as
         // recorded, of every device.
         ensures reads { IfOk result (λ bytes. IsTrue (D.state self.new.disk).honest → body_of name.now (state_of D.state self.old) ≡ Some bytes.items) }
@@ -106,6 +114,28 @@ impl<D: Disk> Source<D> {
         let mut bytes = Vec::new(self.alloc);
         read_body(&mut self.disk, extent, length, &sha256, &mut bytes)?;
         Ok(bytes)
+    }
+
+    /// The media type that is recorded of a name. It is a copy; nothing is read of the disk.
+    ///
+    /// # Errors
+    ///
+    /// - [`Refusal::Closed`] exactly where the source is closed.
+    /// - [`Refusal::NotHeld`] exactly where it is open and the name is not held.
+    /// - [`Refusal::NoMemory`] where the memory for the copy is refused.
+    pub fn kind(&self, name: &Name) -> Result<MediaType, Refusal>
+        ensures kind { IfOk result (λ kind. kind_of name.now (state_of D.state self.now) ≡ Some kind) }
+        ensures closed { IsErrOf result Refusal.Closed ↔ IsTrue self.now.is_closed }
+        ensures not_held { IsErrOf result Refusal.NotHeld ↔ ((self.now.is_closed ≡ false) × (is_held (state_of D.state self.now) name.now ≡ false)) }
+        ensures others { IfErr result IsOfKind }
+    {
+        if self.is_closed {
+            return Err(Refusal::Closed);
+        }
+        let Some(record) = self.contents.catalogue.get(name) else {
+            return Err(Refusal::NotHeld);
+        };
+        Ok(record.kind.copy(self.alloc)?)
     }
 
     /// The records of the resources that are held, in the strictly ascending order of the bytes of

@@ -30,6 +30,12 @@ pub enum Refusal {
     /// The disk has no run of free blocks for something that has to be written.
     #[error("the disk is full")]
     Full,
+    /// The reader of a body failed.
+    #[error("the body cannot be read")]
+    ReadFault,
+    /// The reader of a body ended early.
+    #[error("the body is shorter than was said")]
+    ShortBody,
     /// A device call failed.
     #[error("the device failed")]
     Device,

@@ -5,5 +5,6 @@ mod formatting;
 mod limits;
 mod opening;
 mod reading;
+mod receiving;
 mod refusing;
 mod stopping;

@@ -2,28 +2,28 @@
 
 ghost use Rattle.std.specs.Prelude.{◌≡◌, ◌<◌, ◌≤◌, ◌+◌, ◌^◌, [], ◌∷◌, ◌++◌, length, is_some, IfOk, IsNone, IsSome};
 ghost use Rattle.rs_time.specs.Moment.{IsMoment};
-ghost use Rattle.rs_fixity.specs.Digests.{digests};
 ghost use Rattle.rs_record.specs.Changes.{bound, deleted};
 ghost use Rattle.rs_page.specs.Kept.{KeepsPages};
 ghost use Rattle.rs_page.specs.Sheets.{placed_extents};
-ghost use Rattle.rs_catalogue.specs.Catalogue.{records_of};
+ghost use Rattle.rs_catalogue.specs.Catalogue.{records_of, StandsUnstored};
 ghost use Rattle.rs_catalogue.specs.Named.{named};
-ghost use Rattle.rs_changes.specs.History.{changes_of};
+ghost use Rattle.rs_changes.specs.History.{changes_of, EndsUnstored};
 ghost use Rattle.rs_model.specs.Names.{value_of, bind, unbind};
-ghost use Rattle.rs_model.specs.State.{longest_body, most_resources, most_changes, facts_of};
+ghost use Rattle.rs_model.specs.State.{most_resources, most_changes};
 ghost use Rattle.rs_image.specs.Whole.{AreMoments};
-ghost use Rattle.rs_plan.specs.Placed.{AreUnplaced, record_made};
+ghost use Rattle.rs_plan.specs.Placed.{AreUnplaced, record_of_body, facts_of_body};
 
 use rs_catalogue::Catalogue;
 use rs_directory::Header;
 use rs_extent::Extent;
-use rs_fixity::digests_of;
+use rs_fixity::Digests;
 use rs_image::Contents;
 use rs_record::{Change, Facts, MediaType, Name, Record};
 use rs_time::Moment;
 use std::alloc::{AllocError, Global};
 
-/// The lists where the name is bound to a body of this type in an extent, at a moment.
+/// The lists where the name is bound to a body of this type, of `body_length` bytes with these digests, in an extent, at a
+/// moment.
 ///
 /// # Errors
 ///
@@ -33,39 +33,38 @@ pub(crate) fn lists_after_put(
     old: &Contents,
     name: &Name,
     kind: &MediaType,
-    bytes: &[u8],
+    body_length: u32,
+    digests: Digests,
     body: Extent,
     moment: Moment,
 ) -> Result<Contents, AllocError>
     requires moments { AreMoments old.now.header old.now }
-    requires body { length bytes.now ≤ longest_body }
     requires resources { IsNone (value_of name.now (named (records_of old.now.catalogue))) → length (records_of old.now.catalogue) < most_resources }
     requires changes { length (changes_of old.now.history) < most_changes }
     requires later { old.now.header.last < moment }
     ensures header { IfOk result (λ lists. lists.header ≡ record old.now.header { last = moment }) }
-    ensures records { IfOk result (λ lists. named (records_of lists.catalogue) ≡ bind name.now (record_made name.now kind.now bytes.now body moment) (named (records_of old.now.catalogue))) }
+    ensures records { IfOk result (λ lists. named (records_of lists.catalogue) ≡ bind name.now (record_of_body name.now kind.now body_length digests body moment) (named (records_of old.now.catalogue))) }
     ensures changes { IfOk result (λ lists. changes_of lists.history ≡ changes_of old.now.history
-        ++ bound name.now (is_some (value_of name.now (named (records_of old.now.catalogue)))) moment (facts_of kind.now bytes.now) ∷ []) }
+        ++ bound name.now (is_some (value_of name.now (named (records_of old.now.catalogue)))) moment (facts_of_body kind.now body_length digests) ∷ []) }
     ensures published { IfOk result (λ lists. lists.published ≡ old.now.published) }
     ensures catalogue_pages { IfOk result (λ lists. KeepsPages old.now.catalogue lists.catalogue) }
     ensures history_pages { IfOk result (λ lists. KeepsPages old.now.history lists.history) }
     ensures unplaced { IfOk result AreUnplaced }
     ensures moment { IfOk result (λ _. IsMoment moment) }
     ensures one_page { IfOk result (λ _. length old.now.catalogue ≤ 1) }
+    ensures unstored { IfOk result (λ lists. StandsUnstored name.now lists.catalogue × EndsUnstored lists.history) }
 {
-    let digests = digests_of(bytes);
-    let length = bytes.len() as u32;
     let record = Record {
         name: name.copy(alloc)?,
         kind: kind.copy(alloc)?,
-        length,
+        length: body_length,
         digests,
         moment,
         extent: body,
     };
     let facts = Facts {
         kind: kind.copy(alloc)?,
-        length,
+        length: body_length,
         digests,
     };
     let again = old.catalogue.get(name).is_some();
@@ -117,6 +116,7 @@ fn lists_with(
     ensures changes { IfOk result (λ lists. changes_of lists.history ≡ changes_of old.now.history ++ «change» ∷ []) }
     ensures published { IfOk result (λ lists. lists.published ≡ old.now.published) }
     ensures history_pages { IfOk result (λ lists. KeepsPages old.now.history lists.history) }
+    ensures unstored { IfOk result (λ lists. EndsUnstored lists.history) }
     ensures unplaced { IfOk result (λ lists. placed_extents lists.history ≡ []) }
     ensures moment { IfOk result (λ _. IsMoment «change».moment) }
     ensures one_page { IfOk result (λ _. length old.now.catalogue ≤ 1) }

@@ -86,7 +86,7 @@ pub(super) fn ask(
 }
 
 /// An answer of a source.
-fn answer_of(done: &Result<Reply, Refusal>) -> Answer {
+pub(super) fn answer_of(done: &Result<Reply, Refusal>) -> Answer {
     match done {
         Ok(Reply::Created(moment)) => Answer::Created(moment.ms()),
         Ok(Reply::Updated(moment)) => Answer::Updated(moment.ms()),
@@ -202,6 +202,7 @@ pub(super) fn answers_closed(
 ) -> Result<(), Fail> {
     let a = Name::new(rt.alloc(), b"a")?;
     assert!(rt; is_closed(source.body(&a)));
+    assert!(rt; is_closed(source.kind(&a)));
     assert!(rt; is_closed(source.records()));
     assert!(rt; is_closed(source.published()));
     assert!(rt; is_closed(source.changes()));

@@ -2,6 +2,7 @@
 
 use super::asking::answers_closed;
 use super::opening::{changed_at, disk_of, opened};
+use crate::Refusal::NotHeld;
 use crate::Source;
 use rs_disk::{Disk, MemoryDisk};
 use rs_lists::View;
@@ -75,6 +76,23 @@ fn a_device_that_fails_in_a_reading(rt: HostRuntime) -> Result<(), Fail> {
     let (text, _) = bodies_on(rt.alloc(), disk, &[b"b", b"b"])?;
     assert_eq!(rt; text.as_str(), "Device;abc;");
     Ok(())
+}
+
+/// Looks at the recorded types of that disk's resources.
+fn are_kinds(rt: &(impl Abort + AllocGlobal), source: &Source<MemoryDisk>) -> Result<(), Fail> {
+    for (name, held) in [(b"a", true), (b"b", true), (b"c", false)] {
+        match source.kind(&Name::new(rt.alloc(), name)?) {
+            Ok(kind) => assert_eq!(rt; (held, kind.bytes()), (true, b"text/plain".as_slice())),
+            Err(refusal) => assert_eq!(rt; (held, refusal), (false, NotHeld)),
+        }
+    }
+    Ok(())
+}
+
+#[test]
+fn kinds(rt: HostRuntime) -> Result<(), Fail> {
+    let source = opened(rt.alloc(), disk_of(rt.alloc(), 4096)?)?;
+    are_kinds(&rt, &source)
 }
 
 /// Looks at the records of that disk: `a` has no bytes, and `b` has three in block 6.

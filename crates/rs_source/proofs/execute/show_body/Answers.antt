@@ -5,9 +5,9 @@ use Rattle.rs_source.proofs.execute.show_body.Goals as goal
 
 pub returns-in-Ok-clause-answered : goal.returns-in-Ok-clause-answered
 returns-in-Ok-clause-answered g c =
-    body_shown g.D.Disk.state c.args.source.now c.ask_body.new.source c.args.name.now c.args.now c.in-Ok.bytes c.as_slice.result.now _ c.in-Ok.ensures
+    body_shown g.D.Disk.state c.args.source.now c.body.new.self c.args.name.now c.args.now c.in-Ok.bytes c.as_slice.result.now _ c.in-Ok.ensures
     c.as_slice.ensures.value c.write_shown.ensures.ok
 
 pub returns-in-Err-clause-answered : goal.returns-in-Err-clause-answered
 returns-in-Err-clause-answered g c =
-    was_read g.D.Disk.state c.args.source.now c.ask_body.new.source c.args.name.now c.args.now (Err c.in-Err.refusal) _ c.in-Err.ensures c.write_refusal.ensures.ok
+    was_read g.D.Disk.state c.args.source.now c.body.new.self c.args.name.now c.args.now (Err c.in-Err.refusal) _ c.in-Err.ensures c.write_refusal.ensures.ok

@@ -18,7 +18,7 @@ returns-in_err-moment g c =
     let given = err_from_is_err_and c.from_residual.result c.from_residual.ensures.1 in
     rw (given.1, given.2)
     (at_once g.D.Disk.state g.met.D.Disk.holds old command c.args.now c.in_err-moment.field-0.0
-    (unless_err (decided old (state_of g.D.Disk.state old) command) (moment_at (state_of g.D.Disk.state old) c.args.now) c.in_err-moment.field-0.0 (c.in_err-moment.ensures.decided c.args.kind.now)))
+    (unless_err (decided old (state_of g.D.Disk.state old) command) (moment_at (state_of g.D.Disk.state old) c.args.now) c.in_err-moment.field-0.0 (c.in_err-moment.ensures.decided c.args.kind.now c.args.bytes.now refl)))
 
 pub returns-in_err-plan : goal.returns-in_err-plan
 returns-in_err-plan g c =
@@ -27,7 +27,7 @@ returns-in_err-plan g c =
     let opened : Stored g.row.D.Denot = record { disk = c.self.inside.disk; slots = c.self.inside.slots; contents = c.self.inside.contents; is_closed = c.self.inside.is_closed } in
     let command : Command = Put c.args.name.now c.args.kind.now c.args.bytes.now in
     let at : ℕ = moment_at (state_of device old) c.args.now in
-    let is = unless_ok (decided old (state_of device old) command) at c.in_ok-moment.moment (c.in_ok-moment.ensures.decided c.args.kind.now) in
+    let is = unless_ok (decided old (state_of device old) command) at c.in_ok-moment.moment (c.in_ok-moment.ensures.decided c.args.kind.now c.args.bytes.now refl) in
     let given = err_from_is_err_and c.from_residual-in_err-plan.result c.from_residual-in_err-plan.ensures.1 in
     rw (given.1, given.2)
     (unplanned device g.met.D.Disk.holds old command c.args.now c.in_err-plan.field-0.0 is.0
@@ -41,7 +41,7 @@ returns g c =
     let opened : Stored g.row.D.Denot = record { disk = c.self.inside.disk; slots = c.self.inside.slots; contents = c.self.inside.contents; is_closed = c.self.inside.is_closed } in
     let command : Command = Put c.args.name.now c.args.kind.now c.args.bytes.now in
     let at : ℕ = moment_at (state_of device old) c.args.now in
-    let is = unless_ok (decided old (state_of device old) command) at c.in_ok-moment.moment (c.in_ok-moment.ensures.decided c.args.kind.now) in
+    let is = unless_ok (decided old (state_of device old) command) at c.in_ok-moment.moment (c.in_ok-moment.ensures.decided c.args.kind.now c.args.bytes.now refl) in
     let planned : IsPlanned (device old.disk).size old.slots.root old.contents command at c.in_ok-plan.plan =
     of_source (λ n r l m. IsPlanned n r l command m c.in_ok-plan.plan) device opened old c.self.view_is c.size-size.result c.root-root.result c.in_ok-moment.moment at
     c.size-size.ensures c.root-root.ensures is.1 c.in_ok-plan.ensures.planned in
