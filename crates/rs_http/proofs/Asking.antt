@@ -1,0 +1,113 @@
+-- What the answers of the source come to.
+use Rattle.std.proofs.Common.{◌≡◌, ℕ, List, Option, Some, None, Result, Ok, Err, Vec, Global, Bool, true, false, ◌↔◌, length, refl, ap, sym, subst, ◌∙◌, if◌then◌else◌, IsErrOf, IsTrue, IfOk, OnOk, option_map}
+use Rattle.std.specs.Io.KnownBytes.{Appends}
+use Rattle.rs_disk.specs.Medium.{DiskState}
+use Rattle.rs_model.specs.Step.{is_held}
+use Rattle.rs_lists.specs.declared.doc.Doc.{Doc}
+use Rattle.rs_lists.specs.Shown.{Shown}
+use Rattle.rs_caps.specs.DocumentTexts.{document_text}
+use Rattle.rs_caps.specs.Shows.{shown_of}
+use Rattle.rs_store.specs.AnswersBody.{AnswersBody}
+use Rattle.rs_store.specs.Shows.{kind_of, IsOfBody, IsOfKind}
+use Rattle.rs_store.specs.Source.{Stored, state_of}
+use Rattle.rs_store.specs.Views as views
+use Rattle.rs_store.specs.declared.refusal.Refusal as stored
+use Rattle.rs_store.specs.declared.refusal.Refusal.TheVariants.{Closed, NotHeld, Device, Damaged, NoMemory}
+use Rattle.rs_http.specs.declared.response.Framing.{Framing}
+use Rattle.rs_http.specs.Responses.{Outcome, shown, refused, status_of, response_text}
+use Rattle.rs_http.specs.Gives.{IsRead, document_or_none, document_shown, Responds}
+use Rattle.rs_http.proofs.Documents.{one_text}
+
+-- an outcome is answered
+pub answered : {E : Type 0} (framing : Framing) (before after : Option (List ℕ)) (comes : Outcome → Type 0) (result : Result ℕ E) (outcome : Outcome)
+    → comes outcome → IfOk result (λ status. status ≡ status_of outcome) → OnOk result (Appends before after (response_text framing outcome))
+    → Responds framing before after comes result
+answered framing before after comes result outcome c s w = record { outcome = outcome; comes_of_it = c; status = s; written = w }
+
+-- the source is open where it gives what it is asked
+opened : {T : Type 0} (given : T) (closed : Bool) → IsErrOf {E = stored.Refusal} (Ok given) Closed ↔ IsTrue closed → closed ≡ false
+opened given false h = refl
+opened given true h =
+    let no : IsErrOf {E = stored.Refusal} (Ok given) Closed = h.1 refl in
+    absurd cc
+
+-- a refusal of a type may be one of a body
+of_kind : (refusal : stored.Refusal) → IsOfKind refusal → IsOfBody refusal
+of_kind Closed is = tt
+of_kind NotHeld is = tt
+of_kind NoMemory is = tt
+of_kind refusal is = absurd is
+
+-- a refusal is one, whatever might have been given in its place
+elsewhere : {A B : Type 0} (r s : stored.Refusal) (P : Type 0) → IsErrOf {T = A} (Err r) s ↔ P → IsErrOf {T = B} (Err r) s ↔ P
+elsewhere {A = A} {B = B} r s P h =
+    let there : IsErrOf {T = A} (Err r) s → IsErrOf {T = B} (Err r) s = λ e. let is : r ≡ s = cc in ap Err is in
+    let back : IsErrOf {T = B} (Err r) s → IsErrOf {T = A} (Err r) s = λ e. let is : r ≡ s = cc in ap Err is in
+    (λ e. h.0 (back e), λ p. there (h.1 p))
+
+-- what is asked of a source that gave a body is asked of the same state
+module _ {D : Type 0} (device : D → DiskState) (old new : Stored D) (name : List ℕ) (bytes : Vec ℕ Global) (a : AnswersBody device old new name (Ok bytes)) where
+  same_state : state_of device new ≡ state_of device old
+  same_state =
+      let now : (device new.disk).now ≡ (device old.disk).now = a.rests.now in
+      let contents : new.contents ≡ old.contents = a.contents in
+      cc
+
+  -- the body is shown with its recorded type
+  pub body_shown : (kind k given : List ℕ) → kind_of name (state_of device new) ≡ Some kind → k ≡ kind → given ≡ bytes.items → IsRead device old new name (shown k given)
+  body_shown kind k given e type_is is = record {
+    result = Ok bytes;
+    answers = a;
+    outcome_is = (k, ap (kind_of name) (sym same_state) ∙ e ∙ ap Some (sym type_is), ap (shown k) is);
+  }
+
+  -- or the memory for its type is refused, and so the body is
+  pub kind_refused : (refusal : stored.Refusal) → IsErrOf {T = List ℕ} (Err refusal) Closed ↔ IsTrue new.is_closed
+      → IsErrOf {T = List ℕ} (Err refusal) NotHeld ↔ ((new.is_closed ≡ false) × (is_held (state_of device new) name ≡ false)) → IsOfKind refusal → IsRead device old new name (refused refusal)
+  kind_refused refusal closed not_held is = record {
+    result = Err refusal;
+    answers = record {
+      reads = tt;
+      recorded = tt;
+      closed = elsewhere refusal Closed (IsTrue old.is_closed) (subst (λ b. IsErrOf {T = List ℕ} (Err refusal) Closed ↔ IsTrue b) a.is_closed closed);
+      not_held = elsewhere refusal NotHeld ((old.is_closed ≡ false) × (is_held (state_of device old) name ≡ false))
+          (subst (λ b. IsErrOf {T = List ℕ} (Err refusal) NotHeld ↔ ((b ≡ false) × (is_held (state_of device old) name ≡ false))) a.is_closed
+          (subst (λ s. IsErrOf {T = List ℕ} (Err refusal) NotHeld ↔ ((new.is_closed ≡ false) × (is_held s name ≡ false))) same_state not_held));
+      damaged = λ e. let no : refusal ≡ Damaged = cc in absurd (subst IsOfKind no is);
+      failed = λ e. let no : refusal ≡ Device = cc in absurd (subst IsOfKind no is);
+      others = of_kind refusal is;
+      slots = a.slots;
+      contents = a.contents;
+      is_closed = a.is_closed;
+      rests = a.rests;
+      size = a.size;
+      lasts = a.lasts;
+      faults = a.faults;
+    };
+    outcome_is = refl;
+  }
+
+-- a document that has a length is there, and what was written of it is its text
+pub shown_whole : {T E : Type 0} (result : Result T E) (found : Option (List ℕ)) (count : ℕ) (W : List ℕ → Type 0) → option_map length found ≡ Some count
+    → OnOk result ((text : List ℕ) × (found ≡ Some text) × W text) → (text : List ℕ) × (found ≡ Some text) × OnOk result (W text)
+shown_whole result None count W e h = absurd cc
+shown_whole (Err x) (Some text) count W e h = (text, refl, tt)
+shown_whole (Ok x) (Some text) count W e h =
+    let same : h.0 ≡ text = cc in
+    (text, refl, subst W same h.2)
+
+-- one that has none is not there
+pub shown_none : (found : Option (List ℕ)) → option_map length found ≡ None → found ≡ None
+shown_none None e = refl
+shown_none (Some text) e = absurd cc
+
+when_open : (closed : Bool) (outcome : Outcome) → closed ≡ false → outcome ≡ (if closed then refused Closed else outcome)
+when_open closed outcome is = sym (ap (λ b. if b then refused Closed else outcome) is)
+
+-- what a view of an open source shows is what its state shows
+pub document_is : {D : Type 0} (device : D → DiskState) (s : Stored D) (doc : Doc) (view : Shown) (outcome : Outcome) {T : Type 0} (given : T)
+    → IsErrOf {E = stored.Refusal} (Ok given) Closed ↔ IsTrue s.is_closed → view ≡ views.shown_of s.contents
+    → document_or_none (document_text view doc) ≡ outcome → outcome ≡ document_shown device s doc
+document_is device s doc view outcome given closed is e =
+    let text = ap (λ v. document_text v doc) is ∙ one_text (device s.disk).now.seen s.contents doc in
+    sym e ∙ ap document_or_none text ∙ when_open s.is_closed (document_or_none (document_text (shown_of (state_of device s)) doc)) (opened given s.is_closed closed)

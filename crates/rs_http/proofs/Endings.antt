@@ -1,0 +1,112 @@
+-- How the answer to a plan and to a request ends.
+use Rattle.std.proofs.Common.{◌≡◌, ◌/◌, ℕ, List, ◌++◌, Option, Some, Result, Ok, Err, refl, sym, ◌∙◌, subst, inr}
+use Rattle.std.specs.Prelude.{MatchResult}
+use Rattle.std.specs.Io.KnownBytes.{Consumes, Appends, Keeps, IsAtEnd}
+use Rattle.std.proofs.KnownBytes.{Consumes-trans, Appends-trans, Appends-kept}
+use Rattle.httpdate.specs.Date.{unix_secs}
+use Rattle.httpdate.specs.declared.date.HttpDate.{HttpDate}
+use Rattle.rs_disk.specs.Medium.{DiskState}
+use Rattle.rs_io.specs.declared.fault.WriteFault.{WriteFault}
+use Rattle.rs_store.specs.Source.{Stored}
+use Rattle.rs_http.specs.declared.fault.FrontFault.{FrontFault}
+use Rattle.rs_http.specs.declared.fault.FrontFault.TheVariants.{Read, Write}
+use Rattle.rs_http.specs.declared.head.HeadRead.{HeadRead}
+use Rattle.rs_http.specs.declared.head.HeadRead.TheVariants.{Ended}
+use Rattle.rs_http.specs.declared.request.Plan.{Plan}
+use Rattle.rs_http.specs.declared.request.NoPlan.{NoPlan}
+use Rattle.rs_http.specs.declared.request.Request.{Request}
+use Rattle.rs_http.specs.declared.response.Framing.{Framing}
+use Rattle.rs_http.specs.declared.serve.Served.TheVariants.{Answered}
+use Rattle.rs_http.specs.Head.{HeadIs}
+use Rattle.rs_http.specs.Requests.{Asks}
+use Rattle.rs_http.specs.Responses.{Outcome, response_text}
+use Rattle.rs_http.specs.Gives.{Gives, Responds}
+use Rattle.rs_http.specs.Serving.{PlanEnds, RequestEnds, preface_of, Reads, Serves, Breaks, Halts}
+
+-- an answer that was sent ends a plan, for which these bytes were read
+pub sent_ends : {D : Type 0} (device : D → DiskState) (old new : Stored D) (now : ℕ) (plan asked : Result Plan NoPlan) (framing : Framing)
+    (left rest before after : Option (List ℕ)) (more : List ℕ) (comes : Outcome → Type 0) (result : Result ℕ WriteFault) (out : Result ℕ FrontFault)
+    → Consumes left rest more → plan ≡ asked → MatchResult result (λ status. out ≡ Ok status) (λ _. out ≡ Err Write) → Responds framing before after comes result
+    → ((outcome : Outcome) → comes outcome → Gives device old now asked more rest outcome new) → PlanEnds device old now plan framing left rest before after new out
+sent_ends device old new now plan asked framing left rest before after more comes (Ok status) out came same e r gives =
+    subst (λ o. PlanEnds device old now plan framing left rest before after new o) (sym e) (
+      more,
+      came,
+      record {
+        outcome = r.outcome;
+        comes_of_it = subst (λ p. Gives device old now p more rest r.outcome new) (sym same) (gives r.outcome r.comes_of_it);
+        status = r.status;
+        written = r.written;
+      },
+    )
+sent_ends device old new now plan asked framing left rest before after more comes (Err fault) out came same e r gives =
+    subst (λ o. PlanEnds device old now plan framing left rest before after new o) (sym e) (
+      more,
+      came,
+      record {
+        outcome = r.outcome;
+        comes_of_it = subst (λ p. Gives device old now p more rest r.outcome new) (sym same) (gives r.outcome r.comes_of_it);
+        status = tt;
+        written = tt;
+      },
+    )
+
+module _ {D : Type 0} (device : D → DiskState) (old new : Stored D) (now : ℕ) (request : Request) (date : HttpDate) (dated : unix_secs date ≡ now / 1000)
+    (left rest before mid after : Option (List ℕ)) (preface : Appends before mid (preface_of request.plan)) where
+  abbrev framing : Framing
+  framing = record { date = date; is_head = request.is_head }
+
+  -- the plan was answered, and then the writer was flushed
+  pub finished : (kept : Option (List ℕ)) (status : ℕ) (out : Result ℕ FrontFault) → PlanEnds device old now request.plan framing left rest mid after new (Ok status)
+      → Keeps after kept → MatchResult out (λ given. given ≡ status) (λ fault. fault ≡ Write) → RequestEnds device old now request left rest before kept new out
+  finished kept status (Ok given) (more, came, r) k same = (
+    more,
+    preface_of request.plan ++ response_text framing r.outcome,
+    came,
+    Appends-kept before after kept (preface_of request.plan ++ response_text framing r.outcome)
+        (Appends-trans before mid after (preface_of request.plan) (response_text framing r.outcome) preface r.written) k,
+    record { outcome = r.outcome; date = date; dated = dated; gives = r.comes_of_it; status_is = same ∙ r.status; written = refl },
+  )
+  finished kept status (Err Read) ends k same = absurd cc
+  finished kept status (Err Write) (more, came, r) k same = (more, came, inr (r.outcome, r.comes_of_it))
+
+  -- it was not
+  pub passed_on : (fault : FrontFault) → PlanEnds device old now request.plan framing left rest mid after new (Err fault)
+      → RequestEnds device old now request left rest before after new (Err fault)
+  passed_on Read (unwritten, more, came, broken) =
+      (more, came, subst (λ a. Appends before a (preface_of request.plan)) (sym unwritten) preface, broken)
+  passed_on Write (more, came, r) = (more, came, inr (r.outcome, r.comes_of_it))
+
+module _ {D : Type 0} (device : D → DiskState) (old new : Stored D) (now : ℕ) (request : Request) (bytes : List ℕ) (read : HeadRead)
+    (left mid rest before after : Option (List ℕ)) (came : Consumes left mid bytes) (head : HeadIs bytes read) (ended : read ≡ Ended → IsAtEnd mid)
+    (asks : Asks bytes read (Some request)) where
+  reads : (more : List ℕ) → Consumes mid rest more → Reads (bytes ++ more) more rest request
+  reads more then = record {
+    bytes = bytes;
+    read = read;
+    behind = mid;
+    input_is = refl;
+    head = head;
+    ended = ended;
+    passed = then;
+    asks = asks;
+  }
+
+  -- a request that was read was answered
+  pub served : (status : ℕ) → RequestEnds device old now request mid rest before after new (Ok status)
+      → (input : List ℕ) × (output : List ℕ) × Consumes left rest input × Appends before after output × (Serves device old now input rest output (Answered status) new)
+  served status (more, output, then, written, is) =
+      (bytes ++ more, output, Consumes-trans left mid rest bytes more came then, written, (more, request, reads more then, is))
+
+  -- the reader failed in its body
+  pub broken : (fault : FrontFault) → fault ≡ Read → RequestEnds device old now request mid rest before after new (Err fault)
+      → (input : List ℕ) × (output : List ℕ) × Consumes left rest input × Appends before after output × (Breaks device old now input rest output new)
+  broken Read e (more, then, written, is) =
+      (bytes ++ more, preface_of request.plan, Consumes-trans left mid rest bytes more came then, written, inr (more, request, reads more then, refl, is))
+  broken Write e ends = absurd cc
+
+  -- the writer failed
+  pub halted : (fault : FrontFault) → fault ≡ Write → RequestEnds device old now request mid rest before after new (Err fault)
+      → (input : List ℕ) × Consumes left rest input × (Halts device old now input rest new)
+  halted Read e ends = absurd cc
+  halted Write e (more, then, stands) = (bytes ++ more, Consumes-trans left mid rest bytes more came then, (more, request, reads more then, stands))

@@ -1,0 +1,7 @@
+pub mod Asking
+pub mod Chains
+pub mod Documents
+pub mod Endings
+pub mod Ends
+pub mod Plans
+pub mod Room

@@ -1,0 +1,25 @@
+-- Causes in a row: those of the fields, and then the others.
+use Rattle.std.proofs.Common.{◌≡◌, ◌∙◌, true, false, [], ◌∷◌, ◌++◌, Option, Some, None, Result, Ok, Err, refl}
+use Rattle.rs_http.specs.declared.request.RequestFault.{RequestFault}
+use Rattle.rs_http.specs.declared.request.Plan.{Plan}
+use Rattle.rs_http.specs.declared.request.NoPlan.{NoPlan}
+use Rattle.rs_http.specs.declared.request.NoPlan.TheVariants.{Refused, NoMemory}
+use Rattle.rs_http.specs.Checks.{Causes, first_fault}
+use Rattle.rs_http.specs.Requests.{IsPlanned}
+
+-- none of the first causes is there
+passed : (xs ys : Causes) → first_fault xs ≡ None → first_fault (xs ++ ys) ≡ first_fault ys
+passed [] ys e = refl
+passed ((true, fault) ∷ xs) ys e = absurd cc
+passed ((false, fault) ∷ xs) ys e = passed xs ys e
+
+-- one of them is
+pub met : (xs ys : Causes) (fault : RequestFault) → first_fault xs ≡ Some fault → first_fault (xs ++ ys) ≡ Some fault
+met [] ys fault e = absurd cc
+met ((true, f) ∷ xs) ys fault e = e
+met ((false, f) ∷ xs) ys fault e = met xs ys fault e
+
+pub planned_after : (xs ys : Causes) (plan : Option Plan) (made : Result Plan NoPlan) → first_fault xs ≡ None → IsPlanned ys plan made → IsPlanned (xs ++ ys) plan made
+planned_after xs ys plan (Ok p) e h = (passed xs ys e ∙ h.0, h.1)
+planned_after xs ys plan (Err (Refused fault)) e h = passed xs ys e ∙ h
+planned_after xs ys plan (Err NoMemory) e h = tt

@@ -1,0 +1,34 @@
+-- The head, and then the answer to what it asks for.
+use Rattle.std.proofs.Common.{◌≡◌, Err, take, ap}
+use Rattle.rs_io.specs.Watch.{watched}
+use Rattle.rs_http.specs.declared.fault.FrontFault.TheVariants.{Read, Write}
+use Rattle.rs_http.proofs.Endings.{served, broken, halted}
+use Rattle.rs_http.proofs.serve.serve_one.Goals as goal
+
+pub returns-in-Ok-answer-clause-ok : goal.returns-in-Ok-answer-clause-ok
+returns-in-Ok-answer-clause-ok g c =
+    let bytes = take c.in-Ok.came c.read_head.new.buf in
+    served g.D.Disk.state c.args.source.now c.answer.new.source c.args.now c.in-Some.request bytes c.in-Ok.read
+    (g.R.Read.remaining (watched c.args.reader.now)) (g.R.Read.remaining (watched c.read_head.new.reader)) (g.R.Read.remaining (watched c.answer.new.reader))
+    (g.W.Write.contents (watched c.args.writer.now)) (g.W.Write.contents (watched c.answer.new.writer))
+    c.in-Ok.ensures.ok.1 c.in-Ok.ensures.ok.2 c.in-Ok.ensures.end c.in-Some.ensures c.in-Ok-answer.status c.in-Ok-answer.ensures.ends
+
+pub returns-in-Err-clause-read : goal.returns-in-Err-clause-read
+returns-in-Err-clause-read g c = λ e.
+    let bytes = take c.in-Ok.came c.read_head.new.buf in
+    let is : c.in-Err.fault ≡ Read = cc in
+    let whole = broken g.D.Disk.state c.args.source.now c.answer.new.source c.args.now c.in-Some.request bytes c.in-Ok.read
+    (g.R.Read.remaining (watched c.args.reader.now)) (g.R.Read.remaining (watched c.read_head.new.reader)) (g.R.Read.remaining (watched c.answer.new.reader))
+    (g.W.Write.contents (watched c.args.writer.now)) (g.W.Write.contents (watched c.answer.new.writer))
+    c.in-Ok.ensures.ok.1 c.in-Ok.ensures.ok.2 c.in-Ok.ensures.end c.in-Some.ensures c.in-Err.fault is c.in-Err.ensures.ends in
+    (c.in-Err.ensures.read (ap Err is), whole.0, whole.1, whole.2, whole.3, whole.4)
+
+pub returns-in-Err-clause-write : goal.returns-in-Err-clause-write
+returns-in-Err-clause-write g c = λ e.
+    let bytes = take c.in-Ok.came c.read_head.new.buf in
+    let is : c.in-Err.fault ≡ Write = cc in
+    let whole = halted g.D.Disk.state c.args.source.now c.answer.new.source c.args.now c.in-Some.request bytes c.in-Ok.read
+    (g.R.Read.remaining (watched c.args.reader.now)) (g.R.Read.remaining (watched c.read_head.new.reader)) (g.R.Read.remaining (watched c.answer.new.reader))
+    (g.W.Write.contents (watched c.args.writer.now)) (g.W.Write.contents (watched c.answer.new.writer))
+    c.in-Ok.ensures.ok.1 c.in-Ok.ensures.ok.2 c.in-Ok.ensures.end c.in-Some.ensures c.in-Err.fault is c.in-Err.ensures.ends in
+    (c.in-Err.ensures.write (ap Err is), whole.0, whole.1, whole.2)

@@ -1,0 +1,140 @@
+-- Why a request is refused before the source is asked, and what it asks for otherwise.
+use Rattle.std.specs.Prelude.{ℕ, nat_lt, ◌==◌, ◌&&◌, ◌||◌, Bool, true, false, not, is_none, List, [], ◌∷◌, ◌++◌, length, codes, bytes_eq, Option, Some, None, if◌then◌else◌, unwrap_or}
+use Rattle.std.specs.List.{list_any}
+use Rattle.std.specs.Str.{str_eq_ignore_ascii_case}
+use Rattle.rs_record.specs.MediaType.{is_media_type}
+use Rattle.rs_model.specs.State.{longest_body}
+use Rattle.rs_http.specs.declared.target.Place.{Place}
+use Rattle.rs_http.specs.declared.target.Place.TheVariants.{Resource, Unlawful, Document, Publishing, Nowhere}
+use Rattle.rs_http.specs.declared.target.Methods.TheVariants.{OfResources, OfDocuments, OfPublications}
+use Rattle.rs_http.specs.declared.request.RequestFault.{RequestFault}
+use Rattle.rs_http.specs.declared.request.RequestFault.TheVariants.{ManyFields, BadHost, TransferEncoding, BadLength, BadName, NoSuchDocument, BadMethod, NoLength, BadType, TooLong}
+use Rattle.rs_http.specs.declared.request.Plan.{Plan}
+use Rattle.rs_http.specs.declared.request.Plan.TheVariants.{ShowBody, ShowDocument, Put, Delete, Publish}
+use Rattle.rs_http.specs.Fields.{Parts, values_of, length_in}
+use Rattle.rs_http.specs.Targets.{path_of_target, place_of}
+
+-- the greatest number of fields
+abbrev pub most_fields : ℕ
+most_fields = 32
+
+-- more than one Host, or none in HTTP/1.1
+abbrev pub is_bad_host : ℕ → List (List ℕ) → Bool
+is_bad_host minor [] = minor == 1
+is_bad_host minor (host ∷ []) = false
+is_bad_host minor (host ∷ more ∷ hosts) = true
+
+-- there is a field
+abbrev pub is_there : List (List ℕ) → Bool
+is_there [] = false
+is_there (value ∷ values) = true
+
+-- more than one length, or one that is no number
+abbrev pub is_bad_length : List (List ℕ) → Bool
+is_bad_length [] = false
+is_bad_length (text ∷ []) = is_none (length_in text)
+is_bad_length (text ∷ more ∷ texts) = true
+
+-- the length that the fields state
+abbrev pub stated_length : List (List ℕ) → Option ℕ
+stated_length [] = None
+stated_length (text ∷ texts) = length_in text
+
+-- an unlawful type, or a second one
+abbrev pub is_bad_type : List (List ℕ) → Bool
+is_bad_type [] = false
+is_bad_type (kind ∷ []) = not (is_media_type kind)
+is_bad_type (kind ∷ more ∷ kinds) = true
+
+-- the type of a body, also where none is stated
+abbrev pub stated_type : List (List ℕ) → List ℕ
+stated_type [] = codes "application/octet-stream"
+stated_type (kind ∷ kinds) = kind
+
+-- longer than a body may be
+abbrev pub is_too_long : Option ℕ → Bool
+is_too_long None = false
+is_too_long (Some n) = nat_lt longest_body n
+
+-- methods are told apart by case (RFC 9110, section 9.1)
+abbrev pub is_get : List ℕ → Bool
+is_get method = bytes_eq method (codes "GET") || bytes_eq method (codes "HEAD")
+
+abbrev pub is_put : List ℕ → Bool
+is_put method = bytes_eq method (codes "PUT")
+
+abbrev pub is_delete : List ℕ → Bool
+is_delete method = bytes_eq method (codes "DELETE")
+
+abbrev pub is_post : List ℕ → Bool
+is_post method = bytes_eq method (codes "POST")
+
+-- what the target names
+abbrev pub place_in : Parts → Place
+place_in p = place_of (path_of_target p.target)
+
+-- a cause, and what a request is refused for where it is there
+abbrev pub Causes : Type 0
+Causes = List (Bool × RequestFault)
+
+-- the fault of the first cause that is there
+abbrev pub first_fault : Causes → Option RequestFault
+first_fault [] = None
+first_fault (c ∷ causes) = if c.0 then Some c.1 else first_fault causes
+
+-- The causes that lie in the fields of any request, in their order.
+abbrev pub field_causes : Parts → Causes
+field_causes p =
+    (nat_lt most_fields (length p.fields), ManyFields)
+    ∷ (is_bad_host p.minor (values_of (codes "host") p.fields), BadHost)
+    ∷ (is_there (values_of (codes "transfer-encoding") p.fields), TransferEncoding)
+    ∷ (is_bad_length (values_of (codes "content-length") p.fields), BadLength) ∷ []
+
+-- Those of a PUT alone, in their order: no length, an unlawful type or a second one, and too long a body.
+abbrev pub put_causes : Option ℕ → List (List ℕ) → Causes
+put_causes stated kinds = (is_none stated, NoLength) ∷ (is_bad_type kinds, BadType) ∷ (is_too_long stated, TooLong) ∷ []
+
+abbrev pub put_causes_in : Parts → Causes
+put_causes_in p = put_causes (stated_length (values_of (codes "content-length") p.fields)) (values_of (codes "content-type") p.fields)
+
+-- Those that lie in what the target names and in the method, and then those of a PUT, which resources alone allow.
+abbrev pub place_causes : Place → Parts → Causes
+place_causes (Resource name) p =
+    (not (is_get p.method || is_put p.method || is_delete p.method), BadMethod OfResources) ∷ (if is_put p.method then put_causes_in p else [])
+place_causes Unlawful p = (true, BadName) ∷ []
+place_causes (Document doc) p = (not (is_get p.method), BadMethod OfDocuments) ∷ []
+place_causes Publishing p = (not (is_post p.method), BadMethod OfPublications) ∷ []
+place_causes Nowhere p = (true, NoSuchDocument) ∷ []
+
+-- all of them
+abbrev pub causes_of : Parts → Causes
+causes_of p = field_causes p ++ place_causes (place_in p) p
+
+-- an expectation is `100-continue`, without case (RFC 9110, section 10.1.1)
+abbrev pub is_continue : List (List ℕ) → Bool
+is_continue values = list_any (λ value. str_eq_ignore_ascii_case value (codes "100-continue")) values
+
+-- HTTP/1.1 expects the word to go on
+abbrev pub expects_word : Parts → Bool
+expects_word p = (p.minor == 1) && is_continue (values_of (codes "expect") p.fields)
+
+-- A put: its type, its length, and whether it waits for the word to go on before it sends a body that has bytes.
+abbrev pub put_plan : List ℕ → List (List ℕ) → ℕ → Bool → Plan
+put_plan name kinds n expects = Put name (stated_type kinds) n (expects && nat_lt 0 n)
+
+-- what is asked of a resource
+abbrev pub resource_plan : List ℕ → Parts → Plan
+resource_plan name p =
+    if is_put p.method then
+    put_plan name (values_of (codes "content-type") p.fields)
+    (unwrap_or (stated_length (values_of (codes "content-length") p.fields)) 0)
+    (expects_word p)
+    else if is_delete p.method then Delete name
+    else ShowBody name
+
+-- what a request asks for that is not refused
+abbrev pub plan_at : Place → Parts → Option Plan
+plan_at (Resource name) p = Some (resource_plan name p)
+plan_at (Document doc) p = Some (ShowDocument doc)
+plan_at Publishing p = Some Publish
+plan_at place p = None

@@ -1,0 +1,30 @@
+-- Where the head of a request ends.
+use Rattle.std.specs.Prelude.{◌≡◌, ◌==◌, ◌&&◌, ◌||◌, ℕ, ◌-◌, ◌<◌, ◌≤◌, nat_le, Bool, true, false, List, length, slice_index}
+use Rattle.rs_http.specs.declared.head.HeadRead.{HeadRead}
+use Rattle.rs_http.specs.declared.head.HeadRead.TheVariants.{Whole, TooLong, Ended}
+
+-- the longest head, in bytes
+abbrev pub head_limit : ℕ
+head_limit = 8192
+
+-- the first n bytes end in LF LF or in LF CR LF (10 is LF, 13 is CR)
+unfoldable pub ends_head : List ℕ → ℕ → Bool
+ends_head bytes n =
+    nat_le 2 n && (slice_index bytes (n - 1) == 10)
+    && ((slice_index bytes (n - 2) == 10)
+    || (nat_le 3 n && (slice_index bytes (n - 2) == 13) && (slice_index bytes (n - 3) == 10)))
+
+-- no head ends within these bytes
+abbrev pub HasNoEnd : List ℕ → Type 0
+HasNoEnd bytes = (k : ℕ) → k ≤ length bytes → ends_head bytes k ≡ false
+
+-- these bytes are a head: they end as one does, and no fewer of them do
+pub record IsHead (bytes : List ℕ) : Type 0 where
+  pub ends : ends_head bytes (length bytes) ≡ true
+  pub first : (k : ℕ) → k < length bytes → ends_head bytes k ≡ false
+
+-- what the bytes at the front of an input are: a head, or as many as a head may have without its end, or all that came
+abbrev pub HeadIs : List ℕ → HeadRead → Type 0
+HeadIs bytes Whole = IsHead bytes
+HeadIs bytes TooLong = (length bytes ≡ head_limit) × HasNoEnd bytes
+HeadIs bytes Ended = (length bytes < head_limit) × HasNoEnd bytes

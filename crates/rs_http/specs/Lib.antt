@@ -1,0 +1,8 @@
+pub mod Head
+pub mod Fields
+pub mod Targets
+pub mod Checks
+pub mod Requests
+pub mod Responses
+pub mod Gives
+pub mod Serving

@@ -1,0 +1,176 @@
+-- What comes of a request, and the text of the response to it (RFC 9110 and RFC 9112).
+use Rattle.std.specs.Prelude.{ℕ, ◌==◌, List, [], ◌∷◌, ◌++◌, length, codes, if◌then◌else◌}
+use Rattle.std.specs.Fmt.{decimal}
+use Rattle.httpdate.specs.Date.{date_text}
+use Rattle.rs_time.specs.Moment.{moment_text}
+use Rattle.rs_model.specs.declared.command.Reply.{Reply}
+use Rattle.rs_model.specs.declared.command.Reply.TheVariants.{Created, Updated, Deleted, Published}
+use Rattle.rs_store.specs.declared.refusal.Refusal as stored
+use Rattle.rs_store.specs.declared.refusal.Refusal.TheVariants as refusals
+use Rattle.rs_http.specs.declared.target.Methods.{Methods}
+use Rattle.rs_http.specs.declared.target.Methods.TheVariants.{OfResources, OfDocuments, OfPublications}
+use Rattle.rs_http.specs.declared.request.RequestFault.{RequestFault}
+use Rattle.rs_http.specs.declared.request.RequestFault.TheVariants.{HeadTooLong, BadHead, ManyFields, BadHost, TransferEncoding, BadLength, BadName, NoSuchDocument, BadMethod, NoLength, BadType, TooLong}
+use Rattle.rs_http.specs.declared.response.Framing.{Framing}
+
+-- what comes of a request
+pub data Outcome : Type 0 where
+  -- it is refused before the source is asked
+  faulted : RequestFault → Outcome
+  -- the source accepted a command
+  replied : Reply → Outcome
+  -- these are the type and the bytes of a resource or of a document
+  shown : List ℕ → List ℕ → Outcome
+  -- the source refused it
+  refused : stored.Refusal → Outcome
+
+abbrev pub fault_status : RequestFault → ℕ
+fault_status HeadTooLong = 431
+fault_status BadHead = 400
+fault_status ManyFields = 431
+fault_status BadHost = 400
+fault_status TransferEncoding = 501
+fault_status BadLength = 400
+fault_status BadName = 400
+fault_status NoSuchDocument = 404
+fault_status (BadMethod methods) = 405
+fault_status NoLength = 411
+fault_status BadType = 400
+fault_status TooLong = 413
+
+-- where a reader fails no response is sent, so that the status and the name of that refusal go nowhere
+abbrev pub refusal_status : stored.Refusal → ℕ
+refusal_status refusals.NotHeld = 404
+refusal_status refusals.TooLong = 413
+refusal_status refusals.TooManyResources = 507
+refusal_status refusals.TooManyChanges = 507
+refusal_status refusals.Full = 507
+refusal_status refusals.Exhausted = 500
+refusal_status refusals.ReadFault = 500
+refusal_status refusals.ShortBody = 400
+refusal_status refusals.Device = 500
+refusal_status refusals.Damaged = 500
+refusal_status refusals.Closed = 503
+refusal_status refusals.NoMemory = 503
+
+abbrev pub reply_status : Reply → ℕ
+reply_status (Created moment) = 201
+reply_status (Updated moment) = 204
+reply_status (Deleted moment) = 204
+reply_status (Published number moment) = 200
+
+abbrev pub status_of : Outcome → ℕ
+status_of (faulted fault) = fault_status fault
+status_of (replied reply) = reply_status reply
+status_of (shown kind bytes) = 200
+status_of (refused refusal) = refusal_status refusal
+
+-- the reason phrase of a status (RFC 9110, section 15; 507 is of RFC 4918)
+abbrev pub reason_of : ℕ → List ℕ
+reason_of status =
+    if status == 200 then codes "OK"
+    else if status == 201 then codes "Created"
+    else if status == 204 then codes "No Content"
+    else if status == 400 then codes "Bad Request"
+    else if status == 404 then codes "Not Found"
+    else if status == 405 then codes "Method Not Allowed"
+    else if status == 411 then codes "Length Required"
+    else if status == 413 then codes "Content Too Large"
+    else if status == 431 then codes "Request Header Fields Too Large"
+    else if status == 500 then codes "Internal Server Error"
+    else if status == 501 then codes "Not Implemented"
+    else if status == 503 then codes "Service Unavailable"
+    else codes "Insufficient Storage"
+
+-- the body of a refusal: its name, and a line feed
+abbrev pub fault_text : RequestFault → List ℕ
+fault_text HeadTooLong = codes "HeadTooLong\n"
+fault_text BadHead = codes "BadHead\n"
+fault_text ManyFields = codes "ManyFields\n"
+fault_text BadHost = codes "BadHost\n"
+fault_text TransferEncoding = codes "TransferEncoding\n"
+fault_text BadLength = codes "BadLength\n"
+fault_text BadName = codes "BadName\n"
+fault_text NoSuchDocument = codes "NoSuchDocument\n"
+fault_text (BadMethod methods) = codes "BadMethod\n"
+fault_text NoLength = codes "NoLength\n"
+fault_text BadType = codes "BadType\n"
+fault_text TooLong = codes "TooLong\n"
+
+abbrev pub refusal_text : stored.Refusal → List ℕ
+refusal_text refusals.Closed = codes "Closed\n"
+refusal_text refusals.TooLong = codes "TooLong\n"
+refusal_text refusals.NotHeld = codes "NotHeld\n"
+refusal_text refusals.TooManyResources = codes "TooManyResources\n"
+refusal_text refusals.TooManyChanges = codes "TooManyChanges\n"
+refusal_text refusals.Exhausted = codes "Exhausted\n"
+refusal_text refusals.Full = codes "Full\n"
+refusal_text refusals.ReadFault = codes "ReadFault\n"
+refusal_text refusals.ShortBody = codes "ShortBody\n"
+refusal_text refusals.Device = codes "Device\n"
+refusal_text refusals.Damaged = codes "Damaged\n"
+refusal_text refusals.NoMemory = codes "NoMemory\n"
+
+-- the body of the answer to a publication: `published`, its number and its moment, and a line feed (10)
+abbrev pub published_text : ℕ → ℕ → List ℕ
+published_text number moment = (codes "published " ++ (decimal number ++ codes " ")) ++ (moment_text moment ++ 10 ∷ [])
+
+abbrev pub reply_text : Reply → List ℕ
+reply_text (Published number moment) = published_text number moment
+reply_text reply = []
+
+abbrev pub body_of : Outcome → List ℕ
+body_of (faulted fault) = fault_text fault
+body_of (replied reply) = reply_text reply
+body_of (shown kind bytes) = bytes
+body_of (refused refusal) = refusal_text refusal
+
+-- the methods that are allowed where another was asked for
+abbrev pub methods_text : Methods → List ℕ
+methods_text OfResources = codes "Allow: GET, HEAD, PUT, DELETE\r\n"
+methods_text OfDocuments = codes "Allow: GET, HEAD\r\n"
+methods_text OfPublications = codes "Allow: POST\r\n"
+
+abbrev pub allow_of : RequestFault → List ℕ
+allow_of (BadMethod methods) = methods_text methods
+allow_of fault = []
+
+-- the type and the length of a body, and the empty line
+unfoldable pub content_lines : List ℕ → ℕ → List ℕ
+content_lines kind n = codes "Content-Type: " ++ (kind ++ (codes "\r\nContent-Length: " ++ (decimal n ++ codes "\r\n\r\n")))
+
+abbrev pub plain : List ℕ
+plain = codes "text/plain"
+
+-- what the head of a response says of its body, and the empty line: the answers to a put and to a delete have none
+abbrev pub reply_lines : Reply → List ℕ
+reply_lines (Created moment) = codes "Content-Length: 0\r\n\r\n"
+reply_lines (Updated moment) = codes "\r\n"
+reply_lines (Deleted moment) = codes "\r\n"
+reply_lines (Published number moment) = content_lines plain (length (published_text number moment))
+
+abbrev pub lines_of : Outcome → List ℕ
+lines_of (faulted fault) = allow_of fault ++ content_lines plain (length (fault_text fault))
+lines_of (replied reply) = reply_lines reply
+lines_of (shown kind bytes) = content_lines kind (length bytes)
+lines_of (refused refusal) = content_lines plain (length (refusal_text refusal))
+
+-- the status line, the date (an IMF-fixdate of RFC 9110, section 5.6.7), and that the connection ends
+unfoldable pub first_lines : ℕ → List ℕ → List ℕ
+first_lines status date =
+    codes "HTTP/1.1 " ++ (decimal status ++ (codes " " ++ (reason_of status ++ (codes "\r\nDate: " ++ (date ++ codes "\r\nConnection: close\r\n")))))
+
+-- a body, which the response to a HEAD leaves out
+abbrev pub sent_body : Framing → List ℕ → List ℕ
+sent_body framing body = if framing.is_head then [] else body
+
+-- the whole response, where the lines that describe its body are given with it
+abbrev pub framed : Framing → ℕ → List ℕ → List ℕ → List ℕ
+framed framing status lines body = first_lines status (date_text framing.date) ++ (lines ++ sent_body framing body)
+
+abbrev pub response_text : Framing → Outcome → List ℕ
+response_text framing outcome = framed framing (status_of outcome) (lines_of outcome) (body_of outcome)
+
+-- what goes out before a body that was waited for
+abbrev pub go_on : List ℕ
+go_on = codes "HTTP/1.1 100 Continue\r\n\r\n"

@@ -1,0 +1,98 @@
+-- One request to a source: what was read, what was written, and what the source is then.
+use Rattle.std.specs.Prelude.{◌≡◌, ◌⊎◌, ◌/◌, ℕ, true, List, [], ◌++◌, Option, Some, Result, Ok, Err}
+use Rattle.std.specs.Io.KnownBytes.{Consumes, Appends, IsAtEnd}
+use Rattle.httpdate.specs.Date.{unix_secs}
+use Rattle.httpdate.specs.declared.date.HttpDate.{HttpDate}
+use Rattle.rs_disk.specs.Medium.{DiskState}
+use Rattle.rs_store.specs.Received.{IsCutShort}
+use Rattle.rs_store.specs.Source.{Stored}
+use Rattle.rs_http.specs.declared.fault.FrontFault.{FrontFault}
+use Rattle.rs_http.specs.declared.fault.FrontFault.TheVariants.{Read, Write}
+use Rattle.rs_http.specs.declared.head.HeadRead.{HeadRead}
+use Rattle.rs_http.specs.declared.head.HeadRead.TheVariants.{Ended}
+use Rattle.rs_http.specs.declared.request.Plan.{Plan}
+use Rattle.rs_http.specs.declared.request.Plan.TheVariants.{Put}
+use Rattle.rs_http.specs.declared.request.NoPlan.{NoPlan}
+use Rattle.rs_http.specs.declared.request.Request.{Request}
+use Rattle.rs_http.specs.declared.response.Framing.{Framing}
+use Rattle.rs_http.specs.declared.serve.Served.{Served}
+use Rattle.rs_http.specs.declared.serve.Served.TheVariants.{Answered, Nothing}
+use Rattle.rs_http.specs.Head.{HeadIs, HasNoEnd}
+use Rattle.rs_http.specs.Requests.{Asks}
+use Rattle.rs_http.specs.Responses.{Outcome, status_of, response_text, go_on}
+use Rattle.rs_http.specs.Gives.{Gives, Responds}
+
+-- what goes out before the source is asked: the word to go on, where a put waits for it
+abbrev pub preface_of : Result Plan NoPlan → List ℕ
+preface_of (Ok (Put name kind n true)) = go_on
+preface_of plan = []
+
+-- A put was not done, since the reader failed within its body, of which these bytes came.
+abbrev pub IsBroken : {D : Type 0} → (D → DiskState) → Stored D → ℕ → Result Plan NoPlan → List ℕ → Stored D → Type 0
+IsBroken device old now (Ok (Put name kind n waits)) came new = IsCutShort device old new name kind n now came
+IsBroken device old now plan came new = ⊥
+
+-- How the answer to a plan ends, between what the reader had left and what the writer held before and after. Either the
+-- reader failed in the body of a put, and nothing is written. Or what came of the plan is answered.
+abbrev pub PlanEnds : {D : Type 0} → (D → DiskState) → Stored D → ℕ → Result Plan NoPlan → Framing
+    → Option (List ℕ) → Option (List ℕ) → Option (List ℕ) → Option (List ℕ) → Stored D → Result ℕ FrontFault → Type 0
+PlanEnds device old now plan framing left rest before after new (Err Read) =
+    (after ≡ before) × (more : List ℕ) × Consumes left rest more × IsBroken device old now plan more new
+PlanEnds device old now plan framing left rest before after new result =
+    (more : List ℕ) × Consumes left rest more × Responds framing before after (λ outcome. Gives device old now plan more rest outcome new) result
+
+-- What came of a request is answered: the status is given, and after what went out before, its response is written.
+pub record IsAnswered {D : Type 0} (device : D → DiskState) (old : Stored D) (now : ℕ) (request : Request) (more : List ℕ) (rest : Option (List ℕ)) (output : List ℕ) (status : ℕ) (new : Stored D) : Type 0 where
+  pub outcome : Outcome
+  pub date : HttpDate
+  pub dated : unix_secs date ≡ now / 1000
+  pub gives : Gives device old now request.plan more rest outcome new
+  pub status_is : status ≡ status_of outcome
+  pub written : output ≡ preface_of request.plan ++ response_text (record { date = date; is_head = request.is_head }) outcome
+
+-- What a request leaves whose response was not written: the word to go on was not, and nothing is done; or what came of the
+-- request stands.
+abbrev pub Stands : {D : Type 0} → (D → DiskState) → Stored D → ℕ → Request → List ℕ → Option (List ℕ) → Stored D → Type 0
+Stands device old now request more rest new =
+    ((preface_of request.plan ≡ go_on) × (more ≡ []) × (new ≡ old)) ⊎ ((outcome : Outcome) × Gives device old now request.plan more rest outcome new)
+
+-- How the answer to a request ends.
+abbrev pub RequestEnds : {D : Type 0} → (D → DiskState) → Stored D → ℕ → Request
+    → Option (List ℕ) → Option (List ℕ) → Option (List ℕ) → Option (List ℕ) → Stored D → Result ℕ FrontFault → Type 0
+RequestEnds device old now request left rest before after new (Ok status) =
+    (more : List ℕ) × (output : List ℕ) × Consumes left rest more × Appends before after output × IsAnswered device old now request more rest output status new
+RequestEnds device old now request left rest before after new (Err Read) =
+    (more : List ℕ) × Consumes left rest more × Appends before after (preface_of request.plan) × IsBroken device old now request.plan more new
+RequestEnds device old now request left rest before after new (Err Write) =
+    (more : List ℕ) × Consumes left rest more × Stands device old now request more rest new
+
+-- An input is these bytes, which ask for this request, and what was read past them; where they are a head that is cut, the
+-- reader had ended behind them.
+pub record Reads (input more : List ℕ) (rest : Option (List ℕ)) (request : Request) : Type 0 where
+  pub bytes : List ℕ
+  pub read : HeadRead
+  pub behind : Option (List ℕ)
+  pub input_is : input ≡ bytes ++ more
+  pub head : HeadIs bytes read
+  pub ended : read ≡ Ended → IsAtEnd behind
+  pub passed : Consumes behind rest more
+  pub asks : Asks bytes read (Some request)
+
+-- What was written for an input: nothing where it has no byte, and else the response to the request at its front.
+abbrev pub Serves : {D : Type 0} → (D → DiskState) → Stored D → ℕ → List ℕ → Option (List ℕ) → List ℕ → Served → Stored D → Type 0
+Serves device old now input rest output Nothing new = (input ≡ []) × IsAtEnd rest × (output ≡ []) × (new ≡ old)
+Serves device old now input rest output (Answered status) new =
+    (more : List ℕ) × (request : Request) × Reads input more rest request × IsAnswered device old now request more rest output status new
+
+-- What was written and done where the reader failed within an input: nothing before the head had ended; and in the body of
+-- a put no more than the word to go on, and the put is not done.
+abbrev pub Breaks : {D : Type 0} → (D → DiskState) → Stored D → ℕ → List ℕ → Option (List ℕ) → List ℕ → Stored D → Type 0
+Breaks device old now input rest output new =
+    (HasNoEnd input × (output ≡ []) × (new ≡ old))
+    ⊎ ((more : List ℕ) × (request : Request) × Reads input more rest request × (output ≡ preface_of request.plan) × IsBroken device old now request.plan more new)
+
+-- What was done where the writer failed: what the request at the front of the input comes to, unless the word to go on was
+-- not written.
+abbrev pub Halts : {D : Type 0} → (D → DiskState) → Stored D → ℕ → List ℕ → Option (List ℕ) → Stored D → Type 0
+Halts device old now input rest new =
+    (more : List ℕ) × (request : Request) × Reads input more rest request × Stands device old now request more rest new

@@ -1,0 +1,174 @@
+//! The answer to a request that was read.
+
+ghost use Rattle.std.specs.Prelude.{◌≡◌, ◌/◌, Bool, Ok, Err, IfOk, OnOk, OnErr, IsErrOf, IsTrue, MatchResult};
+ghost use Rattle.std.specs.Io.KnownBytes.{Appends, Keeps};
+ghost use Rattle.httpdate.specs.Date.{unix_secs};
+ghost use Rattle.rs_io.specs.Watch.{watched, has_failed};
+ghost use Rattle.rs_http.specs.Serving.{PlanEnds, RequestEnds, preface_of};
+ghost use Rattle.rs_http.specs.Responses.{go_on, response_text, status_of};
+ghost use Rattle.rs_http.specs.Gives.{unplanned};
+
+use crate::ask::{delete, publish, show_body, show_document};
+use crate::fault::FrontFault;
+use crate::outcome::{write_fault, write_refusal, write_reply};
+use crate::request::{NoPlan, Plan, Request};
+use crate::response::Framing;
+use httpdate::HttpDate;
+use rs_disk::Disk;
+use rs_io::{Watched, WriteFault};
+use rs_record::{MediaType, Name};
+use rs_store::{Refusal, Source};
+use rs_time::Moment;
+use std::io::{Read, Write};
+
+// What came of writing a response; a fault of the writer ends the connection.
+fn sent(answer: Result<u16, WriteFault>) -> Result<u16, FrontFault>
+    ensures { MatchResult answer (λ status. result ≡ Ok status) (λ _. result ≡ Err FrontFault.Write) }
+{
+    match answer {
+        Ok(status) => Ok(status),
+        Err(_) => Err(FrontFault::Write),
+    }
+}
+
+// Writes the response to a request that has no plan, and gives its status.
+fn write_unplanned<W: Write>(
+    writer: &mut Watched<W>,
+    framing: Framing,
+    reason: NoPlan,
+) -> Result<u16, WriteFault>
+    ensures status { IfOk result (λ status. status ≡ status_of (unplanned reason)) }
+    ensures ok { OnOk result (Appends (W.contents (watched writer.old)) (W.contents (watched writer.new)) (response_text framing (unplanned reason))) }
+    ensures failed { OnErr result (IsTrue (has_failed writer.new)) }
+{
+    match reason {
+        NoPlan::Refused(fault) => write_fault(writer, framing, fault),
+        NoPlan::NoMemory => write_refusal(writer, framing, Refusal::NoMemory),
+    }
+}
+
+// Puts the next bytes of the input, as many as `body_length`, and writes the response.
+fn put<D: Disk, R: Read, W: Write>(
+    source: &mut Source<D>,
+    name: &Name,
+    kind: &MediaType,
+    body_length: u64,
+    reader: &mut Watched<R>,
+    writer: &mut Watched<W>,
+    framing: Framing,
+    now: Moment,
+) -> Result<u16, FrontFault>
+    ensures ends { (waits : Bool) → PlanEnds D.state source.old now (Ok (Plan.Put name.now kind.now body_length waits)) framing
+        (R.remaining (watched reader.old)) (R.remaining (watched reader.new)) (W.contents (watched writer.old)) (W.contents (watched writer.new)) source.new result }
+    ensures read { IsErrOf result FrontFault.Read → IsTrue (has_failed reader.new) }
+    ensures write { IsErrOf result FrontFault.Write → IsTrue (has_failed writer.new) }
+{
+    match source.put_from(name, kind, reader, body_length, now) {
+        Ok(reply) => sent(write_reply(writer, framing, reply)),
+        Err(refusal) => match refusal {
+            Refusal::ReadFault => Err(FrontFault::Read),
+            _ => sent(write_refusal(writer, framing, refusal)),
+        },
+    }
+}
+
+// Does what a request asks for, and writes the response.
+fn respond<D: Disk, R: Read, W: Write>(
+    source: &mut Source<D>,
+    reader: &mut Watched<R>,
+    writer: &mut Watched<W>,
+    framing: Framing,
+    plan: Result<Plan, NoPlan>,
+    now: Moment,
+) -> Result<u16, FrontFault>
+    ensures ends { PlanEnds D.state source.old now plan framing
+        (R.remaining (watched reader.old)) (R.remaining (watched reader.new)) (W.contents (watched writer.old)) (W.contents (watched writer.new)) source.new result }
+    ensures read { IsErrOf result FrontFault.Read → IsTrue (has_failed reader.new) }
+    ensures write { IsErrOf result FrontFault.Write → IsTrue (has_failed writer.new) }
+{
+    match plan {
+        Err(reason) => sent(write_unplanned(writer, framing, reason)),
+        Ok(Plan::ShowBody(name)) => sent(show_body(source, &name, writer, framing)),
+        Ok(Plan::ShowDocument(doc)) => sent(show_document(source, doc, writer, framing)),
+        Ok(Plan::Delete(name)) => sent(delete(source, &name, now, writer, framing)),
+        Ok(Plan::Publish) => sent(publish(source, now, writer, framing)),
+        Ok(
+            Plan::Put {
+                name,
+                kind,
+                length,
+                ..
+            },
+        ) => put(source, &name, &kind, length, reader, writer, framing, now),
+    }
+}
+
+// Writes what goes out before the source is asked.
+fn write_preface<W: Write>(
+    writer: &mut Watched<W>,
+    plan: &Result<Plan, NoPlan>,
+) -> Result<(), WriteFault>
+    ensures ok { OnOk result (Appends (W.contents (watched writer.old)) (W.contents (watched writer.new)) (preface_of plan.now)) }
+    ensures failed { OnErr result (IsTrue (has_failed writer.new) × (preface_of plan.now ≡ go_on)) }
+{
+    match plan {
+        Ok(Plan::Put { waits: true, .. }) => {
+            writer.put(b"HTTP/1.1 100 Continue\r\n\r\n")?;
+            writer.flush()
+        }
+        _ => Ok(()),
+    }
+}
+
+// The date of a moment, cut to its second.
+fn date_of(now: Moment) -> HttpDate
+    ensures { unix_secs result ≡ now / 1000 }
+{
+    match HttpDate::from_unix_secs(now.ms() / 1000) {
+        Ok(date) => date,
+        Err(_) => unreachable!(),
+    }
+}
+
+// Passes on what the writer holds back, and gives the status.
+fn finish<W: Write>(writer: &mut Watched<W>, status: u16) -> Result<u16, FrontFault>
+    ensures value { MatchResult result (λ given. given ≡ status) (λ fault. fault ≡ FrontFault.Write) }
+    ensures bytes { Keeps (W.contents (watched writer.old)) (W.contents (watched writer.new)) }
+    ensures failed { OnErr result (IsTrue (has_failed writer.new)) }
+{
+    match writer.flush() {
+        Ok(()) => Ok(status),
+        Err(_) => Err(FrontFault::Write),
+    }
+}
+
+/// Does what a request asks for, and writes the response, of which it gives the status.
+///
+/// # Errors
+///
+/// - [`FrontFault::Read`] where the reader failed in the body of a put. It is not done then.
+/// - [`FrontFault::Write`] where the writer failed. What was done stands.
+pub(crate) fn answer<D: Disk, R: Read, W: Write>(
+    source: &mut Source<D>,
+    reader: &mut Watched<R>,
+    writer: &mut Watched<W>,
+    request: Request,
+    now: Moment,
+) -> Result<u16, FrontFault>
+    ensures ends { RequestEnds D.state source.old now request
+        (R.remaining (watched reader.old)) (R.remaining (watched reader.new)) (W.contents (watched writer.old)) (W.contents (watched writer.new)) source.new result }
+    ensures read { IsErrOf result FrontFault.Read → IsTrue (has_failed reader.new) }
+    ensures write { IsErrOf result FrontFault.Write → IsTrue (has_failed writer.new) }
+{
+    let framing = Framing {
+        date: date_of(now),
+        is_head: request.is_head,
+    };
+    if let Err(_) = write_preface(writer, &request.plan) {
+        return Err(FrontFault::Write);
+    }
+    match respond(source, reader, writer, framing, request.plan, now) {
+        Ok(status) => finish(writer, status),
+        Err(fault) => Err(fault),
+    }
+}

@@ -1,0 +1,236 @@
+//! The responses to what came of requests.
+
+ghost use Rattle.std.specs.Prelude.{◌≡◌, ◌≤◌, length, IfOk, OnOk, OnErr, IsTrue};
+ghost use Rattle.std.specs.Fmt.{decimal};
+ghost use Rattle.std.specs.Io.KnownBytes.{Appends};
+ghost use Rattle.rs_io.specs.Watch.{watched, has_failed};
+ghost use Rattle.rs_http.specs.Responses.{fault_status as status_of_fault, fault_text as text_of_fault, refusal_status as status_of_refusal, refusal_text as text_of_refusal, allow_of, published_text, content_lines, sent_body, framed, response_text, status_of, plain};
+ghost use Rattle.rs_http.specs.Responses.{faulted, replied, shown, refused};
+
+use crate::request::RequestFault;
+use crate::response::{Framing, write_bare, write_content, write_first, write_text};
+use crate::target::Methods;
+use rs_io::{Watched, WriteFault};
+use rs_model::Reply;
+use rs_store::Refusal;
+use rs_time::Moment;
+use std::io::Write;
+
+// The status of a request that is refused before the source is asked.
+fn fault_status(fault: RequestFault) -> u16
+    ensures { result ≡ status_of_fault fault }
+{
+    match fault {
+        RequestFault::BadHead => 400,
+        RequestFault::BadHost => 400,
+        RequestFault::BadLength => 400,
+        RequestFault::BadName => 400,
+        RequestFault::BadType => 400,
+        RequestFault::NoSuchDocument => 404,
+        RequestFault::BadMethod(_) => 405,
+        RequestFault::NoLength => 411,
+        RequestFault::TooLong => 413,
+        RequestFault::HeadTooLong => 431,
+        RequestFault::ManyFields => 431,
+        RequestFault::TransferEncoding => 501,
+    }
+}
+
+// The body of the response to it.
+fn fault_text(fault: RequestFault) -> &'static str
+    ensures { result.now ≡ text_of_fault fault }
+{
+    match fault {
+        RequestFault::HeadTooLong => "HeadTooLong\n",
+        RequestFault::BadHead => "BadHead\n",
+        RequestFault::ManyFields => "ManyFields\n",
+        RequestFault::BadHost => "BadHost\n",
+        RequestFault::TransferEncoding => "TransferEncoding\n",
+        RequestFault::BadLength => "BadLength\n",
+        RequestFault::BadName => "BadName\n",
+        RequestFault::NoSuchDocument => "NoSuchDocument\n",
+        RequestFault::BadMethod(_) => "BadMethod\n",
+        RequestFault::NoLength => "NoLength\n",
+        RequestFault::BadType => "BadType\n",
+        RequestFault::TooLong => "TooLong\n",
+    }
+}
+
+// The field with the methods that are allowed, where another was asked for.
+fn allow_text(fault: RequestFault) -> &'static str
+    ensures { result.now ≡ allow_of fault }
+{
+    match fault {
+        RequestFault::BadMethod(Methods::OfResources) => "Allow: GET, HEAD, PUT, DELETE\r\n",
+        RequestFault::BadMethod(Methods::OfDocuments) => "Allow: GET, HEAD\r\n",
+        RequestFault::BadMethod(Methods::OfPublications) => "Allow: POST\r\n",
+        _ => "",
+    }
+}
+
+// The status of a request that the source refuses.
+fn refusal_status(refusal: Refusal) -> u16
+    ensures { result ≡ status_of_refusal refusal }
+{
+    match refusal {
+        Refusal::NotHeld => 404,
+        Refusal::TooLong => 413,
+        Refusal::Exhausted => 500,
+        Refusal::Device => 500,
+        Refusal::Damaged => 500,
+        Refusal::Closed => 503,
+        Refusal::NoMemory => 503,
+        Refusal::TooManyResources => 507,
+        Refusal::TooManyChanges => 507,
+        Refusal::Full => 507,
+        Refusal::ReadFault => 500,
+        Refusal::ShortBody => 400,
+    }
+}
+
+// The body of the response to it.
+fn refusal_text(refusal: Refusal) -> &'static str
+    ensures { result.now ≡ text_of_refusal refusal }
+{
+    match refusal {
+        Refusal::Closed => "Closed\n",
+        Refusal::TooLong => "TooLong\n",
+        Refusal::NotHeld => "NotHeld\n",
+        Refusal::TooManyResources => "TooManyResources\n",
+        Refusal::TooManyChanges => "TooManyChanges\n",
+        Refusal::Exhausted => "Exhausted\n",
+        Refusal::Full => "Full\n",
+        Refusal::ReadFault => "ReadFault\n",
+        Refusal::ShortBody => "ShortBody\n",
+        Refusal::Device => "Device\n",
+        Refusal::Damaged => "Damaged\n",
+        Refusal::NoMemory => "NoMemory\n",
+    }
+}
+
+/// Writes the response to a request that is refused before the source is asked, and gives its status.
+pub(crate) fn write_fault<W: Write>(
+    writer: &mut Watched<W>,
+    framing: Framing,
+    fault: RequestFault,
+) -> Result<u16, WriteFault>
+    ensures status { IfOk result (λ status. status ≡ status_of (faulted fault)) }
+    ensures ok { OnOk result (Appends (W.contents (watched writer.old)) (W.contents (watched writer.new)) (response_text framing (faulted fault))) }
+    ensures failed { OnErr result (IsTrue (has_failed writer.new)) }
+{
+    let status = fault_status(fault);
+    let allow = allow_text(fault);
+    let text = fault_text(fault);
+    write_text(
+        writer,
+        framing,
+        status,
+        allow,
+        b"text/plain",
+        text.as_bytes(),
+    )?;
+    Ok(status)
+}
+
+/// Writes the response to a request that the source refuses, and gives its status.
+pub(crate) fn write_refusal<W: Write>(
+    writer: &mut Watched<W>,
+    framing: Framing,
+    refusal: Refusal,
+) -> Result<u16, WriteFault>
+    ensures status { IfOk result (λ status. status ≡ status_of (refused refusal)) }
+    ensures ok { OnOk result (Appends (W.contents (watched writer.old)) (W.contents (watched writer.new)) (response_text framing (refused refusal))) }
+    ensures failed { OnErr result (IsTrue (has_failed writer.new)) }
+{
+    let status = refusal_status(refusal);
+    let text = refusal_text(refusal);
+    write_text(writer, framing, status, "", b"text/plain", text.as_bytes())?;
+    Ok(status)
+}
+
+/// Writes the response with the bytes of a resource, and gives its status.
+pub(crate) fn write_shown<W: Write>(
+    writer: &mut Watched<W>,
+    framing: Framing,
+    kind: &[u8],
+    bytes: &[u8],
+) -> Result<u16, WriteFault>
+    ensures status { IfOk result (λ status. status ≡ status_of (shown kind.now bytes.now)) }
+    ensures ok { OnOk result (Appends (W.contents (watched writer.old)) (W.contents (watched writer.new)) (response_text framing (shown kind.now bytes.now))) }
+    ensures failed { OnErr result (IsTrue (has_failed writer.new)) }
+{
+    write_text(writer, framing, 200, "", kind, bytes)?;
+    Ok(200)
+}
+
+// How many decimal digits a number has.
+fn count_digits(number: u64) -> u64
+    ensures value { result ≡ length (decimal number) }
+    ensures few { result ≤ 20 }
+{
+    match number.checked_ilog10() {
+        Some(power) => power as u64 + 1,
+        None => 1,
+    }
+}
+
+// Writes `published`, the number and the moment of a publication and a line feed, unless the method is HEAD.
+fn write_publication<W: Write>(
+    writer: &mut Watched<W>,
+    framing: Framing,
+    number: u64,
+    moment: Moment,
+) -> Result<(), WriteFault>
+    ensures ok { OnOk result (Appends (W.contents (watched writer.old)) (W.contents (watched writer.new)) (sent_body framing (published_text number moment))) }
+    ensures failed { OnErr result (IsTrue (has_failed writer.new)) }
+{
+    if framing.is_head {
+        return writer.put(b"");
+    }
+    writer.put_text(format_args!("published {number} "))?;
+    writer.put(&moment.text())?;
+    writer.put(b"\n")
+}
+
+// Writes the response to an accepted publication.
+fn write_published<W: Write>(
+    writer: &mut Watched<W>,
+    framing: Framing,
+    number: u64,
+    moment: Moment,
+) -> Result<(), WriteFault>
+    ensures ok { OnOk result (Appends (W.contents (watched writer.old)) (W.contents (watched writer.new))
+        (framed framing 200 (content_lines plain (length (published_text number moment))) (published_text number moment))) }
+    ensures failed { OnErr result (IsTrue (has_failed writer.new)) }
+{
+    let length = count_digits(number) + 36;
+    write_first(writer, 200, &framing.date)?;
+    write_content(writer, b"text/plain", length)?;
+    write_publication(writer, framing, number, moment)
+}
+
+/// Writes the response to an accepted command, and gives its status.
+pub(crate) fn write_reply<W: Write>(
+    writer: &mut Watched<W>,
+    framing: Framing,
+    reply: Reply,
+) -> Result<u16, WriteFault>
+    ensures status { IfOk result (λ status. status ≡ status_of (replied reply)) }
+    ensures ok { OnOk result (Appends (W.contents (watched writer.old)) (W.contents (watched writer.new)) (response_text framing (replied reply))) }
+    ensures failed { OnErr result (IsTrue (has_failed writer.new)) }
+{
+    match reply {
+        Reply::Created(_) => {
+            write_bare(writer, framing, 201, b"Content-Length: 0\r\n\r\n")?;
+            Ok(201)
+        }
+        Reply::Updated(_) | Reply::Deleted(_) => {
+            write_bare(writer, framing, 204, b"\r\n")?;
+            Ok(204)
+        }
+        Reply::Published(number, moment) => {
+            write_published(writer, framing, number, moment)?;
+            Ok(200)
+        }
+    }
+}

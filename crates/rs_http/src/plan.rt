@@ -1,0 +1,234 @@
+//! What a request asks for.
+
+ghost use Rattle.std.specs.Prelude.{◌≡◌, ◌≤◌, ◌∷◌, [], ℕ, List, length, map, All, IfSome, IfNone, Some, codes, bytes_eq, unwrap_or};
+ghost use Rattle.httparse.specs.Grammar.{HasNoRequest};
+ghost use Rattle.httparse.specs.Spans.{IsHeaderWithin, IsWithin, IsRequestWithin, IsRequestOf, header_bytes, span_bytes};
+ghost use Rattle.rs_http.specs.Fields.{LoneIs, values_of, parts_at};
+ghost use Rattle.rs_http.specs.Checks.{is_get as gets, stated_length, put_causes, put_plan as plan_of_put, place_causes, causes_of, plan_at as plan_there, place_in};
+ghost use Rattle.rs_http.specs.Requests.{TypeIs, IsPlanned, AsksFor, Asks, refused_for};
+
+use crate::checks::{check_fields, expects_word};
+use crate::fields::{Lone, find_lone};
+use crate::head::HeadRead;
+use crate::request::{NoPlan, Plan, Request, RequestFault};
+use crate::target::{Methods, Place, path_of_target, place_of};
+use httparse::Status;
+use httparse::spans::{EMPTY_HEADER_SPAN, HeaderSpan, RequestSpans, parse_request};
+use rs_record::{MediaType, MediaTypeError, Name};
+use std::alloc::Global;
+
+// The media type of this text.
+fn type_of(alloc: Global, text: &[u8]) -> Result<MediaType, NoPlan>
+    ensures { TypeIs (text.now ∷ []) result }
+{
+    match MediaType::new(alloc, text) {
+        Ok(kind) => Ok(kind),
+        Err(MediaTypeError::BadType) => Err(NoPlan::Refused(RequestFault::BadType)),
+        Err(MediaTypeError::NoMemory) => Err(NoPlan::NoMemory),
+    }
+}
+
+// The media type of a body, by the fields that state one.
+fn body_type(alloc: Global, head: &[u8], lone: Lone) -> Result<MediaType, NoPlan>
+    requires { (kinds : List (List ℕ)) × LoneIs head.now lone kinds }
+    ensures { (kinds : List (List ℕ)) → LoneIs head.now lone kinds → TypeIs kinds result }
+{
+    match lone {
+        Lone::Absent => type_of(alloc, b"application/octet-stream"),
+        Lone::One(span) => type_of(alloc, span.of(head)),
+        Lone::Many => Err(NoPlan::Refused(RequestFault::BadType)),
+    }
+}
+
+// The greatest number of bytes of a body.
+const LONGEST_BODY: u64 = 16_777_216;
+
+// The plan of a put to this name, with the length that the fields state.
+fn put_plan(
+    alloc: Global,
+    head: &[u8],
+    headers: &[HeaderSpan],
+    name: Name,
+    stated: Option<u64>,
+    expects: bool,
+) -> Result<Plan, NoPlan>
+    requires { All (IsHeaderWithin (length head.now)) headers.now }
+    ensures { let kinds = values_of (codes "content-type") (map (header_bytes head.now) headers.now) in
+        IsPlanned (put_causes stated kinds) (Some (plan_of_put name kinds (unwrap_or stated 0) expects)) result }
+{
+    let Some(length) = stated else {
+        return Err(NoPlan::Refused(RequestFault::NoLength));
+    };
+    let kind = body_type(alloc, head, find_lone(head, headers, b"content-type"))?;
+    if length > LONGEST_BODY {
+        return Err(NoPlan::Refused(RequestFault::TooLong));
+    }
+    Ok(Plan::Put {
+        name,
+        kind,
+        length,
+        waits: expects && length > 0,
+    })
+}
+
+// Whether a method gives what is there, with a body or without.
+fn is_get(method: &[u8]) -> bool
+    ensures { result ≡ gets method.now }
+{
+    method == b"GET".as_slice() || method == b"HEAD".as_slice()
+}
+
+// The plan of a request for the resource of this name.
+fn resource_plan(
+    alloc: Global,
+    head: &[u8],
+    spans: RequestSpans,
+    headers: &[HeaderSpan],
+    stated: Option<u64>,
+    name: Name,
+) -> Result<Plan, NoPlan>
+    requires method { IsWithin (length head.now) spans.method }
+    requires headers { All (IsHeaderWithin (length head.now)) headers.now }
+    requires stated { stated ≡ stated_length (values_of (codes "content-length") (map (header_bytes head.now) headers.now)) }
+    ensures { let p = parts_at head.now spans headers.now in IsPlanned (place_causes (Place.Resource name) p) (plan_there (Place.Resource name) p) result }
+{
+    let method = spans.method.of(head);
+    if method == b"PUT".as_slice() {
+        let expects = expects_word(head, spans, headers);
+        return put_plan(alloc, head, headers, name, stated, expects);
+    }
+    if method == b"DELETE".as_slice() {
+        return Ok(Plan::Delete(name));
+    }
+    if is_get(method) {
+        return Ok(Plan::ShowBody(name));
+    }
+    Err(NoPlan::Refused(RequestFault::BadMethod(Methods::OfResources)))
+}
+
+// The plan of a request for what stands there.
+fn plan_at(
+    alloc: Global,
+    head: &[u8],
+    spans: RequestSpans,
+    headers: &[HeaderSpan],
+    stated: Option<u64>,
+    place: Place,
+) -> Result<Plan, NoPlan>
+    requires method { IsWithin (length head.now) spans.method }
+    requires headers { All (IsHeaderWithin (length head.now)) headers.now }
+    requires stated { stated ≡ stated_length (values_of (codes "content-length") (map (header_bytes head.now) headers.now)) }
+    ensures { let p = parts_at head.now spans headers.now in IsPlanned (place_causes place p) (plan_there place p) result }
+{
+    let method = spans.method.of(head);
+    match place {
+        Place::Resource(name) => resource_plan(alloc, head, spans, headers, stated, name),
+        Place::Unlawful => Err(NoPlan::Refused(RequestFault::BadName)),
+        Place::Document(doc) => {
+            if is_get(method) {
+                return Ok(Plan::ShowDocument(doc));
+            }
+            Err(NoPlan::Refused(RequestFault::BadMethod(Methods::OfDocuments)))
+        }
+        Place::Publishing => {
+            if method == b"POST".as_slice() {
+                return Ok(Plan::Publish);
+            }
+            Err(NoPlan::Refused(RequestFault::BadMethod(Methods::OfPublications)))
+        }
+        Place::Nowhere => Err(NoPlan::Refused(RequestFault::NoSuchDocument)),
+    }
+}
+
+// What a head asks for whose parts lie at these spans and headers.
+fn plan_request(
+    alloc: Global,
+    head: &[u8],
+    spans: RequestSpans,
+    headers: &[HeaderSpan],
+) -> Result<Plan, NoPlan>
+    requires method { IsWithin (length head.now) spans.method }
+    requires target { IsWithin (length head.now) spans.path }
+    requires headers { All (IsHeaderWithin (length head.now)) headers.now }
+    ensures { let p = parts_at head.now spans headers.now in IsPlanned (causes_of p) (plan_there (place_in p) p) result }
+{
+    let stated = check_fields(head, spans, headers)?;
+    let place = place_of(alloc, path_of_target(spans.path.of(head)))?;
+    plan_at(alloc, head, spans, headers, stated, place)
+}
+
+// More fields than 8,192 bytes can hold.
+const ROOM: usize = 2731;
+
+// Reads a head at the front of some bytes, with room for all its fields.
+fn parse_head(head: &[u8], headers: &mut [HeaderSpan]) -> Option<RequestSpans>
+    requires short { length head.now ≤ 8192 }
+    requires room { length headers.old ≡ 2731 }
+    ensures within { IfSome result (IsRequestWithin head.now headers.new) }
+    ensures some { IfSome result (IsRequestOf head.now headers.new) }
+    ensures none { IfNone result (HasNoRequest head.now) }
+{
+    match parse_request(head, headers) {
+        Ok(Status::Complete(spans)) => Some(spans),
+        Ok(Status::Partial) => None,
+        Err(_) => None,
+    }
+}
+
+// A request of which no more is known.
+fn refused_request(fault: RequestFault) -> Request
+    ensures { result ≡ refused_for fault }
+{
+    Request {
+        is_head: false,
+        plan: Err(NoPlan::Refused(fault)),
+    }
+}
+
+// Whether a method is `HEAD`.
+fn is_head(method: &[u8]) -> bool
+    ensures { result ≡ bytes_eq method.now (codes "HEAD") }
+{
+    method == b"HEAD".as_slice()
+}
+
+// What a head asks for, with room for its fields.
+fn read_with(alloc: Global, head: &[u8], headers: &mut [HeaderSpan]) -> Request
+    requires short { length head.now ≤ 8192 }
+    requires room { length headers.old ≡ 2731 }
+    ensures { AsksFor head.now result }
+{
+    let Some(spans) = parse_head(head, headers) else {
+        return refused_request(RequestFault::BadHead);
+    };
+    Request {
+        is_head: is_head(spans.method.of(head)),
+        plan: plan_request(alloc, head, spans, &headers[..spans.headers]),
+    }
+}
+
+// What a head asks for.
+fn read_whole(alloc: Global, head: &[u8]) -> Request
+    requires { length head.now ≤ 8192 }
+    ensures { AsksFor head.now result }
+{
+    let mut headers = [EMPTY_HEADER_SPAN; ROOM];
+    read_with(alloc, head, &mut headers)
+}
+
+/// What the bytes at the front of an input ask for, or `None` where no byte came.
+pub(crate) fn read_request(alloc: Global, bytes: &[u8], read: HeadRead) -> Option<Request>
+    requires { length bytes.now ≤ 8192 }
+    ensures { Asks bytes.now read result }
+{
+    match read {
+        HeadRead::Whole => Some(read_whole(alloc, bytes)),
+        HeadRead::TooLong => Some(refused_request(RequestFault::HeadTooLong)),
+        HeadRead::Ended => {
+            if bytes.is_empty() {
+                return None;
+            }
+            Some(refused_request(RequestFault::BadHead))
+        }
+    }
+}

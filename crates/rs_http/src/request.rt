@@ -1,0 +1,95 @@
+//! What a request asks for, or why it is refused before the source is asked.
+
+ghost use Rattle.std.specs.Prelude.{◌≡◌};
+
+use crate::target::Methods;
+use rs_lists::Doc;
+use rs_record::{MediaType, Name};
+use std::alloc::AllocError;
+
+/// Why a request is refused before the source is asked, in the order in which the causes count.
+#[derive(Clone, Copy, Debug, PartialEq, Eq)]
+pub(crate) enum RequestFault {
+    /// The head has not ended in 8,192 bytes.
+    HeadTooLong,
+    /// The input ended within the head, or the head does not parse.
+    BadHead,
+    /// The head has more than 32 fields.
+    ManyFields,
+    /// There is more than one Host, or none in HTTP/1.1.
+    BadHost,
+    /// There is a Transfer-Encoding.
+    TransferEncoding,
+    /// There is more than one Content-Length, or it is not 1 to 18 digits.
+    BadLength,
+    /// The name of a resource is not lawful.
+    BadName,
+    /// No document has the path, at any time.
+    NoSuchDocument,
+    /// The method is not allowed there; these are.
+    BadMethod(Methods),
+    /// A PUT states no length.
+    NoLength,
+    /// A PUT has an unlawful type, or a second one.
+    BadType,
+    /// A PUT of more than 16,777,216 bytes.
+    TooLong,
+}
+
+/// What a request asks for.
+#[derive(Debug, Drop)]
+pub(crate) enum Plan {
+    /// The body of a resource.
+    ShowBody(Name),
+    /// A document.
+    ShowDocument(Doc),
+    /// A put of a body of so many bytes; whether it waits for the word to go on before it sends them.
+    Put {
+        name: Name,
+        kind: MediaType,
+        length: u64,
+        waits: bool,
+    },
+    /// A delete.
+    Delete(Name),
+    /// A publish.
+    Publish,
+}
+
+/// Why nothing is asked of the source.
+#[derive(Clone, Copy, Debug, PartialEq, Eq)]
+pub(crate) enum NoPlan {
+    /// The request is refused.
+    Refused(RequestFault),
+    /// The memory for what it asks for is refused.
+    NoMemory,
+}
+
+impl From<RequestFault> for NoPlan {
+    ghost use Rattle.rs_http.specs.declared.request.NoPlan.TheVariants.{Refused};
+
+    ghost from_gives = { λ fault made. made ≡ Refused fault };
+
+    fn from(fault: RequestFault) -> NoPlan {
+        NoPlan::Refused(fault)
+    }
+}
+
+impl From<AllocError> for NoPlan {
+    ghost use Rattle.rs_http.specs.declared.request.NoPlan.TheVariants.{NoMemory};
+
+    ghost from_gives = { λ _ made. made ≡ NoMemory };
+
+    fn from(_: AllocError) -> NoPlan {
+        NoPlan::NoMemory
+    }
+}
+
+/// A request.
+#[derive(Debug, Drop)]
+pub(crate) struct Request {
+    /// Its method is known to be HEAD, so that its response has no body.
+    pub(crate) is_head: bool,
+    /// What it asks for.
+    pub(crate) plan: Result<Plan, NoPlan>,
+}

@@ -1,0 +1,74 @@
+//! One request to a source.
+
+ghost use Rattle.std.specs.Prelude.{◌≡◌, ℕ, List, IfOk, IsErrOf, IsTrue};
+ghost use Rattle.std.specs.Io.KnownBytes.{Consumes, Appends};
+ghost use Rattle.rs_io.specs.Watch.{watched, has_failed};
+ghost use Rattle.rs_http.specs.Serving.{Serves, Breaks, Halts};
+
+use crate::answer::answer;
+use crate::fault::FrontFault;
+use crate::head::{HEAD_LIMIT, read_head};
+use crate::plan::read_request;
+use rs_disk::Disk;
+use rs_io::Watched;
+use rs_store::Source;
+use rs_time::Moment;
+use std::alloc::Global;
+use std::io::{Read, Write};
+
+/// What came of a connection.
+#[derive(Clone, Copy, Debug, PartialEq, Eq)]
+pub enum Served {
+    /// A request was answered with this status.
+    Answered(u16),
+    /// The input ended before a byte came, and nothing was written.
+    Nothing,
+}
+
+/// Reads one request, does what it asks for, and writes the response, which bears the date of `now`, cut to its
+/// second (RFC 9110 and RFC 9112). A command comes at `now`.
+///
+/// The head is read byte by byte, so that no byte after the request is taken: give it a buffered reader. The writer
+/// is flushed after the word to go on, and at the end.
+///
+/// # Errors
+///
+/// - [`FrontFault::Read`] where the reader failed: nothing is done, and no more than the word to go on is written.
+/// - [`FrontFault::Write`] where the writer failed. Where it was the word to go on that was not written, nothing is
+///   done; else a command that was accepted stands.
+pub fn serve_one<D: Disk, R: Read, W: Write>(
+    alloc: Global,
+    source: &mut Source<D>,
+    reader: &mut Watched<R>,
+    writer: &mut Watched<W>,
+    now: Moment,
+) -> Result<Served, FrontFault>
+    // What is written is the response to what was read.
+    ensures ok { IfOk result (λ served. (input : List ℕ) × (output : List ℕ)
+        × Consumes (R.remaining (watched reader.old)) (R.remaining (watched reader.new)) input
+        × Appends (W.contents (watched writer.old)) (W.contents (watched writer.new)) output
+        × Serves D.state source.old now input (R.remaining (watched reader.new)) output served source.new) }
+
+    // The reader failed within what was read.
+    ensures read { IsErrOf result FrontFault.Read → IsTrue (has_failed reader.new) × (input : List ℕ) × (output : List ℕ)
+        × Consumes (R.remaining (watched reader.old)) (R.remaining (watched reader.new)) input
+        × Appends (W.contents (watched writer.old)) (W.contents (watched writer.new)) output
+        × Breaks D.state source.old now input (R.remaining (watched reader.new)) output source.new }
+
+    // The writer failed, and what was done stands.
+    ensures write { IsErrOf result FrontFault.Write → IsTrue (has_failed writer.new) × (input : List ℕ)
+        × Consumes (R.remaining (watched reader.old)) (R.remaining (watched reader.new)) input
+        × Halts D.state source.old now input (R.remaining (watched reader.new)) source.new }
+{
+    let mut buf = [0u8; HEAD_LIMIT];
+    let Ok((read, came)) = read_head(reader, &mut buf) else {
+        return Err(FrontFault::Read);
+    };
+    let Some(request) = read_request(alloc, &buf[..came], read) else {
+        return Ok(Served::Nothing);
+    };
+    match answer(source, reader, writer, request, now) {
+        Ok(status) => Ok(Served::Answered(status)),
+        Err(fault) => Err(fault),
+    }
+}

@@ -1,0 +1,110 @@
+//! What the target of a request names.
+
+ghost use Rattle.std.specs.Prelude.{◌≡◌, ◌==◌, ◌≤◌, length, IfOk};
+ghost use Rattle.std.specs.List.{position};
+ghost use Rattle.rs_http.specs.Targets.{path_of_target as path_in, scheme_length as length_of_scheme, after_authority as path_after, place_of as place_at, resource_place as resource_at};
+
+use crate::fields::is_same;
+use rs_caps::doc_of;
+use rs_lists::Doc;
+use rs_record::{Name, NameError};
+use std::alloc::{AllocError, Global};
+
+/// What a path names.
+#[derive(Debug, Drop)]
+pub(crate) enum Place {
+    /// The resource of this name, be it held or not.
+    Resource(Name),
+    /// A resource of an unlawful name.
+    Unlawful,
+    /// This document, be it there or not.
+    Document(Doc),
+    /// Where a publication is asked for.
+    Publishing,
+    /// Nothing.
+    Nowhere,
+}
+
+/// The methods that a place allows.
+#[derive(Clone, Copy, Debug, PartialEq, Eq)]
+pub(crate) enum Methods {
+    /// `GET`, `HEAD`, `PUT` and `DELETE`.
+    OfResources,
+    /// `GET` and `HEAD`.
+    OfDocuments,
+    /// `POST`.
+    OfPublications,
+}
+
+// How long the scheme is with which a target begins, `http://` or `https://` in any case.
+fn scheme_length(target: &[u8]) -> usize
+    ensures value { result ≡ length_of_scheme target.now }
+    ensures fits { result ≤ length target.now }
+{
+    if target.len() >= 7 && is_same(&target[..7], b"http://") {
+        return 7;
+    }
+    if target.len() >= 8 && is_same(&target[..8], b"https://") {
+        return 8;
+    }
+    0
+}
+
+// Where the first `/` stands.
+fn first_slash(bytes: &[u8]) -> Option<usize>
+    ensures { result ≡ position (λ b. b == 47) bytes.now }
+{
+    bytes.iter().position(|b| *b == b'/')
+}
+
+// The path after an authority, which is `/` where none is written.
+fn after_authority(rest: &[u8]) -> &[u8]
+    ensures { result.now ≡ path_after rest.now }
+{
+    match first_slash(rest) {
+        Some(i) => &rest[i..],
+        None => b"/",
+    }
+}
+
+/// The path of a target, before which a scheme and an authority may stand.
+pub(crate) fn path_of_target(target: &[u8]) -> &[u8]
+    ensures { result.now ≡ path_in target.now }
+{
+    let length = scheme_length(target);
+    if length == 0 {
+        return target;
+    }
+    after_authority(&target[length..])
+}
+
+// The resource of this name, where it is lawful.
+fn resource_place(alloc: Global, name: &[u8]) -> Result<Place, AllocError>
+    ensures { IfOk result (λ place. place ≡ resource_at name.now) }
+{
+    match Name::new(alloc, name) {
+        Ok(name) => Ok(Place::Resource(name)),
+        Err(NameError::BadName) => Ok(Place::Unlawful),
+        Err(NameError::NoMemory) => Err(AllocError),
+    }
+}
+
+/// What a path names.
+///
+/// # Errors
+///
+/// [`AllocError`] where the memory for a name is refused.
+pub(crate) fn place_of(alloc: Global, path: &[u8]) -> Result<Place, AllocError>
+    ensures { IfOk result (λ place. place ≡ place_at path.now) }
+{
+    if path.starts_with(b"/resource/") {
+        return resource_place(alloc, &path[10..]);
+    }
+    if path == b"/publish".as_slice() {
+        return Ok(Place::Publishing);
+    }
+    match doc_of(path) {
+        Some(doc) => Ok(Place::Document(doc)),
+        None => Ok(Place::Nowhere),
+    }
+}
