@@ -1,33 +1,115 @@
 -- The arguments of the program.
-use Rattle.std.specs.Prelude.{ℕ, min, if◌then◌else◌, List, [], ◌∷◌, codes, bytes_eq, Option, Some, None}
+use Rattle.std.specs.Prelude.{ℕ, ◌&&◌, min, nat_le, if◌then◌else◌, List, [], ◌∷◌, codes, bytes_eq, option_map, Option, Some, None}
+use Rattle.std.specs.Option.{option_or}
 use Rattle.std.specs.declared.io.ErrorKind.{ErrorKind}
 use Rattle.std.specs.declared.io.ErrorKind.TheVariants.{OutOfMemory}
+use Rattle.rs_file.specs.declared.fault.FileFault.{FileFault}
+use Rattle.rs_file.specs.declared.fault.FileFault.TheVariants as file
+use Rattle.rs_source.specs.declared.command.Invocation.{Invocation}
+use Rattle.rs_source.specs.declared.command.Invocation.TheVariants.{Mem, Format, Run, Serve}
+use Rattle.rs_source.specs.declared.command.ServingArguments.{ServingArguments}
+use Rattle.rs_source.specs.declared.command.SourceArguments.{SourceArguments}
 use Rattle.rs_source.specs.declared.program.ProgramError.{ProgramError}
-use Rattle.rs_source.specs.declared.program.ProgramError.TheVariants.{Usage, BadBase, BadLimit, TooSmall, Device, NoMemory, Read, Write}
+use Rattle.rs_source.specs.declared.program.ProgramError.TheVariants.{Usage, Exists, BadBase, BadLimit, TooSmall, NotASource, Damaged, Device, NoMemory, Read, Write}
 use Rattle.rs_store.specs.declared.formatting.FormatFault.{FormatFault}
 use Rattle.rs_store.specs.declared.formatting.FormatFault.TheVariants as formatting
+use Rattle.rs_store.specs.declared.opening.OpenFault.{OpenFault}
+use Rattle.rs_store.specs.declared.opening.OpenFault.TheVariants as opening
 use Rattle.rs_source.specs.declared.script.ScriptFault.{ScriptFault}
 use Rattle.rs_source.specs.declared.script.ScriptFault.TheVariants as fault
 use Rattle.rs_source.specs.Numbers.{number_in}
 
--- a size, a base and an item limit, where both numbers are there: a greater limit than 65,535 is taken as that
-abbrev pub with_numbers : Option ℕ → List ℕ → Option ℕ → Option (ℕ × List ℕ × ℕ)
+-- how a source is made: the bytes of its disk, its base, and its item limit
+pub record Made : Type 0 where
+  pub size : ℕ
+  pub base : List ℕ
+  pub limit : ℕ
+
+-- which connections are served: the port, and how many
+pub record Served : Type 0 where
+  pub port : ℕ
+  pub count : ℕ
+
+-- what the program is asked to do
+pub data Asked : Type 0 where
+  -- run a script on a new source in memory
+  mem : Made → Asked
+  -- make a source on a new file of this name
+  format : List ℕ → Made → Asked
+  -- run a script on the source on the file of this name
+  run : List ℕ → Asked
+  -- serve connections to the source on the file of this name
+  serve : List ℕ → Served → Asked
+
+-- where both numbers are there: a greater limit than 65,535 is taken as that
+abbrev pub with_numbers : Option ℕ → List ℕ → Option ℕ → Option Made
 with_numbers None base limit = None
 with_numbers (Some size) base None = None
-with_numbers (Some size) base (Some limit) = Some (size, base, min limit 65535)
+with_numbers (Some size) base (Some limit) = Some (record { size = size; base = base; limit = min limit 65535 })
 
--- the words that the program is started with, its name first: `mem SIZE BASE LIMIT`, with numbers of 1 to 18 digits
-abbrev pub mem_of : List (List ℕ) → Option (ℕ × List ℕ × ℕ)
+-- SIZE, BASE and LIMIT, with numbers of 1 to 18 digits
+abbrev pub made_of : List ℕ → List ℕ → List ℕ → Option Made
+made_of size base limit = with_numbers (number_in 18 size) base (number_in 18 limit)
+
+-- `mem SIZE BASE LIMIT`, after the program's name
+abbrev pub mem_of : List (List ℕ) → Option Asked
 mem_of (program ∷ command ∷ size ∷ base ∷ limit ∷ []) =
-    if bytes_eq command (codes "mem") then with_numbers (number_in 18 size) base (number_in 18 limit) else None
+    if bytes_eq command (codes "mem") then option_map mem (made_of size base limit) else None
 mem_of _ = None
+
+-- `format FILE SIZE BASE LIMIT`
+abbrev pub format_of : List (List ℕ) → Option Asked
+format_of (program ∷ command ∷ file ∷ size ∷ base ∷ limit ∷ []) =
+    if bytes_eq command (codes "format") then option_map (format file) (made_of size base limit) else None
+format_of _ = None
+
+-- `run FILE`
+abbrev pub run_of : List (List ℕ) → Option Asked
+run_of (program ∷ command ∷ file ∷ []) = if bytes_eq command (codes "run") then Some (run file) else None
+run_of _ = None
+
+-- where both numbers are there, and in range
+abbrev pub served_if : Option ℕ → Option ℕ → Option Served
+served_if (Some port) (Some count) =
+    if nat_le port 65535 && nat_le 1 count && nat_le count 1000000000 then Some (record { port = port; count = count }) else None
+served_if port count = None
+
+-- PORT and COUNT, numbers of 1 to 18 digits, the one up to 65,535 and the other from 1 to 1,000,000,000
+abbrev pub served_of : List ℕ → List ℕ → Option Served
+served_of port count = served_if (number_in 18 port) (number_in 18 count)
+
+-- `serve FILE PORT COUNT`
+abbrev pub serve_of : List (List ℕ) → Option Asked
+serve_of (program ∷ command ∷ file ∷ port ∷ count ∷ []) =
+    if bytes_eq command (codes "serve") then option_map (serve file) (served_of port count) else None
+serve_of _ = None
+
+-- what the words ask for that the program is started with, its name first
+abbrev pub asked_of : List (List ℕ) → Option Asked
+asked_of words = option_or (option_or (option_or (mem_of words) (format_of words)) (run_of words)) (serve_of words)
+
+-- what the program found that it is asked to do
+abbrev pub made_by : SourceArguments → Made
+made_by made = record { size = made.size; base = made.base.now; limit = made.limit }
+
+abbrev pub served_by : ServingArguments → Served
+served_by serving = record { port = serving.port; count = serving.count }
+
+abbrev pub asked_by : Invocation → Asked
+asked_by (Mem made) = mem (made_by made)
+asked_by (Format file made) = format file.now (made_by made)
+asked_by (Run file) = run file.now
+asked_by (Serve file serving) = serve file.now (served_by serving)
 
 -- wrong arguments end the program with status 2, all else that ends it early with status 1
 abbrev pub status_of : ProgramError → ℕ
 status_of Usage = 2
+status_of Exists = 1
 status_of BadBase = 1
 status_of BadLimit = 1
 status_of TooSmall = 1
+status_of NotASource = 1
+status_of Damaged = 1
 status_of Device = 1
 status_of NoMemory = 1
 status_of Read = 1
@@ -50,6 +132,36 @@ error_of_format formatting.BadLimit = BadLimit
 error_of_format formatting.TooSmall = TooSmall
 error_of_format formatting.Device = Device
 error_of_format formatting.NoMemory = NoMemory
+
+-- and of a file that is opened or made
+abbrev pub error_of_file : FileFault → ProgramError
+error_of_file file.Exists = Exists
+error_of_file file.Device = Device
+
+-- and of a source that is opened
+abbrev pub error_of_opening : OpenFault → ProgramError
+error_of_opening opening.NotASource = NotASource
+error_of_opening opening.Damaged = Damaged
+error_of_opening opening.Device = Device
+error_of_opening opening.NoMemory = NoMemory
+
+-- the errors with which a source on a file is not opened
+abbrev pub IsOfOpen : ProgramError → Type 0
+IsOfOpen NotASource = Unit {0}
+IsOfOpen Damaged = Unit {0}
+IsOfOpen Device = Unit {0}
+IsOfOpen NoMemory = Unit {0}
+IsOfOpen error = ⊥
+
+-- the errors with which a source on a new file is not made
+abbrev pub IsOfFormat : ProgramError → Type 0
+IsOfFormat Exists = Unit {0}
+IsOfFormat BadBase = Unit {0}
+IsOfFormat BadLimit = Unit {0}
+IsOfFormat TooSmall = Unit {0}
+IsOfFormat Device = Unit {0}
+IsOfFormat NoMemory = Unit {0}
+IsOfFormat error = ⊥
 
 -- the errors with which a source in memory does not begin
 abbrev pub IsOfStart : ProgramError → Type 0

@@ -10,3 +10,4 @@ pub mod Answers
 pub mod Script
 pub mod Kept
 pub mod Progress
+pub mod Serving

@@ -2,12 +2,16 @@
 //!
 //! A script is read line by line: each line asks something of a source, and is answered on the
 //! output. `rs_source mem SIZE BASE LIMIT` runs the script on standard input on a new source, whose disk of
-//! SIZE bytes lies in memory.
+//! SIZE bytes lies in memory. `rs_source format FILE SIZE BASE LIMIT` makes a source on a new file, and
+//! `rs_source run FILE` runs the script on standard input on the source of a file. `rs_source serve FILE PORT COUNT`
+//! serves so many connections to it on the loopback interface.
 #![tactic(auto)]
 
 mod answer;
 mod bytes;
+mod command;
 mod execute;
+mod file;
 mod laws;
 mod line;
 mod memory;
@@ -16,35 +20,113 @@ mod program;
 mod refusal;
 mod request;
 mod script;
+mod serving;
 mod show;
 #[cfg(test)]
 mod tests;
 
-use program::{MemArguments, ProgramError, mem_arguments, start, unread};
+use command::{Invocation, ServingArguments, SourceArguments, asked};
+use file::{format_file, open_file};
+use program::{ProgramError, start, unread};
+use rs_disk::Disk;
+use rs_file::Unknown;
 use rs_io::Watched;
+use rs_store::Source;
 use script::script;
+use serving::serve_connections;
+use std::fs::File;
 use std::io::BufWriter;
+use std::net::{Ipv4Addr, Net, TcpListener, TcpStream};
 use std::process::ExitCode;
-use std::rt::Env;
+use std::rt::{Clock, Env, Files};
 use std::{env, io};
 
-/// `mem`: a new source on a disk in memory, and the script of standard input on it.
-fn run_mem<R: Input + Print + AllocGlobal>(
+/// The script of standard input, run on a source.
+fn run_script<R: Input + Print + AllocGlobal, D: Disk>(
     rt: &R,
-    arguments: &MemArguments<'_>,
+    source: &mut Source<D>,
 ) -> Result<(), ProgramError> {
-    let mut source = start(rt.alloc(), arguments.size, arguments.base, arguments.limit)?;
     let Ok(output) = BufWriter::new(rt.alloc(), io::writer(rt)) else {
         return Err(ProgramError::NoMemory);
     };
     let mut reader = Watched::new(rt.reader());
     let mut writer = Watched::new(output);
-    script(rt.alloc(), &mut source, &mut reader, &mut writer)?;
+    script(rt.alloc(), source, &mut reader, &mut writer)?;
     Ok(())
 }
 
+/// `mem`: a new source on a disk in memory, and the script of standard input on it.
+fn run_mem<R: Input + Print + AllocGlobal>(
+    rt: &R,
+    made: &SourceArguments<'_>,
+) -> Result<(), ProgramError> {
+    let mut source = start(rt.alloc(), made.size, made.base, made.limit)?;
+    run_script(rt, &mut source)
+}
+
+/// `format`: a new source on a new file.
+fn run_format<R: Files<File = File> + Print + AllocGlobal>(
+    rt: &R,
+    file: &str,
+    made: &SourceArguments<'_>,
+) -> Result<(), ProgramError> {
+    format_file(rt, rt.alloc(), file, made, Unknown)?;
+    match println!(rt; "formatted {}", made.size) {
+        Ok(()) => Ok(()),
+        Err(_) => Err(ProgramError::Write),
+    }
+}
+
+/// `run`: the script of standard input on the source of a file.
+fn run_file<R: Files<File = File> + Input + Print + AllocGlobal>(
+    rt: &R,
+    file: &str,
+) -> Result<(), ProgramError> {
+    let mut source = open_file(rt, rt.alloc(), file, Unknown)?;
+    run_script(rt, &mut source)
+}
+
+/// Opens a socket, says where it is, and serves connections to a source on it.
+fn serve<R: Net<Listener = TcpListener, Stream = TcpStream> + Clock + Print + AllocGlobal, D: Disk>(
+    rt: &R,
+    source: &mut Source<D>,
+    serving: ServingArguments,
+) -> Result<(), ProgramError> {
+    let Ok(listener) = TcpListener::bind(rt, (Ipv4Addr::LOCALHOST, serving.port)) else {
+        return Err(ProgramError::Device);
+    };
+    let Ok(address) = listener.local_addr() else {
+        return Err(ProgramError::Device);
+    };
+    let Ok(()) = println!(rt; "listening {address}") else {
+        return Err(ProgramError::Write);
+    };
+    serve_connections(rt.alloc(), source, &listener, serving.count, rt);
+    Ok(())
+}
+
+/// `serve`: connections to the source of a file.
+fn run_serve<
+    R: Files<File = File>
+        + Net<Listener = TcpListener, Stream = TcpStream>
+        + Clock
+        + Print
+        + AllocGlobal,
+>(rt: &R, file: &str, serving: ServingArguments) -> Result<(), ProgramError> {
+    let mut source = open_file(rt, rt.alloc(), file, Unknown)?;
+    serve(rt, &mut source, serving)
+}
+
 /// Does what the arguments of the program ask for.
-fn run<R: Env + Input + Print + AllocGlobal>(rt: &R) -> Result<(), ProgramError> {
+fn run<
+    R: Files<File = File>
+        + Net<Listener = TcpListener, Stream = TcpStream>
+        + Clock
+        + Env
+        + Input
+        + Print
+        + AllocGlobal,
+>(rt: &R) -> Result<(), ProgramError> {
     let arguments = match env::args(rt) {
         Ok(arguments) => arguments,
         Err(error) => return Err(unread(error.kind())),
@@ -52,8 +134,11 @@ fn run<R: Env + Input + Print + AllocGlobal>(rt: &R) -> Result<(), ProgramError>
     let Ok(words) = arguments.collect::<Vec<String>>(rt.alloc()) else {
         return Err(ProgramError::NoMemory);
     };
-    match mem_arguments(words.as_slice()) {
-        Some(arguments) => run_mem(rt, &arguments),
+    match asked(words.as_slice()) {
+        Some(Invocation::Mem(made)) => run_mem(rt, &made),
+        Some(Invocation::Format(file, made)) => run_format(rt, file, &made),
+        Some(Invocation::Run(file)) => run_file(rt, file),
+        Some(Invocation::Serve(file, serving)) => run_serve(rt, file, serving),
         None => Err(ProgramError::Usage),
     }
 }

@@ -1,18 +1,17 @@
 //! The program's commands: what their arguments ask for, and how they begin.
 
-ghost use Rattle.std.specs.Prelude.{◌≡◌, ◌<◌, ◌≤◌, false, map, option_map, IfOk, IfErr, OnOk, IsErrOf, IsTrue};
-ghost use Rattle.std.specs.String.{string_bytes};
+ghost use Rattle.std.specs.Prelude.{◌≡◌, ◌<◌, ◌≤◌, false, IfOk, IfErr, OnOk, IsErrOf, IsTrue};
 ghost use Rattle.rs_model.specs.State.{start_of};
 ghost use Rattle.rs_record.specs.Base.{is_base};
 ghost use Rattle.rs_directory.specs.Limit.{IsLimit};
 ghost use Rattle.rs_disk.specs.Memory.{state_of};
 ghost use Rattle.rs_store.specs.Source.{Holds};
-ghost use Rattle.rs_source.specs.Arguments.{error_of, error_of_format, IsOfStart, mem_of, status_of, unread_of};
+ghost use Rattle.rs_source.specs.Arguments.{error_of, error_of_file, error_of_format, error_of_opening, IsOfStart, status_of, unread_of};
 
-use crate::number::number;
 use crate::script::{ScriptFault, first_moment};
 use rs_disk::MemoryDisk;
-use rs_store::{FormatFault, Source};
+use rs_file::FileFault;
+use rs_store::{FormatFault, OpenFault, Source};
 use std::alloc::Global;
 use std::io::ErrorKind;
 use thiserror::Error;
@@ -21,8 +20,11 @@ use thiserror::Error;
 #[derive(Clone, Copy, Debug, PartialEq, Eq, Error)]
 pub enum ProgramError {
     /// The arguments are wrong: status 2.
-    #[error("usage: rs_source mem SIZE BASE LIMIT")]
+    #[error("usage: rs_source mem SIZE BASE LIMIT | format FILE SIZE BASE LIMIT | run FILE | serve FILE PORT COUNT")]
     Usage,
+    /// There is a file of the name that a new one was to have.
+    #[error("rs_source: Exists")]
+    Exists,
     /// BASE is no lawful base.
     #[error("rs_source: BadBase")]
     BadBase,
@@ -32,7 +34,13 @@ pub enum ProgramError {
     /// SIZE is less than 8,192.
     #[error("rs_source: TooSmall")]
     TooSmall,
-    /// The disk failed before the script began.
+    /// The file holds no source.
+    #[error("rs_source: NotASource")]
+    NotASource,
+    /// The file holds a source of which a rule of the format is broken.
+    #[error("rs_source: Damaged")]
+    Damaged,
+    /// The file or the socket cannot be opened or made, or the disk failed before the program began its work.
     #[error("rs_source: Device")]
     Device,
     /// There is not enough memory to begin.
@@ -53,9 +61,12 @@ impl ProgramError {
     {
         match self {
             ProgramError::Usage => 2,
-            ProgramError::BadBase
+            ProgramError::Exists
+            | ProgramError::BadBase
             | ProgramError::BadLimit
             | ProgramError::TooSmall
+            | ProgramError::NotASource
+            | ProgramError::Damaged
             | ProgramError::Device
             | ProgramError::NoMemory
             | ProgramError::Read
@@ -89,35 +100,28 @@ impl From<FormatFault> for ProgramError {
     }
 }
 
-/// The arguments of `mem SIZE BASE LIMIT`.
-#[derive(Clone, Copy, Debug, PartialEq, Eq)]
-pub struct MemArguments<'a> {
-    /// SIZE, in bytes.
-    pub size: u64,
-    /// BASE.
-    pub base: &'a [u8],
-    /// LIMIT, the number of items from which on a list is cut into parts; 65,535 for all above.
-    pub limit: u16,
+impl From<FileFault> for ProgramError {
+    ghost from_gives = { λ fault error. error ≡ error_of_file fault };
+
+    fn from(fault: FileFault) -> ProgramError {
+        match fault {
+            FileFault::Exists => ProgramError::Exists,
+            FileFault::Device => ProgramError::Device,
+        }
+    }
 }
 
-/// What the words ask for that the program is started with, its name first, or `None` where they
-/// are wrong.
-pub fn mem_arguments(words: &[String]) -> Option<MemArguments<'_>>
-    ensures { option_map (λ mem. (mem.size, mem.base.now, mem.limit)) result ≡ mem_of (map string_bytes words.now) }
-{
-    let [_, command, size, base, limit] = words else {
-        return None;
-    };
-    if command.as_str() != "mem" {
-        return None;
+impl From<OpenFault> for ProgramError {
+    ghost from_gives = { λ fault error. error ≡ error_of_opening fault };
+
+    fn from(fault: OpenFault) -> ProgramError {
+        match fault {
+            OpenFault::NotASource => ProgramError::NotASource,
+            OpenFault::Damaged => ProgramError::Damaged,
+            OpenFault::Device => ProgramError::Device,
+            OpenFault::NoMemory => ProgramError::NoMemory,
+        }
     }
-    let size = number(size.as_bytes(), 18)?;
-    let limit = number(limit.as_bytes(), 18)?;
-    Some(MemArguments {
-        size,
-        base: base.as_bytes(),
-        limit: limit.min(65_535) as u16,
-    })
 }
 
 /// Why the program ends where its words cannot be read: for want of memory, or as one of them is no

@@ -1,9 +1,12 @@
+mod arguments;
 mod ends;
+mod files;
 mod lines;
 mod rows;
+mod serving;
 
 use crate::memory::script_bytes;
-use crate::program::{ProgramError, mem_arguments, start};
+use crate::program::{ProgramError, start};
 use rs_disk::MemoryDisk;
 use rs_store::Source;
 use std::alloc::Global;
@@ -18,43 +21,6 @@ fn new_source(alloc: Global) -> Result<Source<MemoryDisk>, Fail> {
 fn answers(alloc: Global, input: &[u8]) -> Result<Vec<u8>, Fail> {
     let mut source = new_source(alloc)?;
     Ok(script_bytes(alloc, &mut source, input)?)
-}
-
-#[test]
-fn arguments_are_read(rt: HostRuntime) -> Result<(), Fail> {
-    let alloc = rt.alloc();
-    for (text, wanted) in [
-        ("rs_source mem 65536 http://a 2", Some((65_536, 2))),
-        (
-            "rs_source mem 0 http://a 000000000000004000",
-            Some((0, 4000)),
-        ),
-        (
-            "rs_source mem 999999999999999999 http://a 65535",
-            Some((999_999_999_999_999_999, 65_535)),
-        ),
-        ("rs_source mem 1 http://a 65536", Some((1, 65_535))),
-        (
-            "rs_source mem 1 http://a 999999999999999999",
-            Some((1, 65_535)),
-        ),
-        ("rs_source mem 1000000000000000000 http://a 2", None),
-        ("rs_source mem 1 http://a 0000000000000000002", None),
-        ("rs_source mem -1 http://a 2", None),
-        ("rs_source mem 1 http://a +2", None),
-        ("rs_source mem 1 http://a", None),
-        ("rs_source mem 1 http://a 2 3", None),
-        ("rs_source run 1 http://a 2", None),
-        ("rs_source", None),
-    ] {
-        let mut words = Vec::new(alloc);
-        for word in text.split(' ') {
-            words.push(String::from_str(alloc, word)?)?;
-        }
-        let found = mem_arguments(words.as_slice()).map(|mem| (mem.size, mem.limit));
-        assert!(rt; found == wanted, "{text}");
-    }
-    Ok(())
 }
 
 #[test]
@@ -74,26 +40,4 @@ fn the_first_cause_ends_the_program(rt: HostRuntime) {
             "{size} {base:?} {limit}"
         );
     }
-}
-
-#[test]
-fn wrong_arguments_have_a_status_of_their_own(rt: HostRuntime) -> Result<(), Fail> {
-    for (error, status, line) in [
-        (
-            ProgramError::Usage,
-            2,
-            "usage: rs_source mem SIZE BASE LIMIT",
-        ),
-        (ProgramError::BadBase, 1, "rs_source: BadBase"),
-        (ProgramError::BadLimit, 1, "rs_source: BadLimit"),
-        (ProgramError::TooSmall, 1, "rs_source: TooSmall"),
-        (ProgramError::Device, 1, "rs_source: Device"),
-        (ProgramError::NoMemory, 1, "rs_source: NoMemory"),
-        (ProgramError::Read, 1, "rs_source: Read"),
-        (ProgramError::Write, 1, "rs_source: Write"),
-    ] {
-        let text = format!(in rt.alloc(); "{error}")?;
-        assert!(rt; error.status() == status && text.as_str() == line, "{line}");
-    }
-    Ok(())
 }

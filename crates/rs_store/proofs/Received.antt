@@ -1,6 +1,6 @@
 -- What is answered to a put of bytes is answered to the put that a reader brings them to.
-use Rattle.std.proofs.Common.{◌≡◌, ℕ, ◌<◌, List, [], length, take, Option, Result, Ok, Err, refl, sym, ◌∙◌, ap, subst}
-use Rattle.std.specs.Prelude.{replicate}
+use Rattle.std.proofs.Common.{◌≡◌, ℕ, ◌<◌, arith, List, [], length, take, Option, Result, Ok, Err, refl, sym, ◌∙◌, ap, subst}
+use Rattle.std.specs.Prelude.{replicate, IfErr}
 use Rattle.std.proofs.Math.Seq.{take-length}
 use Rattle.std.proofs.lemmas.List.{length-replicate}
 use Rattle.rs_disk.specs.Medium.{DiskState}
@@ -10,7 +10,7 @@ use Rattle.rs_store.specs.declared.refusal.Refusal.{Refusal}
 use Rattle.rs_store.specs.declared.refusal.Refusal.TheVariants.{Closed, TooLong, NotHeld, TooManyResources, TooManyChanges, Exhausted, Full, ReadFault, ShortBody, Device, Damaged, NoMemory}
 use Rattle.rs_store.specs.Source.{Stored}
 use Rattle.rs_store.specs.Answered.{Answers}
-use Rattle.rs_store.specs.Received.{IsBodyOf, IsLeft, IsCutShort, IsCut, AnswersFrom}
+use Rattle.rs_store.specs.Received.{IsBodyOf, IsLeft, IsCutShort, IsCut, IsLate, MayHaveCome, AnswersFrom}
 
 -- a body that begins with all of its bytes is these
 same_body : (n : ℕ) (came body : List ℕ) → length came ≡ n → IsBodyOf n came body → came ≡ body
@@ -18,37 +18,67 @@ same_body n came body whole h =
     let long : length came ≡ length body = whole ∙ sym h.len in
     sym h.front ∙ (ap (λ k. take k body) long ∙ take-length body)
 
+-- nothing may have come with any refusal
+pub nothing_came : (n : ℕ) (r : Refusal) → MayHaveCome n [] r
+nothing_came n Closed = refl
+nothing_came n TooLong = refl
+nothing_came n NotHeld = refl
+nothing_came n TooManyResources = refl
+nothing_came n TooManyChanges = refl
+nothing_came n Exhausted = refl
+nothing_came n Full = refl
+nothing_came n ReadFault = refl
+nothing_came n ShortBody = refl
+nothing_came n Device = omega arith
+nothing_came n Damaged = refl
+nothing_came n NoMemory = omega arith
+
+-- and all of it with a late one
+come_late : (n : ℕ) (came : List ℕ) (r : Refusal) → IsLate r → length came ≡ n → MayHaveCome n came r
+come_late n came Closed late whole = absurd late
+come_late n came TooLong late whole = absurd late
+come_late n came NotHeld late whole = absurd late
+come_late n came TooManyResources late whole = absurd late
+come_late n came TooManyChanges late whole = absurd late
+come_late n came Exhausted late whole = absurd late
+come_late n came Full late whole = absurd late
+come_late n came ReadFault late whole = absurd late
+come_late n came ShortBody late whole = absurd late
+come_late n came Device late whole = omega (arith, whole)
+come_late n came Damaged late whole = absurd late
+come_late n came NoMemory late whole = omega (arith, whole)
+
 module _ {D : Type 0} (device : D → DiskState) (old new : Stored D) (name kind : List ℕ) (n now : ℕ) (came : List ℕ) where
   -- a refusal that no reader gives
-  pub refused_from : (r : Refusal) → (r ≡ ReadFault → ⊥) → (r ≡ ShortBody → ⊥) → ((body : List ℕ) → IsBodyOf n came body → Answers device old new (Put name kind body) now (Err r))
+  pub refused_from : (r : Refusal) → (r ≡ ReadFault → ⊥) → (r ≡ ShortBody → ⊥) → MayHaveCome n came r → ((body : List ℕ) → IsBodyOf n came body → Answers device old new (Put name kind body) now (Err r))
       → AnswersFrom device old new name kind n now came (Err r)
-  refused_from Closed a b all = all
-  refused_from TooLong a b all = all
-  refused_from NotHeld a b all = all
-  refused_from TooManyResources a b all = all
-  refused_from TooManyChanges a b all = all
-  refused_from Exhausted a b all = all
-  refused_from Full a b all = all
-  refused_from ReadFault a b all = absurd (a refl)
-  refused_from ShortBody a b all = absurd (b refl)
-  refused_from Device a b all = all
-  refused_from Damaged a b all = all
-  refused_from NoMemory a b all = all
+  refused_from Closed a b fits all = (fits, all)
+  refused_from TooLong a b fits all = (fits, all)
+  refused_from NotHeld a b fits all = (fits, all)
+  refused_from TooManyResources a b fits all = (fits, all)
+  refused_from TooManyChanges a b fits all = (fits, all)
+  refused_from Exhausted a b fits all = (fits, all)
+  refused_from Full a b fits all = (fits, all)
+  refused_from ReadFault a b fits all = absurd (a refl)
+  refused_from ShortBody a b fits all = absurd (b refl)
+  refused_from Device a b fits all = (fits, all)
+  refused_from Damaged a b fits all = (fits, all)
+  refused_from NoMemory a b fits all = (fits, all)
 
   -- the same where one body is answered so
-  pub refused_as : (r : Refusal) (body : List ℕ) → IsBodyOf n came body → ((body : List ℕ) → IsBodyOf n came body → Answers device old new (Put name kind body) now (Err r))
+  pub refused_as : (r : Refusal) (body : List ℕ) → IsBodyOf n came body → MayHaveCome n came r → ((body : List ℕ) → IsBodyOf n came body → Answers device old new (Put name kind body) now (Err r))
       → AnswersFrom device old new name kind n now came (Err r)
-  refused_as r body is all =
-      refused_from r (λ same. (all body is).refused ReadFault (ap refusing same)) (λ same. (all body is).refused ShortBody (ap refusing same)) all
+  refused_as r body is fits all =
+      refused_from r (λ same. (all body is).refused ReadFault (ap refusing same)) (λ same. (all body is).refused ShortBody (ap refusing same)) fits all
     where
       refusing : Refusal → Result Reply Refusal
       refusing q = Err q
 
   -- all of the body came
-  pub answered_whole : (result : Result Reply Refusal) → length came ≡ n → Answers device old new (Put name kind came) now result → AnswersFrom device old new name kind n now came result
-  answered_whole (Ok reply) whole a = (whole, a)
-  answered_whole (Err r) whole a =
-      refused_as r came (record { len = whole; front = take-length came })
+  pub answered_whole : (result : Result Reply Refusal) → IfErr result IsLate → length came ≡ n → Answers device old new (Put name kind came) now result → AnswersFrom device old new name kind n now came result
+  answered_whole (Ok reply) late whole a = (whole, a)
+  answered_whole (Err r) late whole a =
+      refused_as r came (record { len = whole; front = take-length came }) (come_late n came r late whole)
       (λ body is. subst (λ (bytes : List ℕ). Answers device old new (Put name kind bytes) now (Err r)) (same_body n came body whole is) a)
 
 -- zeros are a body of any length
@@ -79,4 +109,4 @@ module _ {D : Type 0} (device : D → DiskState) (old new : Stored D) (name kind
   cut_from ShortBody cut short refused = short cut.0
   cut_from Device cut short refused = absurd cut
   cut_from Damaged cut short refused = absurd cut
-  cut_from NoMemory cut short refused = refused
+  cut_from NoMemory cut short refused = (cut, refused)

@@ -1,5 +1,5 @@
 -- What a source answers to a put whose body a reader brings.
-use Rattle.std.specs.Prelude.{◌≡◌, ◌<◌, ◌≤◌, ℕ, List, length, take, Option, None, Result, Ok, Err}
+use Rattle.std.specs.Prelude.{◌≡◌, ◌<◌, ◌≤◌, ℕ, List, [], length, take, Option, None, Result, Ok, Err}
 use Rattle.std.specs.Io.KnownBytes.{IsAtEnd}
 use Rattle.rs_disk.specs.Medium.{DiskState}
 use Rattle.rs_disk.specs.Leaves.{Leaves}
@@ -11,7 +11,7 @@ use Rattle.rs_image.specs.Tells.{StandsFor}
 use Rattle.rs_plan.specs.declared.plan.Plan.{Plan}
 use Rattle.rs_plan.specs.Plans.{IsPlanned}
 use Rattle.rs_store.specs.declared.refusal.Refusal.{Refusal}
-use Rattle.rs_store.specs.declared.refusal.Refusal.TheVariants.{ReadFault, ShortBody, NoMemory}
+use Rattle.rs_store.specs.declared.refusal.Refusal.TheVariants.{ReadFault, ShortBody, Device, NoMemory}
 use Rattle.rs_store.specs.Source.{Stored, Holds, state_of}
 use Rattle.rs_store.specs.Refusals.{decided}
 use Rattle.rs_store.specs.Answered.{Answers, IsUnchanged, GoesOn}
@@ -38,6 +38,18 @@ pub record IsCutShort {D : Type 0} (device : D → DiskState) (old new : Stored 
       → (p : Plan) × IsPlanned (device old.disk).size old.slots.root old.contents (Put name kind body) (moment_at (state_of device old) now) p
   pub left : IsLeft device old new
 
+-- the refusals that may come once a body is being read or written
+abbrev pub IsLate : Refusal → Type 0
+IsLate Device = Unit {0}
+IsLate NoMemory = Unit {0}
+IsLate refusal = ⊥
+
+-- what may have come of a body of n bytes where it is refused so: nothing, or with a late refusal no more than the body has
+abbrev pub MayHaveCome : ℕ → List ℕ → Refusal → Type 0
+MayHaveCome n came Device = length came ≤ n
+MayHaveCome n came NoMemory = length came ≤ n
+MayHaveCome n came refusal = came ≡ []
+
 -- What a source answers to a put of the next n bytes of a reader, of which these came. Accepted, they are the body, and the
 -- answer is that to the put of it. A fault or an early end of the reader cuts it short. Any other refusal is that of the put of
 -- each body of that length that begins so.
@@ -46,7 +58,7 @@ AnswersFrom device old new name kind n now came (Ok reply) = (length came ≡ n)
 AnswersFrom device old new name kind n now came (Err ReadFault) = IsCutShort device old new name kind n now came
 AnswersFrom device old new name kind n now came (Err ShortBody) = IsCutShort device old new name kind n now came
 AnswersFrom device old new name kind n now came (Err refusal) =
-    (body : List ℕ) → IsBodyOf n came body → Answers device old new (Put name kind body) now (Err refusal)
+    MayHaveCome n came refusal × ((body : List ℕ) → IsBodyOf n came body → Answers device old new (Put name kind body) now (Err refusal))
 
 -- why not all of n bytes came, where these did and a reader has so much left: the reader failed or ended, or memory was refused
 abbrev pub IsCut : ℕ → Option (List ℕ) → List ℕ → Refusal → Type 0

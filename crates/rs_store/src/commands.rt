@@ -1,6 +1,6 @@
 //! The commands of a source.
 
-ghost use Rattle.std.specs.Prelude.{◌≡◌, ◌<◌, ◌+◌, ◌^◌, ℕ, false, None, if◌then◌else◌};
+ghost use Rattle.std.specs.Prelude.{◌≡◌, ◌<◌, ◌+◌, ◌^◌, ℕ, false, None, IfErr, if◌then◌else◌};
 ghost use Rattle.rs_model.specs.Step.{moment_at, reply_to};
 ghost use Rattle.rs_model.specs.declared.command.Command.{Command};
 ghost use Rattle.rs_model.specs.declared.command.Command.TheVariants.{Put, Delete, Publish};
@@ -10,6 +10,7 @@ ghost use Rattle.rs_store.specs.Refusals.{decided};
 ghost use Rattle.rs_plan.specs.Plans.{IsPlanned, body_of_command};
 ghost use Rattle.rs_store.specs.Writing.{of_plan, IsPlanOfSome};
 ghost use Rattle.rs_store.specs.Answered.{Answers};
+ghost use Rattle.rs_store.specs.Received.{IsLate};
 
 use crate::writing::{WriteFault, write_plan};
 use crate::{Refusal, Source};
@@ -125,10 +126,11 @@ impl<D: Disk> Source<D> {
         requires is_open { self.old.is_closed ≡ false }
         requires spare { self.old.slots.root.generation + 1 < 2 ^ 64 }
         requires planned { IsPlanOfSome (D.state self.old.disk).size self.old.slots.root self.old.contents bytes.now plan }
-        ensures { (command : Command) (now : ℕ) → decided self.old (state_of D.state self.old) command ≡ None → body_of_command command ≡ bytes.now
+        ensures answers { (command : Command) (now : ℕ) → decided self.old (state_of D.state self.old) command ≡ None → body_of_command command ≡ bytes.now
             → IsPlanned (D.state self.old.disk).size self.old.slots.root self.old.contents command (moment_at (state_of D.state self.old) now) plan
             → reply ≡ reply_to (state_of D.state self.old) command (moment_at (state_of D.state self.old) now)
             → Answers D.state self.old self.new command now result }
+        ensures late { IfErr result IsLate }
     {
         let written = match write_plan(self.alloc, &mut self.disk, &mut plan, bytes) {
             Ok(written) => written,

@@ -45,5 +45,5 @@ returns g c =
     let planned : IsPlanned (device old.disk).size old.slots.root old.contents command at c.in_ok-plan.plan =
     of_source (λ n r l m. IsPlanned n r l command m c.in_ok-plan.plan) device opened old c.self.view_is c.size-size.result c.root-root.result c.in_ok-moment.moment at
     c.size-size.ensures c.root-root.ensures is.1 c.in_ok-plan.ensures.planned in
-    c.finish.ensures command c.args.now is.0 refl planned
+    c.finish.ensures.answers command c.args.now is.0 refl planned
     (ap replies.Deleted is.1)

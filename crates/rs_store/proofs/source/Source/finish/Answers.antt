@@ -32,8 +32,8 @@ commit_failed old mid new (Ok x) fault is spare le runs = absurd cc
 commit_failed old mid new (Err Spent) fault is spare le runs = absurd (spare refl)
 commit_failed old mid new (Err Failed) fault is spare le runs = elim runs.cause [ inl more ↦ inl (omega (arith, more, le)) | inr last ↦ inr last ]
 
-pub returns-in-Err-NoMemory : goal.returns-in-Err-NoMemory
-returns-in-Err-NoMemory g c =
+pub returns-in-Err-NoMemory-clause-answers : goal.returns-in-Err-NoMemory-clause-answers
+returns-in-Err-NoMemory-clause-answers g c =
     let device = g.D.Disk.state in
     let o : Stored g.row.D.Denot = record { disk = c.self.inside.disk; slots = c.self.inside.slots; contents = c.self.inside.contents; is_closed = c.self.inside.is_closed } in
     let new : Stored g.row.D.Denot = record { disk = c.write_plan.new.disk; slots = c.self.inside.slots; contents = c.self.inside.contents; is_closed = c.self.inside.is_closed } in
@@ -43,8 +43,8 @@ returns-in-Err-NoMemory g c =
     (c.write_plan.ensures.outside (is_kept o.slots.root o.contents) planned.free)
     (record { size = c.write_plan.ensures.size; keeps = c.write_plan.ensures.keeps; calls = c.write_plan.ensures.calls; faults = c.write_plan.ensures.faults }))
 
-pub returns-in-Err-Device : goal.returns-in-Err-Device
-returns-in-Err-Device g c =
+pub returns-in-Err-Device-clause-answers : goal.returns-in-Err-Device-clause-answers
+returns-in-Err-Device-clause-answers g c =
     let device = g.D.Disk.state in
     let o : Stored g.row.D.Denot = record { disk = c.self.inside.disk; slots = c.self.inside.slots; contents = c.self.inside.contents; is_closed = c.self.inside.is_closed } in
     let new : Stored g.row.D.Denot = record { disk = c.write_plan.new.disk; slots = c.self.inside.slots; contents = c.self.inside.contents; is_closed = true } in
@@ -55,8 +55,8 @@ returns-in-Err-Device g c =
     (c.write_plan.ensures.device (subst (λ (x : WriteFault). c.write_plan.result ≡ Err x) c.in-Err-Device.field-0-is c.in-Err-Device.is))
     (record { size = c.write_plan.ensures.size; keeps = c.write_plan.ensures.keeps; calls = c.write_plan.ensures.calls; faults = c.write_plan.ensures.faults }))
 
-pub returns : goal.returns
-returns g c =
+pub returns-clause-answers : goal.returns-clause-answers
+returns-clause-answers g c =
     let device = g.D.Disk.state in
     let o : Stored g.row.D.Denot = record { disk = c.self.inside.disk; slots = c.self.inside.slots; contents = c.self.inside.contents; is_closed = c.self.inside.is_closed } in
     let new : Stored g.row.D.Denot =
@@ -80,8 +80,8 @@ returns g c =
       faults = omega (arith, c.commit-committed.ensures.runs.faults, c.write_plan.ensures.faults);
     }))
 
-pub returns-in-Err : goal.returns-in-Err
-returns-in-Err g c =
+pub returns-in-Err-clause-answers : goal.returns-in-Err-clause-answers
+returns-in-Err-clause-answers g c =
     let device = g.D.Disk.state in
     let o : Stored g.row.D.Denot = record { disk = c.self.inside.disk; slots = c.self.inside.slots; contents = c.self.inside.contents; is_closed = c.self.inside.is_closed } in
     let new : Stored g.row.D.Denot = record { disk = c.commit-committed.new.disk; slots = c.commit-committed.new.self; contents = c.self.inside.contents; is_closed = true } in

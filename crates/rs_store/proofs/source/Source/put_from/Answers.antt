@@ -21,7 +21,7 @@ use Rattle.rs_store.specs.Writing.{of_plan}
 use Rattle.rs_store.specs.Answered.{Answers}
 use Rattle.rs_store.specs.Received.{IsCutShort}
 use Rattle.rs_store.proofs.Answered.{unless_err, unless_ok, at_once, unplanned, of_source}
-use Rattle.rs_store.proofs.Received.{refused_as, answered_whole, zeros, left_by, cut_from}
+use Rattle.rs_store.proofs.Received.{nothing_came, refused_as, answered_whole, zeros, left_by, cut_from}
 use Rattle.rs_store.proofs.source.Source.put_from.Given as Given
 use Rattle.rs_store.proofs.source.Source.put_from.Goals as goal
 
@@ -34,7 +34,7 @@ returns-in_err-moment-clause-came g c =
     let given = err_from_is_err_and c.from_residual.result c.from_residual.ensures.1 in (
       [],
       Consumes-nil (g.R.Read.remaining (watched c.args.reader.now)),
-      rw (given.1, given.2) (refused_as device old old c.args.name.now c.args.kind.now n c.args.now [] r (replicate n 0) (zeros n)
+      rw (given.1, given.2) (refused_as device old old c.args.name.now c.args.kind.now n c.args.now [] r (replicate n 0) (zeros n) (nothing_came n r)
           (λ body is. at_once device g.met.D.Disk.holds old (Put c.args.name.now c.args.kind.now body) c.args.now r
           (unless_err (decided old (state_of device old) (Put c.args.name.now c.args.kind.now body)) (moment_at (state_of device old) c.args.now) r
           (c.in_err-moment.ensures.decided c.args.kind.now body is.len)))),
@@ -73,7 +73,7 @@ returns-in_err-plan-clause-came g c =
     let given = err_from_is_err_and c.from_residual-in_err-plan.result c.from_residual-in_err-plan.ensures.1 in (
       [],
       Consumes-nil (g.R.Read.remaining (watched c.args.reader.now)),
-      rw (given.1, given.2) (refused_as device old old c.args.name.now c.args.kind.now n c.args.now [] (of_plan fault) (replicate n 0) (zeros n)
+      rw (given.1, given.2) (refused_as device old old c.args.name.now c.args.kind.now n c.args.now [] (of_plan fault) (replicate n 0) (zeros n) (nothing_came n (of_plan fault))
           (λ body is.
           let command : Command = Put c.args.name.now c.args.kind.now body in
           let free = unless_ok (decided old (state_of device old) command) at c.in_ok-moment.moment (c.in_ok-moment.ensures.decided c.args.kind.now body is.len) in
@@ -131,14 +131,14 @@ said g c =
     subst (λ (p : Plan). IsPlanned (device old.disk).size old.slots.root old.contents command at p) (sym filled)
     (of_source (λ n r l m. IsPlanned n r l command m (plan_filled name (digests bytes) c.in_ok-plan.plan)) device opened old c.self.view_is c.size-size.result c.root-root.result c.in_ok-moment.moment at
     c.size-size.ensures c.root-root.ensures free.1 (c.in_ok-plan.ensures.planned bytes whole)) in
-    c.finish.ensures command c.args.now free.0 (sym c.deref-2.ensures.value) planned
+    c.finish.ensures.answers command c.args.now free.0 (sym c.deref-2.ensures.value) planned
     (c.put_reply.ensures ∙ ap₂ (λ (held : Bool) (m : ℕ). if held then replies.Updated m else replies.Created m) c.holds-is_held.ensures.held free.1)
 
 pub returns-clause-came : goal.returns-clause-came
 returns-clause-came g c = (
   c.in_ok-bytes.bytes.items,
   c.in_ok-bytes.ensures.ok,
-  answered_whole g.D.Disk.state c.args.self.now c.finish.new.self c.args.name.now c.args.kind.now c.args.body_length c.args.now c.in_ok-bytes.bytes.items c.finish.result c.in_ok-bytes.ensures.whole (said g c),
+  answered_whole g.D.Disk.state c.args.self.now c.finish.new.self c.args.name.now c.args.kind.now c.args.body_length c.args.now c.in_ok-bytes.bytes.items c.finish.result c.finish.ensures.late c.in_ok-bytes.ensures.whole (said g c),
 )
 
 -- a put whose body came whole meets no fault and no end of the reader

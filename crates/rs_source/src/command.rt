@@ -1,0 +1,138 @@
+//! What the program is asked to do.
+
+ghost use Rattle.std.specs.Prelude.{◌≡◌, map, option_map};
+ghost use Rattle.std.specs.String.{string_bytes};
+ghost use Rattle.rs_source.specs.Arguments.{asked_by, asked_of, format_of, made_by, made_of, mem_of, run_of, serve_of, served_by, served_of};
+
+use crate::number::number;
+
+/// SIZE, BASE and LIMIT: how a source is made.
+#[derive(Clone, Copy, Debug, PartialEq, Eq)]
+pub struct SourceArguments<'a> {
+    /// SIZE: how many bytes its disk has.
+    pub size: u64,
+    /// BASE.
+    pub base: &'a [u8],
+    /// LIMIT, the number of items from which on a list is cut into parts; 65,535 for all above.
+    pub limit: u16,
+}
+
+/// PORT and COUNT: which connections are served.
+#[derive(Clone, Copy, Debug, PartialEq, Eq)]
+pub struct ServingArguments {
+    /// PORT, or 0 for a free one.
+    pub port: u16,
+    /// COUNT: how many connections are served.
+    pub count: u64,
+}
+
+/// What the program is asked to do.
+#[derive(Clone, Copy, Debug, PartialEq, Eq)]
+pub enum Invocation<'a> {
+    /// `mem SIZE BASE LIMIT`: runs a script on a new source in memory.
+    Mem(SourceArguments<'a>),
+    /// `format FILE SIZE BASE LIMIT`: makes a source on a new file of this name.
+    Format(&'a str, SourceArguments<'a>),
+    /// `run FILE`: runs a script on the source on the file of this name.
+    Run(&'a str),
+    /// `serve FILE PORT COUNT`: serves connections to the source on the file of this name.
+    Serve(&'a str, ServingArguments),
+}
+
+/// How a source is made by these words, or `None` where SIZE or LIMIT is no number of 1 to 18 digits.
+fn source_arguments<'a>(size: &str, base: &'a str, limit: &str) -> Option<SourceArguments<'a>>
+    ensures { option_map made_by result ≡ made_of size.now base.now limit.now }
+{
+    let size = number(size.as_bytes(), 18)?;
+    let limit = number(limit.as_bytes(), 18)?;
+    Some(SourceArguments {
+        size,
+        base: base.as_bytes(),
+        limit: limit.min(65_535) as u16,
+    })
+}
+
+/// The most connections that are served.
+const MOST_CONNECTIONS: u64 = 1_000_000_000;
+
+/// Which connections are served by these words, or `None` where PORT is no number of 1 to 18 digits up to
+/// 65,535, or COUNT none from 1 to 1,000,000,000.
+fn serving_arguments(port: &str, count: &str) -> Option<ServingArguments>
+    ensures { option_map served_by result ≡ served_of port.now count.now }
+{
+    let port = number(port.as_bytes(), 18)?;
+    let count = number(count.as_bytes(), 18)?;
+    if port > 65_535 || count == 0 || count > MOST_CONNECTIONS {
+        return None;
+    }
+    Some(ServingArguments {
+        port: port as u16,
+        count,
+    })
+}
+
+/// What `mem SIZE BASE LIMIT` asks for.
+fn mem_asked(words: &[String]) -> Option<Invocation<'_>>
+    ensures { option_map asked_by result ≡ mem_of (map string_bytes words.now) }
+{
+    let [_, command, size, base, limit] = words else {
+        return None;
+    };
+    if command.as_str() != "mem" {
+        return None;
+    }
+    let made = source_arguments(size, base, limit)?;
+    Some(Invocation::Mem(made))
+}
+
+/// What `format FILE SIZE BASE LIMIT` asks for.
+fn format_asked(words: &[String]) -> Option<Invocation<'_>>
+    ensures { option_map asked_by result ≡ format_of (map string_bytes words.now) }
+{
+    let [_, command, file, size, base, limit] = words else {
+        return None;
+    };
+    if command.as_str() != "format" {
+        return None;
+    }
+    let made = source_arguments(size, base, limit)?;
+    Some(Invocation::Format(file, made))
+}
+
+/// What `run FILE` asks for.
+fn run_asked(words: &[String]) -> Option<Invocation<'_>>
+    ensures { option_map asked_by result ≡ run_of (map string_bytes words.now) }
+{
+    let [_, command, file] = words else {
+        return None;
+    };
+    if command.as_str() != "run" {
+        return None;
+    }
+    Some(Invocation::Run(file))
+}
+
+/// What `serve FILE PORT COUNT` asks for.
+fn serve_asked(words: &[String]) -> Option<Invocation<'_>>
+    ensures { option_map asked_by result ≡ serve_of (map string_bytes words.now) }
+{
+    let [_, command, file, port, count] = words else {
+        return None;
+    };
+    if command.as_str() != "serve" {
+        return None;
+    }
+    let serving = serving_arguments(port, count)?;
+    Some(Invocation::Serve(file, serving))
+}
+
+/// What the words ask for that the program is started with, its name first, or `None` where they
+/// are wrong.
+pub fn asked(words: &[String]) -> Option<Invocation<'_>>
+    ensures { option_map asked_by result ≡ asked_of (map string_bytes words.now) }
+{
+    mem_asked(words)
+        .or(format_asked(words))
+        .or(run_asked(words))
+        .or(serve_asked(words))
+}

@@ -1,0 +1,77 @@
+//! Sources on files.
+
+ghost use Rattle.std.specs.Prelude.{◌≡◌, ◌<◌, ◌≤◌, false, IfOk, IfErr, OnOk, IsErrOf, IsTrue};
+ghost use Rattle.rs_model.specs.State.{start_of};
+ghost use Rattle.rs_record.specs.Base.{is_base};
+ghost use Rattle.rs_directory.specs.Limit.{IsLimit};
+ghost use Rattle.rs_image.specs.Tells.{StandsFor};
+ghost use Rattle.rs_file.specs.File.{state_of as device_of};
+ghost use Rattle.rs_store.specs.Source.{Holds, state_of};
+ghost use Rattle.rs_source.specs.Arguments.{IsOfFormat, IsOfOpen};
+
+use crate::command::SourceArguments;
+use crate::program::ProgramError;
+use crate::script::first_moment;
+use rs_file::{FileDisk, Start};
+use rs_store::Source;
+use std::alloc::Global;
+use std::fs::File;
+use std::rt::Files;
+
+/// Makes a new file of this name, and a source on it, formatted at the moment 0.
+///
+/// # Errors
+///
+/// [`ProgramError::Exists`] where there is something of that name, and [`ProgramError::Device`] where
+/// the file cannot be made. Then [`ProgramError::BadBase`], [`ProgramError::BadLimit`] and
+/// [`ProgramError::TooSmall`], in this order, after which the file stays, as it does after
+/// [`ProgramError::NoMemory`], and after [`ProgramError::Device`] where a call on it fails.
+pub fn format_file<R: Files<File = File>, S: Start>(
+    rt: &R,
+    alloc: Global,
+    file: &str,
+    made: &SourceArguments<'_>,
+    start: S,
+) -> Result<Source<FileDisk<S>>, ProgramError>
+    ensures holds { IfOk result (λ source. Holds (device_of S.Start) source (start_of made.now.base.now made.now.limit 0)) }
+    ensures size { IfOk result (λ source. (device_of S.Start source.disk).size ≡ made.now.size) }
+    ensures bad_base { IsErrOf result ProgramError.BadBase → is_base made.now.base.now ≡ false }
+    ensures bad_limit { IsErrOf result ProgramError.BadLimit → IsTrue (is_base made.now.base.now) × (¬ IsLimit made.now.limit) }
+    ensures too_small { IsErrOf result ProgramError.TooSmall → IsTrue (is_base made.now.base.now) × IsLimit made.now.limit × (made.now.size < 8192) }
+    ensures in_range { OnOk result (IsTrue (is_base made.now.base.now) × IsLimit made.now.limit × (8192 ≤ made.now.size)) }
+    ensures err { IfErr result IsOfFormat }
+{
+    let disk = FileDisk::create(rt, file, made.size, start)?;
+    match Source::format(alloc, disk, made.base, made.limit, first_moment()) {
+        Ok(source) => Ok(source),
+        Err((_, fault)) => Err(fault.into()),
+    }
+}
+
+/// Opens the file of this name, and the source on it.
+///
+/// # Errors
+///
+/// [`ProgramError::Device`] where the file cannot be opened or a call on it fails,
+/// [`ProgramError::NotASource`] where it holds no source, [`ProgramError::Damaged`] where a rule of the
+/// format is broken in it, and [`ProgramError::NoMemory`].
+pub fn open_file<R: Files<File = File>, S: Start>(
+    rt: &R,
+    alloc: Global,
+    file: &str,
+    start: S,
+) -> Result<Source<FileDisk<S>>, ProgramError>
+    ensures is_open { IfOk result (λ source. source.is_closed ≡ false) }
+
+    // What the file held is said of a file that has followed the model.
+    ensures holds { IfOk result (λ source. IsTrue (device_of S.Start source.disk).honest → Holds (device_of S.Start) source (state_of (device_of S.Start) source)) }
+    ensures held { IfOk result (λ source. IsTrue (device_of S.Start source.disk).honest → StandsFor S.Start.first (state_of (device_of S.Start) source)) }
+
+    ensures err { IfErr result IsOfOpen }
+{
+    let disk = FileDisk::open(rt, file, start)?;
+    match Source::open(alloc, disk) {
+        Ok(source) => Ok(source),
+        Err((_, fault)) => Err(fault.into()),
+    }
+}
