@@ -2,12 +2,14 @@
 #   make demo   runs the main job once, on examples/first.script
 #   make test   passes every test and every proof (the merge gate)
 #   make build  builds the proved program
-#   make bench  measures speed (docs/BENCH.md has figures)
+#   make bench  measures speed (docs/BENCH.md has figures; it needs wrk, lighttpd and python3-lmdb of Debian)
 #   make memory refuses each growth of memory of the program in turn
 
 SCRIPT ?= examples/first.script
 BASE ?= http://127.0.0.1:8080
 RT ?= rt
+SHELL := /bin/bash
+.SHELLFLAGS := -o pipefail -c
 
 .PHONY: demo test build bench memory documents proofs-by-hand
 
@@ -16,8 +18,9 @@ demo:
 	@echo "# demo: built the quick way, unproved ('make build' proves it first)"
 	@cd crates/rs_source && $(RT) try --seconds 60 -- mem 65536 $(BASE) 2 < ../../$(SCRIPT)
 
+# The tour asks the program that the gate has proved and built; the gate's last line is told again at the end.
 test: documents proofs-by-hand
-	$(RT) ci
+	@log=$$(mktemp) && trap 'rm -f $$log' EXIT && $(RT) ci | tee $$log && python3 examples/check_tour.py && tail -n 1 $$log
 
 # The proved program; its path is printed.
 build:
@@ -35,6 +38,8 @@ proofs-by-hand:
 bench: build
 	python3 bench/run.py
 	python3 bench/puts.py
+	python3 bench/loopback.py
+	/usr/bin/python3 bench/durable.py
 
 memory: build
 	@python3 examples/check_memory.py

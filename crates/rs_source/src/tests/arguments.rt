@@ -3,6 +3,7 @@
 use crate::command::{Invocation, SourceArguments, asked};
 use crate::program::ProgramError;
 use std::alloc::Global;
+use std::process::Abort;
 use std::test::Fail;
 
 /// These words, cut at spaces.
@@ -104,9 +105,21 @@ fn numbers_have_18_digits_at_most(rt: HostRuntime) -> Result<(), Fail> {
     Ok(())
 }
 
+/// An error of the program, its exit status, and its line on standard error.
+type Row<'a> = (ProgramError, u8, &'a str);
+
+/// Looks at the status and the line of each error.
+fn end_so(rt: &(impl Abort + AllocGlobal), rows: &[Row<'_>]) -> Result<(), Fail> {
+    for (error, status, line) in rows {
+        let text = format!(in rt.alloc(); "{error}")?;
+        assert_eq!(rt; (error.status(), text.as_str()), (*status, *line));
+    }
+    Ok(())
+}
+
 #[test]
 fn wrong_arguments_have_a_status_of_their_own(rt: HostRuntime) -> Result<(), Fail> {
-    for (error, status, line) in [
+    const ROWS: [Row<'static>; 11] = [
         (
             ProgramError::Usage,
             2,
@@ -122,9 +135,6 @@ fn wrong_arguments_have_a_status_of_their_own(rt: HostRuntime) -> Result<(), Fai
         (ProgramError::NoMemory, 1, "rs_source: NoMemory"),
         (ProgramError::Read, 1, "rs_source: Read"),
         (ProgramError::Write, 1, "rs_source: Write"),
-    ] {
-        let text = format!(in rt.alloc(); "{error}")?;
-        assert!(rt; error.status() == status && text.as_str() == line, "{line}");
-    }
-    Ok(())
+    ];
+    end_so(&rt, &ROWS)
 }
