@@ -1,7 +1,7 @@
 #!/usr/bin/env python3
-"""Hashing in pieces of 4,096 bytes (rs_fixity's Hashing) beside the kit's md5 and sha2 over one slice.
+"""Hashing in pieces of 4,096 bytes (rs_fixity's Hashing) beside the kit's md5 and sha2 over one slice, and sha2 alone.
 
-Writes a small program in a folder of its own, proves and builds it with `rt run`, and times both ways on 16 MiB.
+Writes a small program in a folder of its own, proves and builds it with `rt run`, and times each way on 16 MiB.
 """
 import pathlib
 import shutil
@@ -10,7 +10,7 @@ import tempfile
 import time
 
 ROOT = pathlib.Path(__file__).resolve().parent.parent
-PROGRAM = """//! Hashes 16 MiB of zeros eight times, in pieces or whole.
+PROGRAM = """//! Hashes 16 MiB of zeros eight times: both digests in pieces, both of the whole, or SHA-256 of the whole alone.
 #![tactic(auto)]
 
 use md5::{Digest as _, Md5};
@@ -36,16 +36,20 @@ fn whole(bytes: &[u8]) -> u8 {
     Md5::digest(bytes)[0] ^ Sha256::digest(bytes)[0]
 }
 
-fn wants_pieces<R: Env + AllocGlobal>(rt: &R) -> io::Result<bool> {
-    Ok(env::args(rt)?.count() > 1)
+fn number_of_words<R: Env + AllocGlobal>(rt: &R) -> io::Result<usize> {
+    Ok(env::args(rt)?.count())
 }
 
 fn main(rt: HostRuntime) -> io::Result<()> {
-    let pieces = wants_pieces(&rt)?;
+    let words = number_of_words(&rt)?;
     let bytes = zeros(rt.alloc())?;
     let mut seen = 0u8;
     for _ in 0..8 {
-        let one = if pieces { in_pieces(bytes.as_slice()) } else { whole(bytes.as_slice()) };
+        let one = match words {
+            1 => whole(bytes.as_slice()),
+            2 => in_pieces(bytes.as_slice()),
+            _ => Sha256::digest(bytes.as_slice())[0],
+        };
         seen = seen ^ one;
     }
     println!(rt; "{seen}")
@@ -59,7 +63,8 @@ def timed(command):
     return time.perf_counter() - start
 
 
-def main():
+def seconds():
+    """How long 16 MiB take: both digests in pieces, both of the whole, SHA-256 alone."""
     with tempfile.TemporaryDirectory() as folder:
         root = pathlib.Path(folder)
         shutil.copytree(ROOT / "crates" / "rs_fixity", root / "crates" / "rs_fixity")
@@ -70,9 +75,13 @@ def main():
         (root / "crates.txt").write_text("\n".join(lines + ["hashing: rs_fixity md5 sha2"]) + "\n")
         subprocess.run(["rt", "run"], cwd=crate, stdout=subprocess.DEVNULL, stderr=subprocess.DEVNULL, check=True)
         built = str(crate / "out" / "hashing")
-        pieces = min(timed([built, "pieces"]) for _ in range(5))
-        whole = min(timed([built]) for _ in range(5))
-        print(f"hashing: pieces {128 / pieces:.0f} MiB/s, whole {128 / whole:.0f} MiB/s, ratio {pieces / whole:.2f}")
+        return [min(timed([built, *words]) for _ in range(5)) / 8 for words in (["pieces"], [], ["sha256", "alone"])]
 
 
-main()
+def main():
+    pieces, whole, sha256 = seconds()
+    print(f"hashing: pieces {16 / pieces:.0f} MiB/s, whole {16 / whole:.0f} MiB/s, ratio {pieces / whole:.2f}; SHA-256 alone {16 / sha256:.0f} MiB/s")
+
+
+if __name__ == "__main__":
+    main()

@@ -1,9 +1,8 @@
 #!/usr/bin/env python3
-"""GETs on loopback, one connection each, beside lighttpd (one thread) on the same machine; and a PUT and a GET of 16 MiB beside hashing.
+"""GETs on loopback, one connection each, beside lighttpd (one thread) on the same machine; and a PUT and a GET of 16 MiB beside the kit's own hashing.
 
 Needs Debian's wrk and lighttpd.
 """
-import hashlib
 import http.client
 import os
 import pathlib
@@ -12,6 +11,8 @@ import subprocess
 import sys
 import tempfile
 import time
+
+import hashing
 
 PROGRAM = pathlib.Path(__file__).resolve().parent.parent / "crates/rs_source/out/rs_source"
 LENGTHS = (100, 4096, 65_536)
@@ -73,10 +74,9 @@ def big(file):
     assert ask(port, "GET", "/resource/big") == (200, data)
     get = time.monotonic() - began
     server.wait()
-    began = time.monotonic()
-    hashlib.sha256(data)
-    own = time.monotonic() - began
-    print(f"16 MiB: PUT {1000 * put:.0f} ms, GET {1000 * get:.0f} ms; Python's SHA-256 over it {1000 * own:.0f} ms")
+    _, both, sha256 = hashing.seconds()
+    print(f"16 MiB: PUT {1000 * put:.0f} ms, {put / both:.1f} times the kit's MD5 and SHA-256 over it ({1000 * both:.0f} ms)")
+    print(f"16 MiB: GET {1000 * get:.0f} ms, {get / sha256:.1f} times the kit's SHA-256 over it ({1000 * sha256:.0f} ms)")
 
 
 def main():

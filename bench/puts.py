@@ -172,13 +172,17 @@ def disk(count):
     return bytes(whole)
 
 
+# The crates that stand on the source.
+ABOVE = ("rs_script", "rs_http", "rs_source")
+
+
 def build(root):
     """The program, proved and built, by its path."""
-    shutil.copytree(ROOT / "crates", root / "crates", ignore=shutil.ignore_patterns("rs_source"))
+    shutil.copytree(ROOT / "crates", root / "crates", ignore=shutil.ignore_patterns(*ABOVE))
     crate = root / "crates" / "puts"
     (crate / "src").mkdir(parents=True)
     (crate / "src" / "main.rt").write_text(PROGRAM)
-    lines = [line for line in (ROOT / "crates.txt").read_text().split("\n") if not line.startswith("rs_source")]
+    lines = [line for line in (ROOT / "crates.txt").read_text().split("\n") if not line.startswith(ABOVE)]
     below = [line.split(":")[0] for line in lines if line.startswith("rs_")]
     lines.append(f"puts: {' '.join(below)} anyhow")
     (root / "crates.txt").write_text("\n".join(lines) + "\n")

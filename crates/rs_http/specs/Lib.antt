@@ -5,4 +5,5 @@ pub mod Checks
 pub mod Requests
 pub mod Responses
 pub mod Gives
+pub mod Held
 pub mod Serving

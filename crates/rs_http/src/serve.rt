@@ -3,6 +3,7 @@
 ghost use Rattle.std.specs.Prelude.{◌≡◌, ℕ, List, IfOk, IsErrOf, IsTrue};
 ghost use Rattle.std.specs.Io.KnownBytes.{Consumes, Appends};
 ghost use Rattle.rs_io.specs.Watch.{watched, has_failed};
+ghost use Rattle.rs_http.specs.Held.{GoesOnOnce};
 ghost use Rattle.rs_http.specs.Serving.{Serves, Breaks, Halts};
 
 use crate::answer::answer;
@@ -59,6 +60,9 @@ pub fn serve_one<D: Disk, R: Read, W: Write>(
     ensures write { IsErrOf result FrontFault.Write → IsTrue (has_failed writer.new) × (input : List ℕ)
         × Consumes (R.remaining (watched reader.old)) (R.remaining (watched reader.new)) input
         × Halts D.state source.old now input (R.remaining (watched reader.new)) source.new }
+
+    // Whatever the result is, a state that was held has become what one command at most makes of it, while the source is open.
+    ensures goes_on { GoesOnOnce D.state source.old now source.new }
 {
     let mut buf = [0u8; HEAD_LIMIT];
     let Ok((read, came)) = read_head(reader, &mut buf) else {

@@ -1,13 +1,21 @@
--- What a request on a connection does.
-use Rattle.std.proofs.Common.{ℕ, List, Option, Result, Ok, Err, refl, inl, inr}
+-- What a request on a connection does, and what connections make of the state that is held.
+use Rattle.std.proofs.Common.{◌≡◌, ◌≤◌, ◌+◌, ℕ, zero, suc, List, [], ◌∷◌, ◌++◌, length, length-append, Option, Result, Ok, Err, false, refl, ap, sym, ◌∙◌, subst, inl, inr, arith}
 use Rattle.std.specs.Prelude.{IfOk, IsErrOf}
 use Rattle.rs_disk.specs.Medium.{DiskState}
-use Rattle.rs_store.specs.Source.{Stored}
+use Rattle.rs_model.specs.State.{Source}
+use Rattle.rs_model.specs.Step.{step, state_after, fold_of}
+use Rattle.rs_model.specs.declared.command.Command.{Command}
+use Rattle.rs_store.specs.Source.{Stored, Holds, state_of}
 use Rattle.rs_http.specs.declared.fault.FrontFault.{FrontFault}
 use Rattle.rs_http.specs.declared.fault.FrontFault.TheVariants.{Read, Write}
 use Rattle.rs_http.specs.declared.serve.Served.{Served}
+use Rattle.rs_http.specs.Held.{GoesOnBy, GoesOnOnce}
 use Rattle.rs_http.specs.Serving.{Serves, Breaks, Halts}
-use Rattle.rs_source.specs.Serving.{Connects}
+use Rattle.rs_source.specs.Serving.{Connects, Connections}
+
+fold_of-append : (s : Source) (commands more : List (Command × ℕ)) → fold_of s (commands ++ more) ≡ fold_of (fold_of s commands) more
+fold_of-append s [] more = refl
+fold_of-append s (c ∷ commands) more = fold_of-append (state_after s (step s c.0 c.1)) commands more
 
 module _ {D : Type 0} (device : D → DiskState) (old new : Stored D) where
   -- whatever came of a request
@@ -15,9 +23,40 @@ module _ {D : Type 0} (device : D → DiskState) (old new : Stored D) where
       → IfOk result (λ served. (input : List ℕ) × (output : List ℕ) × Took input × Wrote output × Serves device old now input rest output served new)
       → (IsErrOf result Read → Broken × (input : List ℕ) × (output : List ℕ) × Took input × Wrote output × Breaks device old now input rest output new)
       → (IsErrOf result Write → Stuck × (input : List ℕ) × Took input × Halts device old now input rest new)
-      → Connects device old new
-  request_connects now rest Took Wrote Broken Stuck (Ok served) ok read write = inr (now, ok.0, rest, inl (ok.1, served, ok.4))
-  request_connects now rest Took Wrote Broken Stuck (Err Read) ok read write =
-      let r = read refl in inr (now, r.1, rest, inr (inl (r.2, r.5)))
-  request_connects now rest Took Wrote Broken Stuck (Err Write) ok read write =
-      let w = write refl in inr (now, w.1, rest, inr (inr w.3))
+      → GoesOnOnce device old now new → Connects device old new
+  request_connects now rest Took Wrote Broken Stuck (Ok served) ok read write on = inr (now, ok.0, rest, inl (ok.1, served, ok.4), on)
+  request_connects now rest Took Wrote Broken Stuck (Err Read) ok read write on =
+      let r = read refl in inr (now, r.1, rest, inr (inl (r.2, r.5)), on)
+  request_connects now rest Took Wrote Broken Stuck (Err Write) ok read write on =
+      let w = write refl in inr (now, w.1, rest, inr (inr w.3), on)
+
+module _ {D : Type 0} (device : D → DiskState) where
+  -- a source that nothing was asked of
+  stays : (old new : Stored D) → new ≡ old → GoesOnBy device old new []
+  stays old new same = subst (λ (x : Stored D). GoesOnBy device old x []) (sym same) (record {
+    opened = λ h. h;
+    tells = λ _. refl;
+    holds = λ s held free. held;
+  })
+
+  -- some commands after others
+  follows : (old mid new : Stored D) (first second : List (Command × ℕ)) → GoesOnBy device old mid first → GoesOnBy device mid new second
+      → GoesOnBy device old new (first ++ second)
+  follows old mid new first second a b = record {
+    opened = λ free. a.opened (b.opened free);
+    tells = λ free. b.tells free ∙ ap (λ s. fold_of s second) (a.tells (b.opened free)) ∙ sym (fold_of-append (state_of device old) first second);
+    holds = λ s held free. subst (Holds device new) (sym (fold_of-append s first second)) (b.holds (fold_of s first) (a.holds s held (b.opened free)) free);
+  }
+
+  connection_goes : (old new : Stored D) → Connects device old new → (commands : List (Command × ℕ)) × (length commands ≤ 1) × GoesOnBy device old new commands
+  connection_goes old new (inl same) = ([], omega arith, stays old new same)
+  connection_goes old new (inr came) = (came.4.commands, came.4.few, came.4.goes_on)
+
+  -- so many commands at most make the state that is held after so many connections
+  pub connections_go : (count : ℕ) (old new : Stored D) → Connections device old count new
+      → (commands : List (Command × ℕ)) × (length commands ≤ count) × GoesOnBy device old new commands
+  connections_go zero old new same = ([], omega arith, stays old new same)
+  connections_go (suc count) old new c =
+      let before = connections_go count old c.0 c.1 in
+      let last = connection_goes c.0 new c.2 in
+      (before.0 ++ last.0, omega (arith, length-append before.0 last.0, before.1, last.1), follows old c.0 new before.0 last.0 before.2 last.2)

@@ -15,9 +15,9 @@ use Rattle.rs_store.specs.declared.formatting.FormatFault.{FormatFault}
 use Rattle.rs_store.specs.declared.formatting.FormatFault.TheVariants as formatting
 use Rattle.rs_store.specs.declared.opening.OpenFault.{OpenFault}
 use Rattle.rs_store.specs.declared.opening.OpenFault.TheVariants as opening
-use Rattle.rs_source.specs.declared.script.ScriptFault.{ScriptFault}
-use Rattle.rs_source.specs.declared.script.ScriptFault.TheVariants as fault
-use Rattle.rs_source.specs.Numbers.{number_in}
+use Rattle.rs_script.specs.declared.engine.ScriptFault.{ScriptFault}
+use Rattle.rs_script.specs.declared.engine.ScriptFault.TheVariants as fault
+use Rattle.rs_script.specs.Numbers.{number_in}
 
 -- how a source is made: the bytes of its disk, its base, and its item limit
 pub record Made : Type 0 where

@@ -3,6 +3,7 @@ use Rattle.std.specs.Prelude.{◌≡◌, ◌⊎◌, ℕ, zero, suc, List, Option
 use Rattle.rs_disk.specs.Medium.{DiskState}
 use Rattle.rs_store.specs.Source.{Stored}
 use Rattle.rs_http.specs.declared.serve.Served.{Served}
+use Rattle.rs_http.specs.Held.{GoesOnOnce}
 use Rattle.rs_http.specs.Serving.{Serves, Breaks, Halts}
 
 -- what one request does that comes at this moment with this input: it was answered, or the reader failed in it, or the writer
@@ -11,10 +12,10 @@ Requests device old now input rest new =
     ((output : List ℕ) × (served : Served) × Serves device old now input rest output served new)
     ⊎ (((output : List ℕ) × Breaks device old now input rest output new) ⊎ Halts device old now input rest new)
 
--- what one connection does: one request, or nothing
+-- what one connection does: nothing, or one request, which is one command of the model at most
 abbrev pub Connects : {D : Type 0} → (D → DiskState) → Stored D → Stored D → Type 0
 Connects device old new =
-    (new ≡ old) ⊎ ((now : ℕ) × (input : List ℕ) × (rest : Option (List ℕ)) × Requests device old now input rest new)
+    (new ≡ old) ⊎ ((now : ℕ) × (input : List ℕ) × (rest : Option (List ℕ)) × Requests device old now input rest new × GoesOnOnce device old now new)
 
 -- what so many connections do, one after another
 abbrev pub Connections : {D : Type 0} → (D → DiskState) → Stored D → ℕ → Stored D → Type 0

@@ -11,8 +11,8 @@ ghost use Rattle.rs_source.specs.Arguments.{IsOfFormat, IsOfOpen};
 
 use crate::command::SourceArguments;
 use crate::program::ProgramError;
-use crate::script::first_moment;
 use rs_file::{FileDisk, Start};
+use rs_script::first_moment;
 use rs_store::Source;
 use std::alloc::Global;
 use std::fs::File;

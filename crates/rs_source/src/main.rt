@@ -1,27 +1,15 @@
-//! The script engine of a ResourceSync source (ANSI/NISO Z39.99-2017), and the program over it.
+//! The program of a ResourceSync source (ANSI/NISO Z39.99-2017).
 //!
-//! A script is read line by line: each line asks something of a source, and is answered on the
-//! output. `rs_source mem SIZE BASE LIMIT` runs the script on standard input on a new source, whose disk of
+//! `rs_source mem SIZE BASE LIMIT` runs the script on standard input on a new source, whose disk of
 //! SIZE bytes lies in memory. `rs_source format FILE SIZE BASE LIMIT` makes a source on a new file, and
 //! `rs_source run FILE` runs the script on standard input on the source of a file. `rs_source serve FILE PORT COUNT`
 //! serves so many connections to it on the loopback interface.
 #![tactic(auto)]
 
-mod answer;
-mod bytes;
 mod command;
-mod execute;
 mod file;
-mod laws;
-mod line;
-mod memory;
-mod number;
 mod program;
-mod refusal;
-mod request;
-mod script;
 mod serving;
-mod show;
 #[cfg(test)]
 mod tests;
 
@@ -31,8 +19,8 @@ use program::{ProgramError, start, unread};
 use rs_disk::Disk;
 use rs_file::Unknown;
 use rs_io::Watched;
+use rs_script::script;
 use rs_store::Source;
-use script::script;
 use serving::serve_connections;
 use std::fs::File;
 use std::io::BufWriter;

@@ -8,9 +8,9 @@ ghost use Rattle.rs_disk.specs.Memory.{state_of};
 ghost use Rattle.rs_store.specs.Source.{Holds};
 ghost use Rattle.rs_source.specs.Arguments.{error_of, error_of_file, error_of_format, error_of_opening, IsOfStart, status_of, unread_of};
 
-use crate::script::{ScriptFault, first_moment};
 use rs_disk::MemoryDisk;
 use rs_file::FileFault;
+use rs_script::{ScriptFault, first_moment};
 use rs_store::{FormatFault, OpenFault, Source};
 use std::alloc::Global;
 use std::io::ErrorKind;

@@ -2,10 +2,10 @@
 
 use crate::command::SourceArguments;
 use crate::file::{format_file, open_file};
-use crate::memory::script_bytes;
 use crate::program::ProgramError;
 use rs_disk::Disk;
 use rs_file::Unknown;
+use rs_script::script_bytes;
 use rs_store::Source;
 use std::alloc::Global;
 use std::fs;

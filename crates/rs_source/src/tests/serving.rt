@@ -1,9 +1,8 @@
 //! Connections, on one thread: the requests are sent before they are served, and the responses read after.
 
-use crate::script::first_moment;
 use crate::serving::{moment_of, serve_connections};
 use crate::tests::new_source;
-use rs_time::Moment;
+use rs_script::first_moment;
 use std::io::{self, ErrorKind, Write};
 use std::net::{Ipv4Addr, Shutdown, TcpListener, TcpStream};
 use std::rt::Clock;
@@ -24,30 +23,25 @@ impl Clock for Standing {
     }
 }
 
+/// What clocks show: seconds and nanoseconds, and the milliseconds of the moment.
+const SHOWN: &[(u64, u32, u64)] = &[
+    (0, 0, 0),
+    (0, 1_999_999, 1),
+    (951_782_400, 0, 951_782_400_000),
+    (253_402_300_799, 999_000_000, 253_402_300_799_999),
+    (253_402_300_799, 999_999_999, 253_402_300_799_999),
+    (253_402_300_800, 0, 253_402_300_799_999),
+    (u64::MAX, 999_999_999, 253_402_300_799_999),
+];
+
 #[test]
 fn a_clock_shows_a_moment(rt: HostRuntime) {
-    for (clock, wanted) in [
-        (Standing(None), 0),
-        (Standing(Some(Duration::from_secs(0))), 0),
-        (Standing(Some(Duration::from_nanos(1_999_999))), 1),
-        (
-            Standing(Some(Duration::from_secs(951_782_400))),
-            951_782_400_000,
-        ),
-        (
-            Standing(Some(Duration::from_millis(253_402_300_799_999))),
-            253_402_300_799_999,
-        ),
-        (
-            Standing(Some(Duration::from_millis(253_402_300_800_000))),
-            253_402_300_799_999,
-        ),
-        (Standing(Some(Duration::MAX)), 253_402_300_799_999),
-    ] {
-        assert_eq!(rt; moment_of(&clock).ms(), wanted);
+    for (seconds, nanoseconds, wanted) in SHOWN {
+        let shown = Duration::new(*seconds, *nanoseconds);
+        assert_eq!(rt; moment_of(Ok(shown)).ms(), *wanted);
     }
-    assert!(rt; moment_of(&Standing(None)) == first_moment());
-    assert_eq!(rt; Moment::GREATEST, 253_402_300_799_999);
+    let unread = io::Error::from(ErrorKind::InvalidData);
+    assert!(rt; moment_of(Err(unread)) == first_moment());
 }
 
 /// Sends these requests, each on a connection of its own, and serves them at this moment.
@@ -65,16 +59,21 @@ fn responses(
     two.write_all(second)?;
     one.shutdown(Shutdown::Write)?;
     two.shutdown(Shutdown::Write)?;
-    serve_new(rt, &listener, &Standing(Some(since_1970)))?;
+    serve_new(rt, &listener, 2, &Standing(Some(since_1970)))?;
     let one = io::read_to_string(rt.alloc(), one)?;
     let two = io::read_to_string(rt.alloc(), two)?;
     Ok((one, two))
 }
 
-/// Serves two connections to a new source.
-fn serve_new(rt: &HostRuntime, listener: &TcpListener, clock: &Standing) -> Result<(), Fail> {
+/// Serves so many connections to a new source.
+fn serve_new(
+    rt: &HostRuntime,
+    listener: &TcpListener,
+    count: u64,
+    clock: &Standing,
+) -> Result<(), Fail> {
     let mut source = new_source(rt.alloc())?;
-    serve_connections(rt.alloc(), &mut source, listener, 2, clock);
+    serve_connections(rt.alloc(), &mut source, listener, count, clock);
     Ok(())
 }
 
@@ -123,5 +122,19 @@ fn a_cut_request_ends_its_connection_alone(rt: HostRuntime) -> Result<(), Fail> 
         found.ends_with("Content-Length: 8\r\n\r\nNotHeld\n"),
         "{found}"
     );
+    Ok(())
+}
+
+#[test]
+fn the_rest_of_a_refused_put_is_read(rt: HostRuntime) -> Result<(), Fail> {
+    let listener = TcpListener::bind(&rt, (Ipv4Addr::LOCALHOST, 0))?;
+    let mut stream = TcpStream::connect(&rt, listener.local_addr()?)?;
+    stream.write_all(b"PUT /resource/c HTTP/1.1\r\nHost: a\r\nContent-Length: 16777217\r\n\r\n")?;
+    stream.write_all(&[0; 65_536])?;
+    stream.shutdown(Shutdown::Write)?;
+    serve_new(&rt, &listener, 1, &Standing(Some(Duration::from_secs(0))))?;
+    let response = io::read_to_string(rt.alloc(), stream)?;
+    assert!(rt; response.starts_with("HTTP/1.1 413 "), "{response}");
+    assert!(rt; response.ends_with("\r\n\r\nTooLong\n"), "{response}");
     Ok(())
 }

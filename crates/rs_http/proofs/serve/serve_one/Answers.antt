@@ -1,8 +1,9 @@
 -- The head, and then the answer to what it asks for.
-use Rattle.std.proofs.Common.{◌≡◌, Err, take, ap}
+use Rattle.std.proofs.Common.{◌≡◌, Ok, Err, take, ap}
 use Rattle.rs_io.specs.Watch.{watched}
 use Rattle.rs_http.specs.declared.fault.FrontFault.TheVariants.{Read, Write}
 use Rattle.rs_http.proofs.Endings.{served, broken, halted}
+use Rattle.rs_http.proofs.Going.{request_goes}
 use Rattle.rs_http.proofs.serve.serve_one.Goals as goal
 
 pub returns-in-Ok-answer-clause-ok : goal.returns-in-Ok-answer-clause-ok
@@ -32,3 +33,17 @@ returns-in-Err-clause-write g c = λ e.
     (g.W.Write.contents (watched c.args.writer.now)) (g.W.Write.contents (watched c.answer.new.writer))
     c.in-Ok.ensures.ok.1 c.in-Ok.ensures.ok.2 c.in-Ok.ensures.end c.in-Some.ensures c.in-Err.fault is c.in-Err.ensures.ends in
     (c.in-Err.ensures.write (ap Err is), whole.0, whole.1, whole.2)
+
+pub returns-in-Ok-answer-clause-goes_on : goal.returns-in-Ok-answer-clause-goes_on
+returns-in-Ok-answer-clause-goes_on g c =
+    request_goes g.D.Disk.state c.args.source.now c.answer.new.source c.args.now c.in-Some.request
+    (g.R.Read.remaining (watched c.read_head.new.reader)) (g.R.Read.remaining (watched c.answer.new.reader))
+    (g.W.Write.contents (watched c.args.writer.now)) (g.W.Write.contents (watched c.answer.new.writer))
+    (Ok c.in-Ok-answer.status) c.in-Ok-answer.ensures.ends
+
+pub returns-in-Err-clause-goes_on : goal.returns-in-Err-clause-goes_on
+returns-in-Err-clause-goes_on g c =
+    request_goes g.D.Disk.state c.args.source.now c.answer.new.source c.args.now c.in-Some.request
+    (g.R.Read.remaining (watched c.read_head.new.reader)) (g.R.Read.remaining (watched c.answer.new.reader))
+    (g.W.Write.contents (watched c.args.writer.now)) (g.W.Write.contents (watched c.answer.new.writer))
+    (Err c.in-Err.fault) c.in-Err.ensures.ends

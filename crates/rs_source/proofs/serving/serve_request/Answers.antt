@@ -13,4 +13,4 @@ returns g c =
     let holds = g.W.Write.contents (watched c.serve_one.new.writer) in
     request_connects g.D.Disk.state c.args.source.now c.serve_one.new.source c.args.now rest (Consumes before rest) (Appends held holds)
     (IsTrue (has_failed c.serve_one.new.reader)) (IsTrue (has_failed c.serve_one.new.writer)) c.serve_one.result
-    c.serve_one.ensures.ok c.serve_one.ensures.read c.serve_one.ensures.write
+    c.serve_one.ensures.ok c.serve_one.ensures.read c.serve_one.ensures.write c.serve_one.ensures.goes_on

@@ -1,0 +1,25 @@
+-- What one request makes of the state that a source holds.
+use Rattle.std.specs.Prelude.{◌≡◌, ◌≤◌, ℕ, false, List, [], length, All, None}
+use Rattle.rs_disk.specs.Medium.{DiskState}
+use Rattle.rs_model.specs.State.{Source}
+use Rattle.rs_model.specs.Step.{refusal_of, fold_of}
+use Rattle.rs_model.specs.declared.command.Command.{Command}
+use Rattle.rs_store.specs.Source.{Stored, Holds, state_of}
+
+-- A source went on by these commands, in their order, each with the moment at which it comes. One that is open was open
+-- before; what its lists tell is then what the commands make of what they told, and a state that it held has become the one
+-- that the commands make of it.
+pub record GoesOnBy {D : Type 0} (device : D → DiskState) (old new : Stored D) (commands : List (Command × ℕ)) : Type 0 where
+  pub opened : new.is_closed ≡ false → old.is_closed ≡ false
+  pub tells : new.is_closed ≡ false → state_of device new ≡ fold_of (state_of device old) commands
+  pub holds : (s : Source) → Holds device old s → new.is_closed ≡ false → Holds device new (fold_of s commands)
+
+-- A source went on by one command at most, which came at this moment and which the model accepts. Without one it is as
+-- closed or open as it was: it is closed by a command alone.
+pub record GoesOnOnce {D : Type 0} (device : D → DiskState) (old : Stored D) (now : ℕ) (new : Stored D) : Type 0 where
+  pub commands : List (Command × ℕ)
+  pub few : length commands ≤ 1
+  pub came : All (λ command. command.1 ≡ now) commands
+  pub accepted : All (λ command. refusal_of (state_of device old) command.0 ≡ None) commands
+  pub goes_on : GoesOnBy device old new commands
+  pub kept : commands ≡ [] → new.is_closed ≡ old.is_closed

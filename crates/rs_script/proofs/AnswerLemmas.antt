@@ -1,0 +1,214 @@
+-- The answer to each kind of request.
+use Rattle.std.proofs.Common.{◌≡◌, ℕ, List, [], Option, Some, None, Result, Ok, Err, Vec, Global, Bool, true, false, ◌⊎◌, ◌<◌, ◌≤◌, length, refl, inl, inr, ap, sym, subst, ◌∙◌, if◌then◌else◌, ◌↔◌, IsErrOf, IsTrue, OnOk, option_map}
+use Rattle.rs_disk.specs.Medium.{DiskState}
+use Rattle.rs_model.specs.declared.command.Command.{Command}
+use Rattle.rs_model.specs.declared.command.Reply.{Reply}
+use Rattle.rs_lists.specs.declared.doc.Doc.{Doc}
+use Rattle.rs_lists.specs.Shown.{Shown}
+use Rattle.rs_caps.specs.DocumentTexts.{document_text}
+use Rattle.rs_caps.specs.Shows.{shown_of}
+use Rattle.rs_store.specs.Answered as stored
+use Rattle.rs_store.specs.Shows.{status_of}
+use Rattle.rs_store.specs.Source.{Stored, state_of}
+use Rattle.rs_store.specs.Views as views
+use Rattle.rs_store.specs.declared.reading.Status as counts
+use Rattle.rs_store.specs.declared.refusal.Refusal as denials
+use Rattle.rs_store.specs.declared.refusal.Refusal.TheVariants.{Closed}
+use Rattle.rs_script.specs.declared.refusal.Refusal.{Refusal}
+use Rattle.rs_script.specs.declared.refusal.Refusal.TheVariants.{BadLine, LongLine, NoSuchDocument, NoMemory, Source}
+use Rattle.rs_script.specs.declared.request.Request.{Request}
+use Rattle.rs_script.specs.declared.request.Request.TheVariants.{At, Run, Document, Body, Status}
+use Rattle.rs_script.specs.Answers.{outcome_text, shown_text}
+use Rattle.rs_store.specs.AnswersBody.{AnswersBody}
+use Rattle.rs_script.specs.Gives.{replied_as, counted_as, shown_as}
+use Rattle.rs_script.specs.Lines.{line_limit}
+use Rattle.rs_script.specs.Model.{shown_or}
+use Rattle.rs_script.specs.Progress.{RequestAnswers, LineAnswers}
+use Rattle.rs_script.specs.Requests.{request_of}
+use Rattle.rs_script.specs.Session.{Session, session, Outcome, moment_set, counted, refused, unchanged}
+use Rattle.rs_script.proofs.Documents.{one_text}
+
+-- a command was asked of the source
+pub ran : {D : Type 0} (device : D → DiskState) (old new : Stored D) (command : Command) (now : ℕ) (result : Result Reply denials.Refusal) (P : List ℕ → Type 0)
+    → stored.Answers device old new command now result → P (outcome_text (replied_as result))
+    → RequestAnswers device (session old now) (Ok (Run command)) (session new now) P
+ran device old new command now result P a w = record {
+  answer = record { outcome = replied_as result; commands = counted_as command now result; session = session new now };
+  gives = inl (record { result = result; answers = a; outcome = refl; commands = refl; now = refl });
+  session_is = refl;
+  written = w;
+}
+
+-- a body was asked of the source
+pub was_read : {D : Type 0} (device : D → DiskState) (old new : Stored D) (name : List ℕ) (now : ℕ) (result : Result (Vec ℕ Global) denials.Refusal) (P : List ℕ → Type 0)
+    → AnswersBody device old new name result → P (outcome_text (shown_as result))
+    → RequestAnswers device (session old now) (Ok (Body name)) (session new now) P
+was_read device old new name now result P a w = record {
+  answer = record { outcome = shown_as result; commands = []; session = session new now };
+  gives = inl (record { result = result; answers = a; outcome = refl; commands = refl; now = refl });
+  session_is = refl;
+  written = w;
+}
+
+-- the moment is set
+pub moment_answered : {D : Type 0} (device : D → DiskState) (s : Stored D) (now t : ℕ) (P : List ℕ → Type 0)
+    → P (outcome_text moment_set) → RequestAnswers device (session s now) (Ok (At t)) (session s t) P
+moment_answered device s now t P w = record {
+  answer = record { outcome = moment_set; commands = []; session = session s t };
+  gives = inl refl;
+  session_is = refl;
+  written = w;
+}
+
+-- an open source answers
+when_open : (closed : Bool) (outcome : Outcome) → closed ≡ false → (if closed then refused (Source Closed) else outcome) ≡ outcome
+when_open closed outcome opened = ap (λ b. if b then refused (Source Closed) else outcome) opened
+
+-- a document is shown, or there is none
+pub document_answered : {D : Type 0} (device : D → DiskState) (s : Stored D) (now : ℕ) (doc : Doc) (view : Shown) (outcome : Outcome) (P : List ℕ → Type 0)
+    → s.is_closed ≡ false → view ≡ views.shown_of s.contents → shown_or NoSuchDocument (document_text view doc) ≡ outcome
+    → P (outcome_text outcome) → RequestAnswers device (session s now) (Ok (Document doc)) (session s now) P
+document_answered device s now doc view outcome P opened is e w =
+    let text = ap (λ v. document_text v doc) is ∙ one_text (device s.disk).now.seen s.contents doc in
+    let found = sym e ∙ ap (shown_or NoSuchDocument) text in
+    record {
+      answer = unchanged (session s now) outcome;
+      gives = inl (ap (unchanged (session s now)) (found ∙ sym (when_open s.is_closed (shown_or NoSuchDocument (document_text (shown_of (state_of device s)) doc)) opened)));
+      session_is = refl;
+      written = w;
+    }
+
+-- a closed source shows no document
+pub document_closed : {D : Type 0} (device : D → DiskState) (s : Stored D) (now : ℕ) (doc : Doc) (refusal : denials.Refusal) (P : List ℕ → Type 0)
+    → refusal ≡ Closed → s.is_closed ≡ true → P (outcome_text (refused (Source refusal)))
+    → RequestAnswers device (session s now) (Ok (Document doc)) (session s now) P
+document_closed device s now doc refusal P same closed w = record {
+  answer = unchanged (session s now) (refused (Source Closed));
+  gives = inl (rw closed refl);
+  session_is = refl;
+  written = subst (λ r. P (outcome_text (refused (Source r)))) same w;
+}
+
+-- what is held is counted
+pub counted_answered : {D : Type 0} (device : D → DiskState) (s : Stored D) (now : ℕ) (status : counts.Status) (P : List ℕ → Type 0)
+    → s.is_closed ≡ false → status ≡ status_of (state_of device s) → P (outcome_text (counted status))
+    → RequestAnswers device (session s now) (Ok Status) (session s now) P
+counted_answered device s now status P opened e w = record {
+  answer = unchanged (session s now) (counted status);
+  gives = inl (ap (unchanged (session s now)) (ap counted e ∙ sym (when_open s.is_closed (counted (status_of (state_of device s))) opened)));
+  session_is = refl;
+  written = w;
+}
+
+-- and nothing of a closed source
+pub counted_closed : {D : Type 0} (device : D → DiskState) (s : Stored D) (now : ℕ) (refusal : denials.Refusal) (P : List ℕ → Type 0)
+    → refusal ≡ Closed → s.is_closed ≡ true → P (outcome_text (refused (Source refusal)))
+    → RequestAnswers device (session s now) (Ok Status) (session s now) P
+counted_closed device s now refusal P same closed w = record {
+  answer = unchanged (session s now) (refused (Source Closed));
+  gives = inl (rw closed refl);
+  session_is = refl;
+  written = subst (λ r. P (outcome_text (refused (Source r)))) same w;
+}
+
+-- no request
+abbrev denied : Refusal → Result Request Refusal
+denied refusal = Err refusal
+
+-- the line asks for nothing, or room for what it asks was refused
+pub refused_answered : {D : Type 0} (device : D → DiskState) (s : Session (Stored D)) (found : Result Request Refusal) (refusal : Refusal) (P : List ℕ → Type 0)
+    → (Err refusal ≡ found) ⊎ (denied refusal ≡ denied NoMemory) → P (outcome_text (refused refusal)) → RequestAnswers device s found s P
+refused_answered device s found refusal P (inl e) w = record {
+  answer = unchanged s (refused refusal);
+  gives = inl (rw (sym e) refl);
+  session_is = refl;
+  written = w;
+}
+refused_answered device s found refusal P (inr e) w = record {
+  answer = unchanged s (refused refusal);
+  gives = inr (let same : refusal ≡ NoMemory = cc in rw same refl);
+  session_is = refl;
+  written = w;
+}
+
+abbrev asked : Request → Result Request Refusal
+asked request = Ok request
+
+-- the line asks for something
+pub understood : {D : Type 0} (device : D → DiskState) (s new : Session (Stored D)) (found : Result Request Refusal) (request : Request) (P : List ℕ → Type 0)
+    → (Ok request ≡ found) ⊎ (asked request ≡ denied NoMemory) → RequestAnswers device s (Ok request) new P → RequestAnswers device s found new P
+understood device s new found request P (inl e) given = subst (λ r. RequestAnswers device s r new P) e given
+understood device s new found request P (inr e) given = absurd cc
+
+-- a line that asks for nothing
+pub foreign_answered : {D : Type 0} (device : D → DiskState) (s : Session (Stored D)) (line : List ℕ) (P : List ℕ → Type 0)
+    → (length line ≤ line_limit) × (request_of line ≡ Err BadLine) → P (outcome_text (refused BadLine)) → LineAnswers device s line s P
+foreign_answered device s line P h w = record {
+  answer = unchanged s (refused BadLine);
+  gives = inr (h.0, inl (rw h.1 refl));
+  session_is = refl;
+  written = w;
+}
+
+-- a line past the limit
+pub long_answered : {D : Type 0} (device : D → DiskState) (s : Session (Stored D)) (line : List ℕ) (P : List ℕ → Type 0)
+    → line_limit < length line → P (outcome_text (refused LongLine)) → LineAnswers device s line s P
+long_answered device s line P h w = record {
+  answer = unchanged s (refused LongLine);
+  gives = inl (h, refl);
+  session_is = refl;
+  written = w;
+}
+
+-- room for a line was refused
+pub no_room_for_line : {D : Type 0} (device : D → DiskState) (s : Session (Stored D)) (line : List ℕ) (P : List ℕ → Type 0)
+    → length line ≤ line_limit → P (outcome_text (refused NoMemory)) → LineAnswers device s line s P
+no_room_for_line device s line P le w = record {
+  answer = unchanged s (refused NoMemory);
+  gives = inr (le, inr refl);
+  session_is = refl;
+  written = w;
+}
+
+-- a line of these bytes
+pub bytes_answered : {D : Type 0} (device : D → DiskState) (s new : Session (Stored D)) (bytes line : List ℕ) (P : List ℕ → Type 0)
+    → (bytes ≡ line) × (length line ≤ line_limit)
+    → RequestAnswers device s (request_of bytes) new P → LineAnswers device s line new P
+bytes_answered device s new bytes line P h given = record {
+  answer = given.answer;
+  gives = inr (h.1, rw (sym h.0) given.gives);
+  session_is = given.session_is;
+  written = given.written;
+}
+
+-- the body that was asked of the source is shown
+pub body_shown : {D : Type 0} (device : D → DiskState) (old new : Stored D) (name : List ℕ) (now : ℕ) (bytes : Vec ℕ Global) (written : List ℕ) (P : List ℕ → Type 0)
+    → AnswersBody device old new name (Ok bytes) → written ≡ bytes.items → P (shown_text written)
+    → RequestAnswers device (session old now) (Ok (Body name)) (session new now) P
+body_shown device old new name now bytes written P a same w = was_read device old new name now (Ok bytes) P a (subst (λ b. P (shown_text b)) same w)
+
+-- a source that refuses nothing is open
+pub is_open : {T : Type 0} (result : Result T denials.Refusal) (given : T) (closed : Bool) → result ≡ Ok given
+    → IsErrOf result Closed ↔ IsTrue closed → closed ≡ false
+is_open result given false is h = refl
+is_open result given true is h = let no : IsErrOf result Closed = h.1 refl in absurd cc
+
+-- and one that refuses whatever it is asked is closed
+pub is_closed : {T : Type 0} (result : Result T denials.Refusal) (refusal : denials.Refusal) (closed : Bool) → result ≡ Err refusal → refusal ≡ Closed
+    → IsErrOf result Closed ↔ IsTrue closed → closed ≡ true
+is_closed result refusal closed is same h = h.0 (is ∙ ap Err same)
+
+-- a document that has a length is there, and what was written of it is its text
+pub shown_whole : {T E : Type 0} (result : Result T E) (found : Option (List ℕ)) (count : ℕ) (W : List ℕ → Type 0) → option_map length found ≡ Some count
+    → OnOk result ((text : List ℕ) × (found ≡ Some text) × W (shown_text text))
+    → (text : List ℕ) × (found ≡ Some text) × OnOk result (W (shown_text text))
+shown_whole result None count W e h = absurd cc
+shown_whole (Err x) (Some text) count W e h = (text, refl, tt)
+shown_whole (Ok x) (Some text) count W e h =
+    let same : h.0 ≡ text = cc in
+    (text, refl, subst (λ t. W (shown_text t)) same h.2)
+
+-- a document that has no length is not there
+pub shown_none : (found : Option (List ℕ)) → option_map length found ≡ None → found ≡ None
+shown_none None e = refl
+shown_none (Some text) e = absurd cc

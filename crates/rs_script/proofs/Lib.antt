@@ -1,0 +1,10 @@
+pub mod FieldLemmas
+pub mod AnswerLemmas
+pub mod ForeignLemmas
+pub mod Breaks
+pub mod Cut
+pub mod Steps
+pub mod Models
+pub mod Chains
+pub mod Transcripts
+pub mod Documents

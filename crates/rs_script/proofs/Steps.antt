@@ -1,0 +1,273 @@
+-- One more run of bytes, one more line.
+use Rattle.std.proofs.Common.{◌≡◌, ◌≢◌, ℕ, ◌+◌, ◌<◌, ◌≤◌, ◌^◌, ◌⊎◌, List, [], ◌∷◌, ◌++◌, length, take, map, Option, refl, ap, sym, ◌∙◌, append_assoc, append-nil, arith, subst, length-append, length-take}
+use Rattle.std.proofs.lemmas.Grind.{common_steps, flat_map-append}
+use Rattle.std.proofs.lemmas.List.{map-append}
+use Rattle.std.proofs.lemmas.List.Elements.{All-append}
+use Rattle.std.specs.List.{flat_map}
+use Rattle.std.specs.Prelude.{Result, Ok, Err, OnOk, OnErr}
+use Rattle.std.specs.Io.KnownBytes.{Consumes, Appends, Keeps as KnownKeeps}
+use Rattle.std.proofs.KnownBytes.{Appends-nil, Appends-trans, Appends-kept, Consumes-trans}
+use Rattle.rs_disk.specs.Medium.{DiskState}
+use Rattle.rs_model.specs.declared.command.Command.{Command}
+use Rattle.rs_store.specs.Source.{Stored}
+use Rattle.rs_script.specs.declared.line.Line.{Line}
+use Rattle.rs_script.specs.Answers.{outcome_text, output_of}
+use Rattle.rs_script.specs.Kept.{Keeps}
+use Rattle.rs_script.specs.Lines.{Splits, AreWholeLines, HasNoBreak, with_break, cut_return, last_line, script_lines}
+use Rattle.rs_script.specs.Progress.{LineAnswers, Progress, Answered, Gave}
+use Rattle.rs_script.specs.Gives.{LineGives}
+use Rattle.rs_script.specs.Script.{Transcript, ScriptGives}
+use Rattle.rs_script.specs.Session.{Session, Outcome, Answer}
+
+-- one more line is answered
+pub Transcript-more : {D : Type 0} (device : D → DiskState) (lines : List (List ℕ)) (old : Session (Stored D)) (outcomes : List Outcome) (commands : List (Command × ℕ)) (mid : Session (Stored D))
+    (line : List ℕ) (answer : Answer (Stored D)) → Transcript device old lines outcomes commands mid → LineGives device mid line answer
+    → Transcript device old (lines ++ line ∷ []) (outcomes ++ answer.outcome ∷ []) (commands ++ answer.commands) answer.session
+Transcript-more {D = D} device [] old outcomes commands mid line answer h g = (
+  answer,
+  [],
+  [],
+  subst (λ (s : Session (Stored D)). LineGives device s line answer) h.2 g,
+  ap (λ z. z ++ answer.outcome ∷ []) h.0,
+  ap (λ z. z ++ answer.commands) h.1 ∙ sym (append-nil answer.commands),
+  (refl, refl, refl),
+)
+Transcript-more device (l ∷ lines) old outcomes commands mid line answer h g = (
+  h.0,
+  h.1 ++ answer.outcome ∷ [],
+  h.2 ++ answer.commands,
+  h.3,
+  ap (λ z. z ++ answer.outcome ∷ []) h.4,
+  ap (λ z. z ++ answer.commands) h.5 ∙ append_assoc h.0.commands h.2 answer.commands,
+  Transcript-more device lines h.0.session h.1 h.2 mid line answer h.6 g,
+)
+
+-- what is written of one more outcome
+pub output-more : (outcomes : List Outcome) (outcome : Outcome) → output_of (outcomes ++ outcome ∷ []) ≡ output_of outcomes ++ outcome_text outcome
+output-more outcomes outcome = flat_map-append outcome_text outcomes (outcome ∷ []) ∙ ap (λ z. output_of outcomes ++ z) (append-nil (outcome_text outcome))
+
+pub Splits-run : (input : List ℕ) (raws : List (List ℕ)) (rest run : List ℕ) → HasNoBreak run
+    → Splits input raws rest → Splits (input ++ run) raws (rest ++ run)
+Splits-run input raws rest run h s = record {
+  whole = ap (λ z. z ++ run) s.whole ∙ append_assoc (flat_map with_break raws) rest run;
+  each = s.each;
+  partial = All-append (λ b. b ≢ 10) rest run s.partial h;
+}
+
+pub Splits-break : (input : List ℕ) (raws : List (List ℕ)) (rest run : List ℕ) → HasNoBreak run
+    → Splits input raws rest → Splits (input ++ with_break run) (raws ++ (rest ++ run) ∷ []) []
+Splits-break input raws rest run h s =
+    let p = All-append (λ b. b ≢ 10) rest run s.partial h in
+    record {
+      whole = grind (arith, common_steps, s.whole);
+      each = grind (arith, common_steps, s.each, p);
+      partial = grind (arith, common_steps);
+    }
+
+-- more bytes of the line
+pub Progress-run : {D : Type 0} (device : D → DiskState) (start : Session (Stored D)) (before : Option (List ℕ)) (input : List ℕ) (line : Line) (c : Option (List ℕ)) (now : Session (Stored D))
+    (run : List ℕ) (next : Line) → HasNoBreak run → ((raw : List ℕ) → Keeps line raw → Keeps next (raw ++ run))
+    → Progress device start before input line c now → Progress device start before (input ++ run) next c now
+Progress-run device start before input line c now run next h k p = record {
+  raws = p.raws;
+  rest = p.rest ++ run;
+  outcomes = p.outcomes;
+  commands = p.commands;
+  splits = Splits-run input p.raws p.rest run h p.splits;
+  kept = k p.rest p.kept;
+  answered = p.answered;
+  written = p.written;
+}
+
+pub on_err : {T E P : Type 0} (r : Result T E) → P → OnErr r P
+on_err (Ok x) p = tt
+on_err (Err e) p = p
+
+-- a line that came whole is answered
+whole_more : {D : Type 0} (device : D → DiskState) (start : Session (Stored D)) (raws : List (List ℕ)) (raw : List ℕ) (outcomes : List Outcome) (commands : List (Command × ℕ)) (now : Session (Stored D))
+    (answer : Answer (Stored D)) (new : Session (Stored D)) → answer.session ≡ new
+    → Transcript device start (map cut_return raws) outcomes commands now → LineGives device now (cut_return raw) answer
+    → Transcript device start (map cut_return (raws ++ raw ∷ [])) (outcomes ++ answer.outcome ∷ []) (commands ++ answer.commands) new
+whole_more {D = D} device start raws raw outcomes commands now answer new e t g =
+    let P : List (List ℕ) → Type 0 = λ lines. Transcript device start lines (outcomes ++ answer.outcome ∷ []) (commands ++ answer.commands) answer.session in
+    let Q : Session (Stored D) → Type 0 = λ s. Transcript device start (map cut_return (raws ++ raw ∷ [])) (outcomes ++ answer.outcome ∷ []) (commands ++ answer.commands) s in
+    subst Q e (subst P (sym (map-append cut_return raws (raw ∷ [])))
+    (Transcript-more device (map cut_return raws) start outcomes commands now (cut_return raw) answer t g))
+
+-- a line feed has come, and the answer is written
+pub take_ok : {T E D : Type 0} (device : D → DiskState) (r : Result T E) (line mid next : Line) (now new : Session (Stored D)) (c d : Option (List ℕ)) (run : List ℕ)
+    → ((raw : List ℕ) → Keeps line raw → Keeps mid (raw ++ run))
+    → ((raw : List ℕ) → Keeps mid raw → LineAnswers device now (cut_return raw) new (λ text. OnOk r (Appends c d text)))
+    → Keeps next []
+    → OnOk r ((start : Session (Stored D)) (before : Option (List ℕ)) (input : List ℕ) → HasNoBreak run
+    → Progress device start before input line c now → Progress device start before (input ++ with_break run) next d new)
+take_ok device (Err e) line mid next now new c d run k given fresh = tt
+take_ok device (Ok x) line mid next now new c d run k given fresh = λ start before input h p.
+    let e = given (p.rest ++ run) (k p.rest p.kept) in
+    let Q : List ℕ → Type 0 = λ text. Appends before d text in
+    record {
+      raws = p.raws ++ (p.rest ++ run) ∷ [];
+      rest = [];
+      outcomes = p.outcomes ++ e.answer.outcome ∷ [];
+      commands = p.commands ++ e.answer.commands;
+      splits = Splits-break input p.raws p.rest run h p.splits;
+      kept = fresh;
+      answered = whole_more device start p.raws (p.rest ++ run) p.outcomes p.commands now e.answer new e.session_is p.answered e.gives;
+      written = subst Q (sym (output-more p.outcomes e.answer.outcome))
+          (Appends-trans before c d (output_of p.outcomes) (outcome_text e.answer.outcome) p.written e.written);
+    }
+
+-- and the answer is not written
+pub take_err : {T E D : Type 0} (device : D → DiskState) (r : Result T E) (line mid : Line) (now new : Session (Stored D)) (c : Option (List ℕ)) (run : List ℕ) (W : List ℕ → Type 0)
+    → ((raw : List ℕ) → Keeps line raw → Keeps mid (raw ++ run))
+    → ((raw : List ℕ) → Keeps mid raw → LineAnswers device now (cut_return raw) new W)
+    → OnErr r ((start : Session (Stored D)) (before : Option (List ℕ)) (input : List ℕ) → HasNoBreak run
+    → Progress device start before input line c now → Answered device start (input ++ with_break run) new × AreWholeLines (input ++ with_break run))
+take_err device (Ok x) line mid now new c run W k given = tt
+take_err device (Err e) line mid now new c run W k given = λ start before input h p.
+    let e = given (p.rest ++ run) (k p.rest p.kept) in
+    let splits = Splits-break input p.raws p.rest run h p.splits in
+    let P : List (List ℕ) → Type 0 = λ lines. Transcript device start lines (p.outcomes ++ e.answer.outcome ∷ []) (p.commands ++ e.answer.commands) new in (
+      (
+        p.outcomes ++ e.answer.outcome ∷ [],
+        p.commands ++ e.answer.commands,
+        (
+          p.raws ++ (p.rest ++ run) ∷ [],
+          [],
+          splits,
+          subst P (sym (append-nil (map cut_return (p.raws ++ (p.rest ++ run) ∷ []))))
+              (whole_more device start p.raws (p.rest ++ run) p.outcomes p.commands now e.answer new e.session_is p.answered e.gives),
+        ),
+      ),
+      (p.raws ++ (p.rest ++ run) ∷ [], splits),
+    )
+
+last_line-some : (rest : List ℕ) → 0 < length rest → last_line rest ≡ rest ∷ []
+last_line-some [] h = absurd (omega arith)
+last_line-some (b ∷ rest) h = refl
+
+-- the last line, which no line feed ended
+last_more : {D : Type 0} (device : D → DiskState) (start : Session (Stored D)) (raws : List (List ℕ)) (rest : List ℕ) (outcomes : List Outcome) (commands : List (Command × ℕ)) (now : Session (Stored D))
+    (answer : Answer (Stored D)) (new : Session (Stored D)) → answer.session ≡ new → 0 < length rest
+    → Transcript device start (map cut_return raws) outcomes commands now → LineGives device now rest answer
+    → Transcript device start (script_lines raws rest) (outcomes ++ answer.outcome ∷ []) (commands ++ answer.commands) new
+last_more {D = D} device start raws rest outcomes commands now answer new e some t g =
+    let P : List (List ℕ) → Type 0 = λ lines. Transcript device start (map cut_return raws ++ lines) (outcomes ++ answer.outcome ∷ []) (commands ++ answer.commands) answer.session in
+    let Q : Session (Stored D) → Type 0 = λ s. Transcript device start (script_lines raws rest) (outcomes ++ answer.outcome ∷ []) (commands ++ answer.commands) s in
+    subst Q e (subst P (sym (last_line-some rest some)) (Transcript-more device (map cut_return raws) start outcomes commands now rest answer t g))
+
+pub end_ok : {T E D : Type 0} (device : D → DiskState) (r : Result T E) (line : Line) (now new : Session (Stored D)) (c d : Option (List ℕ))
+    → ((raw : List ℕ) → Keeps line raw → 0 < length raw)
+    → ((raw : List ℕ) → Keeps line raw → LineAnswers device now raw new (λ text. OnOk r (Appends c d text)))
+    → OnOk r ((start : Session (Stored D)) (before : Option (List ℕ)) (input : List ℕ) → Progress device start before input line c now
+    → (outcomes : List Outcome) × (commands : List (Command × ℕ)) × ScriptGives device start input outcomes commands new × Appends before d (output_of outcomes))
+end_ok device (Err e) line now new c d some given = tt
+end_ok device (Ok x) line now new c d some given = λ start before input p.
+    let e = given p.rest p.kept in
+    let Q : List ℕ → Type 0 = λ text. Appends before d text in (
+      p.outcomes ++ e.answer.outcome ∷ [],
+      p.commands ++ e.answer.commands,
+      (p.raws, p.rest, p.splits, last_more device start p.raws p.rest p.outcomes p.commands now e.answer new e.session_is (some p.rest p.kept) p.answered e.gives),
+      subst Q (sym (output-more p.outcomes e.answer.outcome))
+          (Appends-trans before c d (output_of p.outcomes) (outcome_text e.answer.outcome) p.written e.written),
+    )
+
+pub end_err : {T E D : Type 0} (device : D → DiskState) (r : Result T E) (line : Line) (now new : Session (Stored D)) (c : Option (List ℕ)) (W : List ℕ → Type 0)
+    → ((raw : List ℕ) → Keeps line raw → 0 < length raw)
+    → ((raw : List ℕ) → Keeps line raw → LineAnswers device now raw new W)
+    → OnErr r ((start : Session (Stored D)) (before : Option (List ℕ)) (input : List ℕ) → Progress device start before input line c now → Answered device start input new)
+end_err device (Ok x) line now new c W some given = tt
+end_err device (Err e) line now new c W some given = λ start before input p.
+    let e = given p.rest p.kept in (
+      p.outcomes ++ e.answer.outcome ∷ [],
+      p.commands ++ e.answer.commands,
+      (p.raws, p.rest, p.splits, last_more device start p.raws p.rest p.outcomes p.commands now e.answer new e.session_is (some p.rest p.kept) p.answered e.gives),
+    )
+
+-- the input ended right after a line feed, or is empty
+pub end_none : {D : Type 0} (device : D → DiskState) (line : Line) (now : Session (Stored D)) (c : Option (List ℕ)) → ((raw : List ℕ) → Keeps line raw → raw ≡ [])
+    → (start : Session (Stored D)) (before : Option (List ℕ)) (input : List ℕ) → Progress device start before input line c now
+    → (outcomes : List Outcome) × (commands : List (Command × ℕ)) × ScriptGives device start input outcomes commands now × Appends before c (output_of outcomes)
+end_none device line now c none start before input p =
+    let P : List (List ℕ) → Type 0 = λ lines. Transcript device start lines p.outcomes p.commands now in
+    let Q : List ℕ → Type 0 = λ rest. Transcript device start (script_lines p.raws rest) p.outcomes p.commands now in (
+      p.outcomes,
+      p.commands,
+      (p.raws, p.rest, p.splits, subst Q (sym (none p.rest p.kept)) (subst P (sym (append-nil (map cut_return p.raws))) p.answered)),
+      p.written,
+    )
+
+-- nothing has come, and nothing was written
+pub Progress-none : {D : Type 0} (device : D → DiskState) (start : Session (Stored D)) (a : Option (List ℕ)) (line : Line) → Keeps line [] → Progress device start a [] line a start
+Progress-none device start a line k = record {
+  raws = [];
+  rest = [];
+  outcomes = [];
+  commands = [];
+  splits = record { whole = refl; each = grind (arith, common_steps); partial = grind (arith, common_steps) };
+  kept = k;
+  answered = (refl, refl, refl);
+  written = Appends-nil a;
+}
+
+-- the writer was flushed
+pub Progress-kept : {D : Type 0} (device : D → DiskState) (start : Session (Stored D)) (before : Option (List ℕ)) (input : List ℕ) (line : Line) (c d : Option (List ℕ)) (now : Session (Stored D))
+    → KnownKeeps c d → Progress device start before input line c now → Progress device start before input line d now
+Progress-kept device start before input line c d now k p = record {
+  raws = p.raws;
+  rest = p.rest;
+  outcomes = p.outcomes;
+  commands = p.commands;
+  splits = p.splits;
+  kept = p.kept;
+  answered = p.answered;
+  written = Appends-kept before c d (output_of p.outcomes) p.written k;
+}
+
+-- the whole lines of what came, and the part of a line after them
+pub Progress-whole : {D : Type 0} (device : D → DiskState) (start : Session (Stored D)) (before : Option (List ℕ)) (input : List ℕ) (line : Line) (c : Option (List ℕ)) (now : Session (Stored D))
+    (r s : Option (List ℕ)) (F : Type 0) → F ⊎ (2 ^ 40 ≤ length input) → Consumes r s input
+    → Progress device start before input line c now
+    → (lines : List ℕ) × (part : List ℕ) × (outcomes : List Outcome) × (commands : List (Command × ℕ)) × Consumes r s (lines ++ part) × HasNoBreak part
+    × Appends before c (output_of outcomes) × ScriptGives device start lines outcomes commands now × (F ⊎ (2 ^ 40 ≤ length (lines ++ part)))
+    × AreWholeLines lines
+Progress-whole device start before input line c now r s F why gave p =
+    let Q : List ℕ → Type 0 = λ bytes. Consumes r s bytes in
+    let R : List ℕ → Type 0 = λ bytes. F ⊎ (2 ^ 40 ≤ length bytes) in
+    let splits : Splits (flat_map with_break p.raws) p.raws [] =
+    record { whole = sym (append-nil (flat_map with_break p.raws)); each = p.splits.each; partial = grind (arith, common_steps) } in
+    let P : List (List ℕ) → Type 0 = λ lines. Transcript device start lines p.outcomes p.commands now in (
+      flat_map with_break p.raws,
+      p.rest,
+      p.outcomes,
+      p.commands,
+      subst Q p.splits.whole gave,
+      p.splits.partial,
+      p.written,
+      (
+        p.raws,
+        [],
+        splits,
+        subst P (sym (append-nil (map cut_return p.raws))) p.answered,
+      ),
+      subst R p.splits.whole why,
+      (p.raws, splits),
+    )
+
+-- the last read gave no byte
+pub Consumes-end : (r s t : Option (List ℕ)) (input buf : List ℕ) (n : ℕ) → n ≡ 0 → Consumes r s input → Consumes s t (take n buf) → Consumes r t input
+Consumes-end r s t input buf n e h k =
+    let Q : List ℕ → Type 0 = λ bytes. Consumes r t bytes in
+    subst Q (ap (λ m. input ++ take m buf) e ∙ append-nil input) (Consumes-trans r s t input (take n buf) h k)
+
+-- a piece of which a front was used
+pub Gave-front : (r s t : Option (List ℕ)) (input piece used tail : List ℕ) → piece ≡ used ++ tail
+    → Consumes r s input → Consumes s t piece → Gave r t (input ++ used)
+Gave-front r s t input piece used tail e h k =
+    let Q : List ℕ → Type 0 = λ bytes. Consumes r t bytes in
+    (tail, subst Q (ap (λ z. input ++ z) e ∙ sym (append_assoc input used tail)) (Consumes-trans r s t input piece h k))
+
+-- a piece has at least one byte
+pub count_more : (counter n : ℕ) (input buf : List ℕ) → counter ≤ length input → (n ≡ 0 → ⊥) → n ≤ length buf
+    → counter + 1 ≤ length (input ++ take n buf)
+count_more counter n input buf le some fits = simp length-append (omega (arith, length-take n buf))

@@ -1,0 +1,17 @@
+-- What stands before the rest has been taken.
+use Rattle.std.proofs.Common.{◌≡◌, ℕ, List, Option, length, ◌++◌}
+use Rattle.rs_io.specs.Watch.{watched}
+use Rattle.rs_script.specs.Progress.{Progress}
+use Rattle.rs_store.specs.Source.{Stored}
+use Rattle.rs_script.specs.Session.{Session, session}
+use Rattle.rs_script.proofs.engine.take_piece.Given as goal
+
+abbrev pub decreases-loop-i : goal.decreases-loop-i
+decreases-loop-i g l = length l.rest
+
+abbrev pub invariant-loop-i : goal.invariant-loop-i
+invariant-loop-i g l =
+    (used : List ℕ) × (l.piece ≡ used ++ l.rest)
+    × ((start : Session (Stored g.row.D.Denot)) (before : Option (List ℕ)) (input : List ℕ)
+    → Progress g.D.Disk.state start before input l.fn.line (g.W.Write.contents (watched l.fn.writer)) (session l.fn.source l.fn.now)
+    → Progress g.D.Disk.state start before (input ++ used) l.line (g.W.Write.contents (watched l.writer)) (session l.source l.now))

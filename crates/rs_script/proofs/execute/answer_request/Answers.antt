@@ -1,0 +1,19 @@
+-- Each request, as its own function answers it.
+use Rattle.rs_script.proofs.AnswerLemmas.{moment_answered}
+use Rattle.rs_script.proofs.execute.answer_request.Goals as goal
+
+pub returns-in-At-clause-answered : goal.returns-in-At-clause-answered
+returns-in-At-clause-answered g c =
+    rw c.in-At.is (moment_answered g.D.Disk.state c.args.source.now c.args.now.now c.in-At.moment _ c.put.ensures.ok)
+
+pub returns-in-Run-clause-answered : goal.returns-in-Run-clause-answered
+returns-in-Run-clause-answered g c = rw c.in-Run.is c.run_command.ensures.answered
+
+pub returns-in-Document-clause-answered : goal.returns-in-Document-clause-answered
+returns-in-Document-clause-answered g c = rw c.in-Document.is c.show_document.ensures.answered
+
+pub returns-in-Body-clause-answered : goal.returns-in-Body-clause-answered
+returns-in-Body-clause-answered g c = rw c.in-Body.is c.show_body.ensures.answered
+
+pub returns-in-Status-clause-answered : goal.returns-in-Status-clause-answered
+returns-in-Status-clause-answered g c = rw c.in-Status.is c.show_status.ensures.answered

@@ -1,0 +1,69 @@
+-- The text of each answer, exactly the bytes written.
+use Rattle.std.specs.Prelude.{ℕ, List, [], ◌∷◌, ◌++◌, length, codes, flat_map}
+use Rattle.std.specs.Fmt.{decimal}
+use Rattle.rs_time.specs.Moment.{moment_text}
+use Rattle.rs_model.specs.declared.command.Reply.{Reply}
+use Rattle.rs_model.specs.declared.command.Reply.TheVariants.{Created, Updated, Deleted, Published}
+use Rattle.rs_store.specs.declared.refusal.Refusal as stored
+use Rattle.rs_store.specs.declared.refusal.Refusal.TheVariants as names
+use Rattle.rs_store.specs.declared.reading.Status.{Status}
+use Rattle.rs_script.specs.declared.refusal.Refusal.{Refusal}
+use Rattle.rs_script.specs.declared.refusal.Refusal.TheVariants.{BadLine, LongLine, BadMoment, BadName, BadHex, BadType, NoSuchDocument, Source, NoMemory}
+use Rattle.rs_script.specs.Session.{Outcome, moment_set, replied, shown, counted, refused}
+
+-- a moment, and the end of the line
+abbrev pub moment_end : ℕ → List ℕ
+moment_end t = moment_text t ++ 10 ∷ []
+
+abbrev pub reply_text : Reply → List ℕ
+reply_text (Created t) = codes "created " ++ moment_end t
+reply_text (Updated t) = codes "updated " ++ moment_end t
+reply_text (Deleted t) = codes "deleted " ++ moment_end t
+reply_text (Published number t) = (codes "published " ++ (decimal number ++ codes " ")) ++ moment_end t
+
+-- the name of a refusal of the source
+abbrev pub source_word : stored.Refusal → List ℕ
+source_word names.Closed = codes "Closed"
+source_word names.TooLong = codes "TooLong"
+source_word names.NotHeld = codes "NotHeld"
+source_word names.TooManyResources = codes "TooManyResources"
+source_word names.TooManyChanges = codes "TooManyChanges"
+source_word names.Exhausted = codes "Exhausted"
+source_word names.Full = codes "Full"
+source_word names.ReadFault = codes "ReadFault"
+source_word names.ShortBody = codes "ShortBody"
+source_word names.Device = codes "Device"
+source_word names.Damaged = codes "Damaged"
+source_word names.NoMemory = codes "NoMemory"
+
+abbrev pub word_of : Refusal → List ℕ
+word_of BadLine = codes "BadLine"
+word_of LongLine = codes "LongLine"
+word_of BadMoment = codes "BadMoment"
+word_of BadName = codes "BadName"
+word_of BadHex = codes "BadHex"
+word_of BadType = codes "BadType"
+word_of NoSuchDocument = codes "NoSuchDocument"
+word_of (Source refusal) = source_word refusal
+word_of NoMemory = codes "NoMemory"
+
+-- bytes, after their number
+abbrev pub shown_text : List ℕ → List ℕ
+shown_text bytes = (codes "bytes " ++ (decimal (length bytes) ++ codes "\n")) ++ (bytes ++ 10 ∷ [])
+
+abbrev pub status_text : Status → List ℕ
+status_text s =
+    (codes "resources " ++ (decimal s.resources ++ (codes " changes " ++ (decimal s.changes ++ (codes " publication " ++ (decimal s.publication ++ codes " last "))))))
+    ++ moment_end s.last
+
+-- what is written of an outcome
+abbrev pub outcome_text : Outcome → List ℕ
+outcome_text moment_set = codes "ok\n"
+outcome_text (replied reply) = reply_text reply
+outcome_text (shown bytes) = shown_text bytes
+outcome_text (counted status) = status_text status
+outcome_text (refused refusal) = codes "refused " ++ (word_of refusal ++ codes "\n")
+
+-- what is written of a run of them
+abbrev pub output_of : List Outcome → List ℕ
+output_of outcomes = flat_map outcome_text outcomes

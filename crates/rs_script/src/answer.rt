@@ -1,0 +1,122 @@
+//! The texts of answers.
+
+ghost use Rattle.std.specs.Prelude.{◌≡◌, ◌++◌, OnOk, OnErr, IsTrue};
+ghost use Rattle.std.specs.Io.KnownBytes.{Appends};
+ghost use Rattle.rs_io.specs.Watch.{watched, has_failed};
+ghost use Rattle.rs_script.specs.Answers.{moment_end, reply_text, status_text, outcome_text, word_of, source_word};
+ghost use Rattle.rs_script.specs.Session.{refused};
+
+use crate::refusal::Refusal;
+use rs_io::{Watched, WriteFault};
+use rs_model::Reply;
+use rs_store::Status;
+use rs_time::Moment;
+use std::io::Write;
+
+/// The name of a refusal of the source.
+fn source_name(refusal: rs_store::Refusal) -> &'static str
+    ensures { result.now ≡ source_word refusal }
+{
+    match refusal {
+        rs_store::Refusal::Closed => "Closed",
+        rs_store::Refusal::TooLong => "TooLong",
+        rs_store::Refusal::NotHeld => "NotHeld",
+        rs_store::Refusal::TooManyResources => "TooManyResources",
+        rs_store::Refusal::TooManyChanges => "TooManyChanges",
+        rs_store::Refusal::Exhausted => "Exhausted",
+        rs_store::Refusal::Full => "Full",
+        rs_store::Refusal::ReadFault => "ReadFault",
+        rs_store::Refusal::ShortBody => "ShortBody",
+        rs_store::Refusal::Device => "Device",
+        rs_store::Refusal::Damaged => "Damaged",
+        rs_store::Refusal::NoMemory => "NoMemory",
+    }
+}
+
+/// The name that stands after `refused ` in an answer.
+fn name_of(refusal: Refusal) -> &'static str
+    ensures { result.now ≡ word_of refusal }
+{
+    match refusal {
+        Refusal::BadLine => "BadLine",
+        Refusal::LongLine => "LongLine",
+        Refusal::BadMoment => "BadMoment",
+        Refusal::BadName => "BadName",
+        Refusal::BadHex => "BadHex",
+        Refusal::BadType => "BadType",
+        Refusal::NoSuchDocument => "NoSuchDocument",
+        Refusal::Source(refusal) => source_name(refusal),
+        Refusal::NoMemory => "NoMemory",
+    }
+}
+
+/// Writes the answer `refused NAME`.
+pub fn write_refusal<W: Write>(refusal: Refusal, writer: &mut Watched<W>) -> Result<(), WriteFault>
+    ensures ok { OnOk result (Appends (W.contents (watched writer.old)) (W.contents (watched writer.new)) (outcome_text (refused refusal))) }
+    ensures failed { OnErr result (IsTrue (has_failed writer.new)) }
+{
+    let name = name_of(refusal);
+    writer.put_text(format_args!("refused {name}\n"))
+}
+
+/// Writes the text of a moment and the end of the line.
+fn write_moment<W: Write>(moment: Moment, writer: &mut Watched<W>) -> Result<(), WriteFault>
+    ensures ok { OnOk result (Appends (W.contents (watched writer.old)) (W.contents (watched writer.new)) (moment_end moment)) }
+    ensures failed { OnErr result (IsTrue (has_failed writer.new)) }
+{
+    writer.put(&moment.text())?;
+    writer.put(b"\n")
+}
+
+/// Writes a word, the text of a moment and the end of the line.
+fn write_word<W: Write>(
+    word: &[u8],
+    moment: Moment,
+    writer: &mut Watched<W>,
+) -> Result<(), WriteFault>
+    ensures ok { OnOk result (Appends (W.contents (watched writer.old)) (W.contents (watched writer.new)) (word.now ++ moment_end moment)) }
+    ensures failed { OnErr result (IsTrue (has_failed writer.new)) }
+{
+    writer.put(word)?;
+    write_moment(moment, writer)
+}
+
+/// Writes the answer of a publication.
+fn write_published<W: Write>(
+    number: u64,
+    moment: Moment,
+    writer: &mut Watched<W>,
+) -> Result<(), WriteFault>
+    ensures ok { OnOk result (Appends (W.contents (watched writer.old)) (W.contents (watched writer.new)) (reply_text (Reply.Published number moment))) }
+    ensures failed { OnErr result (IsTrue (has_failed writer.new)) }
+{
+    writer.put_text(format_args!("published {number} "))?;
+    write_moment(moment, writer)
+}
+
+/// Writes the answer of an accepted command.
+pub fn write_reply<W: Write>(reply: Reply, writer: &mut Watched<W>) -> Result<(), WriteFault>
+    ensures ok { OnOk result (Appends (W.contents (watched writer.old)) (W.contents (watched writer.new)) (reply_text reply)) }
+    ensures failed { OnErr result (IsTrue (has_failed writer.new)) }
+{
+    match reply {
+        Reply::Created(moment) => write_word(b"created ", moment, writer),
+        Reply::Updated(moment) => write_word(b"updated ", moment, writer),
+        Reply::Deleted(moment) => write_word(b"deleted ", moment, writer),
+        Reply::Published(number, moment) => write_published(number, moment, writer),
+    }
+}
+
+/// Writes the answer of `status`.
+pub fn write_status<W: Write>(status: Status, writer: &mut Watched<W>) -> Result<(), WriteFault>
+    ensures ok { OnOk result (Appends (W.contents (watched writer.old)) (W.contents (watched writer.new)) (status_text status)) }
+    ensures failed { OnErr result (IsTrue (has_failed writer.new)) }
+{
+    let resources = status.resources;
+    let changes = status.changes;
+    let publication = status.publication;
+    writer.put_text(format_args!(
+        "resources {resources} changes {changes} publication {publication} last "
+    ))?;
+    write_moment(status.last, writer)
+}

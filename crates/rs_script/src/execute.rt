@@ -1,0 +1,157 @@
+//! One line: what it asks for is asked of the source, and its answer is written.
+
+ghost use Rattle.std.specs.Prelude.{Ok, OnOk, OnErr, IsTrue};
+ghost use Rattle.std.specs.Io.KnownBytes.{Appends};
+ghost use Rattle.rs_io.specs.Watch.{watched, has_failed};
+ghost use Rattle.rs_store.specs.Answered.{Answers};
+ghost use Rattle.rs_script.specs.Progress.{RequestAnswers};
+ghost use Rattle.rs_script.specs.Requests.{request_of};
+ghost use Rattle.rs_script.specs.Session.{session};
+ghost use Rattle.rs_script.specs.declared.request.Request.TheVariants.{Run, Document, Body as Shown, Status as Counted};
+
+use crate::answer::{write_refusal, write_reply, write_status};
+use crate::refusal::Refusal;
+use crate::request::{Request, parse_request};
+use crate::show::{write_shown, write_shown_document};
+use rs_caps::document_length;
+use rs_disk::Disk;
+use rs_io::{Watched, WriteFault};
+use rs_lists::Doc;
+use rs_model::{Command, Reply};
+use rs_record::Name;
+use rs_store::Source;
+use rs_time::Moment;
+use std::alloc::Global;
+use std::io::Write;
+
+/// Asks a command of the source.
+fn ask<D: Disk>(
+    source: &mut Source<D>,
+    command: &Command,
+    now: Moment,
+) -> Result<Reply, rs_store::Refusal>
+    ensures { Answers D.state source.old source.new command.now now result }
+{
+    match command {
+        Command::Put { name, kind, bytes } => source.put(name, kind, bytes.bytes(), now),
+        Command::Delete { name } => source.delete(name, now),
+        Command::Publish => source.publish(now),
+    }
+}
+
+/// Answers `put`, `delete` or `publish`.
+fn run_command<D: Disk, W: Write>(
+    source: &mut Source<D>,
+    command: &Command,
+    now: Moment,
+    writer: &mut Watched<W>,
+) -> Result<(), WriteFault>
+    ensures answered { RequestAnswers D.state (session source.old now) (Ok (Run command.now)) (session source.new now)
+        (λ text. OnOk result (Appends (W.contents (watched writer.old)) (W.contents (watched writer.new)) text)) }
+    ensures failed { OnErr result (IsTrue (has_failed writer.new)) }
+{
+    match ask(source, command, now) {
+        Ok(reply) => write_reply(reply, writer),
+        Err(refusal) => write_refusal(Refusal::Source(refusal), writer),
+    }
+}
+
+/// Answers `show PATH` of a document.
+fn show_document<D: Disk, W: Write>(
+    source: &Source<D>,
+    doc: Doc,
+    now: Moment,
+    writer: &mut Watched<W>,
+) -> Result<(), WriteFault>
+    ensures answered { RequestAnswers D.state (session source.now now) (Ok (Document doc)) (session source.now now)
+        (λ text. OnOk result (Appends (W.contents (watched writer.old)) (W.contents (watched writer.new)) text)) }
+    ensures failed { OnErr result (IsTrue (has_failed writer.new)) }
+{
+    let view = match source.view() {
+        Ok(view) => view,
+        Err(refusal) => return write_refusal(Refusal::Source(refusal), writer),
+    };
+    match document_length(&view, doc) {
+        Some(length) => write_shown_document(&view, doc, length, writer),
+        None => write_refusal(Refusal::NoSuchDocument, writer),
+    }
+}
+
+/// Answers `show /resource/NAME`.
+fn show_body<D: Disk, W: Write>(
+    source: &mut Source<D>,
+    name: &Name,
+    now: Moment,
+    writer: &mut Watched<W>,
+) -> Result<(), WriteFault>
+    ensures answered { RequestAnswers D.state (session source.old now) (Ok (Shown name.now)) (session source.new now)
+        (λ text. OnOk result (Appends (W.contents (watched writer.old)) (W.contents (watched writer.new)) text)) }
+    ensures failed { OnErr result (IsTrue (has_failed writer.new)) }
+{
+    match source.body(name) {
+        Ok(bytes) => write_shown(bytes.as_slice(), writer),
+        Err(refusal) => write_refusal(Refusal::Source(refusal), writer),
+    }
+}
+
+/// Answers `status`.
+fn show_status<D: Disk, W: Write>(
+    source: &Source<D>,
+    now: Moment,
+    writer: &mut Watched<W>,
+) -> Result<(), WriteFault>
+    ensures answered { RequestAnswers D.state (session source.now now) (Ok Counted) (session source.now now)
+        (λ text. OnOk result (Appends (W.contents (watched writer.old)) (W.contents (watched writer.new)) text)) }
+    ensures failed { OnErr result (IsTrue (has_failed writer.new)) }
+{
+    match source.status() {
+        Ok(status) => write_status(status, writer),
+        Err(refusal) => write_refusal(Refusal::Source(refusal), writer),
+    }
+}
+
+/// Answers a request. An `at` changes `now`, the moment at which commands come.
+fn answer_request<D: Disk, W: Write>(
+    source: &mut Source<D>,
+    now: &mut Moment,
+    request: Request,
+    writer: &mut Watched<W>,
+) -> Result<(), WriteFault>
+    ensures answered { RequestAnswers D.state (session source.old now.old) (Ok request) (session source.new now.new)
+        (λ text. OnOk result (Appends (W.contents (watched writer.old)) (W.contents (watched writer.new)) text)) }
+    ensures failed { OnErr result (IsTrue (has_failed writer.new)) }
+{
+    match request {
+        Request::At(moment) => {
+            *now = moment;
+            writer.put(b"ok\n")
+        }
+        Request::Run(command) => run_command(source, &command, *now, writer),
+        Request::Document(doc) => show_document(source, doc, *now, writer),
+        Request::Body(name) => show_body(source, &name, *now, writer),
+        Request::Status => show_status(source, *now, writer),
+    }
+}
+
+/// Answers `line`, which is no longer than a line may be. An `at` changes `now`, the moment at
+/// which commands come.
+///
+/// # Errors
+///
+/// [`WriteFault`] where the answer is not written whole. What the line asked for is done.
+pub fn answer_line<D: Disk, W: Write>(
+    alloc: Global,
+    source: &mut Source<D>,
+    now: &mut Moment,
+    line: &[u8],
+    writer: &mut Watched<W>,
+) -> Result<(), WriteFault>
+    ensures answered { RequestAnswers D.state (session source.old now.old) (request_of line.now) (session source.new now.new)
+        (λ text. OnOk result (Appends (W.contents (watched writer.old)) (W.contents (watched writer.new)) text)) }
+    ensures failed { OnErr result (IsTrue (has_failed writer.new)) }
+{
+    match parse_request(alloc, line) {
+        Ok(request) => answer_request(source, now, request, writer),
+        Err(refusal) => write_refusal(refusal, writer),
+    }
+}

@@ -1,0 +1,23 @@
+//! The script engine of a ResourceSync source (ANSI/NISO Z39.99-2017).
+//!
+//! A script is read line by line: each line asks something of a source, and is answered on the output.
+#![tactic(auto)]
+
+mod answer;
+mod bytes;
+mod decimal;
+mod engine;
+mod execute;
+pub mod laws;
+mod line;
+mod memory;
+mod refusal;
+mod request;
+mod show;
+#[cfg(test)]
+mod tests;
+
+pub use decimal::number;
+pub use engine::{ScriptFault, first_moment, script};
+pub use memory::script_bytes;
+pub use refusal::Refusal;
