@@ -8,6 +8,8 @@
 SCRIPT ?= examples/first.script
 BASE ?= http://127.0.0.1:8080
 RT ?= rt
+# How many checks go side by side in the gate: one a processor, with 4 GB of free memory for each.
+LANES ?= $(shell awk -v processors=$$(nproc) '/^MemAvailable:/ { fit = int($$2 / 4000000); print fit < 1 ? 1 : fit < processors ? fit : processors }' /proc/meminfo)
 SHELL := /bin/bash
 .SHELLFLAGS := -o pipefail -c
 
@@ -20,7 +22,7 @@ demo:
 
 # The tour asks the program that the gate has proved and built; the gate's last line is told again at the end.
 test: documents proofs-by-hand
-	@log=$$(mktemp) && trap 'rm -f $$log' EXIT && $(RT) ci | tee $$log && python3 examples/check_tour.py && tail -n 1 $$log
+	@log=$$(mktemp) && trap 'rm -f $$log' EXIT && RT_JOBS=$(LANES) $(RT) ci | tee $$log && python3 examples/check_tour.py && tail -n 1 $$log
 
 # The proved program; its path is printed.
 build:

@@ -4,47 +4,114 @@ use rs_lists::{Doc, ListError, View};
 use rs_model::{Body, Command, State};
 use rs_record::{Base, MediaType, Name};
 use rs_time::Moment;
-use std::alloc::Global;
 use std::io;
 use std::io::{ErrorKind, Write};
+use std::process::Abort;
 use std::test::Fail;
 
 const BASE: &[u8] = b"http://127.0.0.1:8080";
 
-fn start(alloc: Global) -> Result<State, Fail> {
+// What is done to a source, or seen of the document at a path.
+enum Step {
+    Put(&'static [u8]),
+    Publish,
+    See(&'static [u8], Seen),
+    SeeNone(&'static [u8]),
+}
+
+// What a document is seen to have.
+enum Seen {
+    Text(&'static [u8]),
+    Length(usize),
+    Words(&'static [u8]),
+    NoWords(&'static [u8]),
+}
+
+// A formatted source with an item limit of 2.
+fn start(rt: &impl AllocGlobal) -> Result<State, Fail> {
     let moment = Moment::new(0).ok_or("no moment")?;
-    Ok(State::start(alloc, Base::new(alloc, BASE)?, 2, moment))
+    Ok(State::start(rt.alloc(), Base::new(rt.alloc(), BASE)?, 2, moment))
 }
 
-fn put(alloc: Global, state: &mut State, name: &[u8]) -> Result<(), Fail> {
-    let command = Command::Put {
-        name: Name::new(alloc, name)?,
-        kind: MediaType::new(alloc, b"text/plain")?,
-        bytes: Body::new(Vec::new(alloc)),
-    };
-    apply(alloc, state, command)
-}
-
-fn apply(alloc: Global, state: &mut State, command: Command) -> Result<(), Fail> {
+fn apply(rt: &impl AllocGlobal, state: &mut State, command: Command) -> Result<(), Fail> {
     let now = Moment::new(0).ok_or("no moment")?;
-    state.apply(alloc, command, now)?;
+    state.apply(rt.alloc(), command, now)?;
     Ok(())
 }
 
+fn put(rt: &impl AllocGlobal, state: &mut State, name: &[u8]) -> Result<(), Fail> {
+    let command = Command::Put {
+        name: Name::new(rt.alloc(), name)?,
+        kind: MediaType::new(rt.alloc(), b"text/plain")?,
+        bytes: Body::new(Vec::new(rt.alloc())),
+    };
+    apply(rt, state, command)
+}
+
 // The text of the document at a path, or the error.
-fn text(alloc: Global, state: &State, path: &[u8]) -> Result<Result<Vec<u8>, ListError>, Fail> {
+fn text(
+    rt: &impl AllocGlobal,
+    view: &StateView<'_>,
+    path: &[u8],
+) -> Result<Result<Vec<u8>, ListError>, Fail> {
     let doc = doc_of(path).ok_or("no path")?;
-    let view = StateView::new(alloc, state)?;
-    let mut out = Watched::new(Vec::new(alloc));
-    if let Err(error) = write_document(&view, doc, &mut out) {
-        return Ok(Err(error));
+    let mut out = Watched::new(Vec::new(rt.alloc()));
+    match write_document(view, doc, &mut out) {
+        Ok(()) => Ok(Ok(out.into_inner())),
+        Err(error) => Ok(Err(error)),
     }
-    Ok(Ok(out.into_inner()))
 }
 
 fn has(text: &[u8], words: &[u8]) -> bool {
     text.windows(words.len().max(1))
         .any(|window| window == words)
+}
+
+fn is_seen(rt: &impl Abort, written: &[u8], seen: &Seen) {
+    match seen {
+        Seen::Text(text) => assert_eq!(rt; written, *text),
+        Seen::Length(bytes) => assert_eq!(rt; written.len(), *bytes),
+        Seen::Words(words) => assert!(rt; has(written, words)),
+        Seen::NoWords(words) => assert!(rt; !has(written, words)),
+    }
+}
+
+fn look(rt: &(impl Abort + AllocGlobal), view: &StateView<'_>, step: &Step) -> Result<(), Fail> {
+    match step {
+        Step::Put(_) | Step::Publish => {}
+        Step::See(path, seen) => {
+            let written = text(rt, view, path)??;
+            is_seen(rt, &written, seen);
+        }
+        Step::SeeNone(path) => {
+            assert_eq!(rt; text(rt, view, path)?, Err(ListError::NoSuchDocument));
+        }
+    }
+    Ok(())
+}
+
+fn follow(rt: &(impl Abort + AllocGlobal), state: &mut State, step: &Step) -> Result<(), Fail> {
+    match step {
+        Step::Put(name) => put(rt, state, name),
+        Step::Publish => apply(rt, state, Command::Publish),
+        _ => look(rt, &StateView::new(rt.alloc(), state)?, step),
+    }
+}
+
+fn follow_all(
+    rt: &(impl Abort + AllocGlobal),
+    state: &mut State,
+    steps: &[Step],
+) -> Result<(), Fail> {
+    for step in steps {
+        follow(rt, state, step)?;
+    }
+    Ok(())
+}
+
+fn is_so(rt: &(impl Abort + AllocGlobal), steps: &[Step]) -> Result<(), Fail> {
+    let mut state = start(rt)?;
+    follow_all(rt, &mut state, steps)
 }
 
 #[test]
@@ -103,125 +170,122 @@ fn other_paths_are_no_documents(rt: HostRuntime) {
     }
 }
 
-// The lengths that stand in the worked examples, at the formatted source.
-#[test]
-fn a_formatted_source_has_four_documents(rt: HostRuntime) -> Result<(), Fail> {
-    let alloc = rt.alloc();
-    let state = start(alloc)?;
-    let rows: [(&[u8], usize); 3] = [
-        (b"/resourcelist.xml", 290),
-        (b"/.well-known/resourcesync", 292),
-        (b"/capabilitylist.xml", 454),
-    ];
-    for (path, length) in rows {
-        let written = text(alloc, &state, path)??;
-        assert_eq!(rt; written.len(), length);
-    }
-    let list = text(alloc, &state, b"/resourcelist.xml")??;
-    assert_eq!(rt;
-        list.as_slice(),
-        b"<?xml version=\"1.0\" encoding=\"UTF-8\"?>
+// The lengths that stand in the worked examples, and the texts.
+const FORMATTED: [Step; 6] = [
+    Step::See(b"/resourcelist.xml", Seen::Length(290)),
+    Step::See(b"/.well-known/resourcesync", Seen::Length(292)),
+    Step::See(b"/capabilitylist.xml", Seen::Length(454)),
+    Step::See(
+        b"/resourcelist.xml",
+        Seen::Text(
+            b"<?xml version=\"1.0\" encoding=\"UTF-8\"?>
 <urlset xmlns=\"http://www.sitemaps.org/schemas/sitemap/0.9\" xmlns:rs=\"http://www.openarchives.org/rs/terms/\">
 <rs:ln rel=\"up\" href=\"http://127.0.0.1:8080/capabilitylist.xml\"/>
 <rs:md capability=\"resourcelist\" at=\"1970-01-01T00:00:00.000Z\"/>
 </urlset>
-"
-            .as_slice()
-    );
-    let description = text(alloc, &state, b"/.well-known/resourcesync")??;
-    assert_eq!(rt;
-        description.as_slice(),
-        b"<?xml version=\"1.0\" encoding=\"UTF-8\"?>
+",
+        ),
+    ),
+    Step::See(
+        b"/.well-known/resourcesync",
+        Seen::Text(
+            b"<?xml version=\"1.0\" encoding=\"UTF-8\"?>
 <urlset xmlns=\"http://www.sitemaps.org/schemas/sitemap/0.9\" xmlns:rs=\"http://www.openarchives.org/rs/terms/\">
 <rs:md capability=\"description\"/>
 <url><loc>http://127.0.0.1:8080/capabilitylist.xml</loc><rs:md capability=\"capabilitylist\"/></url>
 </urlset>
-"
-            .as_slice()
-    );
-    let capabilities = text(alloc, &state, b"/capabilitylist.xml")??;
-    assert_eq!(rt;
-        capabilities.as_slice(),
-        b"<?xml version=\"1.0\" encoding=\"UTF-8\"?>
+",
+        ),
+    ),
+    Step::See(
+        b"/capabilitylist.xml",
+        Seen::Text(
+            b"<?xml version=\"1.0\" encoding=\"UTF-8\"?>
 <urlset xmlns=\"http://www.sitemaps.org/schemas/sitemap/0.9\" xmlns:rs=\"http://www.openarchives.org/rs/terms/\">
 <rs:ln rel=\"up\" href=\"http://127.0.0.1:8080/.well-known/resourcesync\"/>
 <rs:md capability=\"capabilitylist\"/>
 <url><loc>http://127.0.0.1:8080/resourcelist.xml</loc><rs:md capability=\"resourcelist\"/></url>
 <url><loc>http://127.0.0.1:8080/changelist.xml</loc><rs:md capability=\"changelist\"/></url>
 </urlset>
-"
-            .as_slice()
-    );
-    Ok(())
+",
+        ),
+    ),
+];
+
+#[test]
+fn a_formatted_source_has_these_documents(rt: HostRuntime) -> Result<(), Fail> {
+    is_so(&rt, &FORMATTED)
 }
 
-// Put a, b, publish, put c, publish, put d, publish, put e, publish, at an item limit of 2.
+const PARTS: [Step; 19] = [
+    Step::Put(b"a"),
+    Step::Put(b"b"),
+    // two changes are one open list
+    Step::See(b"/changelist.xml", Seen::Words(b"<urlset")),
+    Step::SeeNone(b"/changelist/0.xml"),
+    Step::Publish,
+    Step::Put(b"c"),
+    Step::See(
+        b"/changelist.xml",
+        Seen::Words(
+            b"<loc>http://127.0.0.1:8080/changelist/0.xml</loc><rs:md from=\"1970-01-01T00:00:00.000Z\" until=\"1970-01-01T00:00:00.002Z\"/>",
+        ),
+    ),
+    Step::See(
+        b"/changelist.xml",
+        Seen::Words(
+            b"<loc>http://127.0.0.1:8080/changelist/1.xml</loc><rs:md from=\"1970-01-01T00:00:00.002Z\"/>",
+        ),
+    ),
+    Step::Publish,
+    Step::See(
+        b"/resourcelist.xml",
+        Seen::Words(
+            b"<sitemap><loc>http://127.0.0.1:8080/resourcelist/2/0.xml</loc><rs:md at=\"1970-01-01T00:00:00.005Z\"/></sitemap>",
+        ),
+    ),
+    Step::Put(b"d"),
+    Step::Publish,
+    Step::SeeNone(b"/resourcelist/2/0.xml"),
+    Step::Put(b"e"),
+    Step::Publish,
+    Step::See(b"/resourcelist/4/2.xml", Seen::Words(b"/resource/e</loc>")),
+    Step::See(
+        b"/resourcelist/4/2.xml",
+        Seen::NoWords(b"/resource/d</loc>"),
+    ),
+    Step::See(b"/resourcelist/4/1.xml", Seen::Words(b"/resource/d</loc>")),
+    Step::SeeNone(b"/resourcelist/4/3.xml"),
+];
+
 #[test]
 fn parts_come_and_go_with_publications(rt: HostRuntime) -> Result<(), Fail> {
-    let alloc = rt.alloc();
-    let mut state = start(alloc)?;
-    put(alloc, &mut state, b"a")?;
-    put(alloc, &mut state, b"b")?;
-    let open = text(alloc, &state, b"/changelist.xml")??;
-    assert!(rt;
-        has(open.as_slice(), b"<urlset"),
-        "two changes are one open list"
-    );
-    assert_eq!(rt;
-        text(alloc, &state, b"/changelist/0.xml")?,
-        Err(ListError::NoSuchDocument)
-    );
-    apply(alloc, &mut state, Command::Publish)?;
-    put(alloc, &mut state, b"c")?;
-    let index = text(alloc, &state, b"/changelist.xml")??;
-    assert!(rt;
-        has(
-            index.as_slice(),
-            b"<loc>http://127.0.0.1:8080/changelist/0.xml</loc><rs:md from=\"1970-01-01T00:00:00.000Z\" until=\"1970-01-01T00:00:00.002Z\"/>"
-        )
-    );
-    assert!(rt;
-        has(
-            index.as_slice(),
-            b"<loc>http://127.0.0.1:8080/changelist/1.xml</loc><rs:md from=\"1970-01-01T00:00:00.002Z\"/>"
-        )
-    );
-    apply(alloc, &mut state, Command::Publish)?;
-    let second = text(alloc, &state, b"/resourcelist.xml")??;
-    assert!(rt;
-        has(
-            second.as_slice(),
-            b"<sitemap><loc>http://127.0.0.1:8080/resourcelist/2/0.xml</loc><rs:md at=\"1970-01-01T00:00:00.005Z\"/></sitemap>"
-        )
-    );
-    put(alloc, &mut state, b"d")?;
-    apply(alloc, &mut state, Command::Publish)?;
-    assert_eq!(rt;
-        text(alloc, &state, b"/resourcelist/2/0.xml")?,
-        Err(ListError::NoSuchDocument)
-    );
-    put(alloc, &mut state, b"e")?;
-    apply(alloc, &mut state, Command::Publish)?;
-    let last = text(alloc, &state, b"/resourcelist/4/2.xml")??;
-    assert!(rt;
-        has(last.as_slice(), b"/resource/e</loc>") && !has(last.as_slice(), b"/resource/d</loc>")
-    );
-    assert_eq!(rt;
-        text(alloc, &state, b"/resourcelist/4/3.xml")?,
-        Err(ListError::NoSuchDocument)
-    );
+    is_so(&rt, &PARTS)
+}
+
+const QUOTED: [Step; 4] = [
+    Step::Put(b"a"),
+    Step::Put(b"o'k"),
+    Step::Put(b"x&y"),
+    Step::Publish,
+];
+
+// Looks at the length of the document at a path.
+fn is_measured(
+    rt: &(impl Abort + AllocGlobal),
+    view: &StateView<'_>,
+    path: &[u8],
+) -> Result<(), Fail> {
+    let doc = doc_of(path).ok_or("no path")?;
+    let length = document_length(view, doc);
+    match text(rt, view, path)? {
+        Ok(written) => assert_eq!(rt; length, Some(written.len() as u64), "of {doc:?}"),
+        Err(_) => assert_eq!(rt; length, None, "of {doc:?}"),
+    }
     Ok(())
 }
 
-#[test]
-fn lengths_are_those_of_the_texts(rt: HostRuntime) -> Result<(), Fail> {
-    let alloc = rt.alloc();
-    let mut state = start(alloc)?;
-    let names: [&[u8]; 3] = [b"a", b"o'k", b"x&y"];
-    for name in names {
-        put(alloc, &mut state, name)?;
-    }
-    apply(alloc, &mut state, Command::Publish)?;
+fn are_measured(rt: &(impl Abort + AllocGlobal), view: &StateView<'_>) -> Result<(), Fail> {
     let paths: [&[u8]; 9] = [
         b"/.well-known/resourcesync",
         b"/capabilitylist.xml",
@@ -234,24 +298,25 @@ fn lengths_are_those_of_the_texts(rt: HostRuntime) -> Result<(), Fail> {
         b"/changelist/2.xml",
     ];
     for path in paths {
-        let doc = doc_of(path).ok_or("no path")?;
-        let length = document_length(&StateView::new(alloc, &state)?, doc);
-        match text(alloc, &state, path)? {
-            Ok(written) => assert_eq!(rt; length, Some(written.len() as u64), "of {doc:?}"),
-            Err(_) => assert_eq!(rt; length, None, "of {doc:?}"),
-        }
+        is_measured(rt, view, path)?;
     }
     Ok(())
 }
 
+fn lengths_are_right(rt: &(impl Abort + AllocGlobal), state: &mut State) -> Result<(), Fail> {
+    follow_all(rt, state, &QUOTED)?;
+    are_measured(rt, &StateView::new(rt.alloc(), state)?)
+}
+
 #[test]
-fn a_view_shows_its_state(rt: HostRuntime) -> Result<(), Fail> {
-    let alloc = rt.alloc();
-    let mut state = start(alloc)?;
-    put(alloc, &mut state, b"a")?;
-    apply(alloc, &mut state, Command::Publish)?;
-    put(alloc, &mut state, b"b")?;
-    let view = StateView::new(alloc, &state)?;
+fn lengths_are_those_of_the_texts(rt: HostRuntime) -> Result<(), Fail> {
+    let mut state = start(&rt)?;
+    lengths_are_right(&rt, &mut state)
+}
+
+const SHOWN: [Step; 3] = [Step::Put(b"a"), Step::Publish, Step::Put(b"b")];
+
+fn is_shown(rt: &impl Abort, view: &StateView<'_>) {
     assert_eq!(rt; view.base().bytes(), BASE);
     assert_eq!(rt; (view.limit(), view.number(), view.first()), (2, 1, 0));
     assert_eq!(rt; (view.start().ms(), view.at().ms()), (0, 2));
@@ -260,7 +325,18 @@ fn a_view_shows_its_state(rt: HostRuntime) -> Result<(), Fail> {
     assert_eq!(rt; view.published(0).moment.ms(), 1);
     assert_eq!(rt; view.changes_len(), 2);
     assert_eq!(rt; view.change(1).name.bytes(), b"b".as_slice());
+}
+
+fn shows_its_state(rt: &(impl Abort + AllocGlobal), state: &mut State) -> Result<(), Fail> {
+    follow_all(rt, state, &SHOWN)?;
+    is_shown(rt, &StateView::new(rt.alloc(), state)?);
     Ok(())
+}
+
+#[test]
+fn a_view_shows_its_state(rt: HostRuntime) -> Result<(), Fail> {
+    let mut state = start(&rt)?;
+    shows_its_state(&rt, &mut state)
 }
 
 /// A writer that takes nothing.
@@ -277,11 +353,23 @@ impl Write for Full {
     }
 }
 
-#[test]
-fn a_full_writer_is_a_fault(rt: HostRuntime) -> Result<(), Fail> {
-    let alloc = rt.alloc();
-    let state = start(alloc)?;
-    let view = StateView::new(alloc, &state)?;
+// A document, and its path, end at a writer that takes nothing.
+fn is_a_fault(rt: &impl Abort, view: &StateView<'_>, doc: Doc) {
+    let mut out = Watched::new(Full);
+    assert_eq!(rt;
+        write_document(view, doc, &mut out),
+        Err(ListError::WriteFault),
+        "at {doc:?}"
+    );
+    assert!(rt; out.has_failed());
+    let mut out = Watched::new(Full);
+    assert!(rt;
+        write_path(doc, &mut out).is_err() && out.has_failed(),
+        "at {doc:?}"
+    );
+}
+
+fn are_faults(rt: &impl Abort, view: &StateView<'_>) {
     let docs = [
         Doc::Description,
         Doc::Capabilities,
@@ -289,18 +377,14 @@ fn a_full_writer_is_a_fault(rt: HostRuntime) -> Result<(), Fail> {
         Doc::ChangeHead,
     ];
     for doc in docs {
-        let mut out = Watched::new(Full);
-        assert_eq!(rt;
-            write_document(&view, doc, &mut out),
-            Err(ListError::WriteFault),
-            "at {doc:?}"
-        );
-        assert!(rt; out.has_failed());
-        let mut out = Watched::new(Full);
-        assert!(rt;
-            write_path(doc, &mut out).is_err() && out.has_failed(),
-            "at {doc:?}"
-        );
+        is_a_fault(rt, view, doc);
     }
+}
+
+#[test]
+fn a_full_writer_is_a_fault(rt: HostRuntime) -> Result<(), Fail> {
+    let state = start(&rt)?;
+    let view = StateView::new(rt.alloc(), &state)?;
+    are_faults(&rt, &view);
     Ok(())
 }
