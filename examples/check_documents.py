@@ -1,8 +1,7 @@
 #!/usr/bin/env python3
 """Reads what the program publishes with tools that are not ours.
 
-Runs a script of a few hundred commands through the program (built the quick, unproved way), shows every document
-several times on the way, and checks each of them:
+Runs a script of a few hundred commands through the proved program (`make build`), shows every document several times on the way, and checks each of them:
   - xmllint --noout, where it is installed, and Python's xml.etree read it without complaint;
   - a destination written here in Python gathers the Resource List (through its index, where there is one) and the
     Change List, applies the changes after the list's `at`, and has then exactly the resources that a model written
@@ -20,6 +19,7 @@ import tempfile
 import xml.etree.ElementTree as ElementTree
 
 ROOT = pathlib.Path(__file__).resolve().parent.parent
+PROGRAM = ROOT / "crates" / "rs_source" / "out" / "rs_source"
 BASE = "http://127.0.0.1:8080"
 LIMIT = 5
 # The bytes of the disk: room for some hundred changes and resources.
@@ -53,7 +53,7 @@ def facts(body, kind):
 
 def script(seed, count):
     """Commands as lists of words: put, delete and publish in a fixed random order."""
-    # Few names, so that they are often put again or deleted, and short bodies: the quick build prints at most 1 MiB.
+    # Few names, so that they are often put again or deleted and short bodies.
     rng = random.Random(seed)
     for _ in range(count):
         name = rng.choice(NAMES) + (str(rng.randrange(4)) if rng.random() < 0.7 else "")
@@ -68,13 +68,10 @@ def script(seed, count):
 
 
 def run(lines):
-    """The program's output for these lines, through the quick build."""
-    built = os.environ.get("RS_SOURCE")
-    command = [built] if built else ["rt", "try", "--seconds", "600", "--"]
+    """The program's output for these lines."""
     result = subprocess.run(
-        command + ["mem", str(SIZE), BASE, str(LIMIT)],
+        [PROGRAM, "mem", str(SIZE), BASE, str(LIMIT)],
         input="".join(line + "\n" for line in lines).encode(),
-        cwd=ROOT / "crates" / "rs_source",
         capture_output=True,
     )
     if result.returncode != 0:

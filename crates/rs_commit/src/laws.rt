@@ -1,7 +1,7 @@
 //! Laws of the root slots, over their definitions alone.
 //!
 //! Each function here does nothing: its contract is the law, which the check proves. Proofs cite
-//! the lemmas behind them, in `proofs/Rule.antt`, `proofs/Ready.antt` and `proofs/Payloads.antt`.
+//! the lemmas behind them, in `proofs/Ready.antt` and `proofs/Payloads.antt`.
 ghost use Rattle.rs_commit.specs.Laws.{OpensOnce, CurrentStays, OpensStays, ReadyStays, ReadyStands, ReadyOpens, PayloadsRead, FormattedStands};
 
 /// An image opens to at most one root.

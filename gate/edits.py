@@ -1,0 +1,149 @@
+#!/usr/bin/env python3
+"""Tries must-fail edits: wrong bodies, each of which the prover has to refuse by a goal of the function that it changes.
+
+usage: edits.py [--root FOLDER] [--jobs N] [--record] [CRATE..]     at the top of the repository, whose crates are proved
+
+An edit is a file crates/CRATE/must-fail/*.edit. Each function is proved against its own contract and those of what it
+calls, and never against another body. So edits of the bodies of different functions are tried in one check, and each is
+refused by an error or an open goal that the check reports of that very function. An edit that has none there, or that
+changes more than bodies, is checked again alone; where no function has a goal of its own left open then, it shows
+nothing of a contract, and counts as an error, like an edit that can't be applied or read, or that is proved.
+
+Prints a line for each edit. The last line is 'N refused, M not refused', and the status is 1 where M is not 0.
+With --record the file gate/record.txt is written for the crates of which every edit was refused.
+"""
+
+import argparse
+import os
+import shutil
+import sys
+import tempfile
+from concurrent.futures import ThreadPoolExecutor
+from dataclasses import dataclass
+from pathlib import Path
+
+import edit as edits_of_a_crate
+import kit
+import record
+import verdict
+from edit import Outcome
+
+
+@dataclass
+class Trial:
+    """The edits of one crate, tried in a copy of it over the work that its last check kept."""
+
+    root: str
+    name: str
+    uses: dict
+    home: Path
+    checks: int = 0
+
+    @property
+    def folder(self):
+        return f"{self.root}/crates/{self.name}"
+
+    def files(self):
+        return sorted(map(str, Path(self.folder, "must-fail").glob("*.edit")))
+
+    def check(self, room, texts):
+        """Checks the copy of the crate with these texts in place of its own, and reads what the prover told."""
+        self.checks += 1
+        kit.linked_copy(f"{room}/kept", f"{room}/work")
+        were = {path: Path(room, "crate", path).read_text() for path in texts}
+        for path, text in texts.items():
+            Path(room, "crate", path).write_text(text)
+        told = kit.check(kit.command(self.home, self.root, self.uses, self.name, f"{room}/work"), f"{room}/crate")
+        for path, text in were.items():
+            Path(room, "crate", path).write_text(text)
+        return told
+
+    def prepare(self, room):
+        """Copies the crate into the room, proves it there, and returns what the prover told."""
+        for part in ("src", "specs", "proofs"):
+            if os.path.isdir(f"{self.folder}/{part}"):
+                shutil.copytree(f"{self.folder}/{part}", f"{room}/crate/{part}")
+        kit.linked_copy(f"{self.folder}/out/incremental", f"{room}/kept")
+        told = self.check(room, {})
+        shutil.rmtree(f"{room}/kept")
+        os.rename(f"{room}/work", f"{room}/kept")
+        return told
+
+    def run(self):
+        """Tries the crate's edits, and returns them."""
+        edits = [edits_of_a_crate.read(self.name, it) for it in self.files()]
+        with tempfile.TemporaryDirectory(prefix="edits-") as room:
+            told = self.prepare(room)
+            symbols = verdict.proved(told)
+            for it in edits:
+                if not told.is_proved:
+                    it.judged(Outcome.NOT_TRIED, "the crate itself is not proved")
+                elif edits_of_a_crate.applied(it, self.folder) is None:
+                    it.judged(Outcome.NOT_APPLIED, "it has no pair of texts, or an 'old:' text is not in its file once")
+                else:
+                    it.symbols = edits_of_a_crate.touched(it, self.folder, symbols)
+            left = [it for it in edits if it.outcome is Outcome.NOT_TRIED and told.is_proved]
+            for members, texts in edits_of_a_crate.grouped([it for it in left if it.symbols], self.folder):
+                self.judge(members, self.check(room, texts))
+            for it in left:
+                if not it.is_refused:
+                    self.judge_alone(it, self.check(room, edits_of_a_crate.applied(it, self.folder)))
+        return edits
+
+    def judge(self, members, told):
+        """Takes those edits of a group as refused of whose own functions the check has an error or an open goal."""
+        found = verdict.read(self.name, told)
+        theirs = {symbol for it in members for symbol in it.symbols}
+        # An error of a function that none of them changes could come from any: then each is tried alone.
+        if found.is_read and {*found.own} <= theirs:
+            for it in members:
+                for symbol in sorted(it.symbols & {*found.own}):
+                    it.judged(Outcome.REFUSED, f"{symbol}: {found.own[symbol]}")
+
+    def judge_alone(self, it, told):
+        """Judges an edit by a check of it alone."""
+        found = verdict.read(self.name, told)
+        own = {symbol: text for symbol, text in found.own.items() if not it.symbols or symbol in it.symbols}
+        if found.is_proved:
+            it.judged(Outcome.PROVED, "the crate is still proved with it")
+        elif not found.is_read:
+            it.judged(Outcome.NOT_READ, f"it did not reach the prover: {found.first}")
+        elif not own:
+            it.judged(Outcome.NO_GOAL, f"no goal of what it changes is left open, so it shows nothing: {found.first}")
+        else:
+            symbol, text = next(iter(own.items()))
+            it.judged(Outcome.REFUSED, f"(alone) {symbol}: {text}")
+
+
+def try_crates(root, names, jobs):
+    """Tries the edits of these crates side by side, prints what came of each, and returns the edits by crate."""
+    home, uses = kit.folder(), kit.crates_of(root)
+    trials = [it for it in (Trial(root, name, uses, home) for name in names) if it.files()]
+    tried = {}
+    with ThreadPoolExecutor(jobs) as pool:
+        for trial, edits in zip(trials, pool.map(Trial.run, trials)):
+            tried[trial.name] = edits
+            for it in edits:
+                print(f"{it.outcome.value}: {it.label}: {it.why[:200]}")
+            print(f"-- {trial.name}: {len(edits)} edits by {trial.checks} checks", flush=True)
+    return tried
+
+
+def main():
+    words = argparse.ArgumentParser(description=__doc__, formatter_class=argparse.RawDescriptionHelpFormatter)
+    words.add_argument("--root", default=os.getcwd())
+    words.add_argument("--jobs", type=int, default=1)
+    words.add_argument("--record", action="store_true")
+    words.add_argument("crates", nargs="*")
+    given = words.parse_args()
+    tried = try_crates(given.root, given.crates or [*kit.crates_of(given.root)], given.jobs)
+    every = [it for edits in tried.values() for it in edits]
+    refused = sum(it.is_refused for it in every)
+    if given.record:
+        record.write(given.root, [name for name, edits in tried.items() if all(it.is_refused for it in edits)])
+    print(f"{refused} refused, {len(every) - refused} not refused")
+    return 1 if refused < len(every) else 0
+
+
+if __name__ == "__main__":
+    sys.exit(main())

@@ -1,0 +1,136 @@
+#!/usr/bin/env python3
+"""The gate of `make test`. Its last line is 'N passed, M failed', and its status is 1 where M is not 0.
+
+  - the toolchain's own run (`rt ci`) in a copy of the repository without must-fail edits: every proof from nothing, the
+    tests, and the program as two compilers build it;
+  - the must-fail edits of the crates that gate/record.txt does not cover as they stand, and of two more that the
+    commit's own hash picks (`make edits` tries all of them, and writes the record);
+  - on the program that the copy proved and built: the worked rows, the documents read by tools that are not ours, the
+    tour;
+  - the tests of the gate itself, and the list of proofs by hand.
+
+N counts crates, edits and the other parts. The minutes of a processor of each part are told before.
+"""
+
+import os
+import re
+import resource
+import shutil
+import subprocess
+import sys
+import tempfile
+import time
+from pathlib import Path
+
+import edits
+import record
+from meter import Meter
+
+ROOT = Path(__file__).resolve().parent.parent
+
+
+def copied(room):
+    """A copy of the repository's files as they stand, without must-fail edits. What git ignores is left out."""
+    listed = subprocess.run(["git", "ls-files", "-z", "--cached", "--others", "--exclude-standard"], cwd=ROOT, capture_output=True, check=True)
+    copy = Path(room, "copy")
+    for name in filter(None, listed.stdout.decode().split("\0")):
+        if (ROOT / name).is_file() and "/must-fail/" not in name:
+            (copy / name).parent.mkdir(parents=True, exist_ok=True)
+            shutil.copy2(ROOT / name, copy / name)
+    return copy
+
+
+def commit():
+    """The commit that stands, or nothing where there is none."""
+    return subprocess.run(["git", "rev-parse", "HEAD"], cwd=ROOT, capture_output=True, text=True).stdout.strip()
+
+
+class Parts:
+    """The parts of the gate: how many passed and failed, and what each took."""
+
+    def __init__(self):
+        self.passed, self.failed, self.rows = 0, [], []
+
+    def run(self, name, call):
+        """Runs a part, which gives how many passed and what failed."""
+        print(f"== {name}", flush=True)
+        before, started = resource.getrusage(resource.RUSAGE_CHILDREN), time.time()
+        passed, failed = call()
+        after = resource.getrusage(resource.RUSAGE_CHILDREN)
+        self.passed, self.failed = self.passed + passed, self.failed + failed
+        self.rows.append((name, after.ru_utime + after.ru_stime - before.ru_utime - before.ru_stime, time.time() - started))
+        return not failed
+
+
+def toolchain(copy):
+    """The toolchain's own run in the copy."""
+    ran = subprocess.Popen(["rt", "ci"], cwd=copy, stdout=subprocess.PIPE, stderr=subprocess.STDOUT, text=True, errors="replace")
+    last = ""
+    for line in ran.stdout:
+        print(line, end="", flush=True)
+        last = line if line.strip() else last
+    ended = re.fullmatch(r"(\d+) passed, (\d+) failed\n", last)
+    if ran.wait() or not ended or int(ended[2]):
+        return 0, [f"rt ci ended with status {ran.returncode}: {last.strip()}"]
+    return int(ended[1]), []
+
+
+def some_edits(copy):
+    """The edits that the record does not cover, and those of the crates that the commit picks."""
+    names = record.uncovered(ROOT)
+    print(f"not covered by gate/record.txt as they stand: {' '.join(names) or 'none'}")
+    names += [it for it in record.picked(ROOT, commit()) if it not in names]
+    print(f"trying the edits of: {' '.join(names)}", flush=True)
+    for name in names:
+        shutil.copytree(ROOT / "crates" / name / "must-fail", copy / "crates" / name / "must-fail")
+    tried = [it for found in edits.try_crates(str(copy), names, lanes()).values() for it in found]
+    return sum(it.is_refused for it in tried), [it.label for it in tried if not it.is_refused]
+
+
+def lanes():
+    """How many checks go side by side: one a processor, with 4 GB of free memory for each."""
+    free = int(re.search(r"MemAvailable:\s+(\d+)", Path("/proc/meminfo").read_text())[1])
+    return max(1, min(len(os.sched_getaffinity(0)), free // 4_000_000))
+
+
+def script(*words):
+    """A part that is a program of its own, and passes with status 0."""
+
+    def run():
+        status = subprocess.run([sys.executable, *map(str, words)]).returncode
+        return (0, [f"{words[0]} ended with status {status}"]) if status else (1, [])
+
+    return run
+
+
+def tell(parts, meter, started):
+    """Tells the processor's minutes by part, and its seconds by crate."""
+    print("== minutes of a processor, and minutes on the clock")
+    for name, seconds, clock in parts.rows:
+        print(f"{name}: {seconds / 60:.1f}, {clock / 60:.1f}")
+    print(f"in all: {sum(it[1] for it in parts.rows) / 60:.1f}, {(time.time() - started) / 60:.1f}")
+    print("== seconds of a processor by crate: proofs, tests, compiling, edits")
+    for crate, seconds in sorted(meter.table().items()):
+        print(f"{crate}: {', '.join(f'{seconds[it]:.0f}' for it in ('proofs', 'tests', 'compiling', 'edits'))}")
+
+
+def main():
+    parts, started = Parts(), time.time()
+    with tempfile.TemporaryDirectory(prefix="gate-") as room, Meter(room) as meter:
+        os.environ["TMPDIR"] = tempfile.tempdir = room
+        copy = copied(room)
+        parts.run("the gate's own tests", script(ROOT / "gate" / "test_gate.py"))
+        parts.run("proofs by hand", script(copy / "examples" / "check_hand_proofs.py"))
+        if parts.run("proofs, tests and builds", lambda: toolchain(copy)):
+            parts.run("must-fail edits", lambda: some_edits(copy))
+            for name in ("rows", "documents", "tour"):
+                parts.run(name, script(copy / "examples" / f"check_{name}.py"))
+        tell(parts, meter, started)
+    for it in parts.failed:
+        print(f"FAILED: {it}")
+    print(f"{parts.passed} passed, {len(parts.failed)} failed")
+    return 1 if parts.failed else 0
+
+
+if __name__ == "__main__":
+    sys.exit(main())

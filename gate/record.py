@@ -1,0 +1,78 @@
+"""The record of the crates all of whose must-fail edits were seen refused (gate/record.txt).
+
+A crate's line holds a hash of its code, specs, proofs and edits, of what the crates below it say to it (their source
+without bodies, comments and tests, and their specs), and of the kit. `make edits` alone writes it.
+"""
+
+import datetime
+import hashlib
+from pathlib import Path
+
+import kit
+import source
+
+HEAD = "# Crates all of whose must-fail edits were seen refused: name, number of edits, day, hash. Written by `make edits`.\n"
+
+
+def path(root):
+    return Path(root, "gate", "record.txt")
+
+
+def files(folder, *parts):
+    """The crate's files below these folders, in a fixed order."""
+    found = [it for part in parts for it in Path(folder, part).rglob("*") if it.is_file()]
+    return sorted(found, key=lambda it: it.relative_to(folder).as_posix())
+
+
+def edits_of(root, name):
+    return files(Path(root, "crates", name), "must-fail")
+
+
+def hash_of(root, uses, name, identity):
+    """The hash that a crate's line of the record must have now."""
+    total = hashlib.sha256(identity.encode())
+
+    def add(label, data):
+        total.update(f"{label} {len(data)}\n".encode())
+        total.update(data)
+
+    own = Path(root, "crates", name)
+    add(name, " ".join(uses[name]).encode())
+    for it in files(own, "src", "specs", "proofs", "must-fail"):
+        add(it.relative_to(own).as_posix(), it.read_bytes())
+    for lower in kit.below(uses, name):
+        folder = Path(root, "crates", lower)
+        for it in files(folder, "src", "specs"):
+            data = source.outline(it.read_text()).encode() if it.suffix == ".rt" else it.read_bytes()
+            add(f"{lower}/{it.relative_to(folder).as_posix()}", b"" if "tests" in it.parts or it.name == "tests.rt" else data)
+    return total.hexdigest()
+
+
+def lines(root):
+    """The record's lines by crate: number of edits, day and hash."""
+    text = path(root).read_text() if path(root).is_file() else ""
+    rows = [it.split() for it in text.splitlines() if it and not it.startswith("#")]
+    return {it[0]: tuple(it[1:]) for it in rows if len(it) == 4}
+
+
+def uncovered(root):
+    """The crates with edits that the record does not cover as they stand."""
+    uses, known, identity = kit.crates_of(root), lines(root), kit.identity()
+    with_edits = [name for name in uses if edits_of(root, name)]
+    return [name for name in with_edits if known.get(name, ("",) * 3)[2] != hash_of(root, uses, name, identity)]
+
+
+def picked(root, commit, number=2):
+    """So many crates with edits that a commit's own hash picks."""
+    with_edits = [name for name in kit.crates_of(root) if edits_of(root, name)]
+    return sorted(with_edits, key=lambda it: hashlib.sha256(f"{commit} {it}".encode()).digest())[:number]
+
+
+def write(root, names):
+    """Writes the lines of these crates anew, and drops those of crates that are gone."""
+    uses, known, identity = kit.crates_of(root), lines(root), kit.identity()
+    today = datetime.date.today().isoformat()
+    for name in names:
+        known[name] = (str(len(edits_of(root, name))), today, hash_of(root, uses, name, identity))
+    rows = [f"{name} {' '.join(known[name])}\n" for name in uses if name in known]
+    path(root).write_text(HEAD + "".join(rows))

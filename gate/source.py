@@ -1,0 +1,86 @@
+"""Reads Rattle's source texts as far as the gate has to: where functions stand, and what they say to callers."""
+
+import re
+from dataclasses import dataclass
+
+# Comments, strings and character literals, in which braces and words mean nothing.
+QUIET = re.compile(r"""//[^\n]*|/\*.*?\*/|\bb?r(#*)".*?"\1|b?"(?:[^"\\]|\\.)*"|b?'(?:\\[^\n']+|[^'\\\n])'""", re.S)
+COMMENT = re.compile(r"""//[^\n]*|/\*.*?\*/""", re.S)
+BLOCK = re.compile(r"(?m)^[ \t]*(?:unsafe\s+)?((?:impl|trait|mod)\b[^{;]*)\{")
+# What stands before the brace of a clause: another brace after a signature opens the body.
+CLAUSE = re.compile(r"(\b(requires|ensures)\s*\*?(\s*\w+)?|\bghost\s+\w+\s*:)\s*\Z")
+# A module of tests, in a file of its own or not.
+TESTS = re.compile(r"#\[cfg\(test\)\]\s*mod \w+\s*[;{]")
+
+
+@dataclass(frozen=True)
+class Function:
+    """A function: its name, the head of the block around it ('' for none), and where its body begins and ends."""
+
+    name: str
+    block: str
+    start: int
+    end: int
+
+
+def blanked(text):
+    """The text with blanks in place of comments, strings and characters, at the same places."""
+    return QUIET.sub(lambda it: re.sub(r"[^\n]", " ", it[0]), text)
+
+
+def closed(code, at):
+    """Where the brace that opens at `at` is closed."""
+    depth = 0
+    for brace in re.compile(r"[{}]").finditer(code, at):
+        depth += 1 if brace[0] == "{" else -1
+        if not depth:
+            return brace.end()
+    return len(code)
+
+
+def body_of(code, at):
+    """Where the body of the function begins whose signature goes on at `at`, past its clauses."""
+    start, depth = at, 0
+    while at < len(code) and (depth or code[at] not in "{;" or CLAUSE.search(code, start, at)):
+        depth += (code[at] in "([") - (code[at] in ")]")
+        at = closed(code, at) if code[at] == "{" else at + 1
+    return at
+
+
+def functions_of(text):
+    """Each function of a source text that has a body."""
+    code, found = blanked(text), []
+    blocks = [(it.end(), closed(code, it.end() - 1), it[1]) for it in BLOCK.finditer(code)]
+    for it in re.finditer(r"\bfn\s+(\w+)", code):
+        at = body_of(code, it.end())
+        if code[at : at + 1] == "{":
+            around = [head for start, end, head in blocks if start <= it.start() < end]
+            found.append(Function(it[1], around[-1] if around else "", at, closed(code, at)))
+    return found
+
+
+def symbol_of(path, function, symbols):
+    """The one symbol of a check's lines that a function of the file can have, or None."""
+    module = [it for it in path.removeprefix("src/").removesuffix(".rt").split("/") if it not in ("lib", "main", "mod")]
+    head = re.sub(r"\A(impl|trait)\s*(<([^<>]|<[^<>]*>)*>)?", "", function.block.split("where")[0]).strip()
+    trait, _, owner = head.rpartition(" for ")
+    words = lambda it: re.findall(r"\b[A-Za-z]\w*\b(?!\s*::)", re.sub(r"'\w+", "", it))
+    owner = (words(owner) or [""])[0]
+    # A method of a plain impl has its type's module, wherever the impl stands.
+    is_plain = function.block and not trait
+    parts = [*([] if is_plain else module), *([owner + "".join(words(trait))] if function.block else []), function.name]
+    end = "::" + "::".join(parts)
+    found = [it for it in symbols if it.endswith(end) and (is_plain or it.count("::") == end.count("::"))]
+    return found[0] if len(found) == 1 and (owner or not function.block) else None
+
+
+def outline(text):
+    """What a source text says to the crates above: all of it but comments, tests and the bodies of functions."""
+    for function in reversed(functions_of(text)):
+        if function.end <= len(text):
+            text = text[: function.start] + ";" + text[function.end :]
+    code = blanked(text)
+    for it in reversed([*TESTS.finditer(code)]):
+        end = closed(code, it.end() - 1) if it[0].endswith("{") else it.end()
+        text = text[: it.start()] + text[end:]
+    return re.sub(r"\s+", " ", COMMENT.sub(" ", text)).strip()

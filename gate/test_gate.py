@@ -1,0 +1,162 @@
+#!/usr/bin/env python3
+"""Tests of the gate: what its runner takes as refused, and what its record covers."""
+
+import shutil
+import tempfile
+import unittest
+from pathlib import Path
+
+import edit
+import edits
+import record
+import source
+from edit import Outcome
+
+CODE = """//! A sample.
+#![tactic(auto)]
+
+ghost use Rattle.std.specs.Prelude.{◌≡◌, ◌+◌, ◌≤◌};
+
+/// One more.
+pub fn next(x: u8) -> u16
+    ensures value { result ≡ x + 1 }
+{
+    u16::from(x) + 1
+}
+
+/// Two more.
+pub fn after_next(x: u8) -> u16
+    ensures value { result ≡ x + 2 }
+{
+    next(x) + 1
+}
+
+/// The smaller one.
+pub fn smaller(a: u8, b: u8) -> u8
+    ensures first { result ≤ a }
+    ensures second { result ≤ b }
+{
+    if a < b { a } else { b }
+}
+
+/// None of it.
+pub fn nothing(x: u8) -> u8
+    ensures value { result ≡ 0 }
+{
+    x - x
+}
+"""
+
+# Edits by their names: the text that is replaced, the new one, and what has to come of it.
+EDITS = {
+    "one_too_many": ("u16::from(x) + 1", "u16::from(x) + 2", Outcome.REFUSED),
+    "harmless_behind_a_broken_callee": ("next(x) + 1", "1 + next(x)", Outcome.PROVED),
+    "harmless_among_harmful": ("if a < b { a } else { b }", "if b < a { b } else { a }", Outcome.PROVED),
+    "kept": ("x - x", "x", Outcome.REFUSED),
+    "the_greater": ("if a < b {", "if b < a {", Outcome.REFUSED),
+    "made_of_itself": ("next(x) + 1", "after_next(x)", Outcome.NO_GOAL),
+    "not_rattle": ("u16::from(x) + 1", "u16::from(x) +", Outcome.NOT_READ),
+    "not_there": ("u32::from(x)", "u32::from(x) + 1", Outcome.NOT_APPLIED),
+    "there_twice": ("ensures value", "ensures other", Outcome.NOT_APPLIED),
+}
+
+
+def repository(room, crates):
+    """A repository of these crates, each over those before it, with their source texts."""
+    names = [*crates]
+    Path(room, "crates.txt").write_text("".join(f"{it}: {' '.join(names[:i])}\n" for i, it in enumerate(names)))
+    Path(room, "gate").mkdir()
+    for name, text in crates.items():
+        for part in ("src", "must-fail"):
+            Path(room, "crates", name, part).mkdir(parents=True)
+        Path(room, "crates", name, "src", "lib.rt").write_text(text)
+        Path(room, "crates", name, "must-fail", "one.edit").write_text("file: src/lib.rt\nold: a\nnew: b\n")
+    return room
+
+
+class Trying(unittest.TestCase):
+    def test_what_comes_of_each_edit(self):
+        with tempfile.TemporaryDirectory() as room:
+            folder = Path(repository(room, {"sample": CODE}), "crates", "sample")
+            shutil.rmtree(folder / "must-fail")
+            (folder / "must-fail").mkdir()
+            for name, (old, new, _) in EDITS.items():
+                (folder / "must-fail" / f"{name}.edit").write_text(f"file: src/lib.rt\nold: {old}\nnew: {new}\n")
+            tried = edits.try_crates(room, ["sample"], 1)["sample"]
+            came = {it.label: it.outcome for it in tried}
+            self.assertEqual(came, {f"sample/{name}.edit": outcome for name, (_, _, outcome) in EDITS.items()})
+
+    def test_a_crate_that_is_not_proved(self):
+        with tempfile.TemporaryDirectory() as room:
+            repository(room, {"sample": CODE.replace("x - x", "x")})
+            tried = edits.try_crates(room, ["sample"], 1)["sample"]
+            self.assertEqual([it.outcome for it in tried], [Outcome.NOT_TRIED])
+
+
+class Recording(unittest.TestCase):
+    def covers_after(self, crate, part, old, new):
+        """Which crates of two the record covers once a text of one of them has changed."""
+        with tempfile.TemporaryDirectory() as room:
+            repository(room, {"low": CODE, "high": "pub fn one() -> u8 { 1 }\n"})
+            record.write(room, ["low", "high"])
+            self.assertEqual(record.uncovered(room), [])
+            file = Path(room, "crates", crate, part)
+            self.assertIn(old, file.read_text())
+            file.write_text(file.read_text().replace(old, new))
+            return {"low", "high"} - {*record.uncovered(room)}
+
+    def test_a_body_is_its_own_crates(self):
+        self.assertEqual(self.covers_after("low", "src/lib.rt", "x - x", "0"), {"high"})
+
+    def test_a_clause_is_of_each_crate_above(self):
+        self.assertEqual(self.covers_after("low", "src/lib.rt", "x + 2", "x + 1 + 1"), set())
+
+    def test_an_edit_is_its_own_crates(self):
+        self.assertEqual(self.covers_after("low", "must-fail/one.edit", "new: b", "new: c"), {"high"})
+
+    def test_the_code_above_is_not_of_those_below(self):
+        self.assertEqual(self.covers_after("high", "src/lib.rt", "{ 1 }", "{ 2 }"), {"low"})
+
+    def test_a_crate_that_was_not_tried(self):
+        with tempfile.TemporaryDirectory() as room:
+            repository(room, {"low": CODE, "high": CODE})
+            record.write(room, ["low"])
+            self.assertEqual(record.uncovered(room), ["high"])
+
+    def test_two_crates_are_picked(self):
+        with tempfile.TemporaryDirectory() as room:
+            repository(room, {it: CODE for it in "abcdefgh"})
+            picks = {tuple(record.picked(room, str(commit))) for commit in range(200)}
+            self.assertTrue(all(len({*it}) == 2 for it in picks))
+            self.assertEqual({name for it in picks for name in it}, {*"abcdefgh"})
+
+
+class Reading(unittest.TestCase):
+    def test_functions(self):
+        names = [it.name for it in source.functions_of(CODE)]
+        self.assertEqual(names, ["next", "after_next", "smaller", "nothing"])
+        bodies = [CODE[it.start : it.end].strip() for it in source.functions_of(CODE)]
+        self.assertEqual(bodies[2].split("\n")[1].strip(), "if a < b { a } else { b }")
+
+    def test_an_outline_has_clauses_and_no_bodies(self):
+        outline = source.outline(CODE + "#[cfg(test)]\nmod tests {\n    fn seen() {}\n}\n")
+        self.assertIn("ensures second { result ≤ b }", outline)
+        for it in ("u16::from", "The smaller", "seen"):
+            self.assertNotIn(it, outline)
+
+    def test_symbols(self):
+        text = "impl<T: Disk> Disk for Box<T> {\n    fn read(&self) {}\n}\nimpl Used {\n    fn take(&self) {}\n}\nfn take() {}\n"
+        symbols = ["a::m::BoxTDisk::read", "a::m::n::Used::take", "a::m::take", "a::take"]
+        found = [source.symbol_of("src/m.rt", it, symbols) for it in source.functions_of(text)]
+        self.assertEqual(found[1:], ["a::m::n::Used::take", "a::m::take"])
+
+    def test_an_edit_outside_of_bodies_has_no_symbol(self):
+        with tempfile.TemporaryDirectory() as room:
+            folder = Path(repository(room, {"sample": CODE}), "crates", "sample")
+            of = lambda old, new: edit.touched(edit.Edit("", [("src/lib.rt", old, new)]), folder, ["sample::next", "sample::smaller"])
+            self.assertEqual(of("u16::from(x) + 1", "u16::from(x) + 2"), {"sample::next"})
+            self.assertEqual(of("result ≤ a", "result ≤ b"), set())
+
+
+if __name__ == "__main__":
+    unittest.main(verbosity=2)

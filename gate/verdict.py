@@ -1,0 +1,53 @@
+"""Reads what a check told: which functions it refuses for their own sake, and why."""
+
+import re
+from dataclasses import dataclass
+
+# The lines of a check: an error, a goal that stays open, and that goal's function, or another item, which comes after it.
+ERROR = re.compile(r"(?:\./)?((?:src|specs|proofs)/\S+?):\d+:\d+: error:? ?(.*)")
+OPEN = re.compile(r"note: src/\S+:\d+:\d+: (it is not proved that .*)")
+ITEM = re.compile(r"(?:fn|impl|struct|enum|trait) (\S+): (?:(proved)|not proved|no proof)")
+# Errors of a proof that names what is gone or rests on what was refused: they say nothing of its function's own goals.
+SECOND_HAND = re.compile(r"has no field|is not in scope|has no `|was not admitted|that depends? on")
+
+
+@dataclass(frozen=True)
+class Verdict:
+    """Whether the prover read all and refused some of it, and the first error or open goal of each function's own."""
+
+    is_proved: bool
+    is_read: bool
+    own: dict
+    first: str
+
+
+def owner(symbol):
+    """The function of a symbol: those of closures are m::fn::f::map for one in m::f."""
+    return re.sub(r"::fn::((?:[A-Z]\w*::)?\w+)::.*", r"::\1", symbol)
+
+
+def read(crate, told):
+    """Reads what a check of a crate told."""
+    own, in_files, goals = {}, {}, []
+    is_read = told.status == 1 and re.search(r"(?m)^logic=not-proved", told.text) is not None
+    for line in told.text.split("\n"):
+        if found := ERROR.match(line):
+            is_own = not SECOND_HAND.search(found[2])
+            is_read = is_read and (found[1].startswith("proofs/") or (found[2].startswith("`") and is_own))
+            if is_own:
+                place = "::".join([crate, *found[1].split("/")[1:-1]])
+                in_files.setdefault(owner(place), found[2])
+        elif found := OPEN.match(line):
+            goals.append(found[1])
+        elif found := ITEM.match(line):
+            symbol = owner(found[1])
+            errors, goals = [*goals, *([in_files[symbol]] if symbol in in_files else [])], []
+            if errors and not found[2]:
+                own.setdefault(symbol, errors[0])
+    first = re.search(r"(?m)^.*: (error|not proved|no proof)\b.*$", told.text)
+    return Verdict(told.is_proved, is_read, own, first[0] if first else told.text[:200])
+
+
+def proved(told):
+    """The symbols of the functions that a check proved."""
+    return re.findall(r"(?m)^fn (\S+): proved", told.text)
