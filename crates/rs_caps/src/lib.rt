@@ -7,8 +7,6 @@ pub mod laws;
 mod path_reading;
 mod path_writing;
 mod state_view;
-#[cfg(test)]
-mod tests;
 
 pub use document::{document_length, write_document};
 pub use path_reading::doc_of;

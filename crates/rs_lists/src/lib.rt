@@ -24,5 +24,3 @@ pub use piece::{Piece, put_pieces};
 pub use view::{View, change_parts, resource_parts};
 pub use write::{ListError, write_list};
 
-#[cfg(test)]
-mod tests;

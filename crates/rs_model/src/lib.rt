@@ -6,8 +6,6 @@ mod destination;
 mod laws;
 mod names;
 mod state;
-#[cfg(test)]
-mod tests;
 mod value;
 
 pub use command::{Command, Refusal, Reply, StepError};

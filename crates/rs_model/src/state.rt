@@ -9,8 +9,6 @@ ghost use Rattle.rs_model.specs.Lawful.{AreFacts};
 ghost use Rattle.rs_model.specs.declared.command.Command.TheVariants.{Put, Delete, Publish};
 
 mod shown;
-#[cfg(test)]
-mod tests;
 
 use crate::names::{bind, place_in_order, unbind};
 use crate::{Body, Command, Entry, Held, Refusal, Reply, StepError};

@@ -1,0 +1,95 @@
+//! A view of as many records and changes as are wanted, which are all alike.
+
+ghost use Rattle.std.specs.Prelude.{◌≤◌};
+
+use rs_lists::View;
+use rs_record::{Base, Change, Record};
+use rs_time::Moment;
+use std::test::Fail;
+
+/// A source that shows one record and one change over and over.
+#[derive(Drop)]
+pub struct Alike<'a> {
+    pub base: &'a Base,
+    pub start: Moment,
+    pub at: Moment,
+    pub number: u64,
+    pub first: u64,
+    pub record: &'a Record,
+    pub change: &'a Change,
+    pub limit: u16,
+    /// How many of each.
+    pub items: usize,
+    pub ghost low: { 2 ≤ limit },
+    pub ghost high: { limit ≤ 4000 },
+    pub ghost few: { items ≤ 50000 },
+    pub ghost small_first: { first ≤ 253402300799999 },
+}
+
+impl View for Alike<'_> {
+    ghost use Rattle.std.specs.Prelude.{replicate};
+    ghost use Rattle.rs_texts_tests.specs.declared.alike.Alike.{Alike};
+
+    ghost shown = { λ s. record {
+      base = s.base.now;
+      limit = s.limit;
+      start = s.start;
+      number = s.number;
+      at = s.at;
+      published = replicate s.items s.record.now;
+      changes = replicate s.items s.change.now;
+      first = s.first;
+    } };
+
+    fn base(&self) -> &Base {
+        self.base
+    }
+
+    fn limit(&self) -> u16 {
+        self.limit
+    }
+
+    fn start(&self) -> Moment {
+        self.start
+    }
+
+    fn number(&self) -> u64 {
+        self.number
+    }
+
+    fn at(&self) -> Moment {
+        self.at
+    }
+
+    fn published_len(&self) -> usize {
+        self.items
+    }
+
+    fn published(&self, _i: usize) -> &Record {
+        self.record
+    }
+
+    fn changes_len(&self) -> usize {
+        self.items
+    }
+
+    fn change(&self, _i: usize) -> &Change {
+        self.change
+    }
+
+    fn first(&self) -> u64 {
+        self.first
+    }
+}
+
+impl Alike<'_> {
+    /// Shows so many items, at this limit.
+    pub fn show(&mut self, limit: u16, items: usize) -> Result<(), Fail> {
+        if limit < 2 || limit > 4000 || items > 50_000 {
+            return Err(Fail::new("a view out of bounds"));
+        }
+        self.limit = limit;
+        self.items = items;
+        Ok(())
+    }
+}
