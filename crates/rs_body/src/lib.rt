@@ -14,6 +14,3 @@ mod write;
 pub use blocks::{blocks_for, is_on_disk, is_sized};
 pub use read::{BodyFault, read_body};
 pub use write::write_body;
-
-#[cfg(test)]
-mod tests;

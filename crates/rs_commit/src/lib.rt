@@ -21,6 +21,3 @@ pub use format::format_slots;
 pub use reading::open_slots;
 pub use root::Root;
 pub use slots::Slots;
-
-#[cfg(test)]
-mod tests;

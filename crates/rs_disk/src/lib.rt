@@ -18,6 +18,3 @@ mod plan;
 pub use disk::{Disk, Fault};
 pub use faulty::{FaultyReader, FaultyWriter};
 pub use memory::MemoryDisk;
-
-#[cfg(test)]
-mod tests;

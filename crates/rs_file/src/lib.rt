@@ -14,11 +14,9 @@ mod honest;
 mod opening;
 mod record;
 mod start;
+mod system;
 
 pub use disk::FileDisk;
 pub use fault::FileFault;
 pub use honest::honest_is;
 pub use start::{Start, Unknown};
-
-#[cfg(test)]
-mod tests;

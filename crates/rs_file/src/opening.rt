@@ -1,5 +1,5 @@
 //! How a file is opened, and how one is made.
-ghost use Rattle.std.specs.Prelude.{◌≡◌, ◌↔◌, ◌≤◌, ◌^◌, [], length, IfOk, IfErr, IsErr, IsTrue};
+ghost use Rattle.std.specs.Prelude.{◌≡◌, ◌↔◌, ◌≤◌, ◌≤ℤ◌, ◌^◌, pos, [], length, IfOk, IfErr, IsErr, IsTrue};
 ghost use Rattle.rs_disk.specs.Medium.{resting};
 ghost use Rattle.rs_file.specs.Replay.{sized};
 ghost use Rattle.rs_file.specs.File.{state_of, events_of};
@@ -14,11 +14,18 @@ use std::rt::Files;
 // The last of the standard streams.
 const STANDARD_ERROR: i32 = 2;
 
+// Whether a descriptor has the number of a standard stream.
+fn is_standard_stream(descriptor: i32) -> bool
+    ensures { IsTrue result ↔ (descriptor ≤ℤ pos 2) }
+{
+    descriptor <= STANDARD_ERROR
+}
+
 // Takes a file that was just opened as one that this process alone writes: a regular file, locked.
-pub(crate) fn claimed(file: File) -> io::Result<File> {
+fn claimed(file: File) -> io::Result<File> {
     // Where a standard stream was closed, the file got its number: what is meant for the stream
     // must not land in the file.
-    let file = if file.as_raw_fd() <= STANDARD_ERROR {
+    let file = if is_standard_stream(file.as_raw_fd()) {
         file.try_clone()?
     } else {
         file
@@ -32,7 +39,7 @@ pub(crate) fn claimed(file: File) -> io::Result<File> {
 
 // Settles what the file holds, and gives its length. The system's copies of its pages are dropped,
 // since a sync of another process that failed may have left them other than the device has them.
-pub(crate) fn settled_length(file: &File) -> io::Result<u64> {
+fn settled_length(file: &File) -> io::Result<u64> {
     file.sync_all()?;
     let advised = libc::posix_fadvise(file.as_raw_fd(), 0, 0, libc::POSIX_FADV_DONTNEED);
     if advised != 0 {

@@ -6,6 +6,13 @@ ghost use Rattle.rs_file.specs.Events.{Event, event_coded, event_of};
 
 use std::marker::{Model, PhantomData};
 
+// The number of each call.
+pub(crate) const READ: u64 = 0;
+
+pub(crate) const WRITE: u64 = 1;
+
+pub(crate) const SYNC: u64 = 2;
+
 // The calls on a file with their answers, the newest first. No memory holds them.
 #[derive(Drop)]
 pub(crate) struct Record {

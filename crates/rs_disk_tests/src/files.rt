@@ -1,0 +1,130 @@
+//! Disks on files of the system.
+
+use rs_disk::{Disk, Fault};
+use rs_file::{FileDisk, FileFault, Unknown, honest_is};
+use std::fs::{self, File, OpenOptions};
+use std::process::Abort;
+use std::test::Fail;
+
+/// Why no file of this name is opened.
+fn not_opened(rt: &HostRuntime, name: &str) -> Option<FileFault> {
+    FileDisk::open(rt, name, Unknown).err()
+}
+
+/// Why no file of this name is made.
+fn not_made(rt: &HostRuntime, name: &str) -> Option<FileFault> {
+    FileDisk::create(rt, name, 1, Unknown).err()
+}
+
+/// What a new file holds, and what was written.
+fn keep_bytes(rt: &impl Abort, disk: &mut FileDisk<Unknown>) {
+    assert_eq!(rt; disk.size(), 600);
+    let mut read = [9; 4];
+    assert_eq!(rt; (disk.read(596, &mut read), read), (Ok(()), [0; 4]));
+    assert_eq!(rt; disk.write(2, &[1, 2, 3]), Ok(()));
+    assert_eq!(rt; disk.sync(), Ok(()));
+    assert_eq!(rt; (disk.read(1, &mut read), read), (Ok(()), [0, 1, 2, 3]));
+    assert_eq!(rt; (disk.calls(), disk.faults()), (4, 0));
+    honest_is(disk);
+}
+
+/// What another opening of it finds.
+fn find_bytes(rt: &impl Abort, disk: &mut FileDisk<Unknown>) {
+    assert_eq!(rt; disk.size(), 600);
+    let mut read = [9; 4];
+    assert_eq!(rt; (disk.read(2, &mut read), read), (Ok(()), [1, 2, 3, 0]));
+    assert_eq!(rt; (disk.calls(), disk.faults()), (1, 0));
+}
+
+#[test]
+fn a_file_is_made_and_opened_again(rt: HostRuntime) -> Result<(), Fail> {
+    let path = "rs_file_test_made";
+    let _left = fs::remove_file(&rt, path);
+    keep_bytes(&rt, &mut FileDisk::create(&rt, path, 600, Unknown)?);
+    find_bytes(&rt, &mut FileDisk::open(&rt, path, Unknown)?);
+    fs::remove_file(&rt, path)?;
+    Ok(())
+}
+
+/// Names that no disk is opened by. The last is a file that the system makes up: it can be locked and measured, and not
+/// synced.
+const NOT_OPENED: [&str; 5] = ["rs_file_test_none", ".", "/dev/null", "", "/proc/self/comm"];
+
+/// Names that no file is made by, and why.
+const NOT_MADE: [(&str, FileFault); 5] = [
+    (".", FileFault::Exists),
+    ("/", FileFault::Exists),
+    ("rs_file_test_none/a", FileFault::Device),
+    ("rs_file_test_none/", FileFault::Device),
+    ("", FileFault::Device),
+];
+
+#[test]
+fn names_that_are_refused(rt: HostRuntime) {
+    for name in NOT_OPENED {
+        assert_eq!(rt; not_opened(&rt, name), Some(FileFault::Device), "{name}");
+    }
+    for (name, wanted) in NOT_MADE {
+        assert_eq!(rt; not_made(&rt, name), Some(wanted), "{name}");
+    }
+}
+
+#[test]
+fn a_file_that_is_there_is_left(rt: HostRuntime) -> Result<(), Fail> {
+    let path = "rs_file_test_there";
+    fs::write(&rt, path, b"kept".as_slice())?;
+    assert_eq!(rt; not_made(&rt, path), Some(FileFault::Exists));
+    assert_eq!(rt; fs::read_to_string(&rt, path)?.as_str(), "kept");
+    fs::remove_file(&rt, path)?;
+    Ok(())
+}
+
+/// Whether a file is not opened while this lives.
+fn is_locked<T: Drop>(rt: &HostRuntime, path: &str, holder: T) -> bool {
+    let refused = not_opened(rt, path);
+    drop(holder);
+    refused == Some(FileFault::Device)
+}
+
+/// Another handle of a file, which has it locked.
+fn locked(rt: &HostRuntime, path: &str) -> Result<File, Fail> {
+    let file = OpenOptions::new().read(true).open(rt, path)?;
+    file.lock_shared()?;
+    Ok(file)
+}
+
+// While a disk is there, or another holds the file's lock, the file is not opened again.
+#[test]
+fn a_locked_file(rt: HostRuntime) -> Result<(), Fail> {
+    let path = "rs_file_test_locked";
+    let _left = fs::remove_file(&rt, path);
+    let made = FileDisk::create(&rt, path, 4, Unknown)?;
+    assert!(rt; is_locked(&rt, path, made));
+    let opened = FileDisk::open(&rt, path, Unknown)?;
+    assert!(rt; is_locked(&rt, path, opened));
+    assert!(rt; is_locked(&rt, path, locked(&rt, path)?));
+    assert_eq!(rt; not_opened(&rt, path), None);
+    fs::remove_file(&rt, path)?;
+    Ok(())
+}
+
+/// Reads at the end of a file of 4 bytes, whose disk has 8.
+fn read_short(rt: &impl Abort, disk: &mut FileDisk<Unknown>) {
+    assert_eq!(rt; disk.size(), 8);
+    assert_eq!(rt; disk.read(3, &mut [0; 2]), Err(Fault));
+    let mut read = [0; 1];
+    assert_eq!(rt; (disk.read(3, &mut read), read), (Ok(()), *b"d"));
+    assert_eq!(rt; (disk.calls(), disk.faults()), (2, 1));
+}
+
+// A file that another made shorter than its disk refuses the bytes behind its end.
+#[test]
+fn a_short_file(rt: HostRuntime) -> Result<(), Fail> {
+    let path = "rs_file_test_short";
+    let _left = fs::remove_file(&rt, path);
+    let mut disk = FileDisk::create(&rt, path, 8, Unknown)?;
+    fs::write(&rt, path, b"abcd".as_slice())?;
+    read_short(&rt, &mut disk);
+    fs::remove_file(&rt, path)?;
+    Ok(())
+}

@@ -1,0 +1,39 @@
+//! The laws, each called once, those with parameters at types that are there.
+
+use rs_disk::Fault;
+
+/// Claims nothing of any image.
+struct Anything;
+
+impl rs_disk::laws::Claim for Anything {
+    ghost use Rattle.std.specs.Prelude.{⊤};
+
+    ghost of = { λ _ _. ⊤ };
+}
+
+#[test]
+fn the_laws(_rt: HostRuntime) {
+    rs_disk::laws::settled_disk_has_one_image();
+    rs_disk::laws::write_unsettles_its_range();
+    rs_disk::laws::choices_reach_each_image();
+    rs_disk::laws::past_images_stay();
+    rs_disk::laws::one_call_leaves();
+    rs_disk::laws::worked_images();
+    rs_disk::laws::worked_failures();
+    rs_disk::laws::runs_leave::<Anything>();
+    rs_disk::laws::weaker_claim_is_left::<Anything, Anything>();
+    rs_disk::laws::runs_count::<(), Fault, (), Fault>();
+    rs_commit::laws::opens_once();
+    rs_commit::laws::opens_stays();
+    rs_commit::laws::ready_stays();
+    rs_commit::laws::entry_opens();
+    rs_commit::laws::payloads_read();
+    rs_commit::laws::formatted_opens();
+    rs_body::laws::beside_each();
+    rs_body::laws::fewest_blocks();
+    rs_body::laws::outside_none();
+    rs_body::laws::outside_goes_on();
+    rs_body::laws::outside_less();
+    rs_body::laws::outside_rests();
+    rs_body::laws::part_kept();
+}

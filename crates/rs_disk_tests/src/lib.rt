@@ -1,0 +1,20 @@
+//! Tests of disks in memory and on files, of the root slots and of bodies, by their public items alone. What a command
+//! on a file can show of them is in examples/rows.
+#![tactic(auto)]
+
+#[cfg(test)]
+mod bodies;
+#[cfg(test)]
+mod ends;
+#[cfg(test)]
+mod faults;
+#[cfg(test)]
+mod files;
+#[cfg(test)]
+mod images;
+#[cfg(test)]
+mod laws;
+#[cfg(test)]
+mod memory;
+#[cfg(test)]
+mod slots;
