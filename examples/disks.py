@@ -6,6 +6,8 @@ import hashlib
 import pathlib
 import struct
 
+from made_disks import MADE
+
 BLOCK = 512
 BASE = b"http://127.0.0.1:8080"
 
@@ -66,6 +68,7 @@ def laid_out(blocks, parts):
 
 
 DISKS = {}
+DISKS |= MADE
 
 
 def disk(room, name, file):

@@ -15,8 +15,6 @@ ghost use Rattle.rs_plan.specs.Drafts.{AwaitsBody, plan_filled};
 
 mod lists;
 mod placing;
-#[cfg(test)]
-mod tests;
 
 use crate::plan::Plan;
 use lists::{lists_after_delete, lists_after_publish, lists_after_put};

@@ -22,6 +22,3 @@ pub use reading::Status;
 pub use refusal::Refusal;
 pub use source::Source;
 pub use view::SourceView;
-
-#[cfg(test)]
-mod tests;

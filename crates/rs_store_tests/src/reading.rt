@@ -1,0 +1,74 @@
+//! What is read of a source: bodies, also while a device call fails, media types, and what its documents are
+//! written from.
+
+use super::asking::{ask_for_two_puts, disk_of, made, named, tell};
+use rs_disk::MemoryDisk;
+use rs_lists::View;
+use rs_store::Source;
+use std::process::Abort;
+
+/// Appends the body of a name and its media type, or why there is none.
+fn tell_of(
+    rt: &(impl Abort + AllocGlobal),
+    source: &mut Source<MemoryDisk>,
+    name: &[u8],
+    text: &mut String,
+) {
+    let name = named(rt, name);
+    match source.body(&name) {
+        Ok(bytes) => tell(rt, text, &bytes),
+        Err(refusal) => write!(text, "{refusal:?}").expect(rt, "memory for text"),
+    }
+    tell(rt, text, b" ");
+    match source.kind(&name) {
+        Ok(kind) => tell(rt, text, kind.bytes()),
+        Err(refusal) => write!(text, "{refusal:?}").expect(rt, "memory for text"),
+    }
+    tell(rt, text, b";");
+}
+
+/// Looks at what a source tells of two resources and of a name that is not held.
+fn tells(rt: &(impl Abort + AllocGlobal), source: &mut Source<MemoryDisk>) {
+    ask_for_two_puts(rt, source);
+    let mut text = String::new(rt.alloc());
+    tell_of(rt, source, b"z", &mut text);
+    tell_of(rt, source, b"a", &mut text);
+    tell_of(rt, source, b"b", &mut text);
+    tell_of(rt, source, b"b", &mut text);
+    assert_eq!(rt;
+        text.as_str(),
+        "NotHeld NotHeld; text/plain;Device text/plain;abc text/plain;"
+    );
+}
+
+#[test]
+fn bodies_and_a_device_that_fails(rt: HostRuntime) {
+    let mut disk = disk_of(&rt, 65536);
+    // The formatting makes six calls, and the commands 24. The next one is the first read of `b`: a name that is not held
+    // and a body of no bytes need none. It fails, and the source is open all the same.
+    disk.fail_once(30);
+    let mut source = made(&rt, disk);
+    tells(&rt, &mut source);
+}
+
+/// Looks at what a view of a source shows.
+fn views(rt: &(impl Abort + AllocGlobal), source: &Source<MemoryDisk>) {
+    let view = source.view().expect(rt, "a view");
+    assert_eq!(rt; view.base().bytes(), b"http://127.0.0.1:8080".as_slice());
+    assert_eq!(rt; (view.limit(), view.number(), view.first()), (2, 1, 0));
+    assert_eq!(rt; (view.start().ms(), view.at().ms()), (0, 2));
+    assert_eq!(rt; (view.published_len(), view.changes_len()), (1, 2));
+    if view.published_len() > 0 {
+        assert_eq!(rt; view.published(0).name.bytes(), b"a".as_slice());
+    }
+    if view.changes_len() > 1 {
+        assert_eq!(rt; view.change(1).name.bytes(), b"b".as_slice());
+    }
+}
+
+#[test]
+fn a_view_shows_the_publication(rt: HostRuntime) {
+    let mut source = made(&rt, disk_of(&rt, 65536));
+    ask_for_two_puts(&rt, &mut source);
+    views(&rt, &source);
+}
