@@ -38,9 +38,10 @@ class Differs(Exception):
     """What a row says and what came differ."""
 
 
-def repeated(text):
-    """A line with each `{N x}` in it written out as N times x."""
-    return re.sub(rb"\{(\d+) (.)\}", lambda it: it[2] * int(it[1]), text)
+def written_out(text):
+    """A line with each `{0xHEX}` in it written out as the bytes of its digits, and then each `{N text}` as N times the text."""
+    text = re.sub(rb"\{0x([0-9a-f]+)\}", lambda it: bytes.fromhex(it[1].decode()), text)
+    return re.sub(rb"\{(\d+) ([^{}]+)\}", lambda it: it[2] * int(it[1]), text)
 
 
 def compare(what, wanted, found):
@@ -55,7 +56,7 @@ def check_script(program, row, room):
     """A script on a source in memory."""
     args = row.with_suffix(".args")
     words = args.read_text().splitlines() if args.exists() else MEMORY
-    given = b"".join(repeated(it) for it in row.read_bytes().splitlines(keepends=True))
+    given = b"".join(written_out(it) for it in row.read_bytes().splitlines(keepends=True))
     ran = subprocess.run([program, *words], input=given, capture_output=True, cwd=room, timeout=SECONDS)
     if ran.returncode or ran.stderr:
         raise Differs(f"status {ran.returncode}: {ran.stderr.decode(errors='replace')}")
@@ -63,16 +64,19 @@ def check_script(program, row, room):
 
 
 def steps_of(text):
-    """The steps of a session: a command's words, its input, and the lines that are wanted after it."""
+    """The steps of a session: a command's words, its input, and what is wanted of it."""
     steps = []
-    for line in text.splitlines(keepends=True):
+    # An empty line before a command or a remark, or at the end, is for the reader.
+    for line in re.sub(rb"(?m)^\n(?=[$#]|\Z)", b"", text).splitlines(keepends=True):
         if line.startswith(b"$ "):
-            steps.append((shlex.split(line[2:].decode()), [], []))
-        elif line.startswith(b"< "):
-            steps[-1][1].append(repeated(line[2:]))
+            steps.append((shlex.split(written_out(line[2:]).decode(errors="surrogateescape")), [], []))
+        elif line.startswith(b"<- "):
+            steps[-1][1].append(written_out(line[3:].rstrip(b"\n")))
+        elif line.startswith((b"< ", b"<\n")):
+            steps[-1][1].append(written_out(line[2:] or b"\n"))
         elif steps and not line.startswith(b"#"):
-            steps[-1][2].append(line)
-    return steps
+            steps[-1][2].append(written_out(line))
+    return [(words, b"".join(given), b"".join(wanted)) for words, given, wanted in steps]
 
 
 def told_by(program, words, given, room):
@@ -84,12 +88,14 @@ def told_by(program, words, given, room):
     return disks.COMMANDS[words[0]](room, *words[1:]).encode()
 
 
-def check_session(program, row, room):
+def run_steps(program, text, room):
     """Commands on files, one after another."""
-    for words, given, wanted in steps_of(row.read_bytes()):
-        found = told_by(program, words, b"".join(given), room)
-        # (blank lines at the end of a step part it from the next one)
-        compare(shlex.join(words), b"".join(wanted).rstrip(b"\n"), found.rstrip(b"\n"))
+    for words, given, wanted in steps_of(text):
+        compare(ascii(shlex.join(words)), wanted, told_by(program, words, given, room))
+
+
+def check_session(program, row, room):
+    run_steps(program, row.read_bytes(), room)
 
 
 ENDS = {b" ": b"\r\n", b"+": b"\n", b"-": b""}
@@ -99,14 +105,14 @@ def exchanges_of(text):
     """The exchanges of a row of HTTP: the bytes that are sent, and the bytes that come back."""
     exchanges, mark = [], b""
     for line in text.splitlines():
-        if line[:1] not in (b">", b"<"):
-            mark = b"" if line.startswith(b"#") or not line else mark
+        if not line or line.startswith(b"#"):
+            mark = b""
             continue
         if line[:1] == b">" and mark != b">":
             exchanges.append([b"", b""])
         mark = line[:1]
         end = ENDS[line[1:2] or b" "]
-        exchanges[-1][mark == b"<"] += repeated(line[3:] if line[1:2] in (b"+", b"-") else line[2:]) + end
+        exchanges[-1][(b">", b"<").index(mark)] += written_out(line[3:] if line[1:2] in (b"+", b"-") else line[2:]) + end
     return exchanges
 
 
@@ -121,19 +127,29 @@ def asked(port, sent):
     return found
 
 
+def interposed(room, name, text):
+    """A C library of this text that stands before the system's, as a setting of the environment."""
+    source, library = (pathlib.Path(room, name + end) for end in [".c", ".so"])
+    if not library.exists():
+        source.write_text(text)
+        subprocess.run(["cc", "-O1", "-shared", "-fPIC", "-o", str(library), str(source)], check=True)
+    return {**os.environ, "LD_PRELOAD": str(library)}
+
+
 def check_exchanges(program, row, room):
-    """Requests to one server, each on a connection of its own."""
-    pathlib.Path(room, "clock.c").write_text(STILL_CLOCK)
-    subprocess.run(["cc", "-shared", "-fPIC", "-o", f"{room}/clock.so", f"{room}/clock.c"], check=True)
-    exchanges = exchanges_of(row.read_bytes())
-    subprocess.run([program, "format", "source.disk", *MEMORY[1:]], cwd=room, check=True, capture_output=True)
+    """Requests to one server, each on a connection of its own, after the steps that make its file source.disk."""
+    before, requests = re.split(rb"(?m)^(?=>)", row.read_bytes(), maxsplit=1)
+    run_steps(program, before, room)
+    if not pathlib.Path(room, "source.disk").exists():
+        subprocess.run([program, "format", "source.disk", *MEMORY[1:]], cwd=room, check=True, capture_output=True)
+    exchanges = exchanges_of(requests)
     words = [program, "serve", "source.disk", "0", str(len(exchanges))]
-    still = {**os.environ, "LD_PRELOAD": f"{room}/clock.so"}
+    still = interposed(room, "clock", STILL_CLOCK)
     with subprocess.Popen(words, cwd=room, stdout=subprocess.PIPE, env=still) as server:
         try:
             port = int(server.stdout.readline().rpartition(b":")[2])
-            for sent, wanted in exchanges:
-                compare(sent.split(b"\r\n")[0].decode(errors="replace"), wanted, asked(port, sent))
+            for number, (sent, wanted) in enumerate(exchanges, 1):
+                compare(f"request {number}, {sent[:60]!r}", wanted, asked(port, sent))
             if server.wait(SECONDS):
                 raise Differs(f"the server ended with status {server.returncode}")
         finally:
@@ -152,7 +168,7 @@ def main():
         with tempfile.TemporaryDirectory() as room:
             try:
                 KINDS[row.suffix](os.path.abspath(program), row, room)
-            except (Differs, OSError, ValueError, subprocess.SubprocessError) as fault:
+            except (Differs, OSError, ValueError, LookupError, subprocess.SubprocessError) as fault:
                 failed += 1
                 print(f"{row.name}: {fault}")
     print(f"rows: {len(rows) - failed} of {len(rows)} were answered as examples/rows has them")

@@ -16,6 +16,3 @@ mod target;
 
 pub use fault::FrontFault;
 pub use serve::{Served, serve_one};
-
-#[cfg(test)]
-mod tests;

@@ -14,8 +14,6 @@ mod memory;
 mod refusal;
 mod request;
 mod show;
-#[cfg(test)]
-mod tests;
 
 pub use decimal::number;
 pub use engine::{ScriptFault, first_moment, script};

@@ -10,8 +10,6 @@ mod command;
 mod file;
 mod program;
 mod serving;
-#[cfg(test)]
-mod tests;
 
 use command::{Invocation, ServingArguments, SourceArguments, asked};
 use file::{format_file, open_file};

@@ -1,9 +1,10 @@
-//! Readers and writers that fail.
+//! Requests over ends that fail, or wait.
 
-use crate::tests::{leap_day, new_source};
-use crate::{FrontFault, Served, serve_one};
+use crate::sources::{commands_of, new_source};
 use rs_disk::{FaultyReader, FaultyWriter, MemoryDisk};
+use rs_http::{FrontFault, Served, serve_one};
 use rs_io::Watched;
+use rs_script::first_moment;
 use rs_store::Source;
 use std::alloc::Global;
 use std::cell::Cell;
@@ -18,6 +19,9 @@ const HEAD: &[u8] =
 const PUT: &[u8] =
     b"PUT /resource/c HTTP/1.1\r\nHost: a\r\nExpect: 100-continue\r\nContent-Length: 3\r\n\r\nabc";
 
+/// What is written before the body is asked for.
+const WORD: &[u8] = b"HTTP/1.1 100 Continue\r\n\r\n";
+
 /// What comes of the put where the ends fail from these calls on, and how many bytes are written.
 fn put_between(
     alloc: Global,
@@ -27,35 +31,55 @@ fn put_between(
 ) -> (Result<Served, FrontFault>, usize) {
     let mut reader = Watched::new(FaultyReader::new(PUT, 1, read_fails));
     let mut writer = Watched::new(FaultyWriter::new(alloc, write_fails));
-    let served = serve_one(alloc, source, &mut reader, &mut writer, leap_day());
+    let served = serve_one(alloc, source, &mut reader, &mut writer, first_moment());
     (served, writer.get_ref().bytes().len())
 }
 
-/// Lets each read fail in turn, and then a write.
+/// Lets each read fail in turn: nothing is done, and no more than the word to go on is written.
+fn fails_at_each_read(
+    rt: &(impl Abort + AllocGlobal),
+    source: &mut Source<MemoryDisk>,
+) -> Result<(), Fail> {
+    for read_fails in 0..PUT.len() {
+        let written = if read_fails < HEAD.len() {
+            0
+        } else {
+            WORD.len()
+        };
+        let found = put_between(rt.alloc(), source, read_fails as u64, u64::MAX);
+        assert!(rt;
+            found == (Err(FrontFault::Read), written),
+            "read {read_fails}"
+        );
+    }
+    assert!(rt; commands_of(source)? == 0);
+    Ok(())
+}
+
+/// Lets each write fail in turn: nothing is done where the word to go on was not written, and else the put.
+fn fails_at_each_write(
+    rt: &(impl Abort + AllocGlobal),
+    source: &mut Source<MemoryDisk>,
+) -> Result<(), Fail> {
+    for write_fails in 0..100 {
+        let (found, written) = put_between(rt.alloc(), source, u64::MAX, write_fails);
+        assert!(rt; commands_of(source)? == write_fails, "write {write_fails}");
+        if found == Ok(Served::Answered(204)) {
+            assert!(rt; write_fails > 1 && written > WORD.len());
+            return Ok(());
+        }
+        assert!(rt; found == Err(FrontFault::Write), "write {write_fails}");
+    }
+    Err("a hundred writes".into())
+}
+
+/// Lets each end fail.
 fn fails_at_each_end(
     rt: &(impl Abort + AllocGlobal),
     source: &mut Source<MemoryDisk>,
 ) -> Result<(), Fail> {
-    for read_fails in 0..PUT.len() as u64 {
-        let written = if read_fails < HEAD.len() as u64 {
-            0
-        } else {
-            25
-        };
-        let found = put_between(rt.alloc(), source, read_fails, u64::MAX);
-        assert!(rt; found == (Err(FrontFault::Read), written), "{read_fails}");
-    }
-    // The word to go on cannot be written.
-    let found = put_between(rt.alloc(), source, u64::MAX, 0);
-    assert!(rt; found == (Err(FrontFault::Write), 0));
-    assert!(rt; source.status()?.resources == 0);
-    // The response cannot.
-    let (found, _) = put_between(rt.alloc(), source, u64::MAX, 1);
-    assert!(rt; found == Err(FrontFault::Write));
-    assert!(rt; source.status()?.resources == 1);
-    let (found, _) = put_between(rt.alloc(), source, u64::MAX, u64::MAX);
-    assert!(rt; found == Ok(Served::Answered(204)));
-    Ok(())
+    fails_at_each_read(rt, source)?;
+    fails_at_each_write(rt, source)
 }
 
 #[test]
@@ -64,19 +88,19 @@ fn ends_that_fail(rt: HostRuntime) -> Result<(), Fail> {
     fails_at_each_end(&rt, &mut source)
 }
 
-/// Gives no byte past the head before so many bytes were written.
+/// Gives no byte past the head before the word to go on is written.
 #[derive(Drop)]
 struct PatientReader<'a> {
     head: &'a [u8],
     body: &'a [u8],
-    written: &'a Cell<u64>,
+    written: &'a Cell<usize>,
 }
 
 impl Read for PatientReader<'_> {
     fn read(&mut self, buf: &mut [u8]) -> io::Result<usize> {
         let all: &[u8] = if !self.head.is_empty() {
             self.head
-        } else if self.written.get() == 25 {
+        } else if self.written.get() == WORD.len() {
             self.body
         } else {
             return Err(io::Error::from(ErrorKind::Other));
@@ -95,13 +119,13 @@ impl Read for PatientReader<'_> {
 /// Counts the bytes that are written.
 #[derive(Drop)]
 struct CountingWriter<'a> {
-    written: &'a Cell<u64>,
+    written: &'a Cell<usize>,
 }
 
 impl Write for CountingWriter<'_> {
     fn write(&mut self, buf: &[u8]) -> io::Result<usize> {
         self.written
-            .set(self.written.get().saturating_add(buf.len() as u64));
+            .set(self.written.get().saturating_add(buf.len()));
         Ok(buf.len())
     }
 
@@ -110,23 +134,22 @@ impl Write for CountingWriter<'_> {
     }
 }
 
-#[test]
-fn the_body_comes_behind_the_word_to_go_on(rt: HostRuntime) -> Result<(), Fail> {
+/// Asks for a put whose body waits for the word to go on.
+fn served_patiently(alloc: Global, source: &mut Source<MemoryDisk>) -> Result<Served, FrontFault> {
     let written = Cell::new(0);
-    let mut source = new_source(rt.alloc())?;
     let mut reader = Watched::new(PatientReader {
         head: HEAD,
         body: b"abc",
         written: &written,
     });
     let mut writer = Watched::new(CountingWriter { written: &written });
-    let found = serve_one(
-        rt.alloc(),
-        &mut source,
-        &mut reader,
-        &mut writer,
-        leap_day(),
-    );
+    serve_one(alloc, source, &mut reader, &mut writer, first_moment())
+}
+
+#[test]
+fn the_body_comes_behind_the_word_to_go_on(rt: HostRuntime) -> Result<(), Fail> {
+    let mut source = new_source(rt.alloc())?;
+    let found = served_patiently(rt.alloc(), &mut source);
     assert!(rt; found == Ok(Served::Answered(201)));
     Ok(())
 }

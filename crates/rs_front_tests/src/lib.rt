@@ -1,0 +1,10 @@
+//! Tests of rs_script and rs_http: scripts and requests over readers and writers that fail, wait or give one byte at a time.
+//! What else they do is shown by the worked rows of examples/rows.
+#![tactic(auto)]
+
+#[cfg(test)]
+mod requests;
+#[cfg(test)]
+mod scripts;
+#[cfg(test)]
+mod sources;

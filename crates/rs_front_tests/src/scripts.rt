@@ -1,0 +1,182 @@
+//! Scripts over ends that fail.
+
+use crate::sources::{commands_of, new_source};
+use rs_disk::{FaultyReader, FaultyWriter, MemoryDisk};
+use rs_io::Watched;
+use rs_script::{ScriptFault, script, script_bytes};
+use rs_store::Source;
+use std::process::Abort;
+use std::test::Fail;
+
+/// Three commands. The last line ends with the input.
+const PUBLISHED: &[u8] = b"publish\npublish\npublish";
+
+/// How many lines have ended in these bytes.
+fn lines_in(bytes: &[u8]) -> usize {
+    bytes.iter().filter(|b| **b == b'\n').count()
+}
+
+/// Runs the three commands over a reader of such pieces, which fails from a read on: the lines that came whole before that are
+/// done and answered, and no other.
+fn fails_reading(
+    rt: &(impl Abort + AllocGlobal),
+    source: &mut Source<MemoryDisk>,
+    piece: usize,
+    fail_at: usize,
+) -> Result<(), Fail> {
+    let before = commands_of(source)?;
+    let mut reader = Watched::new(FaultyReader::new(PUBLISHED, piece.max(1), fail_at as u64));
+    let mut writer = Watched::new(Vec::new(rt.alloc()));
+    let ended = script(rt.alloc(), source, &mut reader, &mut writer);
+    let come = piece.saturating_mul(fail_at).min(PUBLISHED.len());
+    // The read behind the last byte finds the end.
+    let (wanted, whole) = if fail_at > PUBLISHED.len().div_ceil(piece.max(1)) {
+        (Ok(()), 3)
+    } else {
+        (Err(ScriptFault::Read), lines_in(&PUBLISHED[..come]))
+    };
+    assert!(rt; ended == wanted, "pieces of {piece}, read {fail_at}");
+    assert!(rt;
+        lines_in(&writer.into_inner()) == whole,
+        "pieces of {piece}, read {fail_at}"
+    );
+    let after = commands_of(source)?;
+    assert!(rt;
+        after.checked_sub(before) == Some(whole as u64),
+        "pieces of {piece}, read {fail_at}"
+    );
+    Ok(())
+}
+
+/// Lets each read fail in turn, for pieces of several lengths.
+fn fails_at_each_read(
+    rt: &(impl Abort + AllocGlobal),
+    source: &mut Source<MemoryDisk>,
+) -> Result<(), Fail> {
+    for piece in [1, 5, 8, PUBLISHED.len()] {
+        for fail_at in 0..PUBLISHED.len().div_ceil(piece) + 2 {
+            fails_reading(rt, source, piece, fail_at)?;
+        }
+    }
+    Ok(())
+}
+
+#[test]
+fn a_reader_fails_at_each_read(rt: HostRuntime) -> Result<(), Fail> {
+    let mut source = new_source(rt.alloc())?;
+    fails_at_each_read(&rt, &mut source)
+}
+
+/// A line, its answer, and how many commands are accepted after it.
+type Row<'a> = (&'a [u8], &'a [u8], u64);
+
+const TALK: [Row<'static>; 8] = [
+    (
+        b"put a 6162 a/b\n",
+        b"created 1970-01-01T00:00:00.001Z\n",
+        1,
+    ),
+    (b"show /resource/a\n", b"bytes 2\nab\n", 1),
+    (b"publish\n", b"published 1 1970-01-01T00:00:00.002Z\n", 2),
+    (
+        b"show /.well-known/resourcesync\n",
+        b"bytes 292
+<?xml version=\"1.0\" encoding=\"UTF-8\"?>
+<urlset xmlns=\"http://www.sitemaps.org/schemas/sitemap/0.9\" xmlns:rs=\"http://www.openarchives.org/rs/terms/\">
+<rs:md capability=\"description\"/>
+<url><loc>http://127.0.0.1:8080/capabilitylist.xml</loc><rs:md capability=\"capabilitylist\"/></url>
+</urlset>
+
+",
+        2,
+    ),
+    (b"no line\n", b"refused BadLine\n", 2),
+    (b"put a - a/b\n", b"updated 1970-01-01T00:00:00.003Z\n", 3),
+    (b"delete a\n", b"deleted 1970-01-01T00:00:00.004Z\n", 4),
+    (
+        b"status",
+        b"resources 0 changes 3 publication 1 last 1970-01-01T00:00:00.004Z\n",
+        4,
+    ),
+];
+
+/// Looks whether these bytes are the answers up to a place in one of them, and says how many commands were accepted for them.
+fn commands_for(rt: &impl Abort, written: &[u8]) -> u64 {
+    let mut rest = written;
+    for (_, answer, commands) in &TALK {
+        if rest.len() < answer.len() {
+            assert!(rt; answer.starts_with(rest));
+            return *commands;
+        }
+        assert!(rt; rest.starts_with(answer));
+        rest = &rest[answer.len()..];
+    }
+    assert!(rt; rest.is_empty());
+    4
+}
+
+/// Runs the script of the table over a writer that fails from a call on, and tells whether it failed: the lines whose answers are
+/// written are done, and the next one.
+fn fails_writing(
+    rt: &(impl Abort + AllocGlobal),
+    source: &mut Source<MemoryDisk>,
+    input: &[u8],
+    fail_at: u64,
+) -> Result<bool, Fail> {
+    let mut reader = Watched::new(input);
+    let mut writer = Watched::new(FaultyWriter::new(rt.alloc(), fail_at));
+    let ended = script(rt.alloc(), source, &mut reader, &mut writer);
+    let commands = commands_for(rt, writer.get_ref().bytes());
+    assert!(rt; commands_of(source)? == commands, "write {fail_at}");
+    assert!(rt;
+        ended == Ok(()) || ended == Err(ScriptFault::Write),
+        "write {fail_at}"
+    );
+    Ok(ended.is_err())
+}
+
+/// The same on a new source.
+fn fails_writing_new(
+    rt: &(impl Abort + AllocGlobal),
+    input: &[u8],
+    fail_at: u64,
+) -> Result<bool, Fail> {
+    let mut source = new_source(rt.alloc())?;
+    fails_writing(rt, &mut source, input, fail_at)
+}
+
+#[test]
+fn a_writer_fails_at_each_call(rt: HostRuntime) -> Result<(), Fail> {
+    let mut input = Vec::new(rt.alloc());
+    for (line, _, _) in &TALK {
+        input.extend_from_slice(line)?;
+    }
+    let mut failures = 0;
+    while failures < 200 && fails_writing_new(&rt, &input, failures)? {
+        failures += 1;
+    }
+    // Each answer is at least one write.
+    assert!(rt;
+        TALK.len() as u64 <= failures && failures < 200,
+        "{failures}"
+    );
+    Ok(())
+}
+
+/// Runs a script that lies in memory.
+fn is_answered(
+    rt: &(impl Abort + AllocGlobal),
+    source: &mut Source<MemoryDisk>,
+) -> Result<(), Fail> {
+    let output = script_bytes(rt.alloc(), source, b"at 7\nput a 61 a/b\nshow /resource/a")?;
+    assert!(rt;
+        output.as_slice() == b"ok\ncreated 1970-01-01T00:00:00.007Z\nbytes 1\na\n".as_slice()
+    );
+    Ok(())
+}
+
+#[test]
+fn a_script_lies_in_memory(rt: HostRuntime) -> Result<(), Fail> {
+    let mut source = new_source(rt.alloc())?;
+    is_answered(&rt, &mut source)
+}

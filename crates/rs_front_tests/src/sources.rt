@@ -1,0 +1,21 @@
+//! The source that is asked.
+
+use rs_disk::MemoryDisk;
+use rs_script::first_moment;
+use rs_store::Source;
+use std::alloc::Global;
+use std::test::Fail;
+
+/// A source formatted at the moment 0, with lists of at most two items.
+pub fn new_source(alloc: Global) -> Result<Source<MemoryDisk>, Fail> {
+    let disk = MemoryDisk::new(alloc, 65_536)?;
+    match Source::format(alloc, disk, b"http://127.0.0.1:8080", 2, first_moment()) {
+        Ok(source) => Ok(source),
+        Err((_, fault)) => Err(fault.into()),
+    }
+}
+
+/// How many commands the source has accepted: each came at the moment 0, so each has the next millisecond.
+pub fn commands_of(source: &Source<MemoryDisk>) -> Result<u64, Fail> {
+    Ok(source.status()?.last.ms())
+}

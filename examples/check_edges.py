@@ -1,0 +1,365 @@
+#!/usr/bin/env python3
+"""Looks at the edges of the proved program that no contract speaks of: its sockets, its clock, its standard input and output.
+
+Each function below is one edge, and its first line says what has to hold there. Where the system has to fail or to wait
+at a chosen place, a C library that `cc` builds into a temporary folder stands before the system's.
+
+usage: check_edges.py [PROGRAM] [NAME..]     names of edges to look at (all, where none is given)
+Exit status 1 where one does not hold.
+"""
+import contextlib
+import os
+import pathlib
+import select
+import socket
+import struct
+import subprocess
+import sys
+import tempfile
+import time
+
+from check_rows import MEMORY, PROGRAM, Differs, compare, interposed
+
+# No step waits longer than this for an answer.
+SECONDS = 30
+# What of the system can be chosen, by variables of the environment.
+SYSTEM = r"""
+#define _GNU_SOURCE
+#include <dlfcn.h>
+#include <errno.h>
+#include <stdlib.h>
+#include <sys/socket.h>
+#include <sys/time.h>
+#include <time.h>
+#include <unistd.h>
+static long accepts = 0, calls = 0;
+static long number(const char *name, long absent) { char *it = getenv(name); return it ? atol(it) : absent; }
+static int fails(void) { if (++calls != number("FILE_FAILS_AT", 0)) return 0; errno = EIO; return 1; }
+#define NEXT(f) ((__typeof__(&f))dlsym(RTLD_NEXT, #f))
+
+/* The time of day is SECONDS and NANOSECONDS, and DAYS later with each connection that was taken. No time passes. */
+int clock_gettime(clockid_t id, struct timespec *t) {
+    if (getenv("UNREAD_CLOCK")) { errno = EINVAL; return -1; }
+    t->tv_sec = id == CLOCK_REALTIME ? number("SECONDS", 951782400) + 86400 * number("DAYS", 0) * accepts : 0;
+    t->tv_nsec = id == CLOCK_REALTIME ? number("NANOSECONDS", 0) : 0;
+    return 0;
+}
+int accept4(int fd, struct sockaddr *a, socklen_t *n, int flags) { int it = NEXT(accept4)(fd, a, n, flags); accepts += it >= 0; return it; }
+/* Two seconds for the rest of a request become a minute, so that nothing here depends on speed. */
+int setsockopt(int fd, int level, int name, const void *value, socklen_t n) {
+    struct timeval minute = {60, 0};
+    return level == SOL_SOCKET && name == SO_RCVTIMEO ? NEXT(setsockopt)(fd, level, name, &minute, sizeof minute) : NEXT(setsockopt)(fd, level, name, value, n);
+}
+ssize_t send(int fd, const void *bytes, size_t n, int flags) {
+    if (getenv("SENDS_FAIL")) { errno = EIO; return -1; }
+    return NEXT(send)(fd, bytes, n, flags);
+}
+/* The calls on files are counted, from 1. */
+ssize_t pread(int fd, void *bytes, size_t n, off_t at) { return fails() ? -1 : NEXT(pread)(fd, bytes, n, at); }
+ssize_t pwrite(int fd, const void *bytes, size_t n, off_t at) { return fails() ? -1 : NEXT(pwrite)(fd, bytes, n, at); }
+int fsync(int fd) { return fails() ? -1 : NEXT(fsync)(fd); }
+int fdatasync(int fd) { return fails() ? -1 : NEXT(fdatasync)(fd); }
+/* So are the growths of memory, from the first connection on. */
+extern void *__libc_malloc(size_t), *__libc_realloc(void *, size_t);
+static int refused(void) { static long growths = 0; return accepts && ++growths == number("GROWTH_REFUSED_AT", 0); }
+void *malloc(size_t n) { return refused() ? 0 : __libc_malloc(n); }
+void *realloc(void *p, size_t n) { return refused() ? 0 : __libc_realloc(p, n); }
+"""
+HOST = b"HTTP/1.1\r\nHost: a\r\n"
+PUT = b"PUT /resource/c " + HOST + b"Content-Length: 3\r\n"
+# A request that is refused before its body is read.
+TOO_LONG = b"PUT /resource/c " + HOST + b"Content-Length: 16777217\r\n\r\n"
+
+
+def formatted(program, room, name="a.disk", size="65536"):
+    subprocess.run([program, "format", name, size, *MEMORY[2:]], cwd=room, check=True, capture_output=True)
+    return name
+
+
+def ran(program, room, *words, given=b"", env=None, **ends):
+    """The status of a run, and what it wrote to standard error and, where that is not given, to standard output."""
+    ends = {"stdout": subprocess.PIPE} | ({} if "stdin" in ends else {"input": given}) | ends
+    it = subprocess.run([program, *words], cwd=room, env=env, stderr=subprocess.PIPE, timeout=SECONDS, **ends)
+    return it.returncode, it.stderr, it.stdout
+
+
+@contextlib.contextmanager
+def served(program, room, count, port="0", **settings):
+    """The port of a server, and the server, of so many connections to a.disk, with these settings of the system."""
+    env = interposed(room, "system", SYSTEM) | settings
+    with subprocess.Popen([program, "serve", "a.disk", port, str(count)], cwd=room, stdout=subprocess.PIPE, env=env) as server:
+        try:
+            yield int(server.stdout.readline().removeprefix(b"listening 127.0.0.1:")), server
+            compare("the server's status", b"0", b"%d" % server.wait(SECONDS))
+        finally:
+            server.kill()
+
+
+def connected(port):
+    return socket.create_connection(("127.0.0.1", port), timeout=SECONDS)
+
+
+def read_to_end(connection):
+    found = b""
+    with contextlib.suppress(ConnectionError):
+        while piece := connection.recv(65536):
+            found += piece
+    return found
+
+
+def asked(port, request):
+    with connected(port) as connection:
+        connection.sendall(request)
+        return read_to_end(connection)
+
+
+def ends_with(found, wanted):
+    compare("the end of a response", wanted, found[max(len(found) - len(wanted), 0):])
+
+
+def is_read_from(connection):
+    """Whether the other side of a connection that it has ended still reads what is sent."""
+    try:
+        for _ in range(3):
+            connection.sendall(b"x")
+            time.sleep(0.1)
+        return True
+    except ConnectionError:
+        return False
+
+
+def listens_on_loopback_alone(program, room):
+    """The program is bound to 127.0.0.1 and the port it was told, as the system lists it, and to no other address."""
+    formatted(program, room)
+    with socket.create_server(("127.0.0.1", 0)) as taken:
+        wanted = taken.getsockname()[1]
+        told = ran(program, room, "serve", "a.disk", str(wanted), "1")
+        compare("a port that is taken", b"(1, b'rs_source: Device\\n', b'')", repr(told).encode())
+    for asked_for in ["0", str(wanted)]:
+        with served(program, room, 1, asked_for) as (port, _):
+            lines = [line.split() for name in ["tcp", "tcp6"] for line in open(f"/proc/net/{name}")]
+            listening = [it[1] for it in lines if it[3] == "0A" and it[1].endswith(f":{port:04X}")]
+            compare("the addresses", f"0100007F:{port:04X}".encode(), " ".join(listening).encode())
+            compare("the port", b"%d" % (wanted if asked_for != "0" else port), b"%d" % port)
+            asked(port, b"GET / HTTP/1.0\r\n\r\n")
+
+
+def faults_of_standard_ends_are_told(program, room):
+    """Standard input that cannot be read is Read, standard output that cannot be written is Write, each with status 1; commands before stand."""
+    file = formatted(program, room)
+    unreadable = os.open(room, os.O_RDONLY)
+    for words in [MEMORY, ["run", file]]:
+        compare(words[0], b"(1, b'rs_source: Read\\n', b'')", repr(ran(program, room, *words, stdin=unreadable)).encode())
+        closed = ran(program, room, *words, stdin=None, preexec_fn=lambda: os.close(0))
+        compare(f"{words[0]}, no standard input", b"(1, b'rs_source: Read\\n', b'')", repr(closed).encode())
+    wanted = b"(1, b'rs_source: Write\\n')"
+    for number, closing in enumerate([{"stdout": open("/dev/full", "wb")}, {"stdout": None, "preexec_fn": lambda: os.close(1)}]):
+        for words in [MEMORY, ["run", file], ["format", f"{number}.disk", *MEMORY[1:]], ["serve", file, "0", "1"]]:
+            found = ran(program, room, *words, given=b"put %d - a/b\n" % number, **closing)
+            compare(f"{words[0]}, output {number}", wanted, repr(found[:2]).encode())
+        compare("status", b"resources 0 ", ran(program, room, "run", f"{number}.disk", given=b"status")[2][:12])
+    compare("status", b"resources 2 changes 2 ", ran(program, room, "run", file, given=b"status")[2][:22])
+
+
+def each_line_is_answered_before_the_next(program, room):
+    """A script can be talked to: an answer comes before more is read, and the last one at the end."""
+    talk = [(b"put a 61 a/b", b"created 1970-01-01T00:00:00.001Z\n"), (b"show /resource/a", b"bytes 1\na\n"), (b"no line", b"refused BadLine\n"),
+            (b"status", b"resources 1 changes 1 publication 0 last 1970-01-01T00:00:00.001Z\n")]
+    with subprocess.Popen([program, *MEMORY], stdin=subprocess.PIPE, stdout=subprocess.PIPE) as it:
+        for line, wanted in talk:
+            for piece in [line[:1], line[1:], b"\n"]:
+                os.write(it.stdin.fileno(), piece)
+            found = b""
+            while len(found) < len(wanted) and select.select([it.stdout], [], [], SECONDS)[0] and (piece := os.read(it.stdout.fileno(), 4096)):
+                found += piece
+            compare(line.decode(), wanted, found)
+        compare("the end", b"refused NotHeld\n", it.communicate(b"delete b", SECONDS)[0])
+
+
+def the_word_to_go_on_is_sent_at_once(program, room):
+    """A client may wait for `100 Continue` before it sends its body."""
+    formatted(program, room)
+    with served(program, room, 1) as (port, _), connected(port) as connection:
+        connection.sendall(PUT + b"Expect: 100-continue\r\n\r\n")
+        compare("the word", b"HTTP/1.1 100 Continue\r\n\r\n", connection.recv(65536))
+        connection.sendall(b"abc")
+        compare("the response", b"HTTP/1.1 201 Created\r\n", read_to_end(connection)[:22])
+
+
+def a_refused_request_is_read_on(program, room):
+    """After a refusal the server ends what it sends, so its client sees the end, and goes on reading what the client sends."""
+    formatted(program, room)
+    with served(program, room, 2) as (port, _):
+        with connected(port) as connection:
+            connection.sendall(TOO_LONG)
+            ends_with(read_to_end(connection), b"\r\n\r\nTooLong\n")
+            if not is_read_from(connection):
+                raise Differs("the connection was closed with the response")
+        with connected(port) as connection:
+            connection.sendall(PUT + b"\r\nabc")
+            ends_with(read_to_end(connection), b"\r\nContent-Length: 0\r\n\r\n")
+            if is_read_from(connection):
+                raise Differs("an accepted request is read on")
+
+
+def a_response_that_cannot_be_sent_ends_the_connection(program, room):
+    """A fault of sending a refusal ends the connection: nothing is read on."""
+    formatted(program, room)
+    with served(program, room, 1, SENDS_FAIL="1") as (port, _), connected(port) as connection:
+        connection.sendall(TOO_LONG)
+        compare("the response", b"", read_to_end(connection))
+        if is_read_from(connection):
+            raise Differs("the connection is read on")
+
+
+def a_fault_ends_its_connection_alone(program, room):
+    """A client that resets its connection within a head or a body is forgotten, and nothing is kept of it; the next one is served."""
+    formatted(program, room)
+    with served(program, room, 3) as (port, _):
+        for part in [PUT, PUT + b"\r\nab"]:
+            with connected(port) as connection:
+                connection.sendall(part)
+                # Closed like this, a connection is reset.
+                connection.setsockopt(socket.SOL_SOCKET, socket.SO_LINGER, struct.pack("ii", 1, 0))
+        ends_with(asked(port, b"GET /resource/c " + HOST + b"\r\n"), b"\r\n\r\nNotHeld\n")
+
+
+def each_cut_of_a_head_is_bad(program, room):
+    """A head that is cut at any byte is BadHead; the whole one is not, nor is none."""
+    formatted(program, room)
+    head = b"PUT /resource/c HTTP/1.1\r\nHost: a\r\nContent-Length: 0\r\n\r\n"
+    with served(program, room, len(head) + 1) as (port, _):
+        for length in range(len(head) + 1):
+            with connected(port) as connection:
+                connection.sendall(head[:length])
+                connection.shutdown(socket.SHUT_WR)
+                found = read_to_end(connection)
+            wanted = b"" if length == 0 else b"HTTP/1.1 400 Bad Request\r\n" if length < len(head) else b"HTTP/1.1 201 Created\r\n"
+            compare(f"{length} bytes", wanted, found[:len(wanted)] if wanted else found)
+            ends_with(found, b"\r\n\r\nBadHead\n" if 0 < length < len(head) else b"")
+
+
+def commands_come_when_their_connection_is_taken(program, room):
+    """A command has the time at which its connection was taken, and not one before the wait for it."""
+    formatted(program, room)
+    with served(program, room, 2, DAYS="1") as (port, _):
+        compare("the put", b"HTTP/1.1 201 Created\r\nDate: Wed, 01 Mar 2000 00:00:00 GMT\r\n", asked(port, PUT + b"\r\nabc")[:59])
+        found = asked(port, b"POST /publish " + HOST + b"\r\n")
+        compare("the publication", b"HTTP/1.1 200 OK\r\nDate: Thu, 02 Mar 2000 00:00:00 GMT\r\n", found[:54])
+        ends_with(found, b"\r\n\r\npublished 1 2000-03-02T00:00:00.000Z\n")
+    shown = ran(program, room, "run", "a.disk", given=b"show /changelist.xml")[2]
+    compare("the change", b"<lastmod>2000-03-01T00:00:00.000Z</lastmod>", shown[shown.find(b"<lastmod>"):][:43])
+
+
+def clocks_show_moments(program, room):
+    """A clock is cut to its millisecond; before 1970, and unread, it counts as moment 0, and past the last moment as that."""
+    for seconds, nanoseconds, date, moment in [
+        (5, 999_999, b"Thu, 01 Jan 1970 00:00:05", b"1970-01-01T00:00:05.000Z"),
+        (5, 1_999_999, b"Thu, 01 Jan 1970 00:00:05", b"1970-01-01T00:00:05.001Z"),
+        (253402300799, 998_000_000, b"Fri, 31 Dec 9999 23:59:59", b"9999-12-31T23:59:59.998Z"),
+        (253402300799, 999_999_999, b"Fri, 31 Dec 9999 23:59:59", b"9999-12-31T23:59:59.999Z"),
+        (253402300800, 0, b"Fri, 31 Dec 9999 23:59:59", b"9999-12-31T23:59:59.999Z"),
+        (2**63 - 1, 999_999_999, b"Fri, 31 Dec 9999 23:59:59", b"9999-12-31T23:59:59.999Z"),
+        # Each moment is above the one before it: the source was formatted at moment 0.
+        (0, 0, b"Thu, 01 Jan 1970 00:00:00", b"1970-01-01T00:00:00.001Z"),
+        (-1, 999_000_000, b"Thu, 01 Jan 1970 00:00:00", b"1970-01-01T00:00:00.001Z"),
+        (None, 0, b"Thu, 01 Jan 1970 00:00:00", b"1970-01-01T00:00:00.001Z"),
+    ]:
+        pathlib.Path(room, "a.disk").unlink(missing_ok=True)
+        formatted(program, room)
+        clock = {"UNREAD_CLOCK": "1"} if seconds is None else {"SECONDS": str(seconds), "NANOSECONDS": str(nanoseconds)}
+        with served(program, room, 1, **clock) as (port, _):
+            found = asked(port, b"POST /publish " + HOST + b"\r\n")
+        compare(f"{seconds} {nanoseconds}", b"HTTP/1.1 200 OK\r\nDate: " + date + b" GMT\r\n", found[:54])
+        ends_with(found, b"\r\n\r\npublished 1 " + moment + b"\n")
+
+
+def a_device_that_fails_closes_the_source(program, room):
+    """Each call on the file fails in turn: the command is answered Device and may stand, all behind it Closed; opened again the source is whole."""
+    lines = b"put a 61 text/plain\nstatus\nshow /resourcelist.xml\npublish\ndelete a\nput a b c\n"
+    system = interposed(room, "system", SYSTEM)
+    after, closed = set(), 0
+    for number in range(1, 1000):
+        pathlib.Path(room, "a.disk").unlink(missing_ok=True)
+        formatted(program, room)
+        status, error, output = ran(program, room, "run", "a.disk", given=lines, env=system | {"FILE_FAILS_AT": str(number)})
+        if status:
+            compare(f"call {number}", b"(1, b'rs_source: Device\\n', b'')", repr((status, error, output)).encode())
+            continue
+        before, device, behind = output.partition(b"refused Device\n")
+        if not device:
+            break
+        done, answers = before.count(b"\n") > 0, behind.splitlines()
+        closed += answers[:-1] == [b"refused Closed"] * (len(answers) - 1) and not done
+        compare(f"call {number}, the end", b"refused BadHex", answers[-1])
+        found = ran(program, room, "run", "a.disk", given=b"status")[2]
+        after.add((done, found.split(b" last")[0]))
+    first = {told for done, told in after if not done}
+    compare("what may stand of the put", b"resources 0 changes 0 publication 0, resources 1 changes 1 publication 0", b", ".join(sorted(first)))
+    compare("the answers behind it", b"True", str(closed > 5).encode())
+
+
+def a_device_that_fails_is_told_over_http(program, room):
+    """A write of the file fails: 500 Device, and 503 Closed to what comes behind it."""
+    formatted(program, room)
+    system = interposed(room, "system", SYSTEM)
+    # (the first call that opening the file does not make)
+    first = next(n for n in range(1, 1000) if ran(program, room, "run", "a.disk", env=system | {"FILE_FAILS_AT": str(n)})[0] == 0)
+    with served(program, room, 4, FILE_FAILS_AT=str(first)) as (port, _):
+        ends_with(asked(port, PUT + b"\r\nabc"), b"\r\n\r\nDevice\n")
+        for request in [b"GET /resource/c ", b"GET /resourcelist.xml ", b"POST /publish "]:
+            found = asked(port, request + HOST + b"\r\n")
+            compare("the status", b"HTTP/1.1 503 Service Unavailable\r\n", found[:34])
+            ends_with(found, b"\r\n\r\nClosed\n")
+
+
+def refused_memory_is_told_over_http(program, room):
+    """Each growth of memory within a request is refused in turn: 503 NoMemory, or no response where there is none to begin, and nothing changed."""
+    source = pathlib.Path(room, formatted(program, room))
+    ran(program, room, "run", "a.disk", given=b"put c 616263 a/b\npublish")
+    kept, refusals = source.read_bytes(), 0
+    for request in [PUT + b"\r\nabd", b"DELETE /resource/c " + HOST + b"\r\n", b"POST /publish " + HOST + b"\r\n",
+                    b"GET /resource/c " + HOST + b"\r\n", b"GET /resourcelist.xml " + HOST + b"\r\n"]:
+        usual, number, quiet = None, 0, 0
+        # Six growths in a row that nobody asked for: none is left to refuse.
+        while quiet < 6:
+            source.write_bytes(kept)
+            with served(program, room, 1, GROWTH_REFUSED_AT=str(number)) as (port, _):
+                answer = asked(port, request)
+            usual, number, quiet = usual or answer, number + 1, quiet + 1
+            if answer != usual:
+                refusals, quiet = refusals + 1, 0
+                wanted = b"HTTP/1.1 503 Service Unavailable\r\n" if answer else b""
+                compare(f"growth {number - 1} of {request[:16]!r}", wanted, answer[:len(wanted)])
+                ends_with(answer, b"\r\n\r\nNoMemory\n" if answer else b"")
+                told = ran(program, room, "run", "a.disk", given=b"status")[2]
+                compare("the state", b"resources 1 changes 1 publication 1 ", told[:36])
+    compare("growths refused", b"True", str(refusals > 10).encode())
+
+
+EDGES = [
+    listens_on_loopback_alone, faults_of_standard_ends_are_told, each_line_is_answered_before_the_next, the_word_to_go_on_is_sent_at_once,
+    a_refused_request_is_read_on, a_response_that_cannot_be_sent_ends_the_connection, a_fault_ends_its_connection_alone, each_cut_of_a_head_is_bad,
+    commands_come_when_their_connection_is_taken, clocks_show_moments, a_device_that_fails_closes_the_source, a_device_that_fails_is_told_over_http,
+    refused_memory_is_told_over_http,
+]
+
+
+def main():
+    given = sys.argv[1:]
+    program = os.path.abspath(given.pop(0) if given and os.path.isfile(given[0]) else PROGRAM)
+    edges = [it for it in EDGES if not given or it.__name__ in given]
+    failed = 0
+    for edge in edges:
+        with tempfile.TemporaryDirectory() as room:
+            try:
+                edge(program, room)
+            except (Differs, OSError, ValueError, subprocess.SubprocessError) as fault:
+                failed += 1
+                print(f"{edge.__name__}: {type(fault).__name__} {fault}")
+    print(f"edges: {len(edges) - failed} of {len(edges)} hold")
+    return 1 if failed or not edges else 0
+
+
+if __name__ == "__main__":
+    sys.exit(main())
