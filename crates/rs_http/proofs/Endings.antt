@@ -80,13 +80,14 @@ module _ {D : Type 0} (device : D → DiskState) (old new : Stored D) (now : ℕ
 module _ {D : Type 0} (device : D → DiskState) (old new : Stored D) (now : ℕ) (request : Request) (bytes : List ℕ) (read : HeadRead)
     (left mid rest before after : Option (List ℕ)) (came : Consumes left mid bytes) (head : HeadIs bytes read) (ended : read ≡ Ended → IsAtEnd mid)
     (asks : Asks bytes read (Some request)) where
-  reads : (more : List ℕ) → Consumes mid rest more → Reads (bytes ++ more) more rest request
+  reads : (more : List ℕ) → Consumes mid rest more → Reads left (bytes ++ more) more rest request
   reads more then = record {
     bytes = bytes;
     read = read;
     behind = mid;
     input_is = refl;
     head = head;
+    came = came;
     ended = ended;
     passed = then;
     asks = asks;
@@ -94,19 +95,19 @@ module _ {D : Type 0} (device : D → DiskState) (old new : Stored D) (now : ℕ
 
   -- a request that was read was answered
   pub served : (status : ℕ) → RequestEnds device old now request mid rest before after new (Ok status)
-      → (input : List ℕ) × (output : List ℕ) × Consumes left rest input × Appends before after output × (Serves device old now input rest output (Answered status) new)
+      → (input : List ℕ) × (output : List ℕ) × Consumes left rest input × Appends before after output × (Serves device old now left input rest output (Answered status) new)
   served status (more, output, then, written, is) =
       (bytes ++ more, output, Consumes-trans left mid rest bytes more came then, written, (more, request, reads more then, is))
 
   -- the reader failed in its body
   pub broken : (fault : FrontFault) → fault ≡ Read → RequestEnds device old now request mid rest before after new (Err fault)
-      → (input : List ℕ) × (output : List ℕ) × Consumes left rest input × Appends before after output × (Breaks device old now input rest output new)
+      → (input : List ℕ) × (output : List ℕ) × Consumes left rest input × Appends before after output × (Breaks device old now left input rest output new)
   broken Read e (more, then, written, is) =
       (bytes ++ more, preface_of request.plan, Consumes-trans left mid rest bytes more came then, written, inr (more, request, reads more then, refl, is))
   broken Write e ends = absurd cc
 
   -- the writer failed
   pub halted : (fault : FrontFault) → fault ≡ Write → RequestEnds device old now request mid rest before after new (Err fault)
-      → (input : List ℕ) × Consumes left rest input × (Halts device old now input rest new)
+      → (input : List ℕ) × Consumes left rest input × (Halts device old now left input rest new)
   halted Read e ends = absurd cc
   halted Write e (more, then, stands) = (bytes ++ more, Consumes-trans left mid rest bytes more came then, (more, request, reads more then, stands))

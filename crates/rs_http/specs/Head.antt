@@ -23,8 +23,8 @@ pub record IsHead (bytes : List ℕ) : Type 0 where
   pub ends : ends_head bytes (length bytes) ≡ true
   pub first : (k : ℕ) → k < length bytes → ends_head bytes k ≡ false
 
--- what the bytes at the front of an input are: a head, or as many as a head may have without its end, or all that came
+-- what the bytes at the front of an input are: a head within the limit, or as many as a head may have without its end, or all that came
 abbrev pub HeadIs : List ℕ → HeadRead → Type 0
-HeadIs bytes Whole = IsHead bytes
+HeadIs bytes Whole = (length bytes ≤ head_limit) × IsHead bytes
 HeadIs bytes TooLong = (length bytes ≡ head_limit) × HasNoEnd bytes
 HeadIs bytes Ended = (length bytes < head_limit) × HasNoEnd bytes

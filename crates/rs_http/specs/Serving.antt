@@ -66,33 +66,34 @@ RequestEnds device old now request left rest before after new (Err Read) =
 RequestEnds device old now request left rest before after new (Err Write) =
     (more : List ℕ) × Consumes left rest more × Stands device old now request more rest new
 
--- An input is these bytes, which ask for this request, and what was read past them; where they are a head that is cut, the
--- reader had ended behind them.
-pub record Reads (input more : List ℕ) (rest : Option (List ℕ)) (request : Request) : Type 0 where
+-- An input is these bytes, which ask for this request, and what was read past them. `behind` is what the reader had left
+-- behind them: nothing, where they are a head that is cut.
+pub record Reads (left : Option (List ℕ)) (input more : List ℕ) (rest : Option (List ℕ)) (request : Request) : Type 0 where
   pub bytes : List ℕ
   pub read : HeadRead
   pub behind : Option (List ℕ)
   pub input_is : input ≡ bytes ++ more
   pub head : HeadIs bytes read
+  pub came : Consumes left behind bytes
   pub ended : read ≡ Ended → IsAtEnd behind
   pub passed : Consumes behind rest more
   pub asks : Asks bytes read (Some request)
 
--- What was written for an input: nothing where it has no byte, and else the response to the request at its front.
-abbrev pub Serves : {D : Type 0} → (D → DiskState) → Stored D → ℕ → List ℕ → Option (List ℕ) → List ℕ → Served → Stored D → Type 0
-Serves device old now input rest output Nothing new = (input ≡ []) × IsAtEnd rest × (output ≡ []) × (new ≡ old)
-Serves device old now input rest output (Answered status) new =
-    (more : List ℕ) × (request : Request) × Reads input more rest request × IsAnswered device old now request more rest output status new
+-- What was written for an input, of a reader that had this left: nothing where it has no byte, and else the response to the request at its front.
+abbrev pub Serves : {D : Type 0} → (D → DiskState) → Stored D → ℕ → Option (List ℕ) → List ℕ → Option (List ℕ) → List ℕ → Served → Stored D → Type 0
+Serves device old now left input rest output Nothing new = (input ≡ []) × IsAtEnd rest × (output ≡ []) × (new ≡ old)
+Serves device old now left input rest output (Answered status) new =
+    (more : List ℕ) × (request : Request) × Reads left input more rest request × IsAnswered device old now request more rest output status new
 
 -- What was written and done where the reader failed within an input: nothing before the head had ended; and in the body of
 -- a put no more than the word to go on, and the put is not done.
-abbrev pub Breaks : {D : Type 0} → (D → DiskState) → Stored D → ℕ → List ℕ → Option (List ℕ) → List ℕ → Stored D → Type 0
-Breaks device old now input rest output new =
+abbrev pub Breaks : {D : Type 0} → (D → DiskState) → Stored D → ℕ → Option (List ℕ) → List ℕ → Option (List ℕ) → List ℕ → Stored D → Type 0
+Breaks device old now left input rest output new =
     (HasNoEnd input × (output ≡ []) × (new ≡ old))
-    ⊎ ((more : List ℕ) × (request : Request) × Reads input more rest request × (output ≡ preface_of request.plan) × IsBroken device old now request.plan more new)
+    ⊎ ((more : List ℕ) × (request : Request) × Reads left input more rest request × (output ≡ preface_of request.plan) × IsBroken device old now request.plan more new)
 
 -- What was done where the writer failed: what the request at the front of the input comes to, unless the word to go on was
 -- not written.
-abbrev pub Halts : {D : Type 0} → (D → DiskState) → Stored D → ℕ → List ℕ → Option (List ℕ) → Stored D → Type 0
-Halts device old now input rest new =
-    (more : List ℕ) × (request : Request) × Reads input more rest request × Stands device old now request more rest new
+abbrev pub Halts : {D : Type 0} → (D → DiskState) → Stored D → ℕ → Option (List ℕ) → List ℕ → Option (List ℕ) → Stored D → Type 0
+Halts device old now left input rest new =
+    (more : List ℕ) × (request : Request) × Reads left input more rest request × Stands device old now request more rest new

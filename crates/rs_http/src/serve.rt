@@ -48,18 +48,18 @@ pub fn serve_one<D: Disk, R: Read, W: Write>(
     ensures ok { IfOk result (λ served. (input : List ℕ) × (output : List ℕ)
         × Consumes (R.remaining (watched reader.old)) (R.remaining (watched reader.new)) input
         × Appends (W.contents (watched writer.old)) (W.contents (watched writer.new)) output
-        × Serves D.state source.old now input (R.remaining (watched reader.new)) output served source.new) }
+        × Serves D.state source.old now (R.remaining (watched reader.old)) input (R.remaining (watched reader.new)) output served source.new) }
 
     // The reader failed within what was read.
     ensures read { IsErrOf result FrontFault.Read → IsTrue (has_failed reader.new) × (input : List ℕ) × (output : List ℕ)
         × Consumes (R.remaining (watched reader.old)) (R.remaining (watched reader.new)) input
         × Appends (W.contents (watched writer.old)) (W.contents (watched writer.new)) output
-        × Breaks D.state source.old now input (R.remaining (watched reader.new)) output source.new }
+        × Breaks D.state source.old now (R.remaining (watched reader.old)) input (R.remaining (watched reader.new)) output source.new }
 
     // The writer failed, and what was done stands.
     ensures write { IsErrOf result FrontFault.Write → IsTrue (has_failed writer.new) × (input : List ℕ)
         × Consumes (R.remaining (watched reader.old)) (R.remaining (watched reader.new)) input
-        × Halts D.state source.old now input (R.remaining (watched reader.new)) source.new }
+        × Halts D.state source.old now (R.remaining (watched reader.old)) input (R.remaining (watched reader.new)) source.new }
 
     // Whatever the result is, a state that was held has become what one command at most makes of it, while the source is open.
     ensures goes_on { GoesOnOnce D.state source.old now source.new }

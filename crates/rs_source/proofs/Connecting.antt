@@ -19,16 +19,16 @@ fold_of-append s (c ∷ commands) more = fold_of-append (state_after s (step s c
 
 module _ {D : Type 0} (device : D → DiskState) (old new : Stored D) where
   -- whatever came of a request
-  pub request_connects : (now : ℕ) (rest : Option (List ℕ)) (Took Wrote : List ℕ → Type 0) (Broken Stuck : Type 0) (result : Result Served FrontFault)
-      → IfOk result (λ served. (input : List ℕ) × (output : List ℕ) × Took input × Wrote output × Serves device old now input rest output served new)
-      → (IsErrOf result Read → Broken × (input : List ℕ) × (output : List ℕ) × Took input × Wrote output × Breaks device old now input rest output new)
-      → (IsErrOf result Write → Stuck × (input : List ℕ) × Took input × Halts device old now input rest new)
+  pub request_connects : (now : ℕ) (left rest : Option (List ℕ)) (Took Wrote : List ℕ → Type 0) (Broken Stuck : Type 0) (result : Result Served FrontFault)
+      → IfOk result (λ served. (input : List ℕ) × (output : List ℕ) × Took input × Wrote output × Serves device old now left input rest output served new)
+      → (IsErrOf result Read → Broken × (input : List ℕ) × (output : List ℕ) × Took input × Wrote output × Breaks device old now left input rest output new)
+      → (IsErrOf result Write → Stuck × (input : List ℕ) × Took input × Halts device old now left input rest new)
       → GoesOnOnce device old now new → Connects device old new
-  request_connects now rest Took Wrote Broken Stuck (Ok served) ok read write on = inr (now, ok.0, rest, inl (ok.1, served, ok.4), on)
-  request_connects now rest Took Wrote Broken Stuck (Err Read) ok read write on =
-      let r = read refl in inr (now, r.1, rest, inr (inl (r.2, r.5)), on)
-  request_connects now rest Took Wrote Broken Stuck (Err Write) ok read write on =
-      let w = write refl in inr (now, w.1, rest, inr (inr w.3), on)
+  request_connects now left rest Took Wrote Broken Stuck (Ok served) ok read write on = inr (now, left, ok.0, rest, inl (ok.1, served, ok.4), on)
+  request_connects now left rest Took Wrote Broken Stuck (Err Read) ok read write on =
+      let r = read refl in inr (now, left, r.1, rest, inr (inl (r.2, r.5)), on)
+  request_connects now left rest Took Wrote Broken Stuck (Err Write) ok read write on =
+      let w = write refl in inr (now, left, w.1, rest, inr (inr w.3), on)
 
 module _ {D : Type 0} (device : D → DiskState) where
   -- a source that nothing was asked of
@@ -50,7 +50,7 @@ module _ {D : Type 0} (device : D → DiskState) where
 
   connection_goes : (old new : Stored D) → Connects device old new → (commands : List (Command × ℕ)) × (length commands ≤ 1) × GoesOnBy device old new commands
   connection_goes old new (inl same) = ([], omega arith, stays old new same)
-  connection_goes old new (inr came) = (came.4.commands, came.4.few, came.4.goes_on)
+  connection_goes old new (inr came) = (came.5.commands, came.5.few, came.5.goes_on)
 
   -- so many commands at most make the state that is held after so many connections
   pub connections_go : (count : ℕ) (old new : Stored D) → Connections device old count new

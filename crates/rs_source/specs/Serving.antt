@@ -6,16 +6,17 @@ use Rattle.rs_http.specs.declared.serve.Served.{Served}
 use Rattle.rs_http.specs.Held.{GoesOnOnce}
 use Rattle.rs_http.specs.Serving.{Serves, Breaks, Halts}
 
--- what one request does that comes at this moment with this input: it was answered, or the reader failed in it, or the writer
-abbrev pub Requests : {D : Type 0} → (D → DiskState) → Stored D → ℕ → List ℕ → Option (List ℕ) → Stored D → Type 0
-Requests device old now input rest new =
-    ((output : List ℕ) × (served : Served) × Serves device old now input rest output served new)
-    ⊎ (((output : List ℕ) × Breaks device old now input rest output new) ⊎ Halts device old now input rest new)
+-- what one request does that comes at this moment with this input, of a reader that had this left before and after: it was
+-- answered, or the reader failed in it, or the writer
+abbrev pub Requests : {D : Type 0} → (D → DiskState) → Stored D → ℕ → Option (List ℕ) → List ℕ → Option (List ℕ) → Stored D → Type 0
+Requests device old now left input rest new =
+    ((output : List ℕ) × (served : Served) × Serves device old now left input rest output served new)
+    ⊎ (((output : List ℕ) × Breaks device old now left input rest output new) ⊎ Halts device old now left input rest new)
 
 -- what one connection does: nothing, or one request, which is one command of the model at most
 abbrev pub Connects : {D : Type 0} → (D → DiskState) → Stored D → Stored D → Type 0
 Connects device old new =
-    (new ≡ old) ⊎ ((now : ℕ) × (input : List ℕ) × (rest : Option (List ℕ)) × Requests device old now input rest new × GoesOnOnce device old now new)
+    (new ≡ old) ⊎ ((now : ℕ) × (left : Option (List ℕ)) × (input : List ℕ) × (rest : Option (List ℕ)) × Requests device old now left input rest new × GoesOnOnce device old now new)
 
 -- what so many connections do, one after another
 abbrev pub Connections : {D : Type 0} → (D → DiskState) → Stored D → ℕ → Stored D → Type 0

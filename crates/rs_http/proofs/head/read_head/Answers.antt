@@ -1,5 +1,6 @@
 -- What came stays, and the byte that comes ends it or does not.
-use Rattle.std.proofs.Common.{◌<◌, take, length, arith, sym, ◌∙◌}
+use Rattle.std.proofs.Common.{◌<◌, ◌≤◌, ◌+◌, take, set, length, arith, sym, ◌∙◌}
+use Rattle.std.proofs.lemmas.Grind.{common_steps}
 use Rattle.std.proofs.KnownBytes.{Consumes-nil, Consumes-kept}
 use Rattle.rs_io.specs.Watch.{watched}
 use Rattle.rs_http.proofs.Ends.{HasNoEnd-more, IsHead-more, came_more, no_end_at_none, on_err}
@@ -24,11 +25,12 @@ returns-in_err-byte-clause-err g c =
 pub returns-then-is_end-clause-ok : goal.returns-then-is_end-clause-ok
 returns-then-is_end-clause-ok g c =
     let small : c.loop-came.came < length c.loop-came.buf = omega arith in
-    let e = rw c.in-Some.is at c.in_ok-byte.ensures.ok in (
+    let e = rw c.in-Some.is at c.in_ok-byte.ensures.ok in
+    let at_most : length (take (c.loop-came.came + 1) (set c.loop-came.buf c.loop-came.came c.in-Some.byte)) ≤ 8192 = grind (arith, common_steps) in (
       omega arith,
       came_more (g.R.Read.remaining (watched c.args.reader.now)) (g.R.Read.remaining (watched c.loop-came.reader)) (g.R.Read.remaining (watched c.read_byte.new.reader))
           c.loop-came.buf c.loop-came.came c.in-Some.byte small c.loop-came.invariant.came e,
-      IsHead-more c.loop-came.buf c.loop-came.came c.in-Some.byte small c.loop-came.invariant.open_yet (sym c.is_end.ensures ∙ c.if-is_end.true),
+      (at_most, IsHead-more c.loop-came.buf c.loop-came.came c.in-Some.byte small c.loop-came.invariant.open_yet (sym c.is_end.ensures ∙ c.if-is_end.true)),
     )
 
 pub loop-came-preserved : goal.loop-came-preserved

@@ -11,6 +11,6 @@ returns g c =
     let rest = g.R.Read.remaining (watched c.serve_one.new.reader) in
     let held = g.W.Write.contents (watched c.args.writer.now) in
     let holds = g.W.Write.contents (watched c.serve_one.new.writer) in
-    request_connects g.D.Disk.state c.args.source.now c.serve_one.new.source c.args.now rest (Consumes before rest) (Appends held holds)
+    request_connects g.D.Disk.state c.args.source.now c.serve_one.new.source c.args.now before rest (Consumes before rest) (Appends held holds)
     (IsTrue (has_failed c.serve_one.new.reader)) (IsTrue (has_failed c.serve_one.new.writer)) c.serve_one.result
     c.serve_one.ensures.ok c.serve_one.ensures.read c.serve_one.ensures.write c.serve_one.ensures.goes_on
