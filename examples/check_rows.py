@@ -4,6 +4,7 @@
 A row is a text that a person can read; examples/rows/README.md says how each kind is written:
   NAME.in, NAME.out    a script on standard input of `rs_source mem` (NAME.args has other arguments, one a line)
   NAME.session         commands on files, with their input, output, messages and statuses
+  NAME.disks           disks with changes, and whether a source is opened on each
   NAME.http            requests to one `rs_source serve`, and the bytes of the responses, at a clock that stands still
 
 usage: check_rows.py [PROGRAM] [NAME..]     names of rows to run, as `names` (all, where none is given)
@@ -98,6 +99,22 @@ def check_session(program, row, room):
     run_steps(program, row.read_bytes(), room)
 
 
+def opened(program, words, room):
+    """Whether a disk of these words (its name and changes) is opened: `opens`, or the word that it is refused by."""
+    disks.disk(room, words[0], "it.disk", *words[1:])
+    told = told_by(program, ["rs_source", "run", "it.disk"], b"", room).decode()
+    refused = re.fullmatch(r"! rs_source: (\w+)\n\? 1\n", told)
+    return refused[1] if refused else told or "opens"
+
+
+def check_disks(program, row, room):
+    """Disks, each with the answer that is wanted of it at the end of its line."""
+    for line in row.read_bytes().splitlines():
+        words = written_out(line).decode().split()
+        if words and not line.startswith(b"#"):
+            compare(line.decode(), words.pop().encode(), opened(program, words, room).encode())
+
+
 ENDS = {b" ": b"\r\n", b"+": b"\n", b"-": b""}
 
 
@@ -156,7 +173,7 @@ def check_exchanges(program, row, room):
             server.kill()
 
 
-KINDS = {".in": check_script, ".session": check_session, ".http": check_exchanges}
+KINDS = {".in": check_script, ".session": check_session, ".disks": check_disks, ".http": check_exchanges}
 
 
 def main():

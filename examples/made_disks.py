@@ -1,7 +1,8 @@
 """Disks of whole sources, for the sessions: one that commands lead to, and sources at a limit that commands would
-take too long to reach. They are spelled from the tables of docs/DISK.md by the parts in disks.py.
+take too long to reach.
 """
-import disks
+import disk_parts as parts_of
+from disk_formats import BLOCK, laid_out
 
 # The greatest number of resources that are held, and of changes that are kept.
 MOST = 50_000
@@ -13,32 +14,32 @@ LEAP_DAY = 951_782_400_000
 
 def source(parts, header, generation, blocks):
     """A disk whose first slot is open, whose second one is closed, and whose directory lies in block 2."""
-    return disks.laid_out(blocks, [(0, disks.slot(1, generation, 2, header)), (2, header), *parts])
+    return laid_out(blocks, [(0, parts_of.slot(1, generation, 2, header)), (2, header), *parts])
 
 
 def empty(size):
     """A source that was just made, on a disk of so many bytes, of which it needs 1,536."""
-    return source([], disks.directory(0), 1, 128)[:size]
+    return source([], parts_of.directory(0), 1, 128)[:size]
 
 
 def two_puts(size):
     """A put of `a`, a publication and a put of `b`, as far as a disk of so many bytes has room. They need 3,584."""
-    a = disks.record(b"a", b"", LEAP_DAY, 0)
-    b = disks.record(b"b", b"abc", LEAP_DAY + 2, 6)
-    created = [disks.change(1, b"a", LEAP_DAY, b""), disks.change(1, b"b", LEAP_DAY + 2, b"abc")]
-    pages = [(3, disks.page(1, [a, b])), (4, disks.page(2, created)), (5, disks.page(1, [a]))]
-    entries = [[disks.entry(*page)] for page in pages]
-    header = disks.directory(LEAP_DAY + 2, number=1, at=LEAP_DAY + 1, lists=entries)
+    a = parts_of.record(b"a", b"", LEAP_DAY, 0)
+    b = parts_of.record(b"b", b"abc", LEAP_DAY + 2, 6)
+    created = [parts_of.change(1, b"a", LEAP_DAY, b""), parts_of.change(1, b"b", LEAP_DAY + 2, b"abc")]
+    pages = [(3, parts_of.page(1, [a, b])), (4, parts_of.page(2, created)), (5, parts_of.page(1, [a]))]
+    entries = [[parts_of.entry(*page)] for page in pages]
+    header = parts_of.directory(LEAP_DAY + 2, number=1, at=LEAP_DAY + 1, lists=entries)
     return source([*pages, (6, b"abc")], header, 4, 128)[:size]
 
 
 def filled(names, changes, number=0, generation=1, blocks=128):
     """Resources of no bytes, all put at the moment 1, and so many deletions of `z`, at the moments 1, 2 and so on."""
-    records = disks.page(1, [disks.record(name, b"", 1, 0) for name in names])
-    deletions = disks.page(2, [disks.change(3, b"z", moment) for moment in range(1, changes + 1)])
-    behind = 3 + (len(records) + disks.BLOCK - 1) // disks.BLOCK
+    records = parts_of.page(1, [parts_of.record(name, b"", 1, 0) for name in names])
+    deletions = parts_of.page(2, [parts_of.change(3, b"z", moment) for moment in range(1, changes + 1)])
+    behind = 3 + (len(records) + BLOCK - 1) // BLOCK
     pages = [(3, records), (behind, deletions)]
-    header = disks.directory(changes, number=number, lists=[[disks.entry(*pages[0])], [disks.entry(*pages[1])], []])
+    header = parts_of.directory(changes, number=number, lists=[[parts_of.entry(*pages[0])], [parts_of.entry(*pages[1])], []])
     return source(pages, header, generation, blocks)
 
 
@@ -49,7 +50,7 @@ ROOM = (2048, 2047, 3072, 3071, 3584, 3583)
 # body, within its block or behind it, with one block that is free, or with many.
 SIZES = (511, 512, 1023, 1024, 1536, 3071, 3583, 3584, 4096, 65536)
 
-MADE = {
+DISKS = {
     **{f"empty_{size}": lambda size=size: empty(size) for size in ROOM},
     **{f"two_puts_{size}": lambda size=size: two_puts(size) for size in SIZES},
     "most_changes": lambda: filled([b"a"], MOST, blocks=1100),

@@ -15,6 +15,3 @@ mod storing;
 
 pub use catalogue::Catalogue;
 pub use rs_page::{Full, LoadFault, PageRef, StoreFault};
-
-#[cfg(test)]
-mod tests;

@@ -7,6 +7,3 @@ pub mod laws;
 mod storing;
 
 pub use history::History;
-
-#[cfg(test)]
-mod tests;

@@ -19,6 +19,3 @@ pub use format::{directory_bytes, directory_size};
 pub use header::Header;
 pub use limit::Limit;
 pub use reading::read_directory;
-
-#[cfg(test)]
-mod tests;

@@ -10,6 +10,3 @@ mod whole;
 pub use contents::Contents;
 pub use loading::load;
 pub use used::used_of;
-
-#[cfg(test)]
-mod tests;

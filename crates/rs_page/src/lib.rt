@@ -26,6 +26,3 @@ pub use page::load::LoadFault;
 pub use page::store::StoreFault;
 pub use page::{Full, MOST_ITEMS, Page};
 pub use place::{PageRef, Place};
-
-#[cfg(test)]
-mod tests;

@@ -1,0 +1,45 @@
+"""The parts of a disk as bytes, spelled from the tables of docs/DISK.md, apart from the program."""
+import struct
+
+from disk_formats import BASE, body_fields, change_fields, entry_fields, extent_fields, record_fields, slot_fields, spelled
+
+
+def extent_of(first, length):
+    """The first block and the number of blocks of so many bytes. No bytes have no block."""
+    return spelled(extent_fields(first, length))
+
+
+def kind_and_digests(kind, body):
+    return spelled(body_fields(kind, body))
+
+
+def record(*given, **named):
+    """A record of a resource whose body lies from the block `first` on."""
+    return spelled(record_fields(*given, **named))
+
+
+def change(*given, **named):
+    """A change: 1 created, 2 updated, 3 deleted."""
+    return spelled(change_fields(*given, **named))
+
+
+def page(kind, items):
+    """A page: 1 of records, 2 of changes."""
+    return struct.pack(">BI", kind, len(items)) + b"".join(items)
+
+
+def entry(first, data):
+    """A page's entry in the directory."""
+    return spelled(entry_fields(first, data))
+
+
+def directory(last, number=0, at=0, lists=((), (), ()), limit=2, base=BASE, start=0):
+    """A directory. `lists` has the entries of the catalogue's, the changes' and the published pages."""
+    head = struct.pack(">HB", limit, len(base)) + base + struct.pack(">QQQQ", start, last, number, at)
+    counts = struct.pack(">III", *map(len, lists))
+    return head + counts + b"".join(b"".join(it) for it in lists)
+
+
+def slot(*given, **named):
+    """A slot that points to a directory."""
+    return spelled(slot_fields(*given, **named))
