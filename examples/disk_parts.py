@@ -1,16 +1,7 @@
 """The parts of a disk as bytes, spelled from the tables of docs/DISK.md, apart from the program."""
 import struct
 
-from disk_formats import BASE, body_fields, change_fields, entry_fields, extent_fields, record_fields, slot_fields, spelled
-
-
-def extent_of(first, length):
-    """The first block and the number of blocks of so many bytes. No bytes have no block."""
-    return spelled(extent_fields(first, length))
-
-
-def kind_and_digests(kind, body):
-    return spelled(body_fields(kind, body))
+from disk_formats import BASE, change_fields, entry_fields, record_fields, slot_fields, spelled
 
 
 def record(*given, **named):

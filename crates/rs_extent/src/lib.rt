@@ -16,6 +16,3 @@ pub struct Extent {
     /// How many blocks there are.
     pub blocks: u32,
 }
-
-#[cfg(test)]
-mod tests;

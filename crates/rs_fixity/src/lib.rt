@@ -5,8 +5,6 @@
 
 mod hashing;
 pub mod laws;
-#[cfg(test)]
-mod tests;
 mod text;
 
 pub use hashing::{Hashing, digests_of};

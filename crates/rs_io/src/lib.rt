@@ -12,6 +12,3 @@ pub mod watch;
 
 pub use fault::{ReadFault, WriteFault};
 pub use watch::Watched;
-
-#[cfg(test)]
-mod tests;

@@ -27,6 +27,3 @@ pub use media_type::{MediaType, MediaTypeError};
 pub use name::{Name, NameError};
 pub use record::Record;
 pub use record_format::{read_record, record_size, write_record};
-
-#[cfg(test)]
-mod tests;

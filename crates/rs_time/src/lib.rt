@@ -7,7 +7,5 @@
 mod calendar;
 pub mod laws;
 mod moment;
-#[cfg(test)]
-mod tests;
 
 pub use moment::Moment;

@@ -1,0 +1,50 @@
+//! Texts that are printed, texts that no line of a script can hold, and laws.
+
+use rs_io::{ReadFault, WriteFault};
+use rs_record::{BaseError, FieldFault, MediaType, MediaTypeError, Name, NameError};
+use rs_time::Moment;
+use std::test::Fail;
+
+#[test]
+fn moments_and_faults_are_printed(rt: HostRuntime) -> Result<(), Fail> {
+    let moment = Moment::new(951_782_400_000).ok_or("no moment")?;
+    let text = format!(in rt.alloc();
+        "at {moment}: {ReadFault}, {WriteFault}, {}, {}, {}, {}, {}",
+        NameError::BadName,
+        MediaTypeError::BadType,
+        BaseError::BadBase,
+        FieldFault::Malformed,
+        FieldFault::NoMemory
+    )?;
+    assert_eq!(rt;
+        text.as_str(),
+        "at 2000-02-29T00:00:00.000Z: the reader failed, the writer failed, the name is not lawful, \
+         the media type is not lawful, the base is not lawful, the bytes are no lawful field, out of memory"
+    );
+    Ok(())
+}
+
+#[test]
+fn bytes_of_no_line(rt: HostRuntime) {
+    let name = Name::new(rt.alloc(), b"a b");
+    assert!(rt; matches!(name, Err(NameError::BadName)));
+    for kind in [b"a/b\n", b"a/b\x7f"] {
+        let kind = MediaType::new(rt.alloc(), kind);
+        assert!(rt; matches!(kind, Err(MediaTypeError::BadType)));
+    }
+}
+
+#[test]
+fn the_laws(_rt: HostRuntime) {
+    rs_time::laws::dates_lie_on_their_days();
+    rs_time::laws::moment_texts_need_no_escaping();
+    rs_time::laws::moment_texts_read_back();
+    rs_fixity::laws::cut_texts_join();
+    rs_fixity::laws::digests_are_bytes();
+    rs_fixity::laws::hash_texts_need_no_escaping();
+    rs_fixity::laws::hash_texts_read_back();
+    rs_fixity::laws::joined_texts_are_cut();
+    rs_record::formats_stand_alone();
+    rs_record::grammars_are_the_standards();
+    rs_record::lawful_values_are_clean();
+}
