@@ -1,7 +1,8 @@
 """Disks that are spelled from the tables of docs/DISK.md, apart from the program, and the commands of sessions on files.
 
 `DISKS` has a function for each by its name, which gives its bytes: those that break a rule or keep it to the end (damaged_disks.py,
-which take changes of the disk's fields), what commands leave (commanded_disks.py), and whole sources at a limit (made_disks.py).
+which take changes of the disk's fields), what commands leave (commanded_disks.py), whole sources at a limit (made_disks.py), and one
+resource whose record or change is cut or has another byte (one_resource_disks.py).
 """
 import os
 import pathlib
@@ -9,9 +10,10 @@ import pathlib
 import commanded_disks
 import damaged_disks
 import made_disks
+import one_resource_disks
 from disk_formats import BLOCK
 
-DISKS = {**damaged_disks.DISKS, **commanded_disks.DISKS, **made_disks.DISKS}
+DISKS = {**damaged_disks.DISKS, **commanded_disks.DISKS, **made_disks.DISKS, **one_resource_disks.DISKS}
 
 
 def disk(room, name, file, *changes):

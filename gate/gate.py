@@ -5,8 +5,8 @@
     tests, and the program as two compilers build it;
   - the must-fail edits of the crates that gate/record.txt does not cover as they stand, and of two more that the
     commit's own hash picks (`make edits` tries all of them, and writes the record);
-  - on the program that the copy proved and built: the worked rows, the documents read by tools that are not ours, the
-    tour;
+  - on the program that the copy proved and built: the worked rows, its calls of the system, its edges, the documents
+    read by tools that are not ours, the tour;
   - the tests of the gate itself, and the list of proofs by hand.
 
 N counts crates, edits and the other parts. The minutes of a processor of each part are told before.
@@ -123,7 +123,7 @@ def main():
         parts.run("proofs by hand", script(copy / "examples" / "check_hand_proofs.py"))
         if parts.run("proofs, tests and builds", lambda: toolchain(copy)):
             parts.run("must-fail edits", lambda: some_edits(copy))
-            for name in ("rows", "documents", "tour"):
+            for name in ("rows", "calls", "edges", "documents", "tour"):
                 parts.run(name, script(copy / "examples" / f"check_{name}.py"))
         tell(parts, meter, started)
     for it in parts.failed:
