@@ -8,8 +8,10 @@ from pathlib import Path
 
 import edit
 import edits
+import kit
 import record
 import source
+import verdict
 from edit import Outcome
 
 CODE = """//! A sample.
@@ -131,7 +133,28 @@ class Recording(unittest.TestCase):
             self.assertEqual({name for it in picks for name in it}, {*"abcdefgh"})
 
 
+TOLD = """note: src/m.rt:4:5: it is not proved that what the function ensures holds when it returns (`returns`)
+fn low::m::open: no proof: `search` did not prove `returns`
+note: src/m.rt:9:5: `search` found no proof (`invariant_of-self`)
+fn low::m::Kept::change: no proof: `search` did not prove `invariant_of-self`
+./proofs/m/answered/Answers.antt:3:1: error: `returns`: the two types differ
+fn low::m::answered: not proved
+./proofs/m/renamed/Answers.antt:3:1: error: `returns`: record `Lts.At-match` (nearest: .stored)
+fn low::m::renamed: not proved
+fn low::m::above: no proof: it calls `low::m::open`, which is not proved
+fn low::m::sound: proved
+logic=not-proved
+"""
+
+
 class Reading(unittest.TestCase):
+    def test_whose_goals_a_check_leaves_open(self):
+        found = verdict.read("low", kit.Told(1, TOLD))
+        self.assertEqual({*found.own}, {"low::m::open", "low::m::Kept::change", "low::m::answered"})
+        self.assertTrue(found.is_read)
+        self.assertFalse(verdict.read("low", kit.Told(1, "src/m.rt:1:1: error[unexpected-token]: no\n" + TOLD)).is_read)
+        self.assertFalse(verdict.read("low", kit.Told(2, TOLD)).is_read)
+
     def test_functions(self):
         names = [it.name for it in source.functions_of(CODE)]
         self.assertEqual(names, ["next", "after_next", "smaller", "nothing"])

@@ -5,10 +5,10 @@ from dataclasses import dataclass
 
 # The lines of a check: an error, a goal that stays open, and that goal's function, or another item, which comes after it.
 ERROR = re.compile(r"(?:\./)?((?:src|specs|proofs)/\S+?):\d+:\d+: error:? ?(.*)")
-OPEN = re.compile(r"note: src/\S+:\d+:\d+: (it is not proved that .*)")
+OPEN = re.compile(r"note: src/\S+:\d+:\d+: (it is not proved that .*|`search` found no proof .*)")
 ITEM = re.compile(r"(?:fn|impl|struct|enum|trait) (\S+): (?:(proved)|not proved|no proof)")
 # Errors of a proof that names what is gone or rests on what was refused: they say nothing of its function's own goals.
-SECOND_HAND = re.compile(r"has no field|is not in scope|has no `|was not admitted|that depends? on")
+SECOND_HAND = re.compile(r"has no field|is not in scope|has no `|was not admitted|that depends? on|\(nearest:")
 
 
 @dataclass(frozen=True)
