@@ -23,4 +23,3 @@ pub use meter::pieces_length;
 pub use piece::{Piece, put_pieces};
 pub use view::{View, change_parts, resource_parts};
 pub use write::{ListError, write_list};
-
