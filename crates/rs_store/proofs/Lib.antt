@@ -9,3 +9,6 @@ pub mod Opened
 pub mod Found
 pub mod Started
 pub mod Received
+pub mod Turns
+pub mod Moments
+pub mod Replies

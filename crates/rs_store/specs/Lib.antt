@@ -11,3 +11,5 @@ pub mod Bodies
 pub mod Views
 pub mod Received
 pub mod AnswersBody
+pub mod Counted
+pub mod Runs

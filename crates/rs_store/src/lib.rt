@@ -2,7 +2,8 @@
 //!
 //! A [`Source`] is formatted on a disk or opened from one, and keeps there the resources that it holds,
 //! the changes to them and its latest publication. [`Source::put`], [`Source::put_from`], [`Source::delete`] and
-//! [`Source::publish`] do one step of the model, or refuse it; the others show what the source holds.
+//! [`Source::publish`] do one step of the model, or refuse it; [`Source::run`] does many, and tells of each how it was
+//! answered and after how many calls of the disk; the others show what the source holds.
 #![tactic(auto)]
 
 mod commands;
@@ -12,6 +13,7 @@ mod opening;
 mod reading;
 mod receiving;
 mod refusal;
+mod running;
 mod source;
 mod view;
 mod writing;
@@ -20,5 +22,6 @@ pub use formatting::FormatFault;
 pub use opening::OpenFault;
 pub use reading::Status;
 pub use refusal::Refusal;
+pub use running::Ack;
 pub use source::Source;
 pub use view::SourceView;

@@ -1,0 +1,5 @@
+pub mod Opened
+pub mod Going
+pub mod Counts
+pub mod Sessions
+pub mod OneSession

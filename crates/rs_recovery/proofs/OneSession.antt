@@ -1,0 +1,84 @@
+-- A source on a memory disk, through a stop.
+use Rattle.std.proofs.Common.{◌≡◌, ℕ, ◌≤◌, List, [], ◌∷◌, length, take, refl, sym, ap, subst, arith, Ok, Err}
+use Rattle.std.specs.List.{AllByRecursion}
+use Rattle.std.proofs.lemmas.List.{take_all}
+use Rattle.rs_disk.specs.declared.memory.MemoryDisk.{MemoryDisk}
+use Rattle.rs_disk.specs.Medium.{Medium, DiskState, IsImage, resting}
+use Rattle.rs_disk.specs.Memory.{state_of}
+use Rattle.rs_model.specs.State.{start_of}
+use Rattle.rs_model.specs.Step.{fold_of}
+use Rattle.rs_store.specs.declared.opening.OpenFault.{OpenFault}
+use Rattle.rs_store.specs.declared.opening.OpenFault.TheVariants as openings
+use Rattle.rs_store.specs.Source.{Stored, Holds}
+use Rattle.rs_recovery.specs.declared.surviving.Halt.TheVariants.{Opening}
+use Rattle.rs_store.specs.Counted.{is_accepted, answered, acknowledged}
+use Rattle.rs_store.specs.Runs.{InTurn}
+use Rattle.rs_recovery.specs.Sessions.{Session, IsStopped, AreStanding, behind}
+use Rattle.rs_recovery.specs.Recovered.{IsExcuse, YieldsHeld, Headline}
+use Rattle.rs_recovery.specs.Surviving.{Survives, IsLost}
+use Rattle.rs_store.proofs.Turns.{Commands, Acks, calls_rise}
+use Rattle.rs_recovery.proofs.Sessions.{few_answered}
+
+-- all answers came before the end
+all_by : {D : Type 0} (device : D → DiskState) (old : Stored D) (cs : Commands) (acks : Acks) (new : Stored D) → InTurn device old cs acks new
+    → AllByRecursion (λ a. a.at_call ≤ (device new.disk).calls) acks
+all_by {D} device old cs [] new turn = tt
+all_by {D} device old (c ∷ cs) (a ∷ acks) new turn = (omega (arith, turn.4, calls_rise device turn.2 cs acks new turn.5), all_by device turn.2 cs acks new turn.5)
+all_by {D} device old [] (a ∷ acks) new turn = absurd turn
+
+same_length : {D : Type 0} (device : D → DiskState) (old : Stored D) (cs : Commands) (acks : Acks) (new : Stored D) → InTurn device old cs acks new → length cs ≡ length acks
+same_length {D} device old [] [] new turn = refl
+same_length {D} device old (c ∷ cs) (a ∷ acks) new turn = let more : length cs ≡ length acks = same_length device turn.2 cs acks new turn.5 in omega (arith, more)
+same_length {D} device old [] (a ∷ acks) new turn = absurd turn
+same_length {D} device old (c ∷ cs) [] new turn = absurd turn
+
+-- all that were accepted were acknowledged before the end
+all_acknowledged : {D : Type 0} (device : D → DiskState) (old : Stored D) (cs : Commands) (acks : Acks) (new : Stored D) → InTurn device old cs acks new
+    → length (answered is_accepted cs acks) ≤ acknowledged (device new.disk).calls acks
+all_acknowledged {D} device old cs acks new turn =
+    let m = (device new.disk).calls in
+    let n = length acks in
+    let same : length cs ≡ n = same_length device old cs acks new turn in
+    let all_acks : take n acks ≡ acks = take_all n acks (omega arith) in
+    let all_cs : take n cs ≡ cs = take_all n cs (omega (arith, same)) in
+    let few = few_answered m n cs acks (subst (AllByRecursion (λ a. a.at_call ≤ m)) (sym all_acks) (all_by device old cs acks new turn)) in
+    let these : answered is_accepted (take n cs) (take n acks) ≡ answered is_accepted cs acks = λ i. answered is_accepted (all_cs i) (all_acks i) in
+    omega (arith, few, ap length these)
+
+module _ (base : List ℕ) (limit moment : ℕ) (first last : Stored MemoryDisk) (cs : Commands) (acks : Acks) (image : List ℕ) (disk : MemoryDisk)
+    (made : Holds state_of first (start_of base limit moment)) (turn : InTurn state_of first cs acks last)
+    (left : IsImage (state_of last.disk).now image) (bytes : (state_of disk).now ≡ resting image) where
+  -- the one session
+  abbrev session : Session MemoryDisk
+  session = record { first = first; commands = cs; acks = acks; last = last; stop = (state_of last.disk).calls; image = image }
+
+  stopped : IsStopped state_of session
+  stopped = record {
+    turn = turn;
+    from = calls_rise state_of first cs acks last turn;
+    to = omega arith;
+    image = record { past = λ lt. absurd (omega (arith, lt)); now = λ _. left };
+  }
+
+  by_one : (source : Stored MemoryDisk) (standing : List ℕ) → AreStanding (start_of base limit moment) (session ∷ []) standing
+      → Holds state_of source (fold_of (start_of base limit moment) (behind (session ∷ []) standing)) → YieldsHeld (fold_of (start_of base limit moment) (behind (session ∷ []) standing))
+      → Survives (start_of base limit moment) cs acks source
+  by_one source [] hold state yields = absurd hold
+  by_one source (j ∷ []) hold state yields =
+      record { j = j; accepted = omega (arith, hold.0, all_acknowledged state_of first cs acks last turn); holds = state; yields = yields }
+  by_one source (j ∷ k ∷ standing) hold state yields = absurd hold.3
+
+  pub survives : (source : Stored MemoryDisk) → Headline state_of disk (Ok source) → Survives (start_of base limit moment) cs acks source
+  survives source headline =
+      let is = headline base limit moment (session ∷ []) (stopped, made) (ap (λ (m : Medium). m.seen) bytes) refl in
+      by_one source is.standing is.stand.holds is.state is.yields
+
+  excused : (before after : DiskState) (fault : OpenFault) → IsExcuse before after fault → IsLost (Opening fault) → ⊥
+  excused before after openings.NotASource excuse lost = absurd excuse
+  excused before after openings.Damaged excuse lost = absurd excuse
+  excused before after openings.Device excuse lost = absurd lost
+  excused before after openings.NoMemory excuse lost = absurd lost
+
+  pub is_found : (back : MemoryDisk) (fault : OpenFault) → Headline state_of disk (Err (back, fault)) → IsLost (Opening fault) → ⊥
+  is_found back fault headline =
+      excused (state_of disk) (state_of back) fault (headline base limit moment (session ∷ []) (stopped, made) (ap (λ (m : Medium). m.seen) bytes) refl).state

@@ -1,0 +1,33 @@
+-- What joins a run of commands.
+use Rattle.std.specs.Prelude.{◌⊎◌, ℕ, List, [], ◌∷◌, ◌++◌, Result, Err, Vec}
+use Rattle.std.specs.Global.{Global}
+use Rattle.rs_disk.specs.Medium.{DiskState}
+use Rattle.rs_model.specs.declared.command.Command.{Command}
+use Rattle.rs_model.specs.declared.command.Reply.{Reply}
+use Rattle.rs_store.specs.declared.refusal.Refusal.{Refusal}
+use Rattle.rs_store.specs.declared.refusal.Refusal.TheVariants.{ReadFault, ShortBody}
+use Rattle.rs_store.specs.declared.running.Ack.{Ack}
+use Rattle.rs_store.specs.Source.{Stored}
+use Rattle.rs_store.specs.Answered.{Answers}
+use Rattle.rs_store.specs.AnswersBody.{AnswersBody}
+use Rattle.rs_store.specs.Received.{AnswersFrom}
+use Rattle.rs_store.specs.Runs.{IsIdle, InTurn}
+
+-- One run and then another are one run, by the commands and the answers of both.
+abbrev pub TurnsGoOn : {D : Type 0} → (D → DiskState) → Type 0
+TurnsGoOn {D} device = (old mid new : Stored D) (first then : List (Command × ℕ)) (early late : List Ack)
+    → InTurn device old first early mid → InTurn device mid then late new → InTurn device old (first ++ then) (early ++ late) new
+
+-- One command is a run of its own.
+abbrev pub CommandsAreTurns : {D : Type 0} → (D → DiskState) → Type 0
+CommandsAreTurns {D} device = (old new : Stored D) (command : Command) (now : ℕ) (reply : Result Reply Refusal) → Answers device old new command now reply
+    → InTurn device old ((command, now) ∷ []) (record { reply = reply; at_call = (device new.disk).calls } ∷ []) new
+
+-- A source that is asked for a body idles.
+abbrev pub BodiesIdle : {D : Type 0} → (D → DiskState) → Type 0
+BodiesIdle {D} device = (old new : Stored D) (name : List ℕ) (result : Result (Vec ℕ Global) Refusal) → AnswersBody device old new name result → IsIdle device old new
+
+-- A source idles that is asked for a put whose body does not come whole: the reader fails, or its input ends.
+abbrev pub CutPutsIdle : {D : Type 0} → (D → DiskState) → Type 0
+CutPutsIdle {D} device = (old new : Stored D) (name kind : List ℕ) (n now : ℕ) (came : List ℕ)
+    → AnswersFrom device old new name kind n now came (Err ReadFault) ⊎ AnswersFrom device old new name kind n now came (Err ShortBody) → IsIdle device old new

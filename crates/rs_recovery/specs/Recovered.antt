@@ -1,0 +1,62 @@
+-- What is recovered after a stop.
+use Rattle.std.specs.Prelude.{◌≡◌, ℕ, ◌≤◌, List, take, Result, Ok, Err, IsTrue}
+use Rattle.std.specs.List.{AllByRecursion}
+use Rattle.rs_disk.specs.Medium.{DiskState}
+use Rattle.rs_model.specs.State.{Source, start_of, facts_of, entries}
+use Rattle.rs_model.specs.Step.{fold_of, mirror_of}
+use Rattle.rs_model.specs.Regular.{IsRegular}
+use Rattle.rs_model.specs.declared.command.Command.{Command}
+use Rattle.rs_store.specs.declared.opening.OpenFault.{OpenFault}
+use Rattle.rs_store.specs.declared.opening.OpenFault.TheVariants.{NotASource, Damaged, Device, NoMemory}
+use Rattle.rs_store.specs.Source.{Stored, Holds}
+use Rattle.rs_store.specs.declared.running.Ack.{Ack}
+use Rattle.rs_store.specs.Refusals.{HasFailed}
+use Rattle.rs_store.specs.Opening.{disk_of}
+use Rattle.rs_store.specs.Counted.{counted, acknowledged, begun}
+use Rattle.rs_recovery.specs.Sessions.{Session, AreSessions, left_by, behind}
+use Rattle.rs_recovery.specs.Served.{Stand}
+
+-- Why a source is not opened where there is one: a call of the device failed, or memory was refused.
+abbrev pub IsExcuse : DiskState → DiskState → OpenFault → Type 0
+IsExcuse before after NotASource = ⊥
+IsExcuse before after Damaged = ⊥
+IsExcuse before after Device = HasFailed before after
+IsExcuse before after NoMemory = Unit {0}
+
+-- An opening gives back a state: the source that is opened holds it.
+abbrev pub GivesBack : {D : Type 0} → (D → DiskState) → D → Result (Stored D) (D × OpenFault) → Source → Type 0
+GivesBack device disk (Ok source) s = Holds device source s
+GivesBack device disk (Err refused) s = IsExcuse (device disk) (device refused.0) refused.1
+
+-- After a stop of one run, when m calls were counted, an opening gives back the state after the first j counted commands, for
+-- some j: no command that was acknowledged by then is left out, and none is in that had not begun.
+pub record GivesBackPrefix {D : Type 0} (device : D → DiskState) (disk : D) (result : Result (Stored D) (D × OpenFault))
+    (s : Source) (commands : List (Command × ℕ)) (acks : List Ack) (m : ℕ) : Type 0 where
+  pub j : ℕ
+  pub least : acknowledged m acks ≤ j
+  pub most : j ≤ begun m acks
+  pub state : GivesBack device disk result (fold_of s (take j (counted commands acks)))
+
+-- The latest Resource List, followed by the changes recorded after its at-moment in their order, yields exactly the resources
+-- held; and the length, the hashes and the type of each are those of its bytes.
+pub record YieldsHeld (s : Source) : Type 0 where
+  pub mirrored : mirror_of s.listed s.at s.changes ≡ entries s.held
+  pub facts : AllByRecursion (λ held. held.1.entry.facts ≡ facts_of held.1.entry.facts.kind held.1.bytes) s.held
+
+-- After sessions an opening gives back exactly the state that the commands that stand of them make.
+pub record IsRecovered {D : Type 0} (device : D → DiskState) (disk : D) (result : Result (Stored D) (D × OpenFault))
+    (start : Source) (sessions : List (Session D)) : Type 0 where
+  pub standing : List ℕ
+  pub stand : Stand device start sessions standing
+  pub state : GivesBack device disk result (fold_of start (behind sessions standing))
+  pub regular : IsRegular (fold_of start (behind sessions standing))
+  pub yields : YieldsHeld (fold_of start (behind sessions standing))
+
+-- Stopped before or within any disk call, during a command or between two, recovery gives exactly the resources and published
+-- documents of a prefix of the accepted commands that holds every acknowledged one; and in every recovered state the latest
+-- Resource List, followed by the changes recorded after its at-moment in their order, yields exactly the resources held, with
+-- their lengths, hashes and types.
+abbrev pub Headline : {D : Type 0} → (D → DiskState) → D → Result (Stored D) (D × OpenFault) → Type 0
+Headline {D} device disk result = (base : List ℕ) (limit moment : ℕ) (sessions : List (Session D))
+    → AreSessions device (start_of base limit moment) sessions → (device disk).now.seen ≡ left_by sessions
+    → IsTrue (device (disk_of result)).honest → IsRecovered device disk result (start_of base limit moment) sessions

@@ -1,0 +1,31 @@
+-- What a source on a memory disk is after a stop.
+use Rattle.std.specs.Prelude.{ℕ, ◌≤◌, List, length, take}
+use Rattle.rs_disk.specs.declared.memory.MemoryDisk.{MemoryDisk}
+use Rattle.rs_disk.specs.Memory.{state_of}
+use Rattle.rs_model.specs.State.{Source}
+use Rattle.rs_model.specs.Step.{fold_of}
+use Rattle.rs_model.specs.declared.command.Command.{Command}
+use Rattle.rs_store.specs.declared.opening.OpenFault.TheVariants as openings
+use Rattle.rs_store.specs.declared.running.Ack.{Ack}
+use Rattle.rs_store.specs.Source.{Stored, Holds}
+use Rattle.rs_store.specs.Counted.{is_accepted, answered, counted}
+use Rattle.rs_recovery.specs.declared.surviving.Halt.{Halt}
+use Rattle.rs_recovery.specs.declared.surviving.Halt.TheVariants.{Formatting, Running, Imaging, Opening}
+use Rattle.rs_recovery.specs.Recovered.{YieldsHeld}
+
+-- The source holds the state after the first j counted commands, for some j, and each accepted one is among them.
+pub record Survives (start : Source) (commands : List (Command × ℕ)) (acks : List Ack) (source : Stored MemoryDisk) : Type 0 where
+  pub j : ℕ
+  pub accepted : length (answered is_accepted commands acks) ≤ j
+  pub holds : Holds state_of source (fold_of start (take j (counted commands acks)))
+  pub yields : YieldsHeld (fold_of start (take j (counted commands acks)))
+
+-- The disk was told to hold no source, or a damaged one.
+abbrev pub IsLost : Halt → Type 0
+IsLost (Formatting fault) = ⊥
+IsLost (Running refusal) = ⊥
+IsLost Imaging = ⊥
+IsLost (Opening openings.NotASource) = Unit {0}
+IsLost (Opening openings.Damaged) = Unit {0}
+IsLost (Opening openings.Device) = ⊥
+IsLost (Opening openings.NoMemory) = ⊥

@@ -1,0 +1,51 @@
+//! Laws of runs and of sessions, over their definitions alone.
+//!
+//! Each function here does nothing: its contract is the law, which the check proves.
+
+ghost use Rattle.std.specs.Prelude.{ℕ, List};
+ghost use Rattle.rs_model.specs.State.{Source};
+ghost use Rattle.rs_model.specs.Regular.{IsRegular};
+ghost use Rattle.rs_model.specs.declared.command.Command.{Command};
+ghost use Rattle.rs_image.specs.Tells.{StandsFor};
+ghost use Rattle.rs_store.specs.declared.running.Ack.{Ack};
+ghost use Rattle.rs_store.specs.Runs.{StandsForPrefix};
+ghost use Rattle.rs_recovery.specs.Going.{TurnsGoOn, CommandsAreTurns, BodiesIdle, CutPutsIdle};
+ghost use Rattle.rs_recovery.specs.Sessions.{OneStanding, OpeningsStopToo};
+ghost use Rattle.rs_recovery.specs.Served.{SessionsStand};
+ghost use Rattle.rs_recovery.specs.Recovered.{YieldsHeld};
+
+use rs_disk::Disk;
+
+/// What else is asked of a source joins a run: one run and then another are one run; one command is a run of its own; and a source
+/// that is asked for a body, or for a put whose body does not come whole, idles.
+pub fn runs_go_on<D: Disk>()
+    ensures join { TurnsGoOn D.state }
+    ensures command { CommandsAreTurns D.state }
+    ensures body { BodiesIdle D.state }
+    ensures cut { CutPutsIdle D.state }
+{}
+
+/// Whatever the stops, commands of each session stand, and those behind a source that could be asked
+/// are the first of those behind every later one.
+pub fn sessions_stand<D: Disk>()
+    ensures { SessionsStand D.state }
+{}
+
+/// What the stops left determines how many commands of each session stand.
+pub fn one_standing<D: Disk>()
+    ensures { OneStanding D.state }
+{}
+
+/// A stop within an opening is a stop of the session before it.
+pub fn openings_stop_too<D: Disk>()
+    ensures { OpeningsStopToo D.state }
+{}
+
+/// Each state that a stop within a run of a regular source may leave is regular: what was published,
+/// followed by the changes after its moment, is what is held.
+pub fn stops_leave_regular()
+    ensures regular { (s t : Source) (commands : List (Command × ℕ)) (acks : List Ack) (m : ℕ) (image : List ℕ)
+        → IsRegular s → StandsForPrefix s commands acks m image → StandsFor image t → IsRegular t }
+    ensures yields { (s t : Source) (commands : List (Command × ℕ)) (acks : List Ack) (m : ℕ) (image : List ℕ)
+        → IsRegular s → StandsForPrefix s commands acks m image → StandsFor image t → YieldsHeld t }
+{}

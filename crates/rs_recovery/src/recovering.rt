@@ -1,0 +1,49 @@
+//! What is recovered after a stop.
+
+ghost use Rattle.std.specs.Prelude.{ℕ, List, IfOk, IsTrue};
+ghost use Rattle.rs_disk.specs.Medium.{IsImage};
+ghost use Rattle.rs_disk.specs.Leaves.{Leaves};
+ghost use Rattle.rs_model.specs.State.{Source as State};
+ghost use Rattle.rs_model.specs.declared.command.Command.{Command};
+ghost use Rattle.rs_image.specs.Tells.{StandsFor};
+ghost use Rattle.rs_store.specs.Opening.{disk_of};
+ghost use Rattle.rs_store.specs.declared.running.Ack.{Ack};
+ghost use Rattle.rs_store.specs.Runs.{StandsForPrefix};
+ghost use Rattle.rs_recovery.specs.Sessions.{IsOpenedOn};
+ghost use Rattle.rs_recovery.specs.Recovered.{GivesBack, GivesBackPrefix, Headline};
+
+use rs_disk::Disk;
+use rs_store::{OpenFault, Source};
+use std::alloc::Global;
+
+/// Opens the source on a disk that a stop has left.
+///
+/// *Stopped before or within any disk call, during a command or between two, recovery gives exactly the resources and
+/// published documents of a prefix of the accepted commands that holds every acknowledged one; and in every recovered state
+/// the latest Resource List, followed by the changes recorded after its at-moment in their order, yields exactly the resources
+/// held, with their lengths, hashes and types.*
+///
+/// The clause `headline` says it. Its premises: the source was formatted, with the answer Ok; the disk follows the model of
+/// rs_disk, and nobody else writes it; the moments are those that were handed in; and a read gives now what the last stop
+/// left. That the source is recovered and not refused has two more, that no growth of memory is refused and that the device
+/// does not fail.
+///
+/// # Errors
+///
+/// As with [`Source::open`]. Where a stop of a source has left the disk so, [`OpenFault::Device`] where a device call
+/// failed, and [`OpenFault::NoMemory`]; no other.
+pub fn recover<D: Disk>(alloc: Global, disk: D) -> Result<Source<D>, (D, OpenFault)>
+    // Where the disk's bytes stand for a state, it is given back; and a source that is opened may begin a session more.
+    ensures recovers { IsTrue (D.state (disk_of result)).honest → (s : State) → StandsFor (D.state disk).now.seen s → GivesBack D.state disk result s }
+    ensures opened { IfOk result (λ source. IsTrue (D.state source.disk).honest → IsOpenedOn D.state (D.state disk).now.seen source) }
+
+    // After a stop of one run, and after those of any number of sessions.
+    ensures after_a_run { IsTrue (D.state (disk_of result)).honest → (s : State) (commands : List (Command × ℕ)) (acks : List Ack) (m : ℕ)
+        → StandsForPrefix s commands acks m (D.state disk).now.seen → GivesBackPrefix D.state disk result s commands acks m }
+    ensures headline { Headline D.state disk result }
+
+    // A stop within it leaves an image of its entry.
+    ensures any_moment { Leaves (D.state disk) (D.state (disk_of result)) (λ _. IsImage (D.state disk).now) }
+{
+    Source::open(alloc, disk)
+}

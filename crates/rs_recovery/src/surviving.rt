@@ -1,0 +1,65 @@
+//! A source on a memory disk, from its formatting through a stop to its recovery.
+
+ghost use Rattle.std.specs.Prelude.{IfOk, IfErr};
+ghost use Rattle.rs_model.specs.State.{start_of};
+ghost use Rattle.rs_recovery.specs.Surviving.{Survives, IsLost};
+
+use crate::recover;
+use rs_disk::MemoryDisk;
+use rs_model::Command;
+use rs_store::{Ack, FormatFault, OpenFault, Refusal, Source};
+use rs_time::Moment;
+use std::alloc::Global;
+
+/// Where it did not come to a recovery.
+#[derive(Clone, Copy, Debug, PartialEq, Eq)]
+pub enum Halt {
+    /// The disk was not formatted.
+    Formatting(FormatFault),
+    /// No command was run.
+    Running(Refusal),
+    /// The memory for an image, or for a disk of it, was refused.
+    Imaging,
+    /// The source was not opened again.
+    Opening(OpenFault),
+}
+
+/// Formats a memory disk, runs commands, and recovers the source from an image that a crash may leave
+/// then: that of this choice of bytes. Where the disk is to stop after some calls, the image is one
+/// that a crash in that call may leave.
+///
+/// # Errors
+///
+/// Each step's own. The disk is never told to hold no source, or a damaged one.
+pub fn format_run_recover(
+    alloc: Global,
+    disk: MemoryDisk,
+    base: &[u8],
+    limit: u16,
+    now: Moment,
+    commands: &[(Command, Moment)],
+    choice: &[u8],
+) -> Result<(Vec<Ack>, Source<MemoryDisk>), Halt>
+    ensures survives { IfOk result (λ x. Survives (start_of base.now limit now) commands.now x.0.items x.1) }
+    ensures found { IfErr result (λ halt. ¬ IsLost halt) }
+{
+    let mut source = match Source::format(alloc, disk, base, limit, now) {
+        Ok(source) => source,
+        Err((_, fault)) => return Err(Halt::Formatting(fault)),
+    };
+    let acks = match source.run(commands) {
+        Ok(acks) => acks,
+        Err(refusal) => return Err(Halt::Running(refusal)),
+    };
+    let left = source.into_disk();
+    let Ok(image) = left.image(choice) else {
+        return Err(Halt::Imaging);
+    };
+    let Ok(disk) = MemoryDisk::from_bytes(alloc, &image) else {
+        return Err(Halt::Imaging);
+    };
+    match recover(alloc, disk) {
+        Ok(source) => Ok((acks, source)),
+        Err((_, fault)) => Err(Halt::Opening(fault)),
+    }
+}

@@ -1,0 +1,81 @@
+//! Runs of commands.
+
+ghost use Rattle.std.specs.Prelude.{◌≡◌, false, OnErr, IfErr, IfOk};
+ghost use Rattle.rs_disk.specs.Leaves.{Leaves};
+ghost use Rattle.rs_model.specs.State.{Source as State};
+ghost use Rattle.rs_model.specs.Step.{fold_of};
+ghost use Rattle.rs_store.specs.Source.{Holds};
+ghost use Rattle.rs_store.specs.Answered.{Answers};
+ghost use Rattle.rs_store.specs.Counted.{counted};
+ghost use Rattle.rs_store.specs.Runs.{InTurn, StandsForPrefix, AreReplies};
+
+use crate::{Refusal, Source};
+use rs_disk::Disk;
+use rs_model::{Command, Reply};
+use rs_time::Moment;
+
+/// How a command of a run was answered.
+#[derive(Clone, Copy, Debug, PartialEq, Eq)]
+pub struct Ack {
+    /// The answer.
+    pub reply: Result<Reply, Refusal>,
+    /// How many calls of the disk were counted when the command had been answered.
+    pub at_call: u64,
+}
+
+impl<D: Disk> Source<D> {
+    /// Does these commands in their order, each with the moment at which it comes, and tells how each was
+    /// answered. It goes on after a refusal; after [`Refusal::Device`] each further answer is
+    /// [`Refusal::Closed`].
+    ///
+    /// The *counted* commands are those answered Ok, followed by the one answered [`Refusal::Device`], if
+    /// there is one. A crash at any moment of the run leaves the state after the first of them: no fewer than
+    /// had been answered Ok by then, and no more than had begun.
+    ///
+    /// # Errors
+    ///
+    /// [`Refusal::NoMemory`] where the memory for the answers is refused, before the first command.
+    pub fn run(&mut self, commands: &[(Command, Moment)]) -> Result<Vec<Ack>, Refusal>
+        // Each command is answered as the source answers it.
+        ensures in_turn { IfOk result (λ acks. InTurn D.state self.old commands.now acks.items self.new) }
+
+        // Of a source that holds a state: a crash at any moment leaves a prefix of the counted commands
+        // that has each acknowledged one; at the end an open source holds them all; and the replies are
+        // those of the model.
+        ensures any_moment { IfOk result (λ acks. (s : State) → Holds D.state self.old s
+            → Leaves (D.state self.old.disk) (D.state self.new.disk) (StandsForPrefix s commands.now acks.items)) }
+        ensures at_exit { IfOk result (λ acks. (s : State) → Holds D.state self.old s
+            → self.new.is_closed ≡ false → Holds D.state self.new (fold_of s (counted commands.now acks.items))) }
+        ensures replies { IfOk result (λ acks. (s : State) → Holds D.state self.old s → AreReplies s commands.now acks.items) }
+
+        ensures only { IfErr result (λ refusal. refusal ≡ Refusal.NoMemory) }
+        ensures untouched { OnErr result (self.new ≡ self.old) }
+    {
+        let mut acks = Vec::with_capacity(self.alloc, commands.len())?;
+        for (command, now) in commands {
+            let reply = self.answer(command, *now);
+            let at_call = self.calls();
+            // There is room for it.
+            let _ = acks.push(Ack { reply, at_call });
+        }
+        Ok(acks)
+    }
+
+    // One command.
+    fn answer(&mut self, command: &Command, now: Moment) -> Result<Reply, Refusal>
+        ensures { Answers D.state self.old self.new command.now now result }
+    {
+        match command {
+            Command::Put { name, kind, bytes } => self.put(name, kind, bytes.bytes(), now),
+            Command::Delete { name } => self.delete(name, now),
+            Command::Publish => self.publish(now),
+        }
+    }
+
+    // How many calls of the disk were counted.
+    fn calls(&self) -> u64
+        ensures { result ≡ (D.state self.now.disk).calls }
+    {
+        self.disk.calls()
+    }
+}
