@@ -29,7 +29,7 @@ HasServed device [] standing asking commands = ⊥
 HasServed device (x ∷ past) [] asking commands = ⊥
 HasServed device (x ∷ past) (j ∷ standing) asking commands =
     ((asking.sessions ≡ length past) × CouldServe device x asking.commands asking.source
-        × (commands ≡ behind past standing ++ counted (take asking.commands x.commands) (take asking.commands x.acks)))
+    × (commands ≡ behind past standing ++ counted (take asking.commands x.commands) (take asking.commands x.acks)))
     ⊎ HasServed device past standing asking commands
 
 -- in an earlier session, or in the same one after no more commands
