@@ -12,6 +12,7 @@ ghost use Rattle.rs_source.specs.Arguments.{IsOfFormat, IsOfOpen};
 use crate::command::SourceArguments;
 use crate::program::ProgramError;
 use rs_file::{FileDisk, Start};
+use rs_recovery::recover;
 use rs_script::first_moment;
 use rs_store::Source;
 use std::alloc::Global;
@@ -70,7 +71,7 @@ pub fn open_file<R: Files<File = File>, S: Start>(
     ensures err { IfErr result IsOfOpen }
 {
     let disk = FileDisk::open(rt, file, start)?;
-    match Source::open(alloc, disk) {
+    match recover(alloc, disk) {
         Ok(source) => Ok(source),
         Err((_, fault)) => Err(fault.into()),
     }
