@@ -167,7 +167,11 @@ fn blocks_of_lengths(rt: HostRuntime) {
     }
     for (first, blocks, length, wanted) in SIZED {
         let extent = Extent { first, blocks };
-        assert_eq!(rt; is_sized(extent, length), wanted, "{extent:?} for {length} bytes");
+        assert_eq!(rt;
+            is_sized(extent, length),
+            wanted,
+            "{extent:?} for {length} bytes"
+        );
     }
 }
 
@@ -175,6 +179,10 @@ fn blocks_of_lengths(rt: HostRuntime) {
 fn extents_on_a_disk(rt: HostRuntime) {
     for (first, blocks, size, wanted) in ON_DISK {
         let extent = Extent { first, blocks };
-        assert_eq!(rt; is_on_disk(extent, size), wanted, "{extent:?} of {size} bytes");
+        assert_eq!(rt;
+            is_on_disk(extent, size),
+            wanted,
+            "{extent:?} of {size} bytes"
+        );
     }
 }

@@ -21,7 +21,8 @@ fn faults_are_shown(rt: HostRuntime) -> Result<(), Fail> {
         FileFault::Exists,
         FileFault::Device
     )?;
-    let wanted = "the device failed; the disk holds no source; the device failed; no generation is left; \
+    let wanted =
+        "the device failed; the disk holds no source; the device failed; no generation is left; \
         the device failed; the device failed; the body is damaged; out of memory; Exists Device";
     assert_eq!(rt; text.as_str(), wanted);
     Ok(())

@@ -1,6 +1,6 @@
 //! Disks on files of the system.
 
-use rs_disk::{Disk, Fault};
+use rs_disk::Disk;
 use rs_file::{FileDisk, FileFault, Unknown, honest_is};
 use std::fs::{self, File, OpenOptions};
 use std::process::Abort;
@@ -16,24 +16,39 @@ fn not_made(rt: &HostRuntime, name: &str) -> Option<FileFault> {
     FileDisk::create(rt, name, 1, Unknown).err()
 }
 
+/// Whether a read gives these bytes, which have to lie on the disk.
+fn gives(rt: &impl Abort, disk: &mut FileDisk<Unknown>, at: u32, wanted: &[u8]) -> bool {
+    let n = wanted.len();
+    assert!(rt; n <= 4 && u64::from(at) + n as u64 <= disk.size());
+    let mut read = [9; 4];
+    disk.read(u64::from(at), &mut read[..n]).is_ok() && &read[..n] == wanted
+}
+
+/// Writes bytes and syncs them. They have to lie on the disk.
+fn takes(rt: &impl Abort, disk: &mut FileDisk<Unknown>, at: u32, bytes: &[u8]) -> bool {
+    let n = bytes.len();
+    assert!(rt; n <= 4 && u64::from(at) + n as u64 <= disk.size());
+    disk.write(u64::from(at), bytes).is_ok() && disk.sync().is_ok()
+}
+
+/// Whether the disk has this size, and has counted so many calls and faults.
+fn counts(disk: &FileDisk<Unknown>, size: u64, calls: u64, faults: u64) -> bool {
+    disk.size() == size && disk.calls() == calls && disk.faults() == faults
+}
+
 /// What a new file holds, and what was written.
 fn keep_bytes(rt: &impl Abort, disk: &mut FileDisk<Unknown>) {
-    assert_eq!(rt; disk.size(), 600);
-    let mut read = [9; 4];
-    assert_eq!(rt; (disk.read(596, &mut read), read), (Ok(()), [0; 4]));
-    assert_eq!(rt; disk.write(2, &[1, 2, 3]), Ok(()));
-    assert_eq!(rt; disk.sync(), Ok(()));
-    assert_eq!(rt; (disk.read(1, &mut read), read), (Ok(()), [0, 1, 2, 3]));
-    assert_eq!(rt; (disk.calls(), disk.faults()), (4, 0));
+    assert!(rt; gives(rt, disk, 596, &[0, 0, 0, 0]));
+    assert!(rt; takes(rt, disk, 2, &[1, 2, 3]));
+    assert!(rt; gives(rt, disk, 1, &[0, 1, 2, 3]));
+    assert!(rt; counts(disk, 600, 4, 0));
     honest_is(disk);
 }
 
 /// What another opening of it finds.
 fn find_bytes(rt: &impl Abort, disk: &mut FileDisk<Unknown>) {
-    assert_eq!(rt; disk.size(), 600);
-    let mut read = [9; 4];
-    assert_eq!(rt; (disk.read(2, &mut read), read), (Ok(()), [1, 2, 3, 0]));
-    assert_eq!(rt; (disk.calls(), disk.faults()), (1, 0));
+    assert!(rt; gives(rt, disk, 2, &[1, 2, 3, 0]));
+    assert!(rt; counts(disk, 600, 1, 0));
 }
 
 #[test]
@@ -110,11 +125,9 @@ fn a_locked_file(rt: HostRuntime) -> Result<(), Fail> {
 
 /// Reads at the end of a file of 4 bytes, whose disk has 8.
 fn read_short(rt: &impl Abort, disk: &mut FileDisk<Unknown>) {
-    assert_eq!(rt; disk.size(), 8);
-    assert_eq!(rt; disk.read(3, &mut [0; 2]), Err(Fault));
-    let mut read = [0; 1];
-    assert_eq!(rt; (disk.read(3, &mut read), read), (Ok(()), *b"d"));
-    assert_eq!(rt; (disk.calls(), disk.faults()), (2, 1));
+    assert!(rt; !gives(rt, disk, 3, b"de"));
+    assert!(rt; gives(rt, disk, 3, b"d"));
+    assert!(rt; counts(disk, 8, 2, 1));
 }
 
 // A file that another made shorter than its disk refuses the bytes behind its end.

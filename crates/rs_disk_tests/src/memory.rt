@@ -102,12 +102,7 @@ const EMPTY: &[Step<'static>] = &[
 ];
 
 /// Writes bytes, which have to lie on the disk.
-fn write(
-    rt: &impl Abort,
-    disk: &mut MemoryDisk,
-    at: u64,
-    bytes: &[u8],
-) -> Result<(), Fault> {
+fn write(rt: &impl Abort, disk: &mut MemoryDisk, at: u64, bytes: &[u8]) -> Result<(), Fault> {
     assert!(rt; at <= 8 && bytes.len() <= 8 && at + bytes.len() as u64 <= disk.size());
     disk.write(at, bytes)
 }

@@ -70,12 +70,18 @@ fn old_slot((gate, version, generation): Front) -> [u8; 54] {
     slot(fields, 7)
 }
 
-/// Both slots, each with zeros to its end, and 16 bytes behind them.
+/// A slot's block: these bytes, and zeros.
+fn block(front: &[u8; 54]) -> [u8; 512] {
+    let mut bytes = [0; 512];
+    bytes[..54].copy_from_slice(front);
+    bytes
+}
+
+/// Both slots, and 16 bytes behind them.
 fn with_slots(first: &[u8; 54], second: &[u8; 54]) -> [u8; 1040] {
-    let mut bytes = [0; 1040];
-    bytes[..54].copy_from_slice(first);
-    bytes[512..566].copy_from_slice(second);
-    bytes[1024..].fill(0xEE);
+    let mut bytes = [0xEE; 1040];
+    bytes[..512].copy_from_slice(&block(first));
+    bytes[512..1024].copy_from_slice(&block(second));
     bytes
 }
 
@@ -227,10 +233,16 @@ fn stop_commit(
     assert_eq!(rt; done, k >= calls, "call {k}");
     for choice in [[0].as_slice(), &[1], &[0, 1]] {
         let root = root_of_image(rt, disk, choice);
-        assert!(rt; root == next || (root == old && !done), "call {k}: {root:?}");
+        assert!(rt;
+            root == next || (root == old && !done),
+            "call {k}: {root:?}"
+        );
     }
     let root = opened_again(rt, disk);
-    assert!(rt; root == next || (root == old && !done), "call {k}: {root:?}");
+    assert!(rt;
+        root == next || (root == old && !done),
+        "call {k}: {root:?}"
+    );
 }
 
 /// Stops a commit at each of its device calls.
@@ -258,7 +270,10 @@ fn exhaust(rt: &impl Abort, disk: &mut MemoryDisk) {
     let mut slots = made(rt, disk, &last);
     let before = disk.image(&[]).expect(rt, "memory");
     let calls = disk.calls();
-    assert_eq!(rt; commit(rt, disk, &mut slots, &NEXT), Err(CommitFault::Exhausted));
+    assert_eq!(rt;
+        commit(rt, disk, &mut slots, &NEXT),
+        Err(CommitFault::Exhausted)
+    );
     assert_eq!(rt; disk.calls(), calls);
     assert!(rt; rests(disk, &before));
     assert_eq!(rt; slots.root(), last);

@@ -145,21 +145,25 @@ fn fails_writing_new(
     fails_writing(rt, &mut source, input, fail_at)
 }
 
+/// Lets each write of a script fail in turn, and tells how many there are.
+fn fails_at_each_write(rt: &(impl Abort + AllocGlobal), input: &[u8]) -> Result<u64, Fail> {
+    for fail_at in 0..200 {
+        if !fails_writing_new(rt, input, fail_at)? {
+            return Ok(fail_at);
+        }
+    }
+    Err("two hundred writes".into())
+}
+
 #[test]
 fn a_writer_fails_at_each_call(rt: HostRuntime) -> Result<(), Fail> {
     let mut input = Vec::new(rt.alloc());
     for (line, _, _) in &TALK {
         input.extend_from_slice(line)?;
     }
-    let mut failures = 0;
-    while failures < 200 && fails_writing_new(&rt, &input, failures)? {
-        failures += 1;
-    }
     // Each answer is at least one write.
-    assert!(rt;
-        TALK.len() as u64 <= failures && failures < 200,
-        "{failures}"
-    );
+    let writes = fails_at_each_write(&rt, &input)?;
+    assert!(rt; writes >= TALK.len() as u64, "{writes}");
     Ok(())
 }
 

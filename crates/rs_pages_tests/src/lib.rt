@@ -13,3 +13,5 @@ mod images;
 mod lists;
 #[cfg(test)]
 mod pages;
+#[cfg(test)]
+mod values;

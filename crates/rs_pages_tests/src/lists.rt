@@ -2,12 +2,13 @@
 ghost use Rattle.std.specs.Prelude.{◌≡◌, []};
 ghost use Rattle.rs_page.specs.Sheets.{placed_extents};
 
+use crate::values::deletion;
 use rs_catalogue::{Catalogue, LoadFault, StoreFault};
 use rs_changes::History;
 use rs_disk::{Disk, MemoryDisk};
 use rs_extent::{Extent, Used};
 use rs_fixity::digests_of;
-use rs_record::{Change, MediaType, Name, Record};
+use rs_record::{MediaType, Name, Record};
 use rs_time::Moment;
 use std::process::Abort;
 use std::test::Fail;
@@ -81,20 +82,13 @@ fn is_not_kept(
 fn a_history_is_not_stored_by_a_failing_write(rt: HostRuntime) -> Result<(), Fail> {
     let mut used = Used::new(rt.alloc(), 4)?;
     let mut disk = MemoryDisk::new(rt.alloc(), 2048)?;
-    let mut history = History::empty(rt.alloc()).with(rt.alloc(), deletion(&rt, 1000)?)?;
+    let mut history = History::empty(rt.alloc()).with(rt.alloc(), deletion(&rt, b"a", 1000)?)?;
     is_not_kept(&rt, &mut history, &mut used, &mut disk)
-}
-
-// The deletion of `a` at this moment.
-fn deletion(rt: &impl AllocGlobal, ms: u64) -> Result<Change, Fail> {
-    let moment = Moment::new(ms).ok_or("a moment")?;
-    let name = Name::new(rt.alloc(), b"a")?;
-    Ok(Change::deleted(name, moment))
 }
 
 // The history with one more change, at this moment.
 fn with(rt: &(impl Abort + AllocGlobal), history: &History, ms: u64) -> Result<History, Fail> {
-    let change = deletion(rt, ms)?;
+    let change = deletion(rt, b"a", ms)?;
     let len = history.len();
     assert!(rt; len < 50_000);
     if len > 0 {

@@ -1,11 +1,11 @@
 //! Pages on a device that fails, and references that no device is asked for.
 
+use crate::values::{SHA256_OF_NOTHING, deletion};
 use rs_body::is_on_disk;
 use rs_disk::{Disk, MemoryDisk};
 use rs_extent::{Extent, Used};
 use rs_page::{LoadFault, Page, PageItem, PageRef, Place, StoreFault};
-use rs_record::{Change, Name};
-use rs_time::Moment;
+use rs_record::Change;
 use std::process::Abort;
 use std::test::Fail;
 
@@ -19,12 +19,6 @@ const SHA256: [u8; 32] = [
     0x80, 0x5e, 0x5e, 0x86, 0x8c, 0xdd, 0x68, 0x8f, 0x50, 0xd5, 0x83, 0x7e, 0x41, 0xd7, 0x2b, 0xe0,
 ];
 
-// The SHA-256 of no bytes (FIPS 180-4).
-const SHA256_OF_NOTHING: [u8; 32] = [
-    0xe3, 0xb0, 0xc4, 0x42, 0x98, 0xfc, 0x1c, 0x14, 0x9a, 0xfb, 0xf4, 0xc8, 0x99, 0x6f, 0xb9, 0x24,
-    0x27, 0xae, 0x41, 0xe4, 0x64, 0x9b, 0x93, 0x4c, 0xa4, 0x95, 0x99, 0x1b, 0x78, 0x52, 0xb8, 0x55,
-];
-
 // That page in the lowest free block.
 const AT: PageRef = PageRef {
     extent: Extent {
@@ -34,13 +28,6 @@ const AT: PageRef = PageRef {
     length: 29,
     sha256: SHA256,
 };
-
-// The deletion of a name.
-fn deletion(rt: &impl AllocGlobal, name: &[u8], ms: u64) -> Result<Change, Fail> {
-    let moment = Moment::new(ms).ok_or("a moment")?;
-    let name = Name::new(rt.alloc(), name)?;
-    Ok(Change::deleted(name, moment))
-}
 
 // The deletions of `a/x` and of `c`.
 fn deletions(rt: &impl AllocGlobal) -> Result<Vec<Change>, Fail> {

@@ -249,14 +249,17 @@ fn fail(rt: &(impl Abort + AllocGlobal), steps: &[Step], k: u64, cut: Cut) {
     }
 }
 
-/// Stops and fails a device at each call of a session, and behind the last one.
+/// Stops and fails a device at each of the calls of a session, and stops it behind the last one.
 fn cut_everywhere(rt: &(impl Abort + AllocGlobal), steps: &[Step], calls: u64) {
-    for k in 0..=calls {
+    for k in 0..calls {
         let cut = cut_after(steps, k);
-        assert_eq!(rt; cut.calls == 0, k == calls, "a session of {calls} calls");
+        assert!(rt; cut.calls > 0, "a session of {calls} calls");
         stop(rt, steps, k, cut);
         fail(rt, steps, k, cut);
     }
+    let whole = cut_after(steps, calls);
+    assert_eq!(rt; whole.calls, 0, "a session of {calls} calls");
+    stop(rt, steps, calls, whole);
 }
 
 #[test]

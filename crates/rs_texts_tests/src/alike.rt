@@ -83,13 +83,14 @@ impl View for Alike<'_> {
 }
 
 impl Alike<'_> {
-    /// Shows so many items, at this limit.
-    pub fn show(&mut self, limit: u16, items: usize) -> Result<(), Fail> {
-        if limit < 2 || limit > 4000 || items > 50_000 {
+    /// Shows so many items at this limit, in parts that are numbered from `first` on.
+    pub fn show(&mut self, limit: u16, items: usize, first: u64) -> Result<(), Fail> {
+        if limit < 2 || limit > 4000 || items > 50_000 || first > 253_402_300_799_999 {
             return Err(Fail::new("a view out of bounds"));
         }
         self.limit = limit;
         self.items = items;
+        self.first = first;
         Ok(())
     }
 }

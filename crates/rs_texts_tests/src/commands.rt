@@ -1,12 +1,13 @@
-//! A run of commands, and what a destination makes of it. The digests are those of "abc" in RFC 1321 (A.5) and
-//! FIPS 180-4.
+//! A run of commands, what a destination makes of it, and its documents. The digests are those of "abc" in RFC 1321
+//! (A.5) and FIPS 180-4.
 
+use crate::narrow::Narrow;
 use crate::values::at;
 use rs_caps::{StateView, document_length, write_document};
 use rs_fixity::hash_text;
 use rs_io::Watched;
 use rs_lists::{Doc, ListError};
-use rs_model::{Body, Command, Reply, State, mirror};
+use rs_model::{Body, Command, Entry, Reply, State, mirror};
 use rs_record::{Base, MediaType, Name, What};
 use rs_time::Moment;
 use std::alloc::{AllocError, Global};
@@ -29,34 +30,61 @@ fn put(alloc: Global) -> Result<Command, Fail> {
     })
 }
 
-fn delete(alloc: Global) -> Result<Command, Fail> {
-    Ok(Command::Delete { name: z(alloc)? })
+// A put of `z`, or its delete.
+fn command(alloc: Global, is_put: bool) -> Result<Command, Fail> {
+    if is_put {
+        put(alloc)
+    } else {
+        Ok(Command::Delete { name: z(alloc)? })
+    }
 }
 
-// The state after a delete, a put, a delete and a put of `z`, which all come at 1000. The first is refused.
-fn folded(alloc: Global) -> Result<State, Fail> {
+// A delete, a put, a delete and a put of `z`, which all come at 1000.
+fn commands(alloc: Global) -> Result<Vec<(Command, Moment)>, Fail> {
     let now = at(1000)?;
-    let commands = [
-        (delete(alloc)?, now),
-        (put(alloc)?, now),
-        (delete(alloc)?, now),
-        (put(alloc)?, now),
-    ];
-    let base = Base::new(alloc, BASE)?;
-    Ok(State::start(alloc, base, 2, at(0)?).fold(alloc, &commands)?)
+    let mut commands = Vec::new(alloc);
+    for is_put in [false, true, false, true] {
+        commands.push((command(alloc, is_put)?, now))?;
+    }
+    Ok(commands)
+}
+
+// A source of the item limit 2, formatted at 0.
+fn started(alloc: Global) -> Result<State, Fail> {
+    let start = at(0)?;
+    Ok(State::start(alloc, Base::new(alloc, BASE)?, 2, start))
+}
+
+// The state after these commands. The first is refused.
+fn folded(alloc: Global, commands: &[(Command, Moment)]) -> Result<State, Fail> {
+    let state = started(alloc)?;
+    Ok(state.fold(alloc, commands)?)
+}
+
+fn made(alloc: Global) -> Result<State, Fail> {
+    let commands = commands(alloc)?;
+    folded(alloc, &commands)
+}
+
+// The bytes of the resource of this name.
+fn body<'a>(alloc: Global, state: &'a State, name: &[u8]) -> Result<Option<&'a [u8]>, Fail> {
+    let name = Name::new(alloc, name)?;
+    Ok(state.body(&name))
 }
 
 // Looks at what is held and at the changes.
 fn holds_z(rt: &(impl Abort + AllocGlobal), state: &State) -> Result<(), Fail> {
-    const WHATS: [What; 3] = [What::Created, What::Deleted, What::Created];
-    assert_eq!(rt;
-        (state.resources(), state.held().len(), state.changes().len()),
-        (1, 1, 3)
-    );
-    assert_eq!(rt; state.body(&z(rt.alloc())?), Some(b"abc".as_slice()));
-    assert_eq!(rt; state.body(&Name::new(rt.alloc(), b"y")?), None);
-    for (change, (what, ms)) in state.changes().iter().zip(WHATS.iter().zip(1000..)) {
-        assert_eq!(rt; (change.what, change.moment.ms()), (*what, ms));
+    assert_eq!(rt; body(rt.alloc(), state, b"z")?, Some(b"abc".as_slice()));
+    assert_eq!(rt; body(rt.alloc(), state, b"y")?, None);
+    assert_eq!(rt; (state.resources(), state.held().len()), (1, 1));
+    match state.changes() {
+        [a, b, c] => {
+            let whats = (a.what, b.what, c.what);
+            let moments = (a.moment.ms(), b.moment.ms(), c.moment.ms());
+            assert_eq!(rt; whats, (What::Created, What::Deleted, What::Created));
+            assert_eq!(rt; moments, (1000, 1001, 1002));
+        }
+        _ => assert!(rt; false, "not three changes"),
     }
     assert_eq!(rt;
         (state.limit(), state.formatted().ms(), state.last().ms()),
@@ -66,24 +94,33 @@ fn holds_z(rt: &(impl Abort + AllocGlobal), state: &State) -> Result<(), Fail> {
     Ok(())
 }
 
-// Looks at the mirror of its changes.
-fn mirrors_z(rt: &(impl Abort + AllocGlobal), state: &State) -> Result<(), Fail> {
+// Looks at a mirror that has `z` alone.
+fn is_z(rt: &impl Abort, mirrored: &[(Name, Entry)]) {
     const HASH: &[u8] = b"md5:900150983cd24fb0d6963f7d28e17f72 sha-256:\
         ba7816bf8f01cfea414140de5dae2223b00361a396177a9cb410ff61f20015ad";
-    let mirrored = mirror(rt.alloc(), &[], at(0)?, state.changes())?;
-    assert_eq!(rt; mirrored.len(), 1);
-    for (name, entry) in &mirrored {
-        assert_eq!(rt; name.bytes(), b"z".as_slice());
-        assert_eq!(rt; (entry.facts.length, entry.moment.ms()), (3, 1002));
-        assert_eq!(rt; entry.facts.kind.bytes(), b"text/plain".as_slice());
-        assert_eq!(rt; hash_text(&entry.facts.digests).as_slice(), HASH);
+    match mirrored {
+        [(name, entry)] => {
+            assert_eq!(rt; name.bytes(), b"z".as_slice());
+            assert_eq!(rt; (entry.facts.length, entry.moment.ms()), (3, 1002));
+            assert_eq!(rt; entry.facts.kind.bytes(), b"text/plain".as_slice());
+            assert_eq!(rt; hash_text(&entry.facts.digests).as_slice(), HASH);
+        }
+        _ => assert!(rt; false, "not one resource"),
     }
+}
+
+// Looks at the mirror of its changes, after the empty list of 0.
+fn mirrors_z(rt: &(impl Abort + AllocGlobal), state: &State) -> Result<(), Fail> {
+    let start = at(0)?;
+    let mirrored = mirror(rt.alloc(), &[], start, state.changes())?;
+    is_z(rt, &mirrored);
     Ok(())
 }
 
 // The reply to one more put, and the moment of the state after it.
 fn stepped(alloc: Global, state: &State, now: Moment) -> Result<(Reply, Moment), Fail> {
-    let (next, reply) = state.step(alloc, &put(alloc)?, now)?;
+    let put = put(alloc)?;
+    let (next, reply) = state.step(alloc, &put, now)?;
     Ok((reply, next.last()))
 }
 
@@ -95,19 +132,21 @@ fn copied(alloc: Global, state: &State) -> Result<usize, AllocError> {
 
 // Publishes, and looks at what is listed.
 fn lists_z(rt: &(impl Abort + AllocGlobal), state: &mut State) -> Result<(), Fail> {
-    let now = at(1000)?;
+    let (now, third, fourth) = (at(1000)?, at(1003)?, at(1004)?);
     let reply = state.apply(rt.alloc(), Command::Publish, now)?;
-    assert_eq!(rt; reply, Reply::Published(1, at(1003)?));
-    assert_eq!(rt; (state.number(), state.at().ms()), (1, 1003));
-    for listed in state.listed() {
-        assert_eq!(rt; listed.name.bytes(), b"z".as_slice());
-        assert_eq!(rt; (listed.length, listed.moment.ms()), (3, 1002));
-        assert_eq!(rt; (listed.extent.first, listed.extent.blocks), (0, 0));
+    assert_eq!(rt; reply, Reply::Published(1, third));
+    assert_eq!(rt; (state.number(), state.at()), (1, third));
+    match state.listed() {
+        [listed] => {
+            assert_eq!(rt; listed.name.bytes(), b"z".as_slice());
+            assert_eq!(rt; (listed.length, listed.moment.ms()), (3, 1002));
+            assert_eq!(rt; (listed.extent.first, listed.extent.blocks), (0, 0));
+        }
+        _ => assert!(rt; false, "not one record"),
     }
-    assert_eq!(rt; state.listed().len(), 1);
     assert_eq!(rt;
         stepped(rt.alloc(), state, now)?,
-        (Reply::Updated(at(1004)?), at(1004)?)
+        (Reply::Updated(fourth), fourth)
     );
     assert_eq!(rt; copied(rt.alloc(), state)?, 3);
     Ok(())
@@ -125,6 +164,20 @@ fn text(alloc: Global, view: &StateView<'_>, doc: Doc) -> Result<Vec<u8>, ListEr
     let mut out = Watched::new(Vec::new(alloc));
     write_document(view, doc, &mut out)?;
     Ok(out.into_inner())
+}
+
+// Writes a document to writers that have too little room for it.
+fn fails_until(rt: &impl Abort, view: &StateView<'_>, doc: Doc, length: usize) {
+    for room in 0..length {
+        let mut out = Watched::new(Narrow { room });
+        let result = write_document(view, doc, &mut out);
+        assert_eq!(rt;
+            result,
+            Err(ListError::WriteFault),
+            "{doc:?}, room for {room}"
+        );
+        assert!(rt; out.has_failed(), "{doc:?}, room for {room}");
+    }
 }
 
 // Looks at the documents of what is published now.
@@ -147,6 +200,7 @@ fn shows_z(rt: &(impl Abort + AllocGlobal), view: &StateView<'_>) -> Result<(), 
     ];
     for (doc, length) in ROWS {
         assert_eq!(rt; document_length(view, doc), length, "{doc:?}");
+        fails_until(rt, view, doc, length.unwrap_or(0) as usize);
     }
     assert_eq!(rt; text(rt.alloc(), view, Doc::ResourceHead)?.as_slice(), LIST);
     Ok(())
@@ -162,6 +216,6 @@ fn is_a_source(rt: &(impl Abort + AllocGlobal), state: &mut State) -> Result<(),
 
 #[test]
 fn a_run_and_its_mirror(rt: HostRuntime) -> Result<(), Fail> {
-    let mut state = folded(rt.alloc())?;
+    let mut state = made(rt.alloc())?;
     is_a_source(&rt, &mut state)
 }

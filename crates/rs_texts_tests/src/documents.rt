@@ -4,10 +4,9 @@
 use crate::alike::Alike;
 use crate::narrow::Narrow;
 use crate::values::{Put, at, record, updated};
-use rs_caps::{document_length, write_document};
 use rs_io::Watched;
 use rs_lists::{Doc, ListError, change_parts, list_length, resource_parts, write_list};
-use rs_record::{Base, Change, Record};
+use rs_record::Base;
 use rs_time::Moment;
 use std::alloc::Global;
 use std::process::Abort;
@@ -17,16 +16,47 @@ use std::test::Fail;
 // the Resource List and in the Change List, where it is there.
 type Row = (u16, usize, Option<u64>, Option<u64>, Option<u64>);
 
-// Looks at the length of a list, and at what a writer takes that has room for just so much.
+// A view of one resource and its update over and over, and what its documents are.
+#[derive(Drop)]
+struct Case<'a> {
+    base: &'a [u8],
+    put: Put<'a>,
+    start: u64,
+    number: u64,
+    first: u64,
+    rows: &'a [Row],
+    // With the limit and the items of the last row: the number of parts, and what is not there.
+    parts: u64,
+    missing: &'a [Doc],
+    // The index of the changes, where it is looked at.
+    index: Option<&'a [u8]>,
+}
+
+// Writes a list to writers that have too little room for it, or for its first thousand bytes.
+fn fails_until(rt: &impl Abort, view: &Alike<'_>, doc: Doc, length: usize) {
+    for room in 0..length.min(1000) {
+        let mut out = Watched::new(Narrow { room });
+        let result = write_list(view, doc, &mut out);
+        assert_eq!(rt;
+            result,
+            Err(ListError::WriteFault),
+            "{doc:?}, room for {room}"
+        );
+        assert!(rt; out.has_failed(), "{doc:?}, room for {room}");
+    }
+}
+
+// Looks at the length of a list, and at what writers take that have room for so much and for less.
 fn is_so_long(rt: &impl Abort, view: &Alike<'_>, doc: Doc, length: Option<u64>) {
-    let (room, result) = match length {
+    let (room, wanted) = match length {
         Some(length) => (length as usize, Ok(())),
         None => (0, Err(ListError::NoSuchDocument)),
     };
     let mut out = Watched::new(Narrow { room });
+    let result = write_list(view, doc, &mut out);
+    assert_eq!(rt; (result, out.get_ref().room), (wanted, 0), "{doc:?}");
     assert_eq!(rt; list_length(view, doc), length, "{doc:?}");
-    assert_eq!(rt; write_list(view, doc, &mut out), result, "{doc:?}");
-    assert_eq!(rt; out.get_ref().room, 0, "{doc:?}");
+    fails_until(rt, view, doc, room);
 }
 
 // The same of a part of both lists, or of their heads.
@@ -48,31 +78,60 @@ fn are_so_long(rt: &impl Abort, view: &Alike<'_>, row: &Row) {
     is_so_long(rt, view, change_doc, *changes);
 }
 
-fn all_are_so_long(rt: &impl Abort, view: &mut Alike<'_>, rows: &[Row]) -> Result<(), Fail> {
-    for row in rows {
-        view.show(row.0, row.1)?;
+fn all_are_so_long(rt: &impl Abort, view: &mut Alike<'_>, case: &Case<'_>) -> Result<(), Fail> {
+    for row in case.rows {
+        view.show(row.0, row.1, case.first)?;
         are_so_long(rt, view, row);
     }
     Ok(())
 }
 
-// The base, the record and the change of the longest texts.
-fn longest(alloc: Global) -> Result<(Base, Record, Change), Fail> {
-    let mut base = [b'b'; 128];
-    base[..8].copy_from_slice(b"https://");
-    let mut kind = [b'"'; 100];
-    kind[..4].copy_from_slice(b"a/b;");
-    let put = (
-        [b'\''; 240].as_slice(),
-        kind.as_slice(),
-        u32::MAX,
-        Moment::GREATEST,
+// The text of a list.
+fn text(alloc: Global, view: &Alike<'_>, doc: Doc) -> Result<Vec<u8>, ListError> {
+    let mut out = Watched::new(Vec::new(alloc));
+    write_list(view, doc, &mut out)?;
+    Ok(out.into_inner())
+}
+
+// Looks at all that is said of a view.
+fn is_so(
+    rt: &(impl Abort + AllocGlobal),
+    view: &mut Alike<'_>,
+    case: &Case<'_>,
+) -> Result<(), Fail> {
+    all_are_so_long(rt, view, case)?;
+    assert_eq!(rt;
+        (resource_parts(view), change_parts(view)),
+        (case.parts, case.parts)
     );
-    Ok((
-        Base::new(alloc, &base)?,
-        record(alloc, put)?,
-        updated(alloc, put)?,
-    ))
+    for doc in case.missing {
+        is_so_long(rt, view, *doc, None);
+    }
+    if let Some(index) = case.index {
+        assert_eq!(rt; text(rt.alloc(), view, Doc::ChangeHead)?.as_slice(), index);
+    }
+    Ok(())
+}
+
+// Makes the view, and looks at it.
+fn look(rt: &(impl Abort + AllocGlobal), case: &Case<'_>) -> Result<(), Fail> {
+    let start = at(case.start)?;
+    let published = at(case.put.3)?;
+    let base = Base::new(rt.alloc(), case.base)?;
+    let record = record(rt.alloc(), case.put)?;
+    let change = updated(rt.alloc(), case.put)?;
+    let mut view = Alike {
+        base: &base,
+        start,
+        at: published,
+        number: case.number,
+        first: 0,
+        record: &record,
+        change: &change,
+        limit: 2,
+        items: 0,
+    };
+    is_so(rt, &mut view, case)
 }
 
 #[test]
@@ -81,27 +140,37 @@ fn the_longest_documents(rt: HostRuntime) -> Result<(), Fail> {
         (4000, 0, None, Some(397), Some(397)),
         (4000, 4000, Some(0), None, None),
         (4000, 4001, None, Some(883), Some(902)),
-        (4000, 4001, Some(0), Some(9_508_571), Some(9_720_602)),
-        (4000, 4001, Some(1), Some(2948), Some(2999)),
+        (4000, 4001, Some(0), Some(9_568_571), Some(9_780_602)),
+        (4000, 4001, Some(1), Some(2963), Some(3014)),
         (4000, 4001, Some(2), None, None),
-        (2, 2, None, Some(5151), Some(5257)),
+        (2, 2, None, Some(5181), Some(5287)),
         (2, 50_000, None, Some(6_014_299), Some(6_575_409)),
-        (2, 50_000, Some(24_999), Some(5325), Some(5462)),
+        (2, 50_000, Some(24_999), Some(5355), Some(5492)),
         (2, 50_000, Some(25_000), None, None),
     ];
-    let (base, record, change) = longest(rt.alloc())?;
-    let mut view = Alike {
+    let mut base = [b'b'; 128];
+    base[..8].copy_from_slice(b"https://");
+    // `'/'` and so on: a slash between two tokens.
+    let mut kind = [b'\''; 100];
+    kind[1] = b'/';
+    let case = Case {
         base: &base,
-        start: at(Moment::GREATEST)?,
-        at: at(Moment::GREATEST)?,
+        put: (&[b'\''; 240], &kind, u32::MAX, Moment::GREATEST),
+        start: Moment::GREATEST,
         number: u64::MAX,
         first: 253_402_300_799_999,
-        record: &record,
-        change: &change,
-        limit: 2,
-        items: 0,
+        rows: &ROWS,
+        parts: 25_000,
+        missing: &[
+            Doc::ResourcePart {
+                publication: 0,
+                part: 0,
+            },
+            Doc::ChangePart { part: u64::MAX },
+        ],
+        index: None,
     };
-    all_are_so_long(&rt, &mut view, &ROWS)
+    look(&rt, &case)
 }
 
 // The index of the changes of the view below.
@@ -114,15 +183,8 @@ const INDEX: &[u8] = b"<?xml version=\"1.0\" encoding=\"UTF-8\"?>
 </sitemapindex>
 ";
 
-// The text of a document.
-fn text(alloc: Global, view: &Alike<'_>, doc: Doc) -> Result<Vec<u8>, ListError> {
-    let mut out = Watched::new(Vec::new(alloc));
-    write_document(view, doc, &mut out)?;
-    Ok(out.into_inner())
-}
-
-// Looks at three resources and three changes with the item limit 2, where the first part has the number 7.
-fn are_numbered(rt: &(impl Abort + AllocGlobal), view: &mut Alike<'_>) -> Result<(), Fail> {
+#[test]
+fn parts_from_seven_on(rt: HostRuntime) -> Result<(), Fail> {
     const ROWS: [Row; 5] = [
         (2, 3, None, Some(524), Some(553)),
         (2, 3, Some(0), Some(861), Some(998)),
@@ -144,63 +206,16 @@ fn are_numbered(rt: &(impl Abort + AllocGlobal), view: &mut Alike<'_>) -> Result
         Doc::ChangePart { part: 0 },
         Doc::ChangePart { part: 6 },
     ];
-    all_are_so_long(rt, view, &ROWS)?;
-    for doc in MISSING {
-        is_so_long(rt, view, doc, None);
-    }
-    assert_eq!(rt; (resource_parts(view), change_parts(view)), (2, 2));
-    assert_eq!(rt; text(rt.alloc(), view, Doc::ChangeHead)?.as_slice(), INDEX);
-    Ok(())
-}
-
-// Writes each document to writers that have too little room for it.
-fn faults_are_told(rt: &impl Abort, view: &Alike<'_>) {
-    const DOCS: [Doc; 6] = [
-        Doc::Description,
-        Doc::Capabilities,
-        Doc::ResourceHead,
-        Doc::ResourcePart {
-            publication: 1,
-            part: 1,
-        },
-        Doc::ChangeHead,
-        Doc::ChangePart { part: 7 },
-    ];
-    for doc in DOCS {
-        fails_until(rt, view, doc, document_length(view, doc).unwrap_or(0));
-    }
-}
-
-fn fails_until(rt: &impl Abort, view: &Alike<'_>, doc: Doc, length: u64) {
-    assert!(rt; length > 0, "{doc:?}");
-    for room in 0..length as usize {
-        let mut out = Watched::new(Narrow { room });
-        assert_eq!(rt;
-            write_document(view, doc, &mut out),
-            Err(ListError::WriteFault),
-            "{doc:?}, room for {room}"
-        );
-        assert!(rt; out.has_failed(), "{doc:?}, room for {room}");
-    }
-}
-
-#[test]
-fn parts_from_seven_on(rt: HostRuntime) -> Result<(), Fail> {
-    const PUT: Put<'static> = (b"a", b"text/plain", 0, 2);
-    let base = Base::new(rt.alloc(), b"http://127.0.0.1:8080")?;
-    let record = record(rt.alloc(), PUT)?;
-    let change = updated(rt.alloc(), PUT)?;
-    let mut view = Alike {
-        base: &base,
-        start: at(0)?,
-        at: at(2)?,
+    let case = Case {
+        base: b"http://127.0.0.1:8080",
+        put: (b"a", b"text/plain", 0, 2),
+        start: 0,
         number: 1,
         first: 7,
-        record: &record,
-        change: &change,
-        limit: 2,
-        items: 3,
+        rows: &ROWS,
+        parts: 2,
+        missing: &MISSING,
+        index: Some(INDEX),
     };
-    faults_are_told(&rt, &view);
-    are_numbered(&rt, &mut view)
+    look(&rt, &case)
 }

@@ -68,12 +68,14 @@ fn each_path_is_its_documents(rt: HostRuntime) -> Result<(), Fail> {
 
 #[test]
 fn other_paths_are_no_documents(rt: HostRuntime) {
-    // Paths that no line of a script can have.
-    let rows: [&[u8]; 4] = [
+    // Those that no line of a script can have, or that are a resource's.
+    let rows: [&[u8]; 6] = [
         b"/changelist.xml ",
         b" /changelist.xml",
+        b"/resourcelist/1/0.xml ",
         b"/resourcelist/1/ 0.xml",
         b"/changelist/1.xml\n",
+        b"/resource/a",
     ];
     for path in rows {
         assert_eq!(rt; doc_of(path), None);

@@ -60,7 +60,8 @@ const READS: [(u32, [Option<usize>; 5], bool); 6] = [
     (5, [Some(2), Some(2), Some(1), Some(0), Some(0)], false),
 ];
 
-fn told_by_reads(fails_at: u32) -> ([Option<usize>; 5], bool) {
+/// What the reads give, what the reader says then, and how many bytes are left.
+fn told_by_reads(fails_at: u32) -> ([Option<usize>; 5], bool, usize) {
     let mut reader = Watched::new(FailsOnce {
         inner: b"abcde".as_slice(),
         calls_before: Some(fails_at),
@@ -69,7 +70,7 @@ fn told_by_reads(fails_at: u32) -> ([Option<usize>; 5], bool) {
     for answer in &mut told {
         *answer = reader.read(&mut [0; 4]).ok();
     }
-    (told, reader.has_failed())
+    (told, reader.has_failed(), reader.get_ref().inner.len())
 }
 
 #[test]
@@ -77,7 +78,7 @@ fn a_read_fails_where_the_reader_does(rt: HostRuntime) {
     for (fails_at, told, failed) in READS {
         assert_eq!(rt;
             told_by_reads(fails_at),
-            (told, failed),
+            (told, failed, 0),
             "call {fails_at} fails"
         );
     }
