@@ -152,11 +152,14 @@ def faults_of_standard_ends_are_told(program, room):
         compare(words[0], b"(1, b'rs_source: Read\\n', b'')", repr(ran(program, room, *words, stdin=unreadable)).encode())
         closed = ran(program, room, *words, stdin=None, preexec_fn=lambda: os.close(0))
         compare(f"{words[0]}, no standard input", b"(1, b'rs_source: Read\\n', b'')", repr(closed).encode())
+    os.close(unreadable)
     wanted = b"(1, b'rs_source: Write\\n')"
-    for number, closing in enumerate([{"stdout": open("/dev/full", "wb")}, {"stdout": None, "preexec_fn": lambda: os.close(1)}]):
+    for number, output in enumerate(["/dev/full", None]):
         for words in [MEMORY, ["run", file], ["format", f"{number}.disk", *MEMORY[1:]], ["serve", file, "0", "1"]]:
-            found = ran(program, room, *words, given=b"put %d - a/b\n" % number, **closing)
-            compare(f"{words[0]}, output {number}", wanted, repr(found[:2]).encode())
+            with open(output, "wb") if output else contextlib.nullcontext() as stdout:
+                closing = {} if output else {"preexec_fn": lambda: os.close(1)}
+                found = ran(program, room, *words, given=b"put %d - a/b\n" % number, stdout=stdout, **closing)
+            compare(f"{words[0]}, output {output}", wanted, repr(found[:2]).encode())
         compare("status", b"resources 0 ", ran(program, room, "run", f"{number}.disk", given=b"status")[2][:12])
     compare("status", b"resources 2 changes 2 ", ran(program, room, "run", file, given=b"status")[2][:22])
 
