@@ -11,8 +11,8 @@ SCRIPT ?= examples/first.script
 BASE ?= http://127.0.0.1:8080
 RT ?= rt
 CRATES ?=
-# How many checks go side by side: one a processor, with 4 GB of free memory for each.
-LANES ?= $(shell awk -v processors=$$(nproc) '/^MemAvailable:/ { fit = int($$2 / 4000000); print fit < 1 ? 1 : fit < processors ? fit : processors }' /proc/meminfo)
+# How many checks go side by side: one a processor, with 3 GB of free memory for each.
+LANES ?= $(shell awk -v processors=$$(nproc) '/^MemAvailable:/ { fit = int($$2 / 3000000); print fit < 1 ? 1 : fit < processors ? fit : processors }' /proc/meminfo)
 
 .PHONY: demo test edits build rows bench memory
 

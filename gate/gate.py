@@ -64,7 +64,8 @@ class Parts:
 
 def toolchain(copy):
     """The toolchain's own run in the copy."""
-    ran = subprocess.Popen(["rt", "ci"], cwd=copy, stdout=subprocess.PIPE, stderr=subprocess.STDOUT, text=True, errors="replace")
+    environment = {"RT_JOBS": str(lanes()), **os.environ}
+    ran = subprocess.Popen(["rt", "ci"], cwd=copy, env=environment, stdout=subprocess.PIPE, stderr=subprocess.STDOUT, text=True, errors="replace")
     last = ""
     for line in ran.stdout:
         print(line, end="", flush=True)
@@ -88,9 +89,9 @@ def some_edits(copy):
 
 
 def lanes():
-    """How many checks go side by side: one a processor, with 4 GB of free memory for each."""
+    """How many checks go side by side: one a processor, with 3 GB of free memory for each. None was seen to take more than 2.3 GB."""
     free = int(re.search(r"MemAvailable:\s+(\d+)", Path("/proc/meminfo").read_text())[1])
-    return max(1, min(len(os.sched_getaffinity(0)), free // 4_000_000))
+    return max(1, min(len(os.sched_getaffinity(0)), free // 3_000_000))
 
 
 def script(*words):
