@@ -4,7 +4,8 @@
   - the toolchain's own run (`rt ci`) in a copy of the repository without must-fail edits: every proof from nothing, the
     tests, and the program as two compilers build it;
   - the must-fail edits of the crates that gate/record.txt does not cover as they stand, and of two more that the
-    commit's own hash picks (`make edits` tries all of them, and writes the record);
+    commit's own hash picks (`make edits` tries all of them, and writes the record); a line of the record that is
+    older than its crate fails the gate;
   - on the program that the copy proved and built: the worked rows, its calls of the system, its edges, the documents
     read by tools that are not ours, the tour;
   - the tests of the gate itself, and the list of proofs by hand.
@@ -76,6 +77,12 @@ def toolchain(copy):
     return int(ended[1]), []
 
 
+def dates():
+    """Whether each line of the record is as old as its crate."""
+    old = record.outdated(ROOT)
+    return (0 if old else 1), [f"gate/record.txt is older than {it}: make edits CRATES={it}" for it in old]
+
+
 def some_edits(copy):
     """The edits that the record does not cover, and those of the crates that the commit picks."""
     names = record.uncovered(ROOT)
@@ -121,6 +128,7 @@ def main():
         os.environ["TMPDIR"] = tempfile.tempdir = room
         copy = copied(room)
         parts.run("the gate's own tests", script(ROOT / "gate" / "test_gate.py"))
+        parts.run("the record of edits", dates)
         parts.run("proofs by hand", script(copy / "examples" / "check_hand_proofs.py"))
         if parts.run("proofs, tests and builds", lambda: toolchain(copy)):
             parts.run("must-fail edits", lambda: some_edits(copy))

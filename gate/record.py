@@ -62,6 +62,13 @@ def uncovered(root):
     return [name for name in with_edits if known.get(name, ("",) * 3)[2] != hash_of(root, uses, name, identity)]
 
 
+def outdated(root):
+    """The crates that have a line, which is older than they are, or which no crate has any more."""
+    left = {*uncovered(root)}
+    crates = {name for name in kit.crates_of(root) if edits_of(root, name)}
+    return [name for name in lines(root) if name in left or name not in crates]
+
+
 def picked(root, commit, number=2):
     """So many crates with edits that a commit's own hash picks."""
     with_edits = [name for name in kit.crates_of(root) if edits_of(root, name)]

@@ -105,6 +105,7 @@ class Recording(unittest.TestCase):
             file = Path(room, "crates", crate, part)
             self.assertIn(old, file.read_text())
             file.write_text(file.read_text().replace(old, new))
+            self.assertEqual({*record.outdated(room)}, {*record.uncovered(room)})
             return {"low", "high"} - {*record.uncovered(room)}
 
     def test_a_body_is_its_own_crates(self):
@@ -124,6 +125,7 @@ class Recording(unittest.TestCase):
             repository(room, {"low": CODE, "high": CODE})
             record.write(room, ["low"])
             self.assertEqual(record.uncovered(room), ["high"])
+            self.assertEqual(record.outdated(room), [])
 
     def test_two_crates_are_picked(self):
         with tempfile.TemporaryDirectory() as room:

@@ -45,7 +45,8 @@ pub fn recover<D: Disk>(alloc: Global, disk: D) -> Result<Source<D>, (D, OpenFau
         → StandsForPrefix s commands acks m (D.state disk).now.seen → GivesBackPrefix D.state disk result s commands acks m }
     ensures headline { Headline D.state disk result }
 
-    // A stop within it leaves an image of its entry.
+    // A stop within it leaves an image of its entry; and a device that has followed the model then had followed it before.
+    ensures lasts { IsTrue (D.state (disk_of result)).honest → IsTrue (D.state disk).honest }
     ensures any_moment { Leaves (D.state disk) (D.state (disk_of result)) (λ _. IsImage (D.state disk).now) }
 {
     Source::open(alloc, disk)

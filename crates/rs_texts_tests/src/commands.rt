@@ -8,7 +8,7 @@ use rs_fixity::hash_text;
 use rs_io::Watched;
 use rs_lists::{Doc, ListError};
 use rs_model::{Body, Command, Entry, Reply, State, mirror};
-use rs_record::{Base, MediaType, Name, What};
+use rs_record::{Base, Duplicate, MediaType, Name, What};
 use rs_time::Moment;
 use std::alloc::{AllocError, Global};
 use std::process::Abort;
@@ -218,4 +218,12 @@ fn is_a_source(rt: &(impl Abort + AllocGlobal), state: &mut State) -> Result<(),
 fn a_run_and_its_mirror(rt: HostRuntime) -> Result<(), Fail> {
     let mut state = made(rt.alloc())?;
     is_a_source(&rt, &mut state)
+}
+
+#[test]
+fn a_body_is_its_bytes(rt: HostRuntime) -> Result<(), Fail> {
+    let body = Body::new(b"abc".to_vec(rt.alloc())?);
+    let copied = body.duplicate(rt.alloc())?;
+    assert_eq!(rt; copied.into_bytes().as_slice(), b"abc".as_slice());
+    Ok(())
 }

@@ -134,6 +134,16 @@ fn look(rt: &(impl Abort + AllocGlobal), case: &Case<'_>) -> Result<(), Fail> {
     is_so(rt, &mut view, case)
 }
 
+// The longest base, and a name and a media type of which each character that can be is escaped.
+const LONGEST_BASE: &[u8] =
+    b"https://bbbbbbbbbbbbbbbbbbbbbbbbbbbbbbbbbbbbbbbbbbbbbbbbbbbbbbbbbbbbbbbbbbbbbbbbbbbbbbbbbbbbbbbbbbbbbbbbbbbbbbbbbbbbbbbbbbbbbbbb";
+
+const LONGEST_NAME: &[u8] =
+    b"''''''''''''''''''''''''''''''''''''''''''''''''''''''''''''''''''''''''''''''''''''''''''''''''''''''''''''''''''''''''''''''''''''''''''''''''''''''''''''''''''''''''''''''''''''''''''''''''''''''''''''''''''''''''''''''''''''''''''''''''";
+
+const LONGEST_KIND: &[u8] =
+    b"'/''''''''''''''''''''''''''''''''''''''''''''''''''''''''''''''''''''''''''''''''''''''''''''''''''";
+
 #[test]
 fn the_longest_documents(rt: HostRuntime) -> Result<(), Fail> {
     const ROWS: [Row; 10] = [
@@ -148,26 +158,22 @@ fn the_longest_documents(rt: HostRuntime) -> Result<(), Fail> {
         (2, 50_000, Some(24_999), Some(5355), Some(5492)),
         (2, 50_000, Some(25_000), None, None),
     ];
-    let mut base = [b'b'; 128];
-    base[..8].copy_from_slice(b"https://");
-    // `'/'` and so on: a slash between two tokens.
-    let mut kind = [b'\''; 100];
-    kind[1] = b'/';
+    const MISSING: [Doc; 2] = [
+        Doc::ResourcePart {
+            publication: 0,
+            part: 0,
+        },
+        Doc::ChangePart { part: u64::MAX },
+    ];
     let case = Case {
-        base: &base,
-        put: (&[b'\''; 240], &kind, u32::MAX, Moment::GREATEST),
+        base: LONGEST_BASE,
+        put: (LONGEST_NAME, LONGEST_KIND, u32::MAX, Moment::GREATEST),
         start: Moment::GREATEST,
         number: u64::MAX,
         first: 253_402_300_799_999,
         rows: &ROWS,
         parts: 25_000,
-        missing: &[
-            Doc::ResourcePart {
-                publication: 0,
-                part: 0,
-            },
-            Doc::ChangePart { part: u64::MAX },
-        ],
+        missing: &MISSING,
         index: None,
     };
     look(&rt, &case)
