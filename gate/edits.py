@@ -115,8 +115,8 @@ class Trial:
             it.judged(Outcome.REFUSED, f"(alone) {symbol}: {text}")
 
 
-def try_crates(root, names, jobs):
-    """Tries the edits of these crates side by side, prints what came of each, and returns the edits by crate."""
+def try_crates(root, names, jobs, when_done=lambda name, edits: None):
+    """Tries the edits of these crates side by side, prints what came of each, and returns the edits by crate. Each crate is told of when it is done."""
     home, uses = kit.folder(), kit.crates_of(root)
     trials = [it for it in (Trial(root, name, uses, home) for name in names) if it.files()]
     tried = {}
@@ -126,6 +126,7 @@ def try_crates(root, names, jobs):
             for it in edits:
                 print(f"{it.outcome.value}: {it.label}: {it.why[:200]}")
             print(f"-- {trial.name}: {len(edits)} edits by {trial.checks} checks", flush=True)
+            when_done(trial.name, edits)
     return tried
 
 
@@ -136,11 +137,15 @@ def main():
     words.add_argument("--record", action="store_true")
     words.add_argument("crates", nargs="*")
     given = words.parse_args()
-    tried = try_crates(given.root, given.crates or [*kit.crates_of(given.root)], given.jobs)
+
+    def noted(name, edits):
+        """Writes the record's line of a crate of which every edit was refused."""
+        if given.record and all(it.is_refused for it in edits):
+            record.write(given.root, [name])
+
+    tried = try_crates(given.root, given.crates or [*kit.crates_of(given.root)], given.jobs, noted)
     every = [it for edits in tried.values() for it in edits]
     refused = sum(it.is_refused for it in every)
-    if given.record:
-        record.write(given.root, [name for name, edits in tried.items() if all(it.is_refused for it in edits)])
     print(f"{refused} refused, {len(every) - refused} not refused")
     return 1 if refused < len(every) else 0
 
