@@ -133,6 +133,8 @@ def tell(parts, meter, started):
 def main():
     parts, started = Parts(), time.time()
     with tempfile.TemporaryDirectory(prefix="gate-") as room, Meter(room) as meter:
+        # The toolchain runs programs as nobody, on copies below this folder.
+        os.chmod(room, 0o711)
         os.environ["TMPDIR"] = tempfile.tempdir = room
         copy = copied(room)
         parts.run("the gate's own tests", script(ROOT / "gate" / "test_gate.py"))
