@@ -1,0 +1,90 @@
+//! Worked examples of runs.
+
+use super::asking::Answer::{Created, Deleted, Refused};
+use super::asking::Asked::{self, Delete, Put};
+use super::asking::{Answer, answer_of, commands_of, formatted, ran, told_by};
+use rs_disk::{Disk, MemoryDisk};
+use rs_store::Refusal::{Closed, Device, NotHeld};
+use std::process::Abort;
+use std::test::Fail;
+
+/// Runs commands at a moment on a disk of these bytes of which a call fails after the first `k`; looks at the answers, and
+/// gives the bytes that a read of the disk gives then.
+fn answers(
+    rt: &(impl Abort + AllocGlobal),
+    image: &[u8],
+    asked: &[Asked],
+    now: u64,
+    k: u64,
+    want: &[Answer],
+) -> Result<Vec<u8>, Fail> {
+    let commands = commands_of(rt.alloc(), asked, now)?;
+    let mut disk = MemoryDisk::from_bytes(rt.alloc(), image)?;
+    disk.fail_once(k);
+    let (acks, disk) = ran(rt.alloc(), disk, &commands)?;
+    assert_eq!(rt; acks.len(), want.len());
+    let mut last: u64 = 0;
+    for (ack, want) in acks.iter().zip(want) {
+        assert_eq!(rt; answer_of(ack), *want, "with {k} calls");
+        assert!(rt; last <= ack.at_call);
+        last = ack.at_call;
+    }
+    assert!(rt; last <= disk.calls());
+    Ok(disk.image(&[])?)
+}
+
+/// Looks at what a disk of these bytes tells.
+fn tells(rt: &(impl Abort + AllocGlobal), image: &[u8], want: &str) -> Result<(), Fail> {
+    let text = told_by(rt.alloc(), image)?;
+    assert_eq!(rt; text.as_str(), want);
+    Ok(())
+}
+
+// A call that is never reached.
+const NEVER: u64 = 1_000_000;
+
+#[test]
+fn a_refused_command_does_not_end_a_run(rt: HostRuntime) -> Result<(), Fail> {
+    const ASKED: [Asked; 4] = [Delete(b"z"), Put(b"z", b""), Delete(b"z"), Put(b"z", b"")];
+    const WANT: [Answer; 4] = [
+        Refused(NotHeld),
+        Created(1000),
+        Deleted(1001),
+        Created(1002),
+    ];
+    let image = formatted(rt.alloc())?;
+    let image = answers(&rt, &image, &ASKED, 1000, NEVER, &WANT)?;
+    tells(&rt, &image, "held: z=; published 0:; changes 3; last 1002")
+}
+
+/// The bytes of a disk whose source has `a`.
+fn with_a(rt: &(impl Abort + AllocGlobal)) -> Result<Vec<u8>, Fail> {
+    let image = formatted(rt.alloc())?;
+    answers(rt, &image, &[Put(b"a", b"one")], 0, NEVER, &[Created(1)])
+}
+
+#[test]
+fn a_sync_that_fails_in_a_delete(rt: HostRuntime) -> Result<(), Fail> {
+    // The opening makes a sync and reads both slots, the directory and two pages. The delete writes a page and the
+    // directory; then the spare's gate is closed, the bytes behind it are written and the gate is opened, each by a write and a
+    // sync.
+    const ROWS: [(u64, &str); 3] = [
+        (6 + 3, "held: a=one; published 0:; changes 1; last 1"),
+        (6 + 5, "held: a=one; published 0:; changes 1; last 1"),
+        (6 + 7, "held:; published 0:; changes 2; last 2"),
+    ];
+    let image = with_a(&rt)?;
+    for (k, want) in ROWS {
+        let asked = [Delete(b"a"), Put(b"b", b"")];
+        let left = answers(
+            &rt,
+            &image,
+            &asked,
+            0,
+            k,
+            &[Refused(Device), Refused(Closed)],
+        )?;
+        tells(&rt, &left, want)?;
+    }
+    Ok(())
+}

@@ -1,0 +1,9 @@
+//! Tests of runs of commands, of their stops, and of what is recovered then.
+#![tactic(auto)]
+
+#[cfg(test)]
+mod asking;
+#[cfg(test)]
+mod examples;
+#[cfg(test)]
+mod stopping;
