@@ -7,7 +7,7 @@ ghost use Rattle.rs_body.specs.Blocks.{IsOnDisk, part};
 use crate::blocks::offset_of;
 use rs_disk::{Disk, Fault};
 use rs_extent::Extent;
-use rs_fixity::digests_of;
+use rs_fixity::sha256_of;
 use std::alloc::AllocError;
 use thiserror::Error;
 
@@ -82,7 +82,7 @@ pub fn read_body<D: Disk>(
         into.clear();
         return Err(BodyFault::Device);
     }
-    if digests_of(into).sha256 == *sha256 {
+    if sha256_of(into) == *sha256 {
         Ok(())
     } else {
         into.clear();

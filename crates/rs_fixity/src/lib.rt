@@ -7,7 +7,7 @@ mod hashing;
 pub mod laws;
 mod text;
 
-pub use hashing::{Hashing, digests_of};
+pub use hashing::{Hashing, digests_of, sha256_of};
 pub use text::hash_text;
 
 /// The two digests of a message.

@@ -9,7 +9,7 @@ use crate::format::page_bytes;
 use crate::{Page, PageItem, PageRef, Place};
 use rs_body::write_body;
 use rs_disk::{Disk, Fault};
-use rs_fixity::digests_of;
+use rs_fixity::sha256_of;
 use std::alloc::{AllocError, Global};
 use thiserror::Error;
 
@@ -81,7 +81,7 @@ impl<T: PageItem> Page<T> {
             return Ok(());
         };
         let bytes = page_bytes(alloc, &self.items)?;
-        let sha256 = digests_of(&bytes).sha256;
+        let sha256 = sha256_of(&bytes);
         write_body(disk, extent, &bytes)?;
         self.place = Place::Stored(PageRef {
             extent,

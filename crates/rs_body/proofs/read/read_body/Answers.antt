@@ -14,5 +14,5 @@ returns-else-eq-clause-damaged g c is honest same =
     let there : c.deref.result.now ≡ c.read_front.new.into = c.deref.ensures.value ∙ whole c.resize.new.self.len c.read_front.new.into c.resize.new.self.items (search rules) in
     let bytes : c.deref.result.now ≡ part c.args.extent c.args.length (g.D.Disk.state c.args.disk.now).now.seen =
     there ∙ subst (λ (n : ℕ). c.read_front.new.into ≡ part c.args.extent n (g.D.Disk.state c.args.disk.now).now.seen) long (given honest) in
-    let digest : c.digests_of.result.sha256 ≡ c.args.sha256.now = search rules in
+    let digest : c.sha256_of.result ≡ c.args.sha256.now = search rules in
     search rules
