@@ -1,6 +1,7 @@
 -- The mirror, and the entries of what is held.
 use Rattle.std.proofs.Common.{◌≡◌, ℕ, ◌<◌, ◌≤◌, List, [], ◌∷◌, ◌++◌, Bool, true, false, cond, nat_lt, nat_le, refl, ap, ◌∙◌, arith}
 use Rattle.std.specs.Prelude.{IsTrue, ◌&&◌}
+use Rattle.std.specs.List.{AllByRecursion}
 use Rattle.std.proofs.lemmas.Bool.Decides.{nat_tests}
 use Rattle.std.specs.declared.cmp.Ordering.{Ordering}
 use Rattle.std.specs.declared.cmp.Ordering.TheVariants.{Less, Equal, Greater}
@@ -10,7 +11,7 @@ use Rattle.rs_model.specs.declared.value.Held.{Held}
 use Rattle.rs_model.specs.Names.{Names, by_bytes, by_order, bind, unbind}
 use Rattle.rs_model.specs.State.{entries}
 use Rattle.rs_model.specs.Step.{applied, mirror_of}
-use Rattle.rs_model.specs.Regular.{is_rising}
+use Rattle.rs_model.specs.Regular.{is_rising, rises_from, IsChangeUpTo}
 
 before : (b : Bool) (n m : ℕ) → nat_lt n m ≡ b → n < m → b ≡ true
 before true n m e h = refl
@@ -35,34 +36,17 @@ both_of false b h k = h
 pub below : (n m : ℕ) → n < m → IsTrue (nat_lt n m)
 below n m h = grind (arith, nat_tests)
 
-pub at_most : (n m : ℕ) → n ≤ m → IsTrue (nat_le n m)
-at_most n m h = grind (arith, nat_tests)
+-- one more change, above all that are there
+rises-append : (low last : ℕ) (cs : List Change) (c : Change) → IsTrue (rises_from low cs) → low ≤ last → AllByRecursion (IsChangeUpTo last) cs
+    → last < c.moment → IsTrue (rises_from low (cs ++ c ∷ []))
+rises-append low last [] c h k m later = both_of _ _ (below low c.moment (omega (arith, k, later))) refl
+rises-append low last (d ∷ cs) c h k m later =
+    both_of _ _ (first_of _ _ h) (rises-append d.moment last cs c (second_of (nat_lt low d.moment) _ h) m.0 m.1 later)
 
-pub at_most_of : (n m : ℕ) → IsTrue (nat_le n m) → n ≤ m
-at_most_of n m h = grind (arith, nat_tests)
-
-pub below_of : (n m : ℕ) → IsTrue (nat_lt n m) → n < m
-below_of n m h = grind (arith, nat_tests)
-
--- the first bound is at most the second
-pub rising_bound : (low last : ℕ) (cs : List Change) → IsTrue (is_rising low last cs) → low ≤ last
-rising_bound low last [] h = at_most_of low last h
-rising_bound low last (c ∷ cs) h =
-    let one = below_of low c.moment (first_of _ _ h) in
-    let rest = rising_bound c.moment last cs (second_of (nat_lt low c.moment) _ h) in
-    omega arith
-
-pub rising_later : (low last t : ℕ) (cs : List Change) → IsTrue (is_rising low last cs) → last ≤ t → IsTrue (is_rising low t cs)
-rising_later low last t [] h k = let one = at_most_of low last h in at_most low t (omega arith)
-rising_later low last t (c ∷ cs) h k =
-    both_of _ _ (first_of _ _ h) (rising_later c.moment last t cs (second_of (nat_lt low c.moment) _ h) k)
-
-pub rising-append : (low last t : ℕ) (cs : List Change) (c : Change) → IsTrue (is_rising low last cs) → last < t → c.moment ≡ t → IsTrue (is_rising low t (cs ++ c ∷ []))
-rising-append low last t [] c h k e =
-    let one = at_most_of low last h in
-    both_of _ _ (below low c.moment (omega arith)) (at_most c.moment t (omega arith))
-rising-append low last t (d ∷ cs) c h k e =
-    both_of _ _ (first_of _ _ h) (rising-append d.moment last t cs c (second_of (nat_lt low d.moment) _ h) k e)
+pub rising-append : (last : ℕ) (cs : List Change) (c : Change) → IsTrue (is_rising cs) → AllByRecursion (IsChangeUpTo last) cs
+    → last < c.moment → IsTrue (is_rising (cs ++ c ∷ []))
+rising-append last [] c h m later = refl
+rising-append last (d ∷ cs) c h m later = rises-append d.moment last cs c h m.0 m.1 later
 
 -- one more change, after the list's moment
 pub mirror-append : (m : Names Entry) (at : ℕ) (cs : List Change) (c : Change) → at < c.moment → mirror_of m at (cs ++ c ∷ []) ≡ applied c.facts c (mirror_of m at cs)
@@ -70,12 +54,10 @@ mirror-append m at [] c h = ap (λ b. cond b (applied c.facts c m) m) (before _ 
 mirror-append m at (d ∷ cs) c h = mirror-append (cond (nat_lt at d.moment) (applied d.facts d m) m) at cs c h
 
 -- changes that are not after the list's moment
-pub mirror_before : (m : Names Entry) (low last at : ℕ) (cs : List Change) → IsTrue (is_rising low last cs) → last ≤ at → mirror_of m at cs ≡ m
-mirror_before m low last at [] r h = refl
-mirror_before m low last at (c ∷ cs) r h =
-    let rest = second_of (nat_lt low c.moment) (is_rising c.moment last cs) r in
-    let bound = rising_bound c.moment last cs rest in
-    ap (λ b. mirror_of (cond b (applied c.facts c m) m) at cs) (not_before _ at c.moment refl (omega arith)) ∙ mirror_before m c.moment last at cs rest h
+pub mirror_before : (m : Names Entry) (at : ℕ) (cs : List Change) → AllByRecursion (IsChangeUpTo at) cs → mirror_of m at cs ≡ m
+mirror_before m at [] h = refl
+mirror_before m at (c ∷ cs) h =
+    ap (λ b. mirror_of (cond b (applied c.facts c m) m) at cs) (not_before _ at c.moment refl h.0) ∙ mirror_before m at cs h.1
 
 one_case : (r : Ordering) (a b c : Names Held) (a' b' c' : Names Entry) → entries a ≡ a' → entries b ≡ b' → entries c ≡ c' → entries (by_order r a b c) ≡ by_order r a' b' c'
 one_case Less a b c a' b' c' x y z = x

@@ -1,5 +1,5 @@
 -- A step keeps a state regular.
-use Rattle.std.proofs.Common.{◌≡◌, ℕ, ◌<◌, ◌≤◌, List, [], ◌∷◌, refl, sym, ap, ◌∙◌, arith, Option, Some, None}
+use Rattle.std.proofs.Common.{◌≡◌, ℕ, ◌<◌, ◌≤◌, List, [], ◌∷◌, ◌++◌, refl, sym, ap, subst, ◌∙◌, arith, Option, Some, None}
 use Rattle.std.specs.Prelude.{IfOk}
 use Rattle.std.specs.List.{AllByRecursion}
 use Rattle.std.specs.declared.cmp.Ordering.{Ordering}
@@ -13,75 +13,125 @@ use Rattle.rs_record.specs.Changes.{deleted}
 use Rattle.rs_model.specs.Names.{Names, by_bytes, by_order, bind, unbind}
 use Rattle.rs_model.specs.State.{Source, start_of, facts_of, entries}
 use Rattle.rs_model.specs.Step.{step, state_after, fold_of, next_state, reply_to, accepted_unless, moment_at, refusal_of, put_change}
-use Rattle.rs_model.specs.Regular.{IsSound, IsUpTo, IsRegular}
-use Rattle.rs_model.proofs.MirrorLemmas.{at_most, rising-append, rising_later, mirror-append, mirror_before, entries-bind, entries-unbind}
+use Rattle.rs_model.specs.declared.value.Entry.{Entry}
+use Rattle.rs_record.specs.declared.change.Change.{Change}
+use Rattle.rs_model.specs.Regular.{IsSound, IsUpTo, IsChangeUpTo, IsAfter, IsRegular, IsTimely}
+use Rattle.rs_model.proofs.MirrorLemmas.{rising-append, mirror-append, mirror_before, entries-bind, entries-unbind}
 
-abbrev AreSound : ℕ → Names Held → Type 0
-AreSound last held = AllByRecursion (IsSound last) held
+abbrev AreSound : Names Held → Type 0
+AreSound held = AllByRecursion IsSound held
 
-sound_later : (last t : ℕ) (held : Names Held) → last ≤ t → AreSound last held → AreSound t held
-sound_later last t [] k h = tt
-sound_later last t (e ∷ held) k h = (record { facts = h.0.facts; moment = omega (arith, h.0.moment) }, sound_later last t held k h.1)
+abbrev AreAllUpTo : ℕ → Names Entry → Type 0
+AreAllUpTo last m = AllByRecursion (IsUpTo last) m
 
-one_sound : (last : ℕ) (r : Ordering) (a b c : Names Held) → AreSound last a → AreSound last b → AreSound last c → AreSound last (by_order r a b c)
-one_sound last Less a b c x y z = x
-one_sound last Equal a b c x y z = y
-one_sound last Greater a b c x y z = z
+later : (last t : ℕ) (m : Names Entry) → last ≤ t → AreAllUpTo last m → AreAllUpTo t m
+later last t [] k h = tt
+later last t (e ∷ m) k h = (omega (arith, k, h.0), later last t m k h.1)
 
-sound-bind : (last : ℕ) (name : List ℕ) (h : Held) (held : Names Held) → h.entry.facts ≡ facts_of h.entry.facts.kind h.bytes → h.entry.moment ≤ last → AreSound last held → AreSound last (bind name h held)
-sound-bind last name h [] f m s = (record { facts = f; moment = m }, tt)
-sound-bind last name h (e ∷ held) f m s =
-    one_sound last (by_bytes name e.0) ((name, h) ∷ e ∷ held) ((name, h) ∷ held) (e ∷ bind name h held)
-    (record { facts = f; moment = m }, s) (record { facts = f; moment = m }, s.1) (s.0, sound-bind last name h held f m s.1)
+changes_later : (last t : ℕ) (cs : List Change) → last ≤ t → AllByRecursion (IsChangeUpTo last) cs → AllByRecursion (IsChangeUpTo t) cs
+changes_later last t [] k h = tt
+changes_later last t (c ∷ cs) k h = (omega (arith, k, h.0), changes_later last t cs k h.1)
 
-sound-unbind : (last : ℕ) (name : List ℕ) (held : Names Held) → AreSound last held → AreSound last (unbind name held)
-sound-unbind last name [] s = s
-sound-unbind last name (e ∷ held) s =
-    one_sound last (by_bytes name e.0) (e ∷ held) held (e ∷ unbind name held) s s.1 (s.0, sound-unbind last name held s.1)
+-- one more change, and what all of them are
+and_one : (P : Change → Type 0) (cs : List Change) (c : Change) → AllByRecursion P cs → P c → AllByRecursion P (cs ++ c ∷ [])
+and_one P [] c h one = (one, tt)
+and_one P (d ∷ cs) c h one = (h.0, and_one P cs c h.1 one)
 
--- the entries of what is held
-up_to_now : (last : ℕ) (held : Names Held) → AreSound last held → AllByRecursion (IsUpTo last) (entries held)
-up_to_now last [] h = tt
-up_to_now last (e ∷ held) h = (h.0.moment, up_to_now last held h.1)
+-- what stands of each list of names stands of the one that an order picks
+picked : {V : Type 0} (P : List ℕ × V → Type 0) (r : Ordering) (a b c : Names V)
+    → AllByRecursion P a → AllByRecursion P b → AllByRecursion P c → AllByRecursion P (by_order r a b c)
+picked P Less a b c x y z = x
+picked P Equal a b c x y z = y
+picked P Greater a b c x y z = z
+
+all-bind : {V : Type 0} (P : List ℕ × V → Type 0) (name : List ℕ) (v : V) (m : Names V) → P (name, v) → AllByRecursion P m → AllByRecursion P (bind name v m)
+all-bind P name v [] one h = (one, tt)
+all-bind P name v (e ∷ m) one h =
+    picked P (by_bytes name e.0) ((name, v) ∷ e ∷ m) ((name, v) ∷ m) (e ∷ bind name v m)
+    (one, h) (one, h.1) (h.0, all-bind P name v m one h.1)
+
+all-unbind : {V : Type 0} (P : List ℕ × V → Type 0) (name : List ℕ) (m : Names V) → AllByRecursion P m → AllByRecursion P (unbind name m)
+all-unbind P name [] h = h
+all-unbind P name (e ∷ m) h =
+    picked P (by_bytes name e.0) (e ∷ m) m (e ∷ unbind name m) h h.1 (h.0, all-unbind P name m h.1)
 
 pub start_regular : (base : List ℕ) (limit moment : ℕ) → IsRegular (start_of base limit moment)
 start_regular base limit moment =
-    record { sound = tt; rising = at_most moment moment (omega arith); start = omega arith; last = omega arith; listed = tt; mirrored = refl }
+    record {
+      sound = tt;
+      rising = refl;
+      start = omega arith;
+      last = omega arith;
+      latest = record { held = tt; changes = tt; listed = tt };
+      mirrored = refl;
+    }
 
 -- an accepted command at a later moment
 pub next_regular : (s : Source) (command : Command) (t : ℕ) → IsRegular s → s.last < t → IsRegular (next_state s command t)
-next_regular s (Put name kind bytes) t r later =
+next_regular s (Put name kind bytes) t r after =
+    let entry : Entry = record { facts = facts_of kind bytes; moment = t } in
+    let held : Names Held = bind name (record { bytes = bytes; entry = entry }) s.held in
+    let bound : entries held ≡ bind name entry (entries s.held) = entries-bind name (record { bytes = bytes; entry = entry }) s.held in
+    let no_later : s.last ≤ t = omega (arith, after) in
     record {
-      sound = sound-bind t name _ s.held refl (omega arith) (sound_later s.last t s.held (omega arith) r.sound);
-      rising = rising-append s.start s.last t s.changes _ r.rising later refl;
+      sound = all-bind IsSound name (record { bytes = bytes; entry = entry }) s.held refl r.sound;
+      rising = rising-append s.last s.changes (put_change s name (facts_of kind bytes) t) r.rising r.latest.changes after;
       start = r.start;
       last = omega (arith, r.last);
-      listed = r.listed;
+      latest =
+          record {
+            held = subst (AreAllUpTo t) (sym bound)
+                (all-bind (IsUpTo t) name entry (entries s.held) (omega arith) (later s.last t (entries s.held) no_later r.latest.held));
+            changes = and_one (IsChangeUpTo t) s.changes _ (changes_later s.last t s.changes no_later r.latest.changes) (omega arith);
+            listed = later s.last t s.listed no_later r.latest.listed;
+          };
       mirrored =
           mirror-append s.listed s.at s.changes (put_change s name (facts_of kind bytes) t) (omega (arith, r.last))
-          ∙ ap (bind name (record { facts = facts_of kind bytes; moment = t })) r.mirrored
-          ∙ sym (entries-bind name (record { bytes = bytes; entry = record { facts = facts_of kind bytes; moment = t } }) s.held);
+          ∙ ap (bind name entry) r.mirrored ∙ sym bound;
     }
-next_regular s (Delete name) t r later =
+next_regular s (Delete name) t r after =
+    let unbound : entries (unbind name s.held) ≡ unbind name (entries s.held) = entries-unbind name s.held in
+    let no_later : s.last ≤ t = omega (arith, after) in
     record {
-      sound = sound-unbind t name s.held (sound_later s.last t s.held (omega arith) r.sound);
-      rising = rising-append s.start s.last t s.changes _ r.rising later refl;
+      sound = all-unbind IsSound name s.held r.sound;
+      rising = rising-append s.last s.changes (deleted name t) r.rising r.latest.changes after;
       start = r.start;
       last = omega (arith, r.last);
-      listed = r.listed;
+      latest =
+          record {
+            held = subst (AreAllUpTo t) (sym unbound)
+                (all-unbind (IsUpTo t) name (entries s.held) (later s.last t (entries s.held) no_later r.latest.held));
+            changes = and_one (IsChangeUpTo t) s.changes _ (changes_later s.last t s.changes no_later r.latest.changes) (omega arith);
+            listed = later s.last t s.listed no_later r.latest.listed;
+          };
       mirrored =
           mirror-append s.listed s.at s.changes (deleted name t) (omega (arith, r.last))
-          ∙ ap (unbind name) r.mirrored ∙ sym (entries-unbind name s.held);
+          ∙ ap (unbind name) r.mirrored ∙ sym unbound;
     }
-next_regular s Publish t r later =
+next_regular s Publish t r after =
+    let no_later : s.last ≤ t = omega (arith, after) in
+    let held : AreAllUpTo t (entries s.held) = later s.last t (entries s.held) no_later r.latest.held in
+    let changes : AllByRecursion (IsChangeUpTo t) s.changes = changes_later s.last t s.changes no_later r.latest.changes in
     record {
-      sound = sound_later s.last t s.held (omega arith) r.sound;
-      rising = rising_later s.start s.last t s.changes r.rising (omega arith);
+      sound = r.sound;
+      rising = r.rising;
       start = omega (arith, r.start, r.last);
       last = omega arith;
-      listed = up_to_now t s.held (sound_later s.last t s.held (omega arith) r.sound);
-      mirrored = mirror_before (entries s.held) s.start s.last t s.changes r.rising (omega arith);
+      latest = record { held = held; changes = changes; listed = held };
+      mirrored = mirror_before (entries s.held) t s.changes changes;
     }
+
+pub start_timely : (base : List ℕ) (limit moment : ℕ) → IsTimely (start_of base limit moment)
+start_timely base limit moment = record { changes = tt; listed = tt }
+
+-- An accepted command of a regular state leaves it timely: a change comes after the last command, which is not before the start.
+pub next_timely : (s : Source) (command : Command) (t : ℕ) → IsRegular s → IsTimely s → s.last < t → IsTimely (next_state s command t)
+next_timely s (Put name kind bytes) t r timely after =
+    record { changes = and_one (IsAfter s.start) s.changes _ timely.changes (omega (arith, r.start, r.last)); listed = timely.listed }
+next_timely s (Delete name) t r timely after =
+    record { changes = and_one (IsAfter s.start) s.changes _ timely.changes (omega (arith, r.start, r.last)); listed = timely.listed }
+next_timely s Publish t r timely after =
+    record { changes = timely.changes; listed = later s.last t (entries s.held) (omega (arith, after)) r.latest.held }
 
 if_accepted : (o : Option Refusal) (next : Source × Reply) → IsRegular next.0 → IfOk (accepted_unless o next) (λ n. IsRegular n.0)
 if_accepted None next h = h
@@ -99,3 +149,22 @@ after_regular s command now (Some refusal) r = r
 pub fold_regular : (s : Source) (commands : List (Command × ℕ)) → IsRegular s → IsRegular (fold_of s commands)
 fold_regular s [] r = r
 fold_regular s (c ∷ commands) r = fold_regular (state_after s (step s c.0 c.1)) commands (after_regular s c.0 c.1 (refusal_of s c.0) r)
+
+timely_if_accepted : (o : Option Refusal) (next : Source × Reply) → IsTimely next.0 → IfOk (accepted_unless o next) (λ n. IsTimely n.0)
+timely_if_accepted None next h = h
+timely_if_accepted (Some refusal) next h = tt
+
+pub step_timely : (s : Source) (command : Command) (now : ℕ) → IsRegular s → IsTimely s → IfOk (step s command now) (λ next. IsTimely next.0)
+step_timely s command now r timely =
+    timely_if_accepted (refusal_of s command) _ (next_timely s command (moment_at s now) r timely (omega arith))
+
+timely_after : (s : Source) (command : Command) (now : ℕ) (o : Option Refusal) → IsRegular s → IsTimely s
+    → IsTimely (state_after s (accepted_unless o (next_state s command (moment_at s now), reply_to s command (moment_at s now))))
+timely_after s command now None r timely = next_timely s command (moment_at s now) r timely (omega arith)
+timely_after s command now (Some refusal) r timely = timely
+
+pub fold_timely : (s : Source) (commands : List (Command × ℕ)) → IsRegular s → IsTimely s → IsTimely (fold_of s commands)
+fold_timely s [] r timely = timely
+fold_timely s (c ∷ commands) r timely =
+    fold_timely (state_after s (step s c.0 c.1)) commands (after_regular s c.0 c.1 (refusal_of s c.0) r)
+    (timely_after s c.0 c.1 (refusal_of s c.0) r timely)

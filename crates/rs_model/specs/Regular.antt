@@ -1,5 +1,5 @@
--- Regular states: what every run of commands keeps true.
-use Rattle.std.specs.Prelude.{ℕ, ◌≡◌, ◌≤◌, Bool, ◌&&◌, nat_lt, nat_le, IsTrue, List, [], ◌∷◌}
+-- Regular states, and what else every run of commands keeps true.
+use Rattle.std.specs.Prelude.{ℕ, ◌≡◌, ◌<◌, ◌≤◌, Bool, true, ◌&&◌, nat_lt, IsTrue, List, [], ◌∷◌}
 use Rattle.std.specs.List.{AllByRecursion}
 use Rattle.rs_record.specs.declared.change.Change.{Change}
 use Rattle.rs_model.specs.declared.value.Entry.{Entry}
@@ -7,27 +7,49 @@ use Rattle.rs_model.specs.declared.value.Held.{Held}
 use Rattle.rs_model.specs.State.{Source, facts_of, entries}
 use Rattle.rs_model.specs.Step.{mirror_of}
 
--- the entry has the facts of the bytes, and no moment past this one
-pub record IsSound (last : ℕ) (held : List ℕ × Held) : Type 0 where
-  pub facts : held.1.entry.facts ≡ facts_of held.1.entry.facts.kind held.1.bytes
-  pub moment : held.1.entry.moment ≤ last
+-- the entry has the facts of the bytes
+abbrev pub IsSound : List ℕ × Held → Type 0
+IsSound held = held.1.entry.facts ≡ facts_of held.1.entry.facts.kind held.1.bytes
 
--- an entry of no moment past this one
+-- a change, and an entry, of no moment above this one
+abbrev pub IsChangeUpTo : ℕ → Change → Type 0
+IsChangeUpTo last c = c.moment ≤ last
+
 abbrev pub IsUpTo : ℕ → List ℕ × Entry → Type 0
 IsUpTo last e = e.1.moment ≤ last
 
--- the moments rise strictly, from above the first bound up to the second
-abbrev pub is_rising : ℕ → ℕ → List Change → Bool
-is_rising low last [] = nat_le low last
-is_rising low last (c ∷ cs) = nat_lt low c.moment && is_rising c.moment last cs
+-- the moments rise strictly, the first of them from above this one
+abbrev pub rises_from : ℕ → List Change → Bool
+rises_from low [] = true
+rises_from low (c ∷ cs) = nat_lt low c.moment && rises_from c.moment cs
 
--- What is held has the facts of its bytes; the changes rise from formatting to the last command, with the
--- publication between them; what was published is no later; and it, followed by the changes after it, gives what
--- is held.
+-- the moments rise strictly
+abbrev pub is_rising : List Change → Bool
+is_rising [] = true
+is_rising (c ∷ cs) = rises_from c.moment cs
+
+-- No moment of the state is above this one.
+pub record AreUpTo (last : ℕ) (s : Source) : Type 0 where
+  pub held : AllByRecursion (IsUpTo last) (entries s.held)
+  pub changes : AllByRecursion (IsChangeUpTo last) s.changes
+  pub listed : AllByRecursion (IsUpTo last) s.listed
+
+-- A regular state: what is held has the facts of its bytes; the changes rise strictly; the publication is between
+-- formatting and the last command, and no moment is above that one's; and what was published, followed by the changes
+-- after it, gives what is held.
 pub record IsRegular (s : Source) : Type 0 where
-  pub sound : AllByRecursion (IsSound s.last) s.held
-  pub rising : IsTrue (is_rising s.start s.last s.changes)
+  pub sound : AllByRecursion IsSound s.held
+  pub rising : IsTrue (is_rising s.changes)
   pub start : s.start ≤ s.at
   pub last : s.at ≤ s.last
-  pub listed : AllByRecursion (IsUpTo s.at) s.listed
+  pub latest : AreUpTo s.last s
   pub mirrored : mirror_of s.listed s.at s.changes ≡ entries s.held
+
+-- a change above this moment
+abbrev pub IsAfter : ℕ → Change → Type 0
+IsAfter moment c = moment < c.moment
+
+-- What else every run keeps true: the changes come after formatting, and what was published is no later than its publication.
+pub record IsTimely (s : Source) : Type 0 where
+  pub changes : AllByRecursion (IsAfter s.start) s.changes
+  pub listed : AllByRecursion (IsUpTo s.at) s.listed

@@ -7,26 +7,29 @@ ghost use Rattle.rs_record.specs.Base.{is_base};
 ghost use Rattle.rs_record.specs.declared.change.Change.{Change};
 ghost use Rattle.rs_model.specs.State.{Source, start_of};
 ghost use Rattle.rs_model.specs.Step.{step, state_after, fold_of, mirror_of};
-ghost use Rattle.rs_model.specs.Regular.{IsRegular};
+ghost use Rattle.rs_model.specs.Regular.{IsRegular, IsTimely};
 ghost use Rattle.rs_model.specs.Lawful.{IsLawful, IsLawfulCommand, IsLawfulTimed};
 ghost use Rattle.rs_model.specs.Names.{Names, value_of, bind, unbind, is_ordered};
 ghost use Rattle.rs_model.specs.declared.command.Command.{Command};
 ghost use Rattle.rs_model.specs.declared.value.Entry.{Entry};
 ghost use Rattle.rs_model.specs.declared.value.Held.{Held};
 
-/// The starting state is regular.
+/// The starting state is regular, and no moment of it is out of its place.
 pub fn start_is_regular()
-    ensures { (base : List ℕ) (limit moment : ℕ) → IsRegular (start_of base limit moment) }
+    ensures regular { (base : List ℕ) (limit moment : ℕ) → IsRegular (start_of base limit moment) }
+    ensures timely { (base : List ℕ) (limit moment : ℕ) → IsTimely (start_of base limit moment) }
 {}
 
 /// A step from a regular state gives a regular one.
 pub fn step_is_regular()
-    ensures { (s : Source) (command : Command) (now : ℕ) → IsRegular s → IfOk (step s command now) (λ next. IsRegular next.0) }
+    ensures regular { (s : Source) (command : Command) (now : ℕ) → IsRegular s → IfOk (step s command now) (λ next. IsRegular next.0) }
+    ensures timely { (s : Source) (command : Command) (now : ℕ) → IsRegular s → IsTimely s → IfOk (step s command now) (λ next. IsTimely next.0) }
 {}
 
 /// Any run of commands leaves a regular state regular.
 pub fn fold_is_regular()
-    ensures { (s : Source) (commands : List (Command × ℕ)) → IsRegular s → IsRegular (fold_of s commands) }
+    ensures regular { (s : Source) (commands : List (Command × ℕ)) → IsRegular s → IsRegular (fold_of s commands) }
+    ensures timely { (s : Source) (commands : List (Command × ℕ)) → IsRegular s → IsTimely s → IsTimely (fold_of s commands) }
 {}
 
 /// The names of a map stay in strictly ascending order.
