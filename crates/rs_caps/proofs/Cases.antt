@@ -1,7 +1,6 @@
 -- Which text a document has, by its kind, and what follows of a call's answer.
 use Rattle.std.proofs.Common.{◌≡◌, ℕ, List, length, ◌≤◌, ◌-◌, ◌^◌, refl, ap, sym, ◌∙◌, subst, arith, Option, Some, None, Result, OnOk, IfSome}
 use Rattle.std.specs.Prelude.{IsErrOf, min, option_map, ◌↔◌}
-use Rattle.std.specs.Io.KnownBytes.{Appends}
 use Rattle.rs_lists.specs.declared.doc.Doc.{Doc}
 use Rattle.rs_lists.specs.declared.doc.Doc.TheVariants.{Description, Capabilities, ResourceHead, ResourcePart, ChangeHead, ChangePart}
 use Rattle.rs_lists.specs.Shown.{Shown}
@@ -26,11 +25,11 @@ list_has s ChangeHead h k = refl
 list_has s (ChangePart part) h k = refl
 
 -- what was written is the document's text
-pub written_is : {A E : Type 0} (r : Result A E) (before after o : Option (List ℕ)) (pieces text : List ℕ) → o ≡ Some text → pieces ≡ text
-    → OnOk r (Appends before after pieces) → OnOk r (IfSome o (Appends before after))
-written_is r before after o pieces text there same h =
-    let P : List ℕ → Type 0 = λ t. OnOk r (Appends before after t) in
-    let Q : Option (List ℕ) → Type 0 = λ t. OnOk r (IfSome t (Appends before after)) in
+pub written_is : {A E : Type 0} (r : Result A E) (Written : List ℕ → Type 0) (o : Option (List ℕ)) (pieces text : List ℕ) → o ≡ Some text → pieces ≡ text
+    → OnOk r (Written pieces) → OnOk r (IfSome o Written)
+written_is r Written o pieces text there same h =
+    let P : List ℕ → Type 0 = λ t. OnOk r (Written t) in
+    let Q : Option (List ℕ) → Type 0 = λ t. OnOk r (IfSome t Written) in
     subst Q (sym there) (subst P same h)
 
 -- a document that is there is not missing

@@ -3,7 +3,7 @@ use Rattle.std.specs.Prelude.{◌≡◌, ℕ, ◌+◌, ◌<◌, ◌≤◌, List,
 use Rattle.std.specs.List.{AllByRecursion}
 use Rattle.rs_record.specs.declared.change.Change.{Change}
 use Rattle.rs_model.specs.declared.command.Command.{Command}
-use Rattle.rs_model.specs.Regular.{IsRegular}
+use Rattle.rs_model.specs.Regular.{IsRegular, IsTimely}
 use Rattle.rs_model.specs.State.{Source, entries}
 use Rattle.rs_model.specs.Step.{fold_of, mirror_of}
 use Rattle.rs_lists.specs.declared.doc.Doc.{Doc}
@@ -67,10 +67,11 @@ ClosedPartsStay =
 abbrev pub IsWithin : ℕ → ℕ → Change → Type 0
 IsWithin low high c = (low < c.moment) × (c.moment ≤ high)
 
--- In a regular state the changes of a part of the Change List are after its `from`, and not after the next part's.
+-- In a regular state that formatting began the changes of a part of the Change List are after its `from`, and not after the
+-- next part's.
 abbrev pub PartsAreBounded : Type 0
 PartsAreBounded =
-    (s : Source) (k : ℕ) → IsRegular s
+    (s : Source) (k : ℕ) → IsRegular s → IsTimely s
     → AllByRecursion (IsWithin (from_of (shown_of s) k) (from_of (shown_of s) (k + 1))) (part_at k s.limit s.changes)
 
 -- No document says where the blocks of a body are: each is the text of the same view with empty extents.

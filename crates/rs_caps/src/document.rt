@@ -1,8 +1,7 @@
 //! The text of every document, written and measured.
 
 ghost use Rattle.std.specs.Prelude.{◌≡◌, ◌↔◌, None, OnOk, IfSome, IsErrOf, IsTrue, length, option_map};
-ghost use Rattle.std.specs.Io.KnownBytes.{Appends};
-ghost use Rattle.rs_io.specs.Watch.{watched, has_failed};
+ghost use Rattle.rs_io.specs.Watch.{EndFailed, Wrote};
 ghost use Rattle.rs_record.specs.Base.{is_base};
 ghost use Rattle.rs_lists.specs.Piece.{pieces_text};
 ghost use Rattle.rs_caps.specs.DocumentTexts.{document_text, description_text, capabilities_text};
@@ -19,18 +18,17 @@ use std::io::Write;
 ///
 /// # Errors
 ///
-/// `NoSuchDocument` exactly where the document does not exist; nothing is written then. `WriteFault` only where the
-/// writer failed; a part of the text may then be written.
+/// `NoSuchDocument` exactly where the document does not exist; nothing is written then. `WriteFault` only where a
+/// call of the writer failed in this one; a part of the text may then be written.
 pub fn write_document<V: View, W: Write>(
     view: &V,
     doc: Doc,
     out: &mut Watched<W>,
 ) -> Result<(), ListError>
-    ensures written { OnOk result (IfSome (document_text (V.shown view.now) doc) (Appends (W.contents (watched out.old)) (W.contents (watched out.new)))) }
+    ensures written { OnOk result (IfSome (document_text (V.shown view.now) doc) (Wrote W.contents out.old out.new)) }
     ensures missing { IsErrOf result ListError.NoSuchDocument ↔ (document_text (V.shown view.now) doc ≡ None) }
     ensures untouched { IsErrOf result ListError.NoSuchDocument → out.new ≡ out.old }
-    ensures fault { IsErrOf result ListError.WriteFault → IsTrue (has_failed out.new) }
-    ensures sound { OnOk result (has_failed out.new ≡ has_failed out.old) }
+    ensures fault { IsErrOf result ListError.WriteFault → EndFailed out.old out.new }
 {
     match doc {
         Doc::Description => write_pieces(&description(view.base()), out),
@@ -53,10 +51,9 @@ pub fn document_length<V: View>(view: &V, doc: Doc) -> Option<u64>
 
 // Writes pieces that make a document.
 fn write_pieces<W: Write>(pieces: &[Piece<'_>], out: &mut Watched<W>) -> Result<(), ListError>
-    ensures written { OnOk result (Appends (W.contents (watched out.old)) (W.contents (watched out.new)) (pieces_text pieces.now)) }
+    ensures written { OnOk result (Wrote W.contents out.old out.new (pieces_text pieces.now)) }
     ensures exists { ¬ IsErrOf result ListError.NoSuchDocument }
-    ensures fault { IsErrOf result ListError.WriteFault → IsTrue (has_failed out.new) }
-    ensures sound { OnOk result (has_failed out.new ≡ has_failed out.old) }
+    ensures fault { IsErrOf result ListError.WriteFault → EndFailed out.old out.new }
 {
     put_pieces(pieces, out)?;
     Ok(())

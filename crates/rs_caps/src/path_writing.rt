@@ -1,8 +1,7 @@
 //! Writing a path: where a document stands.
 
-ghost use Rattle.std.specs.Prelude.{◌≡◌, OnOk, OnErr, IfOk, IsTrue, false};
-ghost use Rattle.std.specs.Io.KnownBytes.{Appends};
-ghost use Rattle.rs_io.specs.Watch.{watched, has_failed};
+ghost use Rattle.std.specs.Prelude.{◌≡◌, OnOk, OnErr, IfOk};
+ghost use Rattle.rs_io.specs.Watch.{EndFailed, Wrote};
 ghost use Rattle.rs_caps.specs.Paths.{path_of as path_text};
 
 use rs_io::{Watched, WriteFault};
@@ -14,11 +13,10 @@ use std::io::Write;
 ///
 /// # Errors
 ///
-/// [`WriteFault`] only where the writer failed; a part of the path may then be written.
+/// [`WriteFault`] only where a call of the writer failed in this one; a part of the path may then be written.
 pub fn write_path<W: Write>(doc: Doc, out: &mut Watched<W>) -> Result<(), WriteFault>
-    ensures written { OnOk result (Appends (W.contents (watched out.old)) (W.contents (watched out.new)) (path_text doc)) }
-    ensures sound { OnOk result (has_failed out.new ≡ has_failed out.old) }
-    ensures fault { OnErr result (IsTrue (has_failed out.new)) }
+    ensures written { OnOk result (Wrote W.contents out.old out.new (path_text doc)) }
+    ensures fault { OnErr result (EndFailed out.old out.new) }
 {
     match doc {
         Doc::Description => out.put(b"/.well-known/resourcesync"),

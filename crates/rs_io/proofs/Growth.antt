@@ -1,14 +1,16 @@
 -- Lemmas on known bytes that grow by one write after another. A few writes in a row mostly need none. For more, join them
 -- by std's `Appends-trans`, the last by `on_appends_then`, and close the equation of texts by `simp append_assoc`; a loop
 -- has `appends_each`, which `#[tactic(auto, using(rs_io::proofs::Growth::appends_each))]` on its function applies.
-use Rattle.std.proofs.Common.{◌≡◌, ℕ, ◌+◌, ◌-◌, ◌≤◌, ◌<◌, List, [], ◌∷◌, ◌++◌, take, drop, length, Option, get_or, ap, sym, ◌∙◌, subst, append-nil, length-drop, add-one, arith}
+use Rattle.std.proofs.Common.{◌≡◌, refl, ℕ, ◌+◌, ◌-◌, ◌≤◌, ◌<◌, List, [], ◌∷◌, ◌++◌, take, drop, length, Option, get_or, ap, sym, ◌∙◌, subst, append-nil, length-drop, add-one, arith}
 use Rattle.std.specs.Prelude.{Result, Ok, Err, OnOk}
 use Rattle.std.specs.List.{flat_map}
 use Rattle.std.specs.Io.KnownBytes.{Appends}
-use Rattle.std.proofs.KnownBytes.{Appends-trans}
+use Rattle.std.proofs.KnownBytes.{Appends-nil, Appends-trans}
 use Rattle.std.proofs.Math.Seq.{take-suc}
 use Rattle.std.proofs.lemmas.List.{get_or-drop}
 use Rattle.std.proofs.lemmas.Grind.{flat_map-append}
+use Rattle.rs_io.specs.declared.watch.Watched.{Watched}
+use Rattle.rs_io.specs.Watch.{watched, Wrote}
 
 -- the bytes that were appended, written another way
 pub appends_same : (a b : Option (List ℕ)) (x y : List ℕ) → Appends a b x → x ≡ y → Appends a b y
@@ -50,3 +52,13 @@ appends_each_from f xs from i x a b c k h e p q =
     let at : x ≡ get_or (drop from xs) (i - from) x = e ∙ sym (get_or-drop from xs (i - from) x ∙ ap (λ j. get_or xs j x) place) in
     let P : ℕ → Type 0 = λ n. Appends a c (flat_map f (take n (drop from xs))) in
     subst P (sym step) (appends_each f (drop from xs) (i - from) x a b c room at p q)
+
+-- a watched writer that was asked for nothing
+pub wrote_nothing : {W : Type 0} (contents : W → Option (List ℕ)) (a : Watched W) → Wrote contents a a []
+wrote_nothing contents a = (Appends-nil (contents (watched a)), refl)
+
+-- one write of a watched writer after another
+pub wrote_then : {W : Type 0} (contents : W → Option (List ℕ)) (a b c : Watched W) (x y : List ℕ) → Wrote contents a b x → Wrote contents b c y
+    → Wrote contents a c (x ++ y)
+wrote_then contents a b c x y first second =
+    (Appends-trans (contents (watched a)) (contents (watched b)) (contents (watched c)) x y first.0 second.0, second.1 ∙ first.1)

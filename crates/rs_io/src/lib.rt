@@ -1,8 +1,9 @@
-//! Readers and writers that remember whether they failed.
+//! Readers and writers that count their failures.
 //!
 //! A contract over [`std::io::Read`] and [`std::io::Write`] says which bytes went, and never that
-//! an end failed. [`Watched`] adds that: its flag is set by a call that answers an error, and by
-//! nothing else. So a function that answers "the reader failed" can prove that a read of it did.
+//! an end failed. [`Watched`] adds that: it counts its calls that answer an error, and nothing else.
+//! So a function that answers "the reader failed" can prove that a read of it failed within its own
+//! call, and not in one before.
 //! That [`Watched`] errs exactly where the end below does, no contract can say: each of its calls
 //! makes one call below, and tests show it.
 #![tactic(auto)]

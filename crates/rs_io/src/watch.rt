@@ -1,42 +1,39 @@
-//! A reader or a writer that remembers whether a call of it failed.
-ghost use Rattle.std.specs.Prelude.{◌≡◌, ◌<◌, ◌≤◌, false, length, take, IsTrue, IfOk, OnOk, OnErr, IfSome, MatchResult};
-ghost use Rattle.std.specs.Io.KnownBytes.{Consumes, IsAtEnd, Appends, Keeps};
+//! A reader or a writer that counts its calls that failed.
+ghost use Rattle.std.specs.Prelude.{◌≡◌, ◌<◌, ◌≤◌, length, take, IfOk, OnOk, OnErr, IfSome, MatchResult};
+ghost use Rattle.std.specs.Io.KnownBytes.{IsAtEnd, Keeps};
 
 use crate::fault::{ReadFault, WriteFault};
 use std::fmt::Display;
 use std::io;
 use std::io::{Read, Write};
 
-/// A reader or a writer, with a flag that says whether a call of it has failed.
+/// A reader or a writer, with a count of its calls that failed.
 ///
-/// The flag is set by a call that answers an error and is never cleared. Nothing is tried again but
-/// an interrupted write, which Rust's `write_all` tries again. A caller may go on after an error:
-/// what the end does then is its own matter, and the flag stays set.
+/// Each call that answers an error is counted, and no other; the count stays at `u64::MAX` once it
+/// is there. Nothing is tried again but an interrupted write, which Rust's `write_all` tries again.
+/// A caller may go on after an error: what the end does then is its own matter.
 #[derive(Debug, Drop)]
 pub struct Watched<T> {
     inner: T,
-    failed: bool,
+    failures: u64,
 }
 
 impl<T> Watched<T> {
-    ghost use Rattle.rs_io.specs.Watch.{watched, has_failed};
+    ghost use Rattle.rs_io.specs.Watch.{watched, failures, EndFailed};
 
-    /// Watches `inner` from here on. What failed before is not known.
+    /// Watches `inner` from here on. What failed before is not counted.
     pub fn new(inner: T) -> Watched<T>
         ensures inner { watched result ≡ inner }
-        ensures failed { has_failed result ≡ false }
+        ensures failures { failures result ≡ 0 }
     {
-        Watched {
-            inner,
-            failed: false,
-        }
+        Watched { inner, failures: 0 }
     }
 
-    /// Whether a call has failed since [`Watched::new`].
-    pub fn has_failed(&self) -> bool
-        ensures { result ≡ has_failed self.now }
+    /// How many calls have failed since [`Watched::new`], or `u64::MAX` where they are more.
+    pub fn failures(&self) -> u64
+        ensures { result ≡ failures self.now }
     {
-        self.failed
+        self.failures
     }
 
     /// The reader or the writer, to look at.
@@ -46,24 +43,24 @@ impl<T> Watched<T> {
         &self.inner
     }
 
-    /// The reader or the writer, given back. The flag is lost.
+    /// The reader or the writer, given back. The count is lost.
     pub fn into_inner(self) -> T
         ensures { result ≡ watched self }
     {
         self.inner
     }
 
-    // Sets the flag where a call of `inner` failed, and gives `fault` in place of its error.
+    // Counts a call of `inner` that failed, and gives `fault` in place of its error.
     fn noted<A: Drop, F: Drop>(&mut self, answer: io::Result<A>, fault: F) -> Result<A, F>
         ensures value { MatchResult answer (λ a. result ≡ Ok a) (λ _. result ≡ Err fault) }
         ensures inner { watched self.new ≡ watched self.old }
-        ensures failed { OnErr result (IsTrue (has_failed self.new)) }
-        ensures unchanged { OnOk result (has_failed self.new ≡ has_failed self.old) }
+        ensures sound { OnOk result (failures self.new ≡ failures self.old) }
+        ensures failed { OnErr result (EndFailed self.old self.new) }
     {
         match answer {
             Ok(value) => Ok(value),
             Err(_) => {
-                self.failed = true;
+                self.failures = self.failures.saturating_add(1);
                 Err(fault)
             }
         }
@@ -71,7 +68,7 @@ impl<T> Watched<T> {
 }
 
 impl<R: Read> Watched<R> {
-    ghost use Rattle.rs_io.specs.Watch.{watched, has_failed};
+    ghost use Rattle.rs_io.specs.Watch.{watched, EndFailed, Took};
 
     /// Reads once into the front of `buf`, and says how many bytes came.
     ///
@@ -82,13 +79,10 @@ impl<R: Read> Watched<R> {
     /// [`ReadFault`] where the read fails. No byte is then lost.
     pub fn read(&mut self, buf: &mut [u8]) -> Result<usize, ReadFault>
         ensures bound { IfOk result (λ n. n ≤ length buf.new) }
-        ensures ok { IfOk result (λ n.
-            Consumes (R.remaining (watched self.old)) (R.remaining (watched self.new)) (take n buf.new)) }
+        ensures ok { IfOk result (λ n. Took R.remaining self.old self.new (take n buf.new)) }
         ensures end { IfOk result (λ n. n ≡ 0 → 0 < length buf.new → IsAtEnd (R.remaining (watched self.new))) }
         ensures err { OnErr result (Keeps (R.remaining (watched self.old)) (R.remaining (watched self.new))) }
-
-        ensures failed { OnErr result (IsTrue (has_failed self.new)) }
-        ensures unchanged { OnOk result (has_failed self.new ≡ has_failed self.old) }
+        ensures failed { OnErr result (EndFailed self.old self.new) }
     {
         let answer = self.inner.read(buf);
         self.noted(answer, ReadFault)
@@ -96,7 +90,7 @@ impl<R: Read> Watched<R> {
 }
 
 impl<W: Write> Watched<W> {
-    ghost use Rattle.rs_io.specs.Watch.{watched, has_failed};
+    ghost use Rattle.rs_io.specs.Watch.{watched, failures, EndFailed, Wrote};
 
     /// Writes all of `bytes`.
     ///
@@ -104,10 +98,8 @@ impl<W: Write> Watched<W> {
     ///
     /// [`WriteFault`] where a write fails. Some of the bytes may be written then.
     pub fn put(&mut self, bytes: &[u8]) -> Result<(), WriteFault>
-        ensures ok { OnOk result
-            (Appends (W.contents (watched self.old)) (W.contents (watched self.new)) bytes.now) }
-        ensures failed { OnErr result (IsTrue (has_failed self.new)) }
-        ensures unchanged { OnOk result (has_failed self.new ≡ has_failed self.old) }
+        ensures ok { OnOk result (Wrote W.contents self.old self.new bytes.now) }
+        ensures failed { OnErr result (EndFailed self.old self.new) }
     {
         let answer = self.inner.write_all(bytes);
         self.noted(answer, WriteFault)
@@ -120,10 +112,9 @@ impl<W: Write> Watched<W> {
     /// [`WriteFault`] where a write fails, or `text` refuses to display. Some of the text may be
     /// written then.
     pub fn put_text<D: Display + Drop>(&mut self, text: D) -> Result<(), WriteFault>
-        ensures ok { OnOk result (IfSome (D.output text)
-            (Appends (W.contents (watched self.old)) (W.contents (watched self.new)))) }
-        ensures failed { OnErr result (IsTrue (has_failed self.new)) }
-        ensures unchanged { OnOk result (has_failed self.new ≡ has_failed self.old) }
+        ensures ok { OnOk result (IfSome (D.output text) (Wrote W.contents self.old self.new)) }
+        ensures sound { OnOk result (failures self.new ≡ failures self.old) }
+        ensures failed { OnErr result (EndFailed self.old self.new) }
     {
         let answer = self.inner.write_fmt(text);
         self.noted(answer, WriteFault)
@@ -136,8 +127,8 @@ impl<W: Write> Watched<W> {
     /// [`WriteFault`] where the flush fails.
     pub fn flush(&mut self) -> Result<(), WriteFault>
         ensures bytes { Keeps (W.contents (watched self.old)) (W.contents (watched self.new)) }
-        ensures failed { OnErr result (IsTrue (has_failed self.new)) }
-        ensures unchanged { OnOk result (has_failed self.new ≡ has_failed self.old) }
+        ensures sound { OnOk result (failures self.new ≡ failures self.old) }
+        ensures failed { OnErr result (EndFailed self.old self.new) }
     {
         let answer = self.inner.flush();
         self.noted(answer, WriteFault)

@@ -1,6 +1,6 @@
 //! The Change List, its parts and its index.
 
-ghost use Rattle.std.specs.Prelude.{◌≡◌, ◌-◌, ◌*◌, ◌<◌, ◌≤◌, nat_le, if◌then◌else◌, Some, None, IsTrue, OnOk, OnErr, IfSome, take, length};
+ghost use Rattle.std.specs.Prelude.{◌≡◌, ◌-◌, ◌*◌, ◌<◌, ◌≤◌, nat_le, if◌then◌else◌, Some, None, OnOk, OnErr, IfSome, take, length};
 ghost use Rattle.rs_lists.specs.Lawful.{IsSmall};
 ghost use Rattle.rs_lists.specs.Lines.{change_lines, change_entries, whole_change_list};
 ghost use Rattle.rs_lists.specs.Shown.{IsShown, change_parts_of};
@@ -17,7 +17,7 @@ use rs_time::Moment;
 /// Puts the head of the Change List: the list, or the index of its parts.
 pub fn put_change_head<V: View, S: Sink>(view: &V, sink: &mut S) -> Result<(), WriteFault>
     ensures taken { OnOk result (IfSome (list_text (V.shown view.now) Doc.ChangeHead) (S.takes sink.old sink.new)) }
-    ensures fault { OnErr result (IsTrue (S.failed sink.new)) }
+    ensures fault { OnErr result (S.fails sink.old sink.new) }
     ensures small { OnOk result (IfSome (list_text (V.shown view.now) Doc.ChangeHead) IsSmall) }
 {
     if view.changes_len() <= view.limit() as usize {
@@ -31,7 +31,7 @@ pub fn put_change_head<V: View, S: Sink>(view: &V, sink: &mut S) -> Result<(), W
 fn put_change_list<V: View, S: Sink>(view: &V, sink: &mut S) -> Result<(), WriteFault>
     requires { length (V.shown view.now).changes ≤ 4000 }
     ensures taken { OnOk result (S.takes sink.old sink.new (whole_change_list (V.shown view.now))) }
-    ensures fault { OnErr result (IsTrue (S.failed sink.new)) }
+    ensures fault { OnErr result (S.fails sink.old sink.new) }
     ensures small { OnOk result (IsSmall (whole_change_list (V.shown view.now))) }
 {
     put_opening(Root::UrlSet, view.base(), sink)?;
@@ -48,7 +48,7 @@ pub fn put_change_part<V: View, S: Sink>(
 ) -> Result<(), WriteFault>
     requires { part < change_parts_of (V.shown view.now) }
     ensures taken { OnOk result (S.takes sink.old sink.new (change_part_text (V.shown view.now) part)) }
-    ensures fault { OnErr result (IsTrue (S.failed sink.new)) }
+    ensures fault { OnErr result (S.fails sink.old sink.new) }
     ensures small { OnOk result (IsSmall (change_part_text (V.shown view.now) part)) }
 {
     let limit = view.limit() as usize;
@@ -65,7 +65,7 @@ pub fn put_change_part<V: View, S: Sink>(
 fn put_change_index<V: View, S: Sink>(view: &V, sink: &mut S) -> Result<(), WriteFault>
     requires { IsShown (V.shown view.now) }
     ensures taken { OnOk result (S.takes sink.old sink.new (change_index (V.shown view.now))) }
-    ensures fault { OnErr result (IsTrue (S.failed sink.new)) }
+    ensures fault { OnErr result (S.fails sink.old sink.new) }
     ensures small { OnOk result (IsSmall (change_index (V.shown view.now))) }
 {
     put_opening(Root::SitemapIndex, view.base(), sink)?;
@@ -104,7 +104,7 @@ fn put_change_md<S: Sink>(
     sink: &mut S,
 ) -> Result<(), WriteFault>
     ensures taken { OnOk result (S.takes sink.old sink.new (line (change_md from until))) }
-    ensures fault { OnErr result (IsTrue (S.failed sink.new)) }
+    ensures fault { OnErr result (S.fails sink.old sink.new) }
 {
     let start = Piece::Plain(b"<rs:md capability=\"changelist\" from=\"");
     let end = Piece::Plain(b"\"/>");
@@ -133,7 +133,7 @@ fn put_changes<V: View, S: Sink>(
     requires order { from ≤ to }
     requires within { to ≤ length (V.shown view.now).changes }
     ensures taken { OnOk result (S.takes sink.old sink.new (change_lines (V.shown view.now) from to)) }
-    ensures fault { OnErr result (IsTrue (S.failed sink.new)) }
+    ensures fault { OnErr result (S.fails sink.old sink.new) }
     ensures small { OnOk result (length (change_lines (V.shown view.now) from to) ≤ 2450 * (to - from)) }
 {
     for i in from..to {
@@ -149,7 +149,7 @@ fn put_change<'a, S: Sink>(
     sink: &mut S,
 ) -> Result<(), WriteFault>
     ensures taken { OnOk result (S.takes sink.old sink.new (line (change_line base.now change.now))) }
-    ensures fault { OnErr result (IsTrue (S.failed sink.new)) }
+    ensures fault { OnErr result (S.fails sink.old sink.new) }
     ensures small { length (line (change_line base.now change.now)) ≤ 2450 }
 {
     match &change.facts {
@@ -167,7 +167,7 @@ fn put_binding<'a, S: Sink>(
 ) -> Result<(), WriteFault>
     requires { change.now.facts ≡ Some facts.now }
     ensures taken { OnOk result (S.takes sink.old sink.new (line (change_line base.now change.now))) }
-    ensures fault { OnErr result (IsTrue (S.failed sink.new)) }
+    ensures fault { OnErr result (S.fails sink.old sink.new) }
     ensures small { length (line (change_line base.now change.now)) ≤ 2450 }
 {
     let bytes = hash_length(&facts.digests);
@@ -204,7 +204,7 @@ fn put_deletion<'a, S: Sink>(
 ) -> Result<(), WriteFault>
     requires { change.now.facts ≡ None }
     ensures taken { OnOk result (S.takes sink.old sink.new (line (change_line base.now change.now))) }
-    ensures fault { OnErr result (IsTrue (S.failed sink.new)) }
+    ensures fault { OnErr result (S.fails sink.old sink.new) }
     ensures small { length (line (change_line base.now change.now)) ≤ 2450 }
 {
     put_line(
@@ -238,7 +238,7 @@ fn word(what: What) -> &'static [u8]
 fn put_change_entries<V: View, S: Sink>(view: &V, sink: &mut S) -> Result<(), WriteFault>
     requires { IsShown (V.shown view.now) }
     ensures taken { OnOk result (S.takes sink.old sink.new (change_entries (V.shown view.now) (change_parts_of (V.shown view.now)))) }
-    ensures fault { OnErr result (IsTrue (S.failed sink.new)) }
+    ensures fault { OnErr result (S.fails sink.old sink.new) }
     ensures small { OnOk result (length (change_entries (V.shown view.now) (change_parts_of (V.shown view.now))) ≤ 276 * change_parts_of (V.shown view.now)) }
 {
     for part in 0..change_parts(view) {
@@ -251,7 +251,7 @@ fn put_change_entries<V: View, S: Sink>(view: &V, sink: &mut S) -> Result<(), Wr
 fn put_change_entry<V: View, S: Sink>(view: &V, part: u64, sink: &mut S) -> Result<(), WriteFault>
     requires { part < change_parts_of (V.shown view.now) }
     ensures taken { OnOk result (S.takes sink.old sink.new (line (change_entry (V.shown view.now) part))) }
-    ensures fault { OnErr result (IsTrue (S.failed sink.new)) }
+    ensures fault { OnErr result (S.fails sink.old sink.new) }
     ensures small { length (line (change_entry (V.shown view.now) part)) ≤ 276 }
 {
     let limit = view.limit() as usize;

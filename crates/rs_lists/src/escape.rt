@@ -1,8 +1,7 @@
 //! The five characters that XML writes as references.
 
-ghost use Rattle.std.specs.Prelude.{◌≡◌, ◌∷◌, [], ◌-◌, ◌^◌, min, length, MatchOption, IsTrue, OnOk, OnErr};
-ghost use Rattle.std.specs.Io.KnownBytes.{Appends};
-ghost use Rattle.rs_io.specs.Watch.{watched, has_failed};
+ghost use Rattle.std.specs.Prelude.{◌≡◌, ◌∷◌, [], ◌-◌, ◌^◌, min, length, MatchOption, OnOk, OnErr};
+ghost use Rattle.rs_io.specs.Watch.{EndFailed, Wrote};
 ghost use Rattle.rs_lists.specs.Escape.{escape, escaped};
 
 use rs_io::{Watched, WriteFault};
@@ -15,10 +14,8 @@ use std::io::Write;
 ///
 /// [`WriteFault`] where a write fails. Some of the bytes may be written then.
 pub fn write_escaped<W: Write>(bytes: &[u8], out: &mut Watched<W>) -> Result<(), WriteFault>
-    ensures written { OnOk result
-        (Appends (W.contents (watched out.old)) (W.contents (watched out.new)) (escape bytes.now)) }
-    ensures sound { OnOk result (has_failed out.new ≡ has_failed out.old) }
-    ensures fault { OnErr result (IsTrue (has_failed out.new)) }
+    ensures written { OnOk result (Wrote W.contents out.old out.new (escape bytes.now)) }
+    ensures fault { OnErr result (EndFailed out.old out.new) }
 {
     let mut start = 0;
     for (i, byte) in bytes.iter().enumerate() {

@@ -1,7 +1,7 @@
 //! What stands around the children of every list and index: the XML declaration, the root element
 //! and the links.
 
-ghost use Rattle.std.specs.Prelude.{◌≡◌, ◌≤◌, ◌∷◌, [], length, IsTrue, OnOk, OnErr, codes};
+ghost use Rattle.std.specs.Prelude.{◌≡◌, ◌≤◌, ◌∷◌, [], length, OnOk, OnErr, codes};
 ghost use Rattle.rs_lists.specs.Root.{tag_of};
 ghost use Rattle.rs_lists.specs.Text.{line, joined, xml_line, open_line, close_line, up_line, link_line};
 
@@ -37,7 +37,7 @@ impl Root {
 pub fn put_opening<S: Sink>(root: Root, base: &Base, sink: &mut S) -> Result<(), WriteFault>
     ensures taken { OnOk result (S.takes sink.old sink.new
         (joined (xml_line ∷ open_line (tag_of root) ∷ up_line base.now ∷ []))) }
-    ensures fault { OnErr result (IsTrue (S.failed sink.new)) }
+    ensures fault { OnErr result (S.fails sink.old sink.new) }
     ensures base { OnOk result (length base.now ≤ 128) }
 {
     put_line(
@@ -60,7 +60,7 @@ pub fn put_opening<S: Sink>(root: Root, base: &Base, sink: &mut S) -> Result<(),
 pub fn put_part_opening<S: Sink>(base: &Base, index: &[u8], sink: &mut S) -> Result<(), WriteFault>
     ensures taken { OnOk result (S.takes sink.old sink.new
         (joined (xml_line ∷ open_line (codes "urlset") ∷ up_line base.now ∷ link_line (codes "index") base.now index.now ∷ []))) }
-    ensures fault { OnErr result (IsTrue (S.failed sink.new)) }
+    ensures fault { OnErr result (S.fails sink.old sink.new) }
     ensures base { OnOk result (length base.now ≤ 128) }
 {
     put_opening(Root::UrlSet, base, sink)?;
@@ -75,7 +75,7 @@ fn put_link<'a, S: Sink>(
     sink: &mut S,
 ) -> Result<(), WriteFault>
     ensures taken { OnOk result (S.takes sink.old sink.new (line (link_line relation.now base.now path.now))) }
-    ensures fault { OnErr result (IsTrue (S.failed sink.new)) }
+    ensures fault { OnErr result (S.fails sink.old sink.new) }
     ensures base { length base.now ≤ 128 }
 {
     put_line(
@@ -94,7 +94,7 @@ fn put_link<'a, S: Sink>(
 /// Puts the last line of a document: the end of its root element.
 pub fn put_closing<S: Sink>(root: Root, sink: &mut S) -> Result<(), WriteFault>
     ensures taken { OnOk result (S.takes sink.old sink.new (line (close_line (tag_of root)))) }
-    ensures fault { OnErr result (IsTrue (S.failed sink.new)) }
+    ensures fault { OnErr result (S.fails sink.old sink.new) }
 {
     put_line(
         &[

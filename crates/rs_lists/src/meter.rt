@@ -36,17 +36,18 @@ impl Meter {
 }
 
 impl Sink for Meter {
-    ghost use Rattle.std.specs.Prelude.{false};
     ghost use Rattle.rs_lists.specs.Meters.{counted};
     ghost use Rattle.rs_lists.specs.Sinks.{Counts, counts_nothing, counts_more};
 
     ghost takes = { λ a b bytes. Counts (counted a) (counted b) bytes };
 
-    ghost failed = { λ _. false };
+    ghost fails = { λ _ _. ⊥ };
 
     ghost takes_nothing = { λ a. counts_nothing (counted a) };
 
     ghost takes_more = { λ a b c x y first second. counts_more _ _ _ x y first second };
+
+    ghost fails_later = { λ a b c x first never. never };
 
     fn put_piece(&mut self, piece: &Piece<'_>) -> Result<(), WriteFault> {
         self.total = self.total.saturating_add(piece_length(piece));

@@ -1,8 +1,7 @@
 //! The pieces that a text is made of.
 
-ghost use Rattle.std.specs.Prelude.{◌≡◌, IsTrue, OnOk, OnErr};
-ghost use Rattle.std.specs.Io.KnownBytes.{Appends};
-ghost use Rattle.rs_io.specs.Watch.{watched, has_failed};
+ghost use Rattle.std.specs.Prelude.{OnOk, OnErr};
+ghost use Rattle.rs_io.specs.Watch.{EndFailed, Wrote};
 ghost use Rattle.rs_lists.specs.Piece.{pieces_text};
 
 use crate::sink::put_all;
@@ -36,10 +35,8 @@ pub enum Piece<'a> {
 ///
 /// [`WriteFault`] where a write fails. Some of the text may be written then.
 pub fn put_pieces<W: Write>(pieces: &[Piece<'_>], out: &mut Watched<W>) -> Result<(), WriteFault>
-    ensures written { OnOk result
-        (Appends (W.contents (watched out.old)) (W.contents (watched out.new)) (pieces_text pieces.now)) }
-    ensures sound { OnOk result (has_failed out.new ≡ has_failed out.old) }
-    ensures fault { OnErr result (IsTrue (has_failed out.new)) }
+    ensures written { OnOk result (Wrote W.contents out.old out.new (pieces_text pieces.now)) }
+    ensures fault { OnErr result (EndFailed out.old out.new) }
 {
     put_all(pieces, out)
 }

@@ -1,6 +1,6 @@
 //! The Resource List, its parts and its index.
 
-ghost use Rattle.std.specs.Prelude.{◌≡◌, ◌-◌, ◌*◌, ◌<◌, ◌≤◌, IsTrue, OnOk, OnErr, IfSome, length};
+ghost use Rattle.std.specs.Prelude.{◌≡◌, ◌-◌, ◌*◌, ◌<◌, ◌≤◌, OnOk, OnErr, IfSome, length};
 ghost use Rattle.rs_lists.specs.Lawful.{IsSmall};
 ghost use Rattle.rs_lists.specs.Lines.{resource_lines, resource_entries, whole_resource_list, resource_part_text};
 ghost use Rattle.rs_lists.specs.Shown.{IsShown, resource_parts_of};
@@ -17,7 +17,7 @@ use rs_time::Moment;
 /// Puts the head of the Resource List: the list, or the index of its parts.
 pub fn put_resource_head<V: View, S: Sink>(view: &V, sink: &mut S) -> Result<(), WriteFault>
     ensures taken { OnOk result (IfSome (list_text (V.shown view.now) Doc.ResourceHead) (S.takes sink.old sink.new)) }
-    ensures fault { OnErr result (IsTrue (S.failed sink.new)) }
+    ensures fault { OnErr result (S.fails sink.old sink.new) }
     ensures small { OnOk result (IfSome (list_text (V.shown view.now) Doc.ResourceHead) IsSmall) }
 {
     if view.published_len() <= view.limit() as usize {
@@ -31,7 +31,7 @@ pub fn put_resource_head<V: View, S: Sink>(view: &V, sink: &mut S) -> Result<(),
 fn put_resource_list<V: View, S: Sink>(view: &V, sink: &mut S) -> Result<(), WriteFault>
     requires { length (V.shown view.now).published ≤ 4000 }
     ensures taken { OnOk result (S.takes sink.old sink.new (whole_resource_list (V.shown view.now))) }
-    ensures fault { OnErr result (IsTrue (S.failed sink.new)) }
+    ensures fault { OnErr result (S.fails sink.old sink.new) }
     ensures small { OnOk result (IsSmall (whole_resource_list (V.shown view.now))) }
 {
     put_opening(Root::UrlSet, view.base(), sink)?;
@@ -48,7 +48,7 @@ pub fn put_resource_part<V: View, S: Sink>(
 ) -> Result<(), WriteFault>
     requires { part < resource_parts_of (V.shown view.now) }
     ensures taken { OnOk result (S.takes sink.old sink.new (resource_part_text (V.shown view.now) part)) }
-    ensures fault { OnErr result (IsTrue (S.failed sink.new)) }
+    ensures fault { OnErr result (S.fails sink.old sink.new) }
     ensures small { OnOk result (IsSmall (resource_part_text (V.shown view.now) part)) }
 {
     let limit = view.limit() as usize;
@@ -64,7 +64,7 @@ pub fn put_resource_part<V: View, S: Sink>(
 fn put_resource_index<V: View, S: Sink>(view: &V, sink: &mut S) -> Result<(), WriteFault>
     requires { IsShown (V.shown view.now) }
     ensures taken { OnOk result (S.takes sink.old sink.new (resource_index (V.shown view.now))) }
-    ensures fault { OnErr result (IsTrue (S.failed sink.new)) }
+    ensures fault { OnErr result (S.fails sink.old sink.new) }
     ensures small { OnOk result (IsSmall (resource_index (V.shown view.now))) }
 {
     put_opening(Root::SitemapIndex, view.base(), sink)?;
@@ -76,7 +76,7 @@ fn put_resource_index<V: View, S: Sink>(view: &V, sink: &mut S) -> Result<(), Wr
 // Puts the moment of the publication.
 fn put_resource_md<S: Sink>(at: Moment, sink: &mut S) -> Result<(), WriteFault>
     ensures taken { OnOk result (S.takes sink.old sink.new (line (resource_md at))) }
-    ensures fault { OnErr result (IsTrue (S.failed sink.new)) }
+    ensures fault { OnErr result (S.fails sink.old sink.new) }
 {
     put_line(
         &[
@@ -98,7 +98,7 @@ fn put_resources<V: View, S: Sink>(
     requires order { from ≤ to }
     requires within { to ≤ length (V.shown view.now).published }
     ensures taken { OnOk result (S.takes sink.old sink.new (resource_lines (V.shown view.now) from to)) }
-    ensures fault { OnErr result (IsTrue (S.failed sink.new)) }
+    ensures fault { OnErr result (S.fails sink.old sink.new) }
     ensures small { OnOk result (length (resource_lines (V.shown view.now) from to) ≤ 2450 * (to - from)) }
 {
     for i in from..to {
@@ -114,7 +114,7 @@ fn put_resource<'a, S: Sink>(
     sink: &mut S,
 ) -> Result<(), WriteFault>
     ensures taken { OnOk result (S.takes sink.old sink.new (line (resource_line base.now «record».now))) }
-    ensures fault { OnErr result (IsTrue (S.failed sink.new)) }
+    ensures fault { OnErr result (S.fails sink.old sink.new) }
     ensures small { length (line (resource_line base.now «record».now)) ≤ 2450 }
 {
     let bytes = hash_length(&record.digests);
@@ -142,7 +142,7 @@ fn put_resource<'a, S: Sink>(
 // Puts the lines of the parts in their order.
 fn put_resource_entries<V: View, S: Sink>(view: &V, sink: &mut S) -> Result<(), WriteFault>
     ensures taken { OnOk result (S.takes sink.old sink.new (resource_entries (V.shown view.now) (resource_parts_of (V.shown view.now)))) }
-    ensures fault { OnErr result (IsTrue (S.failed sink.new)) }
+    ensures fault { OnErr result (S.fails sink.old sink.new) }
     ensures small { OnOk result (length (resource_entries (V.shown view.now) (resource_parts_of (V.shown view.now))) ≤ 276 * resource_parts_of (V.shown view.now)) }
 {
     for part in 0..resource_parts(view) {
@@ -154,7 +154,7 @@ fn put_resource_entries<V: View, S: Sink>(view: &V, sink: &mut S) -> Result<(), 
 // Puts the line of a part.
 fn put_resource_entry<V: View, S: Sink>(view: &V, part: u64, sink: &mut S) -> Result<(), WriteFault>
     ensures taken { OnOk result (S.takes sink.old sink.new (line (resource_entry (V.shown view.now) part))) }
-    ensures fault { OnErr result (IsTrue (S.failed sink.new)) }
+    ensures fault { OnErr result (S.fails sink.old sink.new) }
     ensures small { length (line (resource_entry (V.shown view.now) part)) ≤ 276 }
 {
     put_line(

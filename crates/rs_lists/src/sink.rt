@@ -2,7 +2,7 @@
 //!
 //! Each document is described once, over any sink, so what is measured is what is written.
 
-ghost use Rattle.std.specs.Prelude.{◌≡◌, ℕ, ◌++◌, List, [], Bool, IsTrue, OnOk, OnErr};
+ghost use Rattle.std.specs.Prelude.{◌≡◌, ℕ, ◌++◌, List, [], OnOk, OnErr};
 ghost use Rattle.rs_lists.specs.Piece.{piece_text, pieces_text};
 ghost use Rattle.rs_lists.specs.Text.{line};
 
@@ -17,33 +17,38 @@ pub trait Sink {
     /// From one state to a later one these bytes went in, and nothing failed.
     ghost takes: { Self → Self → List ℕ → Type 0 };
 
-    /// Whether it has failed.
-    ghost failed: { Self → Bool };
+    /// From one state to a later one it failed.
+    ghost fails: { Self → Self → Type 0 };
 
     /// Takes a piece.
     fn put_piece(&mut self, piece: &Piece<'_>) -> Result<(), WriteFault>
         ensures taken { OnOk result (takes self.old self.new (piece_text piece.now)) }
-        ensures fault { OnErr result (IsTrue (failed self.new)) };
+        ensures fault { OnErr result (fails self.old self.new) };
 
     /// No byte went in.
     ghost takes_nothing: { (a : Self) → takes a a [] };
 
     /// Bytes went in, and then more.
     ghost takes_more: { (a b c : Self) (x y : List ℕ) → takes a b x → takes b c y → takes a c (x ++ y) };
+
+    /// Bytes went in, and then it failed.
+    ghost fails_later: { (a b c : Self) (x : List ℕ) → takes a b x → fails b c → fails a c };
 }
 
 impl<W: Write> Sink for Watched<W> {
-    ghost use Rattle.std.specs.Io.KnownBytes.{Appends};
-    ghost use Rattle.rs_io.specs.Watch.{watched, has_failed};
-    ghost use Rattle.rs_lists.specs.Sinks.{Writes, writes_nothing, writes_more};
+    ghost use Rattle.rs_io.specs.Watch.{EndFailed, Wrote};
+    ghost use Rattle.rs_io.proofs.Faults.{later_fault};
+    ghost use Rattle.rs_io.proofs.Growth.{wrote_nothing, wrote_then};
 
-    ghost takes = { λ a b bytes. Writes (W.contents (watched a)) (W.contents (watched b)) (has_failed a) (has_failed b) bytes };
+    ghost takes = { λ a b bytes. Wrote W.contents a b bytes };
 
-    ghost failed = { has_failed };
+    ghost fails = { λ a b. EndFailed a b };
 
-    ghost takes_nothing = { λ a. writes_nothing (W.contents (watched a)) (has_failed a) };
+    ghost takes_nothing = { λ a. wrote_nothing W.contents a };
 
-    ghost takes_more = { λ a b c x y first second. writes_more _ _ _ _ _ _ x y first second };
+    ghost takes_more = { λ a b c x y first second. wrote_then W.contents a b c x y first second };
+
+    ghost fails_later = { λ a b c x first later. later_fault a b c first.1 later };
 
     fn put_piece(&mut self, piece: &Piece<'_>) -> Result<(), WriteFault> {
         match piece {
@@ -59,7 +64,7 @@ impl<W: Write> Sink for Watched<W> {
 /// Puts pieces in their order.
 pub fn put_all<S: Sink>(pieces: &[Piece<'_>], sink: &mut S) -> Result<(), WriteFault>
     ensures taken { OnOk result (S.takes sink.old sink.new (pieces_text pieces.now)) }
-    ensures fault { OnErr result (IsTrue (S.failed sink.new)) }
+    ensures fault { OnErr result (S.fails sink.old sink.new) }
 {
     for piece in pieces {
         sink.put_piece(piece)?;
@@ -70,7 +75,7 @@ pub fn put_all<S: Sink>(pieces: &[Piece<'_>], sink: &mut S) -> Result<(), WriteF
 /// Puts a line of these pieces.
 pub fn put_line<S: Sink>(pieces: &[Piece<'_>], sink: &mut S) -> Result<(), WriteFault>
     ensures taken { OnOk result (S.takes sink.old sink.new (line (pieces_text pieces.now))) }
-    ensures fault { OnErr result (IsTrue (S.failed sink.new)) }
+    ensures fault { OnErr result (S.fails sink.old sink.new) }
 {
     put_all(pieces, sink)?;
     sink.put_piece(&Piece::Plain(b"\n"))

@@ -1,8 +1,7 @@
 //! The lists as documents.
 
-ghost use Rattle.std.specs.Prelude.{◌≡◌, ◌↔◌, None, IsTrue, IfSome, IsSome, is_some, IsErrOf, OnOk, OnErr};
-ghost use Rattle.std.specs.Io.KnownBytes.{Appends};
-ghost use Rattle.rs_io.specs.Watch.{watched, has_failed};
+ghost use Rattle.std.specs.Prelude.{◌≡◌, ◌↔◌, None, IfSome, IsSome, is_some, IsErrOf, OnOk, OnErr};
+ghost use Rattle.rs_io.specs.Watch.{EndFailed, Wrote};
 ghost use Rattle.rs_lists.specs.Lawful.{IsSmall};
 ghost use Rattle.rs_lists.specs.Text.{list_text, is_part};
 
@@ -44,20 +43,18 @@ impl From<WriteFault> for ListError {
 /// # Errors
 ///
 /// [`ListError::NoSuchDocument`] exactly where the document does not exist; nothing is written
-/// then. [`ListError::WriteFault`] where the writer failed.
+/// then. [`ListError::WriteFault`] only where a call of the writer failed
+/// in this one.
 pub fn write_list<V: View, W: Write>(
     view: &V,
     doc: Doc,
     out: &mut Watched<W>,
 ) -> Result<(), ListError>
-    ensures written { OnOk result (IfSome (list_text (V.shown view.now) doc)
-        (Appends (W.contents (watched out.old)) (W.contents (watched out.new)))) }
+    ensures written { OnOk result (IfSome (list_text (V.shown view.now) doc) (Wrote W.contents out.old out.new)) }
     ensures missing { IsErrOf result ListError.NoSuchDocument ↔ (list_text (V.shown view.now) doc ≡ None) }
     ensures untouched { IsErrOf result ListError.NoSuchDocument → out.new ≡ out.old }
     ensures small { OnOk result (IfSome (list_text (V.shown view.now) doc) IsSmall) }
-
-    ensures fault { IsErrOf result ListError.WriteFault → IsTrue (has_failed out.new) }
-    ensures sound { OnOk result (has_failed out.new ≡ has_failed out.old) }
+    ensures fault { IsErrOf result ListError.WriteFault → EndFailed out.old out.new }
 {
     put_list(view, doc, out)
 }
@@ -67,7 +64,7 @@ pub fn put_list<V: View, S: Sink>(view: &V, doc: Doc, sink: &mut S) -> Result<()
     ensures taken { OnOk result (IfSome (list_text (V.shown view.now) doc) (S.takes sink.old sink.new)) }
     ensures missing { IsErrOf result ListError.NoSuchDocument ↔ (list_text (V.shown view.now) doc ≡ None) }
     ensures untouched { IsErrOf result ListError.NoSuchDocument → sink.new ≡ sink.old }
-    ensures fault { IsErrOf result ListError.WriteFault → IsTrue (S.failed sink.new) }
+    ensures fault { IsErrOf result ListError.WriteFault → S.fails sink.old sink.new }
     ensures small { OnOk result (IfSome (list_text (V.shown view.now) doc) IsSmall) }
 {
     if !is_there(view, doc) {
@@ -102,7 +99,7 @@ fn is_part_of(parts: u64, first: u64, number: u64) -> bool
 fn put_what_is_there<V: View, S: Sink>(view: &V, doc: Doc, sink: &mut S) -> Result<(), WriteFault>
     requires { IsSome (list_text (V.shown view.now) doc) }
     ensures taken { OnOk result (IfSome (list_text (V.shown view.now) doc) (S.takes sink.old sink.new)) }
-    ensures fault { OnErr result (IsTrue (S.failed sink.new)) }
+    ensures fault { OnErr result (S.fails sink.old sink.new) }
     ensures small { OnOk result (IfSome (list_text (V.shown view.now) doc) IsSmall) }
 {
     match doc {

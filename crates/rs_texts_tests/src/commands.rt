@@ -176,7 +176,7 @@ fn fails_until(rt: &impl Abort, view: &StateView<'_>, doc: Doc, length: usize) {
             Err(ListError::WriteFault),
             "{doc:?}, room for {room}"
         );
-        assert!(rt; out.has_failed(), "{doc:?}, room for {room}");
+        assert_eq!(rt; out.failures(), 1, "{doc:?}, room for {room}");
     }
 }
 

@@ -51,7 +51,7 @@ fn needs_its_room(rt: &impl Abort, path: &[u8], doc: Doc) {
             Err(WriteFault),
             "{doc:?}, room for {room}"
         );
-        assert!(rt; out.has_failed(), "{doc:?}, room for {room}");
+        assert_eq!(rt; out.failures(), 1, "{doc:?}, room for {room}");
     }
 }
 

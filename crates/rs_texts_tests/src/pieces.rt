@@ -39,7 +39,7 @@ fn pieces_are_written_and_measured(rt: HostRuntime) -> Result<(), Fail> {
             Err(WriteFault),
             "room for {room}"
         );
-        assert!(rt; out.has_failed(), "room for {room}");
+        assert_eq!(rt; out.failures(), 1, "room for {room}");
     }
     Ok(())
 }

@@ -1,7 +1,7 @@
 //! Messages that come in pieces. The messages of RFC 1321 and FIPS 180-4 that fit on a line are in
 //! examples/rows/digests.in.
 
-use rs_fixity::{Digests, Hashing, digests_of, hash_text};
+use rs_fixity::{Digests, Hashing, digests_of, hash_text, sha256_of};
 
 /// The text of the digests of so many times `piece`, and `rest` behind them.
 fn text_in_pieces(times: u32, piece: &[u8], rest: &[u8]) -> [u8; 109] {
@@ -46,6 +46,17 @@ fn a_message_cut_anywhere(rt: HostRuntime) {
         let text = text_in_pieces(1, &message[..at], &message[at..]);
         assert_eq!(rt; text, *COUNTED, "cut at {at}");
     }
+}
+
+/// The example of FIPS 180-4 of one block.
+const ABC: [u8; 32] = [
+    0xba, 0x78, 0x16, 0xbf, 0x8f, 0x01, 0xcf, 0xea, 0x41, 0x41, 0x40, 0xde, 0x5d, 0xae, 0x22, 0x23,
+    0xb0, 0x03, 0x61, 0xa3, 0x96, 0x17, 0x7a, 0x9c, 0xb4, 0x10, 0xff, 0x61, 0xf2, 0x00, 0x15, 0xad,
+];
+
+#[test]
+fn the_sha256_alone(rt: HostRuntime) {
+    assert_eq!(rt; sha256_of(b"abc"), ABC);
 }
 
 #[test]

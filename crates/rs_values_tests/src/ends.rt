@@ -50,18 +50,18 @@ impl<W: Write> Write for FailsOnce<W> {
 }
 
 /// The call of a reader of `abcde` that fails, the number of bytes that each of five reads gives, none where it fails, and
-/// whether the reader then says that one has failed.
-const READS: [(u32, [Option<usize>; 5], bool); 6] = [
-    (0, [None, Some(2), Some(2), Some(1), Some(0)], true),
-    (1, [Some(2), None, Some(2), Some(1), Some(0)], true),
-    (2, [Some(2), Some(2), None, Some(1), Some(0)], true),
-    (3, [Some(2), Some(2), Some(1), None, Some(0)], true),
-    (4, [Some(2), Some(2), Some(1), Some(0), None], true),
-    (5, [Some(2), Some(2), Some(1), Some(0), Some(0)], false),
+/// how many failures the reader then tells.
+const READS: [(u32, [Option<usize>; 5], u64); 6] = [
+    (0, [None, Some(2), Some(2), Some(1), Some(0)], 1),
+    (1, [Some(2), None, Some(2), Some(1), Some(0)], 1),
+    (2, [Some(2), Some(2), None, Some(1), Some(0)], 1),
+    (3, [Some(2), Some(2), Some(1), None, Some(0)], 1),
+    (4, [Some(2), Some(2), Some(1), Some(0), None], 1),
+    (5, [Some(2), Some(2), Some(1), Some(0), Some(0)], 0),
 ];
 
-/// What the reads give, what the reader says then, and how many bytes are left.
-fn told_by_reads(fails_at: u32) -> ([Option<usize>; 5], bool, usize) {
+/// What the reads give, how many failures the reader tells then, and how many bytes are left.
+fn told_by_reads(fails_at: u32) -> ([Option<usize>; 5], u64, usize) {
     let mut reader = Watched::new(FailsOnce {
         inner: b"abcde".as_slice(),
         calls_before: Some(fails_at),
@@ -70,15 +70,15 @@ fn told_by_reads(fails_at: u32) -> ([Option<usize>; 5], bool, usize) {
     for answer in &mut told {
         *answer = reader.read(&mut [0; 4]).ok();
     }
-    (told, reader.has_failed(), reader.get_ref().inner.len())
+    (told, reader.failures(), reader.get_ref().inner.len())
 }
 
 #[test]
 fn a_read_fails_where_the_reader_does(rt: HostRuntime) {
-    for (fails_at, told, failed) in READS {
+    for (fails_at, told, failures) in READS {
         assert_eq!(rt;
             told_by_reads(fails_at),
-            (told, failed, 0),
+            (told, failures, 0),
             "call {fails_at} fails"
         );
     }
@@ -89,18 +89,18 @@ const WROTE: Result<(), WriteFault> = Ok(());
 const FAILED: Result<(), WriteFault> = Err(WriteFault);
 
 /// The call of a writer that fails, what is answered then to the bytes `abcd`, to a text of three pieces and to a flush,
-/// whether the writer then says that a call has failed, and all that is written.
-const WRITES: [(u32, [Result<(), WriteFault>; 3], bool, &[u8]); 7] = [
-    (0, [FAILED, WROTE, WROTE], true, b"12:30"),
-    (1, [FAILED, WROTE, WROTE], true, b"ab12:30"),
-    (2, [WROTE, FAILED, WROTE], true, b"abcd"),
-    (3, [WROTE, FAILED, WROTE], true, b"abcd12"),
-    (4, [WROTE, FAILED, WROTE], true, b"abcd12:"),
-    (5, [WROTE, WROTE, FAILED], true, b"abcd12:30"),
-    (6, [WROTE, WROTE, WROTE], false, b"abcd12:30"),
+/// how many failures the writer then tells, and all that is written.
+const WRITES: [(u32, [Result<(), WriteFault>; 3], u64, &[u8]); 7] = [
+    (0, [FAILED, WROTE, WROTE], 1, b"12:30"),
+    (1, [FAILED, WROTE, WROTE], 1, b"ab12:30"),
+    (2, [WROTE, FAILED, WROTE], 1, b"abcd"),
+    (3, [WROTE, FAILED, WROTE], 1, b"abcd12"),
+    (4, [WROTE, FAILED, WROTE], 1, b"abcd12:"),
+    (5, [WROTE, WROTE, FAILED], 1, b"abcd12:30"),
+    (6, [WROTE, WROTE, WROTE], 0, b"abcd12:30"),
 ];
 
-fn told_by_writes(alloc: Global, fails_at: u32) -> ([Result<(), WriteFault>; 3], bool, Vec<u8>) {
+fn told_by_writes(alloc: Global, fails_at: u32) -> ([Result<(), WriteFault>; 3], u64, Vec<u8>) {
     let mut writer = Watched::new(FailsOnce {
         inner: Vec::new(alloc),
         calls_before: Some(fails_at),
@@ -110,18 +110,43 @@ fn told_by_writes(alloc: Global, fails_at: u32) -> ([Result<(), WriteFault>; 3],
         writer.put_text(format_args!("{}:{}", 12, "30")),
         writer.flush(),
     ];
-    let failed = writer.has_failed();
-    (told, failed, writer.into_inner().inner)
+    let failures = writer.failures();
+    (told, failures, writer.into_inner().inner)
 }
 
 #[test]
 fn a_write_fails_where_the_writer_does(rt: HostRuntime) {
-    for (fails_at, want, failed, written) in WRITES {
-        let (told, says_failed, bytes) = told_by_writes(rt.alloc(), fails_at);
+    for (fails_at, want, failures, written) in WRITES {
+        let (told, counted, bytes) = told_by_writes(rt.alloc(), fails_at);
         assert_eq!(rt;
-            (told, says_failed, bytes.as_slice()),
-            (want, failed, written),
+            (told, counted, bytes.as_slice()),
+            (want, failures, written),
             "call {fails_at} fails"
         );
     }
+}
+
+/// A writer of which each call fails.
+#[derive(Drop)]
+struct Broken;
+
+impl Write for Broken {
+    fn write(&mut self, _: &[u8]) -> io::Result<usize> {
+        Err(io::Error::from(ErrorKind::BrokenPipe))
+    }
+
+    fn flush(&mut self) -> io::Result<()> {
+        Err(io::Error::from(ErrorKind::BrokenPipe))
+    }
+}
+
+#[test]
+fn each_failure_is_counted(rt: HostRuntime) {
+    let mut writer = Watched::new(Broken);
+    for failures in 0..3u64 {
+        assert_eq!(rt; writer.failures(), failures);
+        assert_eq!(rt; writer.put(b"abcd"), FAILED);
+    }
+    assert_eq!(rt; writer.flush(), FAILED);
+    assert_eq!(rt; writer.failures(), 4);
 }

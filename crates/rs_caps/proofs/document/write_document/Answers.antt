@@ -1,8 +1,7 @@
 -- Each document's text by its kind.
 use Rattle.std.proofs.Common.{◌≡◌, List, ℕ, Option, sym, ap, ◌∙◌, subst, None, OnOk, IfSome}
 use Rattle.std.specs.Prelude.{IsErrOf, ◌↔◌}
-use Rattle.std.specs.Io.KnownBytes.{Appends}
-use Rattle.rs_io.specs.Watch.{watched}
+use Rattle.rs_io.specs.Watch.{Wrote}
 use Rattle.rs_lists.specs.declared.write.ListError.TheVariants.{NoSuchDocument}
 use Rattle.rs_caps.specs.DocumentTexts.{description_text, capabilities_text}
 use Rattle.rs_caps.proofs.Cases.{description_has, capabilities_has, list_has, written_is, is_there}
@@ -10,10 +9,8 @@ use Rattle.rs_caps.proofs.document.write_document.Goals as goal
 
 pub returns-in-Description-clause-written : goal.returns-in-Description-clause-written
 returns-in-Description-clause-written g c =
-    let before = g.W.Write.contents (watched c.args.out.now) in
-    let after = g.W.Write.contents (watched c.write_pieces.new.out) in
     let shown = g.V.View.shown c.args.view.now in
-    written_is c.write_pieces.result before after _ _ (description_text shown.base) (description_has shown c.args.doc c.in-Description.is)
+    written_is c.write_pieces.result (Wrote g.W.Write.contents c.args.out.now c.write_pieces.new.out) _ _ (description_text shown.base) (description_has shown c.args.doc c.in-Description.is)
     (c.description.ensures.text ∙ ap description_text c.base.ensures) c.write_pieces.ensures.written
 
 pub returns-in-Description-clause-missing : goal.returns-in-Description-clause-missing
@@ -22,10 +19,8 @@ returns-in-Description-clause-missing g c =
 
 pub returns-in-Capabilities-clause-written : goal.returns-in-Capabilities-clause-written
 returns-in-Capabilities-clause-written g c =
-    let before = g.W.Write.contents (watched c.args.out.now) in
-    let after = g.W.Write.contents (watched c.write_pieces-in-Capabilities.new.out) in
     let shown = g.V.View.shown c.args.view.now in
-    written_is c.write_pieces-in-Capabilities.result before after _ _ (capabilities_text shown.base) (capabilities_has shown c.args.doc c.in-Capabilities.is)
+    written_is c.write_pieces-in-Capabilities.result (Wrote g.W.Write.contents c.args.out.now c.write_pieces-in-Capabilities.new.out) _ _ (capabilities_text shown.base) (capabilities_has shown c.args.doc c.in-Capabilities.is)
     (c.capabilities.ensures.text ∙ ap capabilities_text c.base-in-Capabilities.ensures) c.write_pieces-in-Capabilities.ensures.written
 
 pub returns-in-Capabilities-clause-missing : goal.returns-in-Capabilities-clause-missing
@@ -34,9 +29,7 @@ returns-in-Capabilities-clause-missing g c =
 
 pub returns-in_default-clause-written : goal.returns-in_default-clause-written
 returns-in_default-clause-written g c =
-    let before = g.W.Write.contents (watched c.args.out.now) in
-    let after = g.W.Write.contents (watched c.write_list.new.out) in
-    let P : Option (List ℕ) → Type 0 = λ text. OnOk c.write_list.result (IfSome text (Appends before after)) in
+    let P : Option (List ℕ) → Type 0 = λ text. OnOk c.write_list.result (IfSome text (Wrote g.W.Write.contents c.args.out.now c.write_list.new.out)) in
     subst P (sym (list_has (g.V.View.shown c.args.view.now) c.args.doc c.in_default.not-Description c.in_default.not-Capabilities)) c.write_list.ensures.written
 
 pub returns-in_default-clause-missing : goal.returns-in_default-clause-missing

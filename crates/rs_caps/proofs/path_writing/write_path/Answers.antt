@@ -2,8 +2,7 @@
 use Rattle.std.proofs.Common.{◌≡◌, ℕ, List, ◌++◌, OnOk, sym, ap, ◌∙◌, subst, append_assoc}
 use Rattle.std.specs.Prelude.{codes}
 use Rattle.std.specs.Fmt.{decimal}
-use Rattle.std.specs.Io.KnownBytes.{Appends}
-use Rattle.rs_io.specs.Watch.{watched}
+use Rattle.rs_io.specs.Watch.{Wrote}
 use Rattle.rs_caps.specs.Paths.{path_of}
 use Rattle.rs_caps.proofs.path_writing.write_path.Goals as goal
 
@@ -15,21 +14,15 @@ three a b c = sym (append_assoc a b c)
 
 pub returns-in-ResourcePart-clause-written : goal.returns-in-ResourcePart-clause-written
 returns-in-ResourcePart-clause-written g c =
-    let before = g.W.Write.contents (watched c.args.out.now) in
-    let after = g.W.Write.contents (watched c.put_text.new.self) in
-    let P : List ℕ → Type 0 = λ text. OnOk c.put_text.result (Appends before after text) in
+    let P : List ℕ → Type 0 = λ text. OnOk c.put_text.result (Wrote g.W.Write.contents c.args.out.now c.put_text.new.self text) in
     subst P (five (codes "/resourcelist/") (decimal c.in-ResourcePart.publication) (codes "/") (decimal c.in-ResourcePart.part) (codes ".xml") ∙ ap path_of (sym c.in-ResourcePart.is)) c.put_text.ensures.ok
 
 pub returns-in-ChangeHead-clause-written : goal.returns-in-ChangeHead-clause-written
 returns-in-ChangeHead-clause-written g c =
-    let before = g.W.Write.contents (watched c.args.out.now) in
-    let after = g.W.Write.contents (watched c.put-in-ChangeHead.new.self) in
-    let P : List ℕ → Type 0 = λ text. OnOk c.put-in-ChangeHead.result (Appends before after text) in
+    let P : List ℕ → Type 0 = λ text. OnOk c.put-in-ChangeHead.result (Wrote g.W.Write.contents c.args.out.now c.put-in-ChangeHead.new.self text) in
     subst P (ap path_of (sym c.in-ChangeHead.is)) c.put-in-ChangeHead.ensures.ok
 
 pub returns-in-ChangePart-clause-written : goal.returns-in-ChangePart-clause-written
 returns-in-ChangePart-clause-written g c =
-    let before = g.W.Write.contents (watched c.args.out.now) in
-    let after = g.W.Write.contents (watched c.put_text-in-ChangePart.new.self) in
-    let P : List ℕ → Type 0 = λ text. OnOk c.put_text-in-ChangePart.result (Appends before after text) in
+    let P : List ℕ → Type 0 = λ text. OnOk c.put_text-in-ChangePart.result (Wrote g.W.Write.contents c.args.out.now c.put_text-in-ChangePart.new.self text) in
     subst P (three (codes "/changelist/") (decimal c.in-ChangePart.part) (codes ".xml") ∙ ap path_of (sym c.in-ChangePart.is)) c.put_text-in-ChangePart.ensures.ok

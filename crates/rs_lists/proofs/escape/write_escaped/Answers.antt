@@ -12,10 +12,12 @@ loop-i-preserved g c =
       | in-Some+in_ok-put+in_ok-put-2 w ↦
           rw (w.out-is, w.start-is) (record {
             order = omega arith;
-            written = reference_written _ _ _ _ b _ c.loop-i.start i c.loop-i-test.true w.in-Some.ensures kept.run kept.written w.in_ok-put.ensures.ok w.in_ok-put-2.ensures.ok;
+            written = (
+              reference_written _ _ _ _ b _ c.loop-i.start i c.loop-i-test.true w.in-Some.ensures kept.run kept.written.0 w.in_ok-put.ensures.ok.0 w.in_ok-put-2.ensures.ok.0,
+              w.in_ok-put-2.ensures.ok.1 ∙ w.in_ok-put.ensures.ok.1 ∙ kept.written.1,
+            );
             run = run_over b (i + 1);
-            sound = w.in_ok-put-2.ensures.unchanged ∙ w.in_ok-put.ensures.unchanged ∙ kept.sound;
           })
       | in_default w ↦
-          rw (w.out-is, w.start-is) (record { order = omega arith; written = kept.written; run = run_on b c.loop-i.start i kept.order c.loop-i-test.true w.in_default.ensures kept.run; sound = kept.sound })
+          rw (w.out-is, w.start-is) (record { order = omega arith; written = kept.written; run = run_on b c.loop-i.start i kept.order c.loop-i-test.true w.in_default.ensures kept.run })
     ]
