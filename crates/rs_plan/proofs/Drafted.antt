@@ -1,6 +1,6 @@
 -- What a put plans with its digests is what its draft planned without them.
-use Rattle.std.proofs.Common.{◌≡◌, inl, inr, ℕ, ◌+◌, ◌≤◌, Bool, List, [], ◌∷◌, ◌++◌, length, Option, Some, None, refl, sym, ◌∙◌, ap, ap₂, subst, arith}
-use Rattle.std.specs.Prelude.{All, is_some, true, false, not, if◌then◌else◌}
+use Rattle.std.proofs.Common.{◌≡◌, inl, inr, ℕ, ◌+◌, ◌≤◌, Bool, List, [], ◌∷◌, ◌++◌, length, Some, None, refl, sym, ◌∙◌, ap, ap₂, subst, arith}
+use Rattle.std.specs.Prelude.{All, is_some, false, if◌then◌else◌}
 use Rattle.std.proofs.lemmas.List.{append-nil, length-append}
 use Rattle.std.proofs.lemmas.List.Elements.{All-nil, All-cons, All-head}
 use Rattle.rs_fixity.specs.declared.Digests.{Digests}
@@ -26,23 +26,23 @@ use Rattle.rs_changes.specs.Filled.{fill_end, history_filled}
 use Rattle.rs_changes.proofs.Filled.{filled_behind}
 use Rattle.rs_model.specs.Names.{Names, value_of, bind}
 use Rattle.rs_model.proofs.MapLemmas.{value-bind}
-use Rattle.rs_extent.specs.Blocks.{Sets}
 use Rattle.rs_body.specs.Blocks.{blocks_of}
 use Rattle.rs_page.specs.Items.{facts_filled}
 use Rattle.rs_page.specs.Format.{ItemFormat}
 use Rattle.rs_record.proofs.Changes.{same_change}
-use Rattle.rs_page.specs.Kept.{IsSublist, KeepsPages, AreTaken}
+use Rattle.rs_page.specs.Kept.{IsSublist, AreTaken}
 use Rattle.rs_directory.specs.Directory.{directory_length}
 use Rattle.rs_image.specs.declared.contents.Contents.{Contents}
 use Rattle.rs_model.specs.State.{facts_of}
 use Rattle.rs_model.specs.declared.command.Command.TheVariants.{Put}
 use Rattle.rs_plan.specs.declared.plan.Plan.{Plan}
-use Rattle.rs_plan.specs.Room.{Takes, HasNoRoom, lists_needed, pages_needed}
-use Rattle.rs_plan.specs.Plans.{IsNext}
+use Rattle.rs_plan.specs.Room.{Takes, lists_needed, pages_needed}
+use Rattle.rs_plan.specs.Plans.{AreInOnePage, IsNext}
 use Rattle.rs_plan.specs.Placed.{AreUnplaced, IsPlaced, directory_bytes_of, record_of_body, record_made, facts_of_body}
 use Rattle.rs_plan.specs.Drafts.{lists_filled, plan_filled}
 use Rattle.rs_plan.proofs.Following.{put_next}
-use Rattle.rs_plan.proofs.Drafts.{AreLong, catalogue_blocks, history_blocks, refilled, bound_twice}
+use Rattle.rs_plan.proofs.Pages.{HasItems}
+use Rattle.rs_plan.proofs.Drafts.{AreLong, catalogue_blocks, history_blocks, records_many, changes_many, refilled, bound_twice}
 
 -- the digests of bytes
 pub digests_long : (bytes : List ℕ) → AreLong (digests bytes)
@@ -54,6 +54,7 @@ pub record IsAlike {T : Type 0} (needs : List (Sheet T) → List ℕ) (filled sh
   pub extents : placed_extents filled ≡ placed_extents sheets
   pub count : length filled ≡ length sheets
   pub needed : needs filled ≡ needs sheets
+  pub some : All HasItems sheets → All HasItems filled
 
 -- the same of pages that were placed
 pub record IsPlacedAlike {T : Type 0} (R : List (Sheet T) → List (Sheet T) → Type 0) (filled sheets placed_filled placed : List (Sheet T)) : Type 0 where
@@ -107,6 +108,7 @@ module _ (name : List ℕ) (digests : Digests) (blank : Record) (long : AreLong 
         extents = refl;
         count = refl;
         needed = needed_by record_format sheet.items (fill_in name digests sheet.items) sheet.place (blocks_of_records sheet is);
+        some = λ all. All-cons HasItems filled [] (omega (arith, records_many name digests sheet.items, All-head HasItems sheet [] all)) (All-nil HasItems);
       }
   catalogue_alike (sheet ∷ next ∷ sheets) few is stands = absurd (omega arith)
 
@@ -152,6 +154,7 @@ module _ (digests : Digests) (name : List ℕ) (again : Bool) (moment : ℕ) (fa
         extents = refl;
         count = refl;
         needed = needed_by change_format sheet.items (fill_end digests sheet.items) sheet.place (blocks_of_changes sheet is);
+        some = λ all. All-cons HasItems filled [] (omega (arith, changes_many digests sheet.items, All-head HasItems sheet [] all)) (All-nil HasItems);
       }
   history_alike (sheet ∷ next ∷ sheets) few is ends = absurd (omega arith)
 
@@ -184,8 +187,8 @@ pub record IsDraft (old c : Contents) (name kind : List ℕ) (n : ℕ) (blank : 
   pub published : c.published ≡ old.published
   pub stands : StandsUnstored name c.catalogue
   pub ends : EndsUnstored c.history
-  pub few : length c.catalogue ≤ 1
-  pub few' : length c.history ≤ 1
+  pub few : AreInOnePage c.catalogue
+  pub few' : AreInOnePage c.history
   pub long : AreLong blank
 
 module _ (old c : Contents) (name kind bytes : List ℕ) (blank : Digests) (body : Extent) (moment : ℕ) (draft : IsDraft old c name kind (length bytes) blank body moment) where
@@ -199,17 +202,17 @@ module _ (old c : Contents) (name kind bytes : List ℕ) (blank : Digests) (body
   blank_facts = facts_of_body kind (length bytes) blank
 
   pub catalogue_is : IsAlike (pages_needed record_format) (sheets_filled name (digests bytes) c.catalogue) c.catalogue
-  catalogue_is = catalogue_alike name (digests bytes) blank_record (digests_long bytes) draft.long (named (records_of old.catalogue)) c.catalogue draft.few draft.records draft.stands
+  catalogue_is = catalogue_alike name (digests bytes) blank_record (digests_long bytes) draft.long (named (records_of old.catalogue)) c.catalogue draft.few.count draft.records draft.stands
 
   pub history_is : IsAlike (pages_needed change_format) (history_filled (digests bytes) c.history) c.history
-  history_is = history_alike (digests bytes) name again moment blank_facts (digests_long bytes) draft.long (changes_of old.history) c.history draft.few' draft.changes draft.ends
+  history_is = history_alike (digests bytes) name again moment blank_facts (digests_long bytes) draft.long (changes_of old.history) c.history draft.few'.count draft.changes draft.ends
 
   pub records_are : named (records_of (lists_filled name (digests bytes) c).catalogue) ≡ bind name (record_made name kind bytes body moment) (named (records_of old.catalogue))
-  records_are = records_filled name (digests bytes) blank_record (digests_long bytes) draft.long (named (records_of old.catalogue)) c.catalogue draft.few draft.records
+  records_are = records_filled name (digests bytes) blank_record (digests_long bytes) draft.long (named (records_of old.catalogue)) c.catalogue draft.few.count draft.records
 
   pub changes_are : changes_of (lists_filled name (digests bytes) c).history ≡ changes_of old.history ++ bound name again moment (facts_of kind bytes) ∷ []
   changes_are =
-      changes_filled (digests bytes) name again moment blank_facts (digests_long bytes) draft.long (changes_of old.history) c.history draft.few' draft.changes
+      changes_filled (digests bytes) name again moment blank_facts (digests_long bytes) draft.long (changes_of old.history) c.history draft.few'.count draft.changes
       ∙ ap (λ x. changes_of old.history ++ x ∷ []) (filled_bound (digests bytes) name again moment blank_facts)
 
   pub next_is : IsNext old (Put name kind bytes) moment body (lists_filled name (digests bytes) c)
@@ -217,7 +220,8 @@ module _ (old c : Contents) (name kind bytes : List ℕ) (blank : Digests) (body
       put_next old (lists_filled name (digests bytes) c) name kind bytes body moment draft.header records_are changes_are draft.published
       (subst (λ (l : List (Sheet Record)). IsSublist l (stored_sheets old.catalogue)) (sym catalogue_is.stored) tt)
       (subst (λ (l : List (Sheet Change)). IsSublist l (stored_sheets old.history)) (sym history_is.stored) tt)
-      (omega (arith, catalogue_is.count, draft.few)) (omega (arith, history_is.count, draft.few'))
+      (record { count = omega (arith, catalogue_is.count, draft.few.count); some = catalogue_is.some draft.few.some })
+      (record { count = omega (arith, history_is.count, draft.few'.count); some = history_is.some draft.few'.some })
 
   pub needed_is : lists_needed (lists_filled name (digests bytes) c) ≡ lists_needed c
   needed_is = rw (catalogue_is.needed, history_is.needed, catalogue_is.count, history_is.count) refl
@@ -227,8 +231,8 @@ module _ (old c : Contents) (name kind bytes : List ℕ) (blank : Digests) (body
 
   pub placed_is : (used : List Bool) (p : Plan) → IsPlaced used body c p → IsPlaced used body (lists_filled name (digests bytes) c) (plan_filled name (digests bytes) p)
   placed_is used p placed =
-      let of_catalogue = catalogue_placed name (digests bytes) blank_record (digests_long bytes) draft.long (named (records_of old.catalogue)) used placed.after_catalogue c.catalogue p.contents.catalogue draft.few draft.records placed.catalogue placed.untouched_catalogue in
-      let of_history = history_placed (digests bytes) name again moment blank_facts (digests_long bytes) draft.long (changes_of old.history) placed.after_catalogue placed.after_history c.history p.contents.history draft.few' draft.changes placed.history placed.untouched_history in
+      let of_catalogue = catalogue_placed name (digests bytes) blank_record (digests_long bytes) draft.long (named (records_of old.catalogue)) used placed.after_catalogue c.catalogue p.contents.catalogue draft.few.count draft.records placed.catalogue placed.untouched_catalogue in
+      let of_history = history_placed (digests bytes) name again moment blank_facts (digests_long bytes) draft.long (changes_of old.history) placed.after_catalogue placed.after_history c.history p.contents.history draft.few'.count draft.changes placed.history placed.untouched_history in
       let bytes_of : directory_bytes_of (lists_filled name (digests bytes) c) ≡ directory_bytes_of c = ap₂ (λ (a b : ℕ). directory_length c.header (a + b + length c.published)) catalogue_is.count history_is.count in
       record {
         after_catalogue = placed.after_catalogue;

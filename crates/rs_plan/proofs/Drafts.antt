@@ -1,8 +1,6 @@
 -- Lists that get the digests of a body keep the sizes and the places of their pages.
-use Rattle.std.proofs.Common.{◌≡◌, ℕ, ◌+◌, ◌≤◌, Bool, cond, List, [], ◌∷◌, ◌++◌, length, map, Option, Some, None, refl, sym, ◌∙◌, ap, ap₂, subst, arith}
-use Rattle.std.specs.Prelude.{All, is_some}
-use Rattle.std.proofs.lemmas.List.{length-append, append-nil}
-use Rattle.std.proofs.lemmas.Grind.{flat_map-append}
+use Rattle.std.proofs.Common.{◌≡◌, ℕ, Bool, List, [], ◌∷◌, ◌++◌, length, Some, None, refl, sym, ◌∙◌, ap, subst, arith}
+use Rattle.std.proofs.lemmas.List.{length-append}
 use Rattle.std.specs.declared.cmp.Ordering.{Ordering}
 use Rattle.std.specs.declared.cmp.Ordering.TheVariants.{Less, Equal, Greater}
 use Rattle.rs_fixity.specs.declared.Digests.{Digests}
@@ -17,7 +15,7 @@ use Rattle.rs_body.specs.Blocks.{blocks_of}
 use Rattle.rs_page.specs.declared.place.Place.{Place}
 use Rattle.rs_page.specs.declared.place.Place.TheVariants.{Touched, Placed, Stored}
 use Rattle.rs_page.specs.Format.{ItemFormat, items_bytes, page_bytes}
-use Rattle.rs_page.specs.Items.{record_format, change_format, record_filled, change_filled, facts_filled}
+use Rattle.rs_page.specs.Items.{record_format, change_format, record_filled, change_filled}
 use Rattle.rs_page.specs.Sheets.{Sheet, blocks_needed}
 use Rattle.rs_page.specs.Placing.{PlacesOne, Places}
 use Rattle.rs_catalogue.specs.Named.{named}
@@ -52,6 +50,22 @@ records_long : (name : List ℕ) (digests : Digests) (records : List Record) (r 
     → length (items_bytes record_format (fill_in name digests records)) ≡ length (items_bytes record_format records)
 records_long name digests [] r a b h = cc
 records_long name digests (x ∷ records) r a b h = long_by name digests x records (by_bytes name x.name) r a b (records_long name digests records r a b) h
+
+-- and there are as many of them
+many_by : (name : List ℕ) (digests : Digests) (x : Record) (records : List Record) (o : Ordering) → length (fill_in name digests records) ≡ length records
+    → length (by_order o (x ∷ records) (record_filled digests x ∷ records) (x ∷ fill_in name digests records)) ≡ length (x ∷ records)
+many_by name digests x records Less next = refl
+many_by name digests x records Equal next = refl
+many_by name digests x records Greater next = omega (arith, next)
+
+pub records_many : (name : List ℕ) (digests : Digests) (records : List Record) → length (fill_in name digests records) ≡ length records
+records_many name digests [] = refl
+records_many name digests (x ∷ records) = many_by name digests x records (by_bytes name x.name) (records_many name digests records)
+
+pub changes_many : (digests : Digests) (changes : List Change) → length (fill_end digests changes) ≡ length changes
+changes_many digests [] = refl
+changes_many digests (last ∷ []) = refl
+changes_many digests (c ∷ next ∷ changes) = omega (arith, changes_many digests (next ∷ changes))
 
 -- so the page is as long, and needs as many blocks
 page_long : {T : Type 0} (format : ItemFormat T) (a b : List T) → length (items_bytes format a) ≡ length (items_bytes format b) → length (page_bytes format a) ≡ length (page_bytes format b)

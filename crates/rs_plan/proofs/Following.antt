@@ -1,5 +1,5 @@
 -- The lists after each command, and that there is no room for one.
-use Rattle.std.proofs.Common.{◌≡◌, inr, ℕ, ◌+◌, ◌≤◌, Bool, List, [], ◌∷◌, ◌++◌, length, refl, sym, subst, arith}
+use Rattle.std.proofs.Common.{◌≡◌, inr, ℕ, ◌+◌, Bool, List, [], ◌∷◌, ◌++◌, refl, sym, subst, arith}
 use Rattle.std.specs.Prelude.{All, IsSome, is_some}
 use Rattle.std.specs.List.{cons_option}
 use Rattle.std.proofs.lemmas.List.Elements.{All-head, All-tail}
@@ -19,7 +19,7 @@ use Rattle.rs_model.specs.Names.{value_of, bind, unbind}
 use Rattle.rs_model.specs.State.{facts_of}
 use Rattle.rs_image.specs.declared.contents.Contents.{Contents}
 use Rattle.rs_plan.specs.Room.{AreUsed, Takes, HasNoRoom, lists_needed, body_needed}
-use Rattle.rs_plan.specs.Plans.{IsNext, LacksRoom}
+use Rattle.rs_plan.specs.Plans.{AreInOnePage, IsNext, LacksRoom}
 use Rattle.rs_plan.specs.Placed.{AreUnplaced, record_made}
 use Rattle.rs_plan.proofs.Turns.{put_turns, delete_turns, publish_turns}
 use Rattle.rs_plan.proofs.Bodies.{itself}
@@ -28,7 +28,7 @@ use Rattle.rs_plan.proofs.Bodies.{itself}
 pub put_next : (old c : Contents) (name kind bytes : List ℕ) (body : Extent) (moment : ℕ) → c.header ≡ record old.header { last = moment }
     → named (records_of c.catalogue) ≡ bind name (record_made name kind bytes body moment) (named (records_of old.catalogue))
     → changes_of c.history ≡ changes_of old.history ++ bound name (is_some (value_of name (named (records_of old.catalogue)))) moment (facts_of kind bytes) ∷ []
-    → c.published ≡ old.published → KeepsPages old.catalogue c.catalogue → KeepsPages old.history c.history → length c.catalogue ≤ 1 → length c.history ≤ 1
+    → c.published ≡ old.published → KeepsPages old.catalogue c.catalogue → KeepsPages old.history c.history → AreInOnePage c.catalogue → AreInOnePage c.history
     → IsNext old (Put name kind bytes) moment body c
 put_next old c name kind bytes body moment header records changes published catalogue history few few' = record {
   turns = put_turns old c name kind bytes body moment header records changes published;
@@ -40,7 +40,7 @@ put_next old c name kind bytes body moment header records changes published cata
 -- a delete
 pub delete_next : (old c : Contents) (name : List ℕ) (body : Extent) (moment : ℕ) → c.header ≡ record old.header { last = moment }
     → named (records_of c.catalogue) ≡ unbind name (named (records_of old.catalogue)) → changes_of c.history ≡ changes_of old.history ++ deleted name moment ∷ []
-    → c.published ≡ old.published → KeepsPages old.catalogue c.catalogue → KeepsPages old.history c.history → length c.catalogue ≤ 1 → length c.history ≤ 1
+    → c.published ≡ old.published → KeepsPages old.catalogue c.catalogue → KeepsPages old.history c.history → AreInOnePage c.catalogue → AreInOnePage c.history
     → IsNext old (Delete name) moment body c
 delete_next old c name body moment header records changes published catalogue history few few' = record {
   turns = λ image there. delete_turns old c name moment header records changes published image;

@@ -1,5 +1,5 @@
 -- The parts of what a root reaches, and what is known of the pages after a command.
-use Rattle.std.proofs.Common.{true≢false, ◌≡◌, ◌⊎◌, inl, inr, ℕ, ◌≤◌, Bool, true, List, [], length, refl, sym, ◌∙◌, ap, subst}
+use Rattle.std.proofs.Common.{true≢false, ◌≡◌, ◌⊎◌, inl, inr, ℕ, Bool, true, List, [], length, refl, sym, ◌∙◌, ap, subst}
 use Rattle.std.specs.Prelude.{All}
 use Rattle.rs_extent.specs.declared.Extent.{Extent}
 use Rattle.rs_body.specs.Blocks.{in_some, blocks_of, IsSized}
@@ -15,7 +15,7 @@ use Rattle.rs_image.specs.declared.contents.Contents.{Contents}
 use Rattle.rs_image.specs.Reach.{unshared, bodies_of}
 use Rattle.rs_plan.specs.declared.plan.Plan.{Plan}
 use Rattle.rs_plan.specs.Room.{Takes, body_needed}
-use Rattle.rs_plan.specs.Plans.{body_of_command, ArePagesAfter, once_stored, places}
+use Rattle.rs_plan.specs.Plans.{body_of_command, AreInOnePage, ArePagesAfter, once_stored, places}
 use Rattle.rs_plan.proofs.Extents.{Disjoint}
 use Rattle.rs_plan.proofs.Sublists.{filter_mapped}
 use Rattle.rs_plan.proofs.Placing.{places_stored}
@@ -88,10 +88,10 @@ published_is old c (Delete name) pages = inl pages.2
 published_is old c Publish pages = inr (pages.2, pages.0)
 
 -- the pages after a command, once they are placed
-pub pages_placed : (old c next : Contents) (command : Command) → ArePagesAfter old command c → length next.catalogue ≤ 1 → length next.history ≤ 1 → next.published ≡ c.published
+pub pages_placed : (old c next : Contents) (command : Command) → ArePagesAfter old command c → (AreInOnePage c.catalogue → AreInOnePage next.catalogue) → (AreInOnePage c.history → AreInOnePage next.history) → next.published ≡ c.published
     → (All IsStored c.catalogue → next.catalogue ≡ c.catalogue) → (All IsStored c.history → next.history ≡ c.history) → All IsStored old.catalogue → All IsStored old.history → ArePagesAfter old command next
-pages_placed old c next (Put name kind bytes) pages few few' published catalogue history of_old of_old' = (few, few', published ∙ pages.2)
-pages_placed old c next (Delete name) pages few few' published catalogue history of_old of_old' = (few, few', published ∙ pages.2)
+pages_placed old c next (Put name kind bytes) pages few few' published catalogue history of_old of_old' = (few pages.0, few' pages.1, published ∙ pages.2)
+pages_placed old c next (Delete name) pages few few' published catalogue history of_old of_old' = (few pages.0, few' pages.1, published ∙ pages.2)
 pages_placed old c next Publish pages few few' published catalogue history of_old of_old' = (
   catalogue (subst (All IsStored) (sym pages.0) of_old) ∙ pages.0,
   history (subst (All IsStored) (sym pages.1) of_old') ∙ pages.1,

@@ -12,6 +12,8 @@ use Rattle.rs_page.specs.Sheets.{Sheet, IsStored, placed_extent, stored_ref, blo
 use Rattle.rs_page.specs.Placing.{PlacesOne, Places, HasNoPlace, HasNoRun as HasNoPageRun}
 use Rattle.rs_page.specs.Kept.{stored_sheets}
 use Rattle.rs_plan.specs.Room.{HasNoRoom, pages_needed}
+use Rattle.rs_plan.specs.Plans.{AreInOnePage}
+use Rattle.rs_plan.proofs.Pages.{HasItems}
 
 -- a page of these items, at this place
 abbrev at : {T : Type 0} → List T → Place → Sheet T
@@ -29,6 +31,21 @@ places_length format used used' [] [] h = refl
 places_length format used used' [] (y ∷ ys) h = absurd h
 places_length format used used' (x ∷ xs) [] h = absurd h
 places_length format used used' (x ∷ xs) (y ∷ ys) h = omega (arith, places_length format h.0 used' xs ys h.2)
+
+-- so does the page rule
+places_some : {T : Type 0} (format : ItemFormat T) (used used' : List Bool) (xs ys : List (Sheet T)) → Places format used xs used' ys → All HasItems xs → All HasItems ys
+places_some format used used' [] [] h some = All-nil HasItems
+places_some format used used' [] (y ∷ ys) h some = absurd h
+places_some format used used' (x ∷ xs) [] h some = absurd h
+places_some {T} format used used' (x ∷ xs) (y ∷ ys) h some =
+    All-cons HasItems y ys (subst (λ (items : List T). 1 ≤ length items) (sym h.1.0) (All-head HasItems x xs some))
+    (places_some format h.0 used' xs ys h.2 (All-tail HasItems x xs some))
+
+pub places_one_page : {T : Type 0} (format : ItemFormat T) (used used' : List Bool) (xs ys : List (Sheet T)) → Places format used xs used' ys → AreInOnePage xs → AreInOnePage ys
+places_one_page format used used' xs ys h one = record {
+  count = omega (arith, places_length format used used' xs ys h, one.count);
+  some = places_some format used used' xs ys h one.some;
+}
 
 -- so do the pages that are stored
 stored_one : {T : Type 0} (format : ItemFormat T) (used used' : List Bool) (items : List T) (place : Place) (y : Sheet T) (xs ys : List (Sheet T))

@@ -25,11 +25,11 @@ use Rattle.rs_image.specs.Whole.{IsWhole, AreMoments, IsSoundRecord, IsSoundChan
 use Rattle.rs_image.specs.Tells.{held_in, state_in, AreListable}
 use Rattle.rs_plan.specs.declared.plan.Plan.{Plan}
 use Rattle.rs_plan.specs.Room.{AreUsed, Takes, body_needed}
-use Rattle.rs_plan.specs.Plans.{body_of_command, ArePagesAfter, IsNext, places, planned_listing, planned_root, IsPlanned}
+use Rattle.rs_plan.specs.Plans.{body_of_command, ArePagesAfter, IsNext, places, planned_listing, planned_root, TakesInTurn, IsPlanned}
 use Rattle.rs_plan.specs.Placed.{AreUnplaced, IsPlaced, directory_bytes_of}
 use Rattle.rs_plan.proofs.Extents.{Disjoint, Within, not_true, not_both, turned, some_front, some_behind, taken_lowest, taken_both}
 use Rattle.rs_plan.proofs.Sublists.{mapped, all_of, some_of, apart_of}
-use Rattle.rs_plan.proofs.Placing.{places_items, places_length, places_stored, places_fitted, places_same}
+use Rattle.rs_plan.proofs.Placing.{places_items, places_length, places_stored, places_fitted, places_same, places_one_page}
 use Rattle.rs_plan.proofs.Stored.{stored_items, all_stored, count_refs, length_stored, same_refs, stored_some, stored_apart, lawful_refs, kept_refs}
 use Rattle.rs_plan.proofs.Listing.{length-directory}
 use Rattle.rs_plan.proofs.Separate.{AreSeparate, separated, apart_again, five_of, a_in, b_in, c_in, e_in, AreNew, separate_next}
@@ -116,7 +116,9 @@ module _ (size : ℕ) (root : Root) (old : Contents) (whole : IsWhole size root 
   -- the pages after the command
   pages : ArePagesAfter old command p.contents
   pages =
-      pages_placed old c p.contents command next.pages (omega (arith, long_catalogue, few_catalogue)) (omega (arith, long_history, few_history)) placed.published
+      pages_placed old c p.contents command next.pages
+      (places_one_page record_format used₁ placed.after_catalogue c.catalogue p.contents.catalogue placed.catalogue)
+      (places_one_page change_format placed.after_catalogue placed.after_history c.history p.contents.history placed.history) placed.published
       (λ all. places_same record_format used₁ placed.after_catalogue c.catalogue p.contents.catalogue all placed.catalogue)
       (λ all. places_same change_format placed.after_catalogue placed.after_history c.history p.contents.history all placed.history)
       whole.catalogue whole.history
@@ -366,9 +368,22 @@ module _ (size : ℕ) (root : Root) (old : Contents) (whole : IsWhole size root 
     inside = inside_next;
   }
 
+  -- each part in its turn
+  in_turn : TakesInTurn size root old command p
+  in_turn = record {
+    used = used;
+    after_body = used₁;
+    lists = c;
+    are_used = are_used;
+    body = subst (λ (e : Extent). Takes used (body_needed command) e used₁) (sym placed.body_is) takes;
+    unplaced = unplaced;
+    placed = subst (λ (e : Extent). IsPlaced used₁ e c p) (sym placed.body_is) placed;
+  }
+
   pub planned : IsPlanned size root old command moment p
   planned = record {
     next = next_placed;
+    in_turn = in_turn;
     free = free;
     apart = taken.apart;
     inside = inside;

@@ -10,7 +10,7 @@ use Rattle.rs_model.specs.Step.{next_state}
 use Rattle.rs_model.specs.declared.command.Command.{Command}
 use Rattle.rs_model.specs.declared.command.Command.TheVariants.{Put, Delete, Publish}
 use Rattle.rs_page.specs.Items.{record_format, change_format}
-use Rattle.rs_page.specs.Sheets.{IsTouched, placed_extents, stored}
+use Rattle.rs_page.specs.Sheets.{Sheet, IsTouched, placed_extents, stored}
 use Rattle.rs_page.specs.Pages.{IsWritten}
 use Rattle.rs_page.specs.Kept.{KeepsPages, AreApart}
 use Rattle.rs_image.specs.declared.contents.Contents.{Contents}
@@ -19,6 +19,7 @@ use Rattle.rs_image.specs.Whole.{IsWhole}
 use Rattle.rs_image.specs.Tells.{state_in, listing, AreListable}
 use Rattle.rs_plan.specs.declared.plan.Plan.{Plan}
 use Rattle.rs_plan.specs.Room.{AreUsed, Takes, HasNoRun, HasNoRoom, lists_needed, body_needed}
+use Rattle.rs_plan.specs.Placed.{AreUnplaced, IsPlaced}
 
 -- the body that a command writes
 abbrev pub body_of_command : Command → List ℕ
@@ -26,11 +27,16 @@ body_of_command (Put name kind bytes) = bytes
 body_of_command (Delete name) = []
 body_of_command Publish = []
 
+-- The items of a list stand in one page, or in none where there are none.
+pub record AreInOnePage {T : Type 0} (sheets : List (Sheet T)) : Type 0 where
+  pub count : length sheets ≤ 1
+  pub some : All (λ sheet. 1 ≤ length sheet.items) sheets
+
 -- The pages after a command: a publication lists the pages of the catalogue, and touches none; any other command leaves what is
 -- published. A catalogue and a history have one page, or none where they are empty.
 abbrev pub ArePagesAfter : Contents → Command → Contents → Type 0
-ArePagesAfter old (Put name kind bytes) c = (length c.catalogue ≤ 1) × (length c.history ≤ 1) × (c.published ≡ old.published)
-ArePagesAfter old (Delete name) c = (length c.catalogue ≤ 1) × (length c.history ≤ 1) × (c.published ≡ old.published)
+ArePagesAfter old (Put name kind bytes) c = AreInOnePage c.catalogue × AreInOnePage c.history × (c.published ≡ old.published)
+ArePagesAfter old (Delete name) c = AreInOnePage c.catalogue × AreInOnePage c.history × (c.published ≡ old.published)
 ArePagesAfter old Publish c = (c.catalogue ≡ old.catalogue) × (c.history ≡ old.history) × (c.published ≡ old.catalogue)
 
 -- The lists after a command at its moment: where its body stands in an extent, they tell the next state, of whatever the old
@@ -74,10 +80,24 @@ planned_listing p = listing (once_stored p.contents)
 abbrev pub planned_root : Root → Plan → Root
 planned_root root p = next root p.directory (length (planned_listing p)) (digests (planned_listing p)).sha256
 
+-- Each part of a plan is given the lowest run of its size, in the order of `places`: with those blocks used that the root
+-- reaches, first its body; then, of lists whose touched pages have no place yet, the catalogue pages and the change pages;
+-- then the directory.
+pub record TakesInTurn (size : ℕ) (root : Root) (old : Contents) (command : Command) (p : Plan) : Type 0 where
+  pub used : List Bool
+  pub after_body : List Bool
+  pub lists : Contents
+  pub are_used : AreUsed size root old used
+  pub body : Takes used (body_needed command) p.body after_body
+  pub unplaced : AreUnplaced lists
+  pub placed : IsPlaced after_body p.body lists p
+
 -- A plan leads from these lists to those after a command: what it writes goes into blocks that the root does not reach, no two
--- parts of it into the same; each part has a place of its size; and what the next root reaches keeps all rules.
+-- parts of it into the same; each part has a place of its size, the lowest that there is in its turn; and what the next root
+-- reaches keeps all rules.
 pub record IsPlanned (size : ℕ) (root : Root) (old : Contents) (command : Command) (moment : ℕ) (p : Plan) : Type 0 where
   pub next : IsNext old command moment p.body p.contents
+  pub in_turn : TakesInTurn size root old command p
   pub free : AreBeside (is_kept root old) (places p)
   pub apart : AreApart (places p)
   pub inside : AreInside size (places p)

@@ -1,9 +1,10 @@
 //! Where the writes of a command go.
 
-ghost use Rattle.std.specs.Prelude.{◌≡◌, ◌≤◌, ◌+◌, length, IfOk, OnErr, MatchOption};
+ghost use Rattle.std.specs.Prelude.{◌≡◌, ◌+◌, length, IfOk, OnErr, MatchOption};
 ghost use Rattle.rs_body.specs.Blocks.{blocks_of};
 ghost use Rattle.rs_plan.specs.Room.{Takes, HasNoRun, HasNoRoom, lists_needed};
 ghost use Rattle.rs_plan.specs.Placed.{AreUnplaced, IsPlaced};
+ghost use Rattle.rs_plan.specs.Plans.{AreInOnePage};
 
 use crate::plan::Plan;
 use rs_body::blocks_for;
@@ -41,9 +42,9 @@ pub(crate) fn place_lists(mut used: Used, body: Extent, mut lists: Contents) -> 
     requires { AreUnplaced lists }
     ensures placed { IfOk result (IsPlaced used body lists) }
     ensures full { OnErr result (HasNoRoom used (lists_needed lists)) }
-    ensures catalogue { length lists.catalogue ≤ 1 }
-    ensures history { length lists.history ≤ 1 }
-    ensures published { length lists.published ≤ 1 }
+    ensures catalogue { AreInOnePage lists.catalogue }
+    ensures history { AreInOnePage lists.history }
+    ensures published { AreInOnePage lists.published }
 {
     let length = directory_size(&lists.header, pages_of(&lists));
     lists.catalogue.place_touched(&mut used)?;
@@ -61,9 +62,9 @@ pub(crate) fn place_lists(mut used: Used, body: Extent, mut lists: Contents) -> 
 // How many pages there are in all.
 fn pages_of(lists: &Contents) -> usize
     ensures pages { result ≡ length lists.now.catalogue + length lists.now.history + length lists.now.published }
-    ensures catalogue { length lists.now.catalogue ≤ 1 }
-    ensures history { length lists.now.history ≤ 1 }
-    ensures published { length lists.now.published ≤ 1 }
+    ensures catalogue { AreInOnePage lists.now.catalogue }
+    ensures history { AreInOnePage lists.now.history }
+    ensures published { AreInOnePage lists.now.published }
 {
     catalogue_pages(&lists.catalogue)
         + history_pages(&lists.history)
@@ -73,7 +74,7 @@ fn pages_of(lists: &Contents) -> usize
 // How many pages a catalogue has: one, or none where it is empty.
 fn catalogue_pages(catalogue: &Catalogue) -> usize
     ensures pages { result ≡ length catalogue.now }
-    ensures one { length catalogue.now ≤ 1 }
+    ensures one { AreInOnePage catalogue.now }
 {
     if catalogue.len() == 0 { 0 } else { 1 }
 }
@@ -81,7 +82,7 @@ fn catalogue_pages(catalogue: &Catalogue) -> usize
 // How many pages a history has: one, or none where it is empty.
 fn history_pages(history: &History) -> usize
     ensures pages { result ≡ length history.now }
-    ensures one { length history.now ≤ 1 }
+    ensures one { AreInOnePage history.now }
 {
     if history.len() == 0 { 0 } else { 1 }
 }

@@ -1,4 +1,4 @@
-use Rattle.std.proofs.Common.{◌≡◌, ◌≤◌, ℕ, List, [], ◌∷◌, length, sym, subst, inl, refl, arith}
+use Rattle.std.proofs.Common.{◌≤◌, ℕ, List, length, sym, subst, inl, refl, arith}
 use Rattle.std.specs.Prelude.{replicate}
 use Rattle.rs_fixity.specs.declared.Digests.{Digests}
 use Rattle.rs_fixity.specs.Digests.{digests}
@@ -74,5 +74,5 @@ returns-clause-planned c bytes is =
     (records_are old lists name kind bytes unknown body moment draft) (changes_are old lists name kind bytes unknown body moment draft) made.published)
     (unplaced_is old lists name kind bytes unknown body moment draft made.unplaced)
     (plan_filled name (digests bytes) c.in_ok-plan.plan) (placed_is old lists name kind bytes unknown body moment draft used c.in_ok-plan.plan placing.placed) made.one_page
-    (omega (arith, (catalogue_is old lists name kind bytes unknown body moment draft).count, placing.catalogue))
-    (omega (arith, (history_is old lists name kind bytes unknown body moment draft).count, placing.history)) placing.published
+    (omega (arith, (catalogue_is old lists name kind bytes unknown body moment draft).count, placing.catalogue.count))
+    (omega (arith, (history_is old lists name kind bytes unknown body moment draft).count, placing.history.count)) placing.published.count

@@ -35,4 +35,4 @@ returns-clause-planned c =
     body (takes_none used) lists
     (delete_next old lists name body c.args.moment made.header made.records made.changes made.published made.catalogue_pages made.history_pages placing.catalogue placing.history)
     (delete_rules c.args.size root old lists name body c.args.moment c.requires.whole c.requires.listable.header made.moment c.requires.later made.header made.records made.changes made.published)
-    made.unplaced c.in_ok-plan.plan placing.placed made.one_page placing.catalogue placing.history placing.published
+    made.unplaced c.in_ok-plan.plan placing.placed made.one_page placing.catalogue.count placing.history.count placing.published.count

@@ -37,4 +37,4 @@ returns-clause-planned c =
     body (takes_none used) lists (publish_next old lists body c.args.moment made.header made.catalogue made.history made.published)
     (publish_rules c.args.size root old lists body c.args.moment c.requires.whole c.requires.listable.header made.moment c.requires.later c.requires.numbers made.header made.catalogue made.history made.published)
     (all_unplaced old lists c.requires.whole.catalogue c.requires.whole.history made.catalogue made.history)
-    c.in_ok-plan.plan placing.placed (subst (λ (sheets : List (Sheet Record)). length sheets ≤ 1) made.catalogue placing.catalogue) placing.catalogue placing.history placing.published
+    c.in_ok-plan.plan placing.placed (subst (λ (sheets : List (Sheet Record)). length sheets ≤ 1) made.catalogue placing.catalogue.count) placing.catalogue.count placing.history.count placing.published.count
