@@ -4,9 +4,8 @@ use Rattle.std.specs.List.{AllByRecursion}
 use Rattle.std.proofs.lemmas.List.{append-nil}
 use Rattle.rs_disk.specs.Medium.{DiskState, IsMedium, IsImage, IsImageAt}
 use Rattle.rs_disk.proofs.Steps.{weaker}
-use Rattle.rs_model.specs.State.{Source, facts_of}
-use Rattle.rs_model.specs.Regular.{IsSound, IsRegular}
-use Rattle.rs_model.specs.declared.value.Held.{Held}
+use Rattle.rs_model.specs.State.{Source}
+use Rattle.rs_model.specs.Regular.{IsRegular}
 use Rattle.rs_model.specs.Step.{step, state_after, fold_of}
 use Rattle.rs_model.specs.declared.command.Reply.{Reply}
 use Rattle.rs_image.specs.Tells.{StandsFor}
@@ -256,9 +255,5 @@ left_standing device start (x ∷ past) [] are stands = absurd stands
 left_standing device start (x ∷ past) (j ∷ standing) are stands = stands.2
 
 -- what a regular state yields
-facts_sound : (last : ℕ) (held : List (List ℕ × Held)) → AllByRecursion (IsSound last) held → AllByRecursion (λ h. h.1.entry.facts ≡ facts_of h.1.entry.facts.kind h.1.bytes) held
-facts_sound last [] all = tt
-facts_sound last (h ∷ held) all = (all.0.facts, facts_sound last held all.1)
-
 pub yields_held : (t : Source) → IsRegular t → YieldsHeld t
-yields_held t regular = record { mirrored = regular.mirrored; facts = facts_sound t.last t.held regular.sound }
+yields_held t regular = record { mirrored = regular.mirrored; facts = regular.sound }

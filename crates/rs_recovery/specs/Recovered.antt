@@ -4,7 +4,7 @@ use Rattle.std.specs.List.{AllByRecursion}
 use Rattle.rs_disk.specs.Medium.{DiskState}
 use Rattle.rs_model.specs.State.{Source, start_of, facts_of, entries}
 use Rattle.rs_model.specs.Step.{fold_of, mirror_of}
-use Rattle.rs_model.specs.Regular.{IsRegular}
+use Rattle.rs_model.specs.Regular.{IsRegular, IsTimely}
 use Rattle.rs_model.specs.declared.command.Command.{Command}
 use Rattle.rs_store.specs.declared.opening.OpenFault.{OpenFault}
 use Rattle.rs_store.specs.declared.opening.OpenFault.TheVariants.{NotASource, Damaged, Device, NoMemory}
@@ -50,6 +50,7 @@ pub record IsRecovered {D : Type 0} (device : D → DiskState) (disk : D) (resul
   pub stand : Stand device start sessions standing
   pub state : GivesBack device disk result (fold_of start (behind sessions standing))
   pub regular : IsRegular (fold_of start (behind sessions standing))
+  pub timely : IsTimely (fold_of start (behind sessions standing))
   pub yields : YieldsHeld (fold_of start (behind sessions standing))
 
 -- Stopped before or within any disk call, during a command or between two, recovery gives exactly the resources and published

@@ -12,3 +12,4 @@ pub mod Received
 pub mod Turns
 pub mod Moments
 pub mod Replies
+pub mod Early

@@ -1,6 +1,6 @@
 -- What is answered to a put of bytes is answered to the put that a reader brings them to.
 use Rattle.std.proofs.Common.{◌≡◌, ℕ, ◌<◌, arith, List, [], length, take, Option, Result, Ok, Err, refl, sym, ◌∙◌, ap, subst}
-use Rattle.std.specs.Prelude.{replicate, IfErr}
+use Rattle.std.specs.Prelude.{replicate, IfErr, IsErrOf}
 use Rattle.std.proofs.Math.Seq.{take-length}
 use Rattle.std.proofs.lemmas.List.{length-replicate}
 use Rattle.rs_disk.specs.Medium.{DiskState}
@@ -110,3 +110,7 @@ module _ {D : Type 0} (device : D → DiskState) (old new : Stored D) (name kind
   cut_from Device cut short refused = absurd cut
   cut_from Damaged cut short refused = absurd cut
   cut_from NoMemory cut short refused = (cut, refused)
+
+-- a refusal is the same one, whatever might have been given in its place
+pub refused_elsewhere : {A B : Type 0} (r s : Refusal) → IsErrOf {T = A} (Err r) s → IsErrOf {T = B} (Err r) s
+refused_elsewhere r s e = let is : r ≡ s = cc in ap Err is

@@ -13,3 +13,4 @@ pub mod Received
 pub mod AnswersBody
 pub mod Counted
 pub mod Runs
+pub mod Laws

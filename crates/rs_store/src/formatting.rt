@@ -23,7 +23,7 @@ use rs_commit::{Root, Slots, format_slots};
 use rs_directory::{Header, Limit, directory_bytes, directory_size};
 use rs_disk::{Disk, Fault};
 use rs_extent::Extent;
-use rs_fixity::digests_of;
+use rs_fixity::sha256_of;
 use rs_image::Contents;
 use rs_record::{Base, BaseError};
 use rs_time::Moment;
@@ -149,7 +149,7 @@ fn lay_out(
     let header = first_header(alloc, size, base, limit, now)?;
     let directory = directory_bytes(alloc, &header, &[], &[], &[])?;
     let length = directory_size(&header, 0);
-    let sha256 = digests_of(&directory).sha256;
+    let sha256 = sha256_of(&directory);
     let root = Root {
         generation: 1,
         directory: Extent {

@@ -9,6 +9,7 @@
 mod commands;
 mod deciding;
 mod formatting;
+pub mod laws;
 mod opening;
 mod reading;
 mod receiving;

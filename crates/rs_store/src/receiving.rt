@@ -1,8 +1,8 @@
 //! A put whose body a reader brings.
 
-ghost use Rattle.std.specs.Prelude.{◌≡◌, ◌<◌, ◌≤◌, ◌+◌, ℕ, List, length, take, drop, IfOk, IfErr, OnOk, OnErr, IsErrOf, IsTrue};
+ghost use Rattle.std.specs.Prelude.{◌≡◌, ◌<◌, ◌≤◌, ◌+◌, ℕ, List, length, take, drop, IfOk, IfErr, OnOk, OnErr, IsErrOf};
 ghost use Rattle.std.specs.Io.KnownBytes.{Consumes, Keeps, IsAtEnd};
-ghost use Rattle.rs_io.specs.Watch.{watched, has_failed};
+ghost use Rattle.rs_io.specs.Watch.{watched, failures, EndFailed, Took};
 ghost use Rattle.rs_store.specs.Received.{AnswersFrom, IsCut};
 
 use crate::commands::put_reply;
@@ -26,7 +26,7 @@ impl<D: Disk> Source<D> {
     ///
     /// As with [`Source::put`]; and behind [`Refusal::Full`] in the order
     ///
-    /// - [`Refusal::ReadFault`] where the reader failed within the body,
+    /// - [`Refusal::ReadFault`] where a read of the body failed,
     /// - [`Refusal::ShortBody`] where the input ended within it.
     ///
     /// After each of these two nothing has changed. Where a refusal before them is met, nothing is read.
@@ -40,7 +40,8 @@ impl<D: Disk> Source<D> {
     ) -> Result<Reply, Refusal>
         ensures came { (came : List ℕ) × Consumes (R.remaining (watched reader.old)) (R.remaining (watched reader.new)) came
             × AnswersFrom D.state self.old self.new name.now kind.now body_length now came result }
-        ensures failed { IsErrOf result Refusal.ReadFault → IsTrue (has_failed reader.new) }
+        ensures failed { IsErrOf result Refusal.ReadFault → EndFailed reader.old reader.new }
+        ensures sound { ¬ IsErrOf result Refusal.ReadFault → failures reader.new ≡ failures reader.old }
         ensures ended { IsErrOf result Refusal.ShortBody → IsAtEnd (R.remaining (watched reader.new)) }
     {
         let moment = self.moment_of_put(name, body_length, now)?;
@@ -69,11 +70,12 @@ fn read_whole<R: Read>(
     reader: &mut Watched<R>,
     body_length: u32,
 ) -> Result<Vec<u8>, Refusal>
-    ensures ok { IfOk result (λ bytes. Consumes (R.remaining (watched reader.old)) (R.remaining (watched reader.new)) bytes.items) }
+    ensures ok { IfOk result (λ bytes. Took R.remaining reader.old reader.new bytes.items) }
     ensures whole { IfOk result (λ bytes. length bytes.items ≡ body_length) }
     ensures cut { IfErr result (λ refusal. (came : List ℕ) × Consumes (R.remaining (watched reader.old)) (R.remaining (watched reader.new)) came
         × IsCut body_length (R.remaining (watched reader.new)) came refusal) }
-    ensures failed { IsErrOf result Refusal.ReadFault → IsTrue (has_failed reader.new) }
+    ensures failed { IsErrOf result Refusal.ReadFault → EndFailed reader.old reader.new }
+    ensures sound { ¬ IsErrOf result Refusal.ReadFault → failures reader.new ≡ failures reader.old }
 {
     let mut bytes: Vec<u8> = vec![in alloc; 0; body_length as usize]?;
     read_into(reader, bytes.as_mut_slice())?;
@@ -90,20 +92,21 @@ fn read_behind<R: Read>(
     ensures size { length buf.new ≡ length buf.old }
     ensures front { take filled buf.new ≡ take filled buf.old }
     ensures fits { IfOk result (λ n. filled + n ≤ length buf.old) }
-    ensures ok { IfOk result (λ n. Consumes (R.remaining (watched reader.old)) (R.remaining (watched reader.new)) (take n (drop filled buf.new))) }
+    ensures ok { IfOk result (λ n. Took R.remaining reader.old reader.new (take n (drop filled buf.new))) }
     ensures end { IfOk result (λ n. n ≡ 0 → IsAtEnd (R.remaining (watched reader.new))) }
     ensures err { OnErr result (Keeps (R.remaining (watched reader.old)) (R.remaining (watched reader.new))) }
-    ensures failed { OnErr result (IsTrue (has_failed reader.new)) }
+    ensures failed { OnErr result (EndFailed reader.old reader.new) }
 {
     reader.read(&mut buf[filled..])
 }
 
 // Fills a buffer with the next bytes of a reader.
 fn read_into<R: Read>(reader: &mut Watched<R>, buf: &mut [u8]) -> Result<(), Refusal>
-    ensures ok { OnOk result (Consumes (R.remaining (watched reader.old)) (R.remaining (watched reader.new)) buf.new) }
+    ensures ok { OnOk result (Took R.remaining reader.old reader.new buf.new) }
     ensures cut { IfErr result (λ refusal. (came : List ℕ) × Consumes (R.remaining (watched reader.old)) (R.remaining (watched reader.new)) came
         × IsCut (length buf.old) (R.remaining (watched reader.new)) came refusal) }
-    ensures failed { IsErrOf result Refusal.ReadFault → IsTrue (has_failed reader.new) }
+    ensures failed { IsErrOf result Refusal.ReadFault → EndFailed reader.old reader.new }
+    ensures sound { ¬ IsErrOf result Refusal.ReadFault → failures reader.new ≡ failures reader.old }
 {
     let mut filled = 0;
     while filled < buf.len() {

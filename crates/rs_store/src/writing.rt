@@ -17,7 +17,7 @@ use rs_body::write_body;
 use rs_directory::directory_bytes;
 use rs_disk::{Disk, Fault};
 use rs_extent::Extent;
-use rs_fixity::digests_of;
+use rs_fixity::sha256_of;
 use rs_image::Contents;
 use rs_page::StoreFault;
 use rs_plan::Plan;
@@ -163,11 +163,9 @@ fn write_directory<D: Disk>(
     ensures faults { (D.state disk.old).faults ≤ (D.state disk.new).faults }
 {
     let bytes = directory_of(alloc, contents)?;
-    let digests = digests_of(&bytes);
-    let sha256 = digests.sha256;
     let written = Written {
         length: bytes.len() as u32,
-        sha256,
+        sha256: sha256_of(&bytes),
     };
     write_body(disk, extent, &bytes)?;
     Ok(written)

@@ -10,6 +10,8 @@ mod closing;
 #[cfg(test)]
 mod failing;
 #[cfg(test)]
+mod filling;
+#[cfg(test)]
 mod reading;
 #[cfg(test)]
 mod receiving;

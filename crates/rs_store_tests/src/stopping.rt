@@ -225,6 +225,18 @@ fn tells(rt: &(impl Abort + AllocGlobal), disk: MemoryDisk, k: u64, want: &str) 
 // read gives.
 const IMAGES: [(&[u8], u64); 5] = [(&[], 1), (&[0], 0), (&[1], 2), (&[0, 1], 0), (&[1, 0], 2)];
 
+// The choices that make images of a disk on which nothing is unsettled, of which each gives the same bytes then.
+const CHOICES: [&[u8]; 5] = [&[0], &[1], &[255], &[0, 1], &[1, 0, 255]];
+
+/// Looks whether a disk is settled: each of its images has the bytes that a read gives.
+fn is_settled(rt: &(impl Abort + AllocGlobal), disk: &MemoryDisk, k: u64) {
+    let bytes = disk.image(&[]).expect(rt, "memory for an image");
+    for choice in &CHOICES {
+        let image = disk.image(choice).expect(rt, "memory for an image");
+        assert!(rt; image == bytes, "{choice:?}, after {k} calls");
+    }
+}
+
 /// Opens each of these images of a disk, and looks at what it tells.
 fn images_tell(rt: &(impl Abort + AllocGlobal), disk: &MemoryDisk, k: u64, cut: Cut) {
     for (choice, calls) in &IMAGES {
@@ -244,6 +256,7 @@ fn fail(rt: &(impl Abort + AllocGlobal), steps: &[Step], k: u64, cut: Cut) {
     let disk = failed(rt, steps, k, cut);
     images_tell(rt, &disk, k, cut);
     let disk = tells(rt, disk, k, cut.tells(1));
+    is_settled(rt, &disk, k);
     for choice in [0, 1] {
         let _image = tells(rt, image_of(rt, &disk, &[choice]), k, cut.tells(1));
     }

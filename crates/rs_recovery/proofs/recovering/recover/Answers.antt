@@ -1,7 +1,7 @@
 use Rattle.std.proofs.Common.{ℕ, List, take, sym, subst}
 use Rattle.rs_model.specs.State.{start_of}
 use Rattle.rs_model.specs.Step.{fold_of}
-use Rattle.rs_model.proofs.RegularLemmas.{fold_regular, start_regular}
+use Rattle.rs_model.proofs.RegularLemmas.{fold_regular, fold_timely, start_regular, start_timely}
 use Rattle.rs_image.specs.Tells.{StandsFor}
 use Rattle.rs_store.specs.Counted.{counted}
 use Rattle.rs_recovery.specs.Sessions.{behind}
@@ -37,5 +37,6 @@ returns-clause-headline g c = λ base limit moment sessions are bytes honest.
       stand = found.1;
       state = returns-clause-recovers g c honest s here;
       regular = regular;
+      timely = fold_timely start (behind sessions found.0) (start_regular base limit moment) (start_timely base limit moment);
       yields = yields_held s regular;
     }

@@ -18,8 +18,8 @@ returns-clause-blank c =
     ∙ (λ i. directory_bytes h (stored_refs (sym c.empty.ensures i)) (stored_refs (sym c.empty-2.ensures i)) (stored_refs (sym c.empty-3.ensures i))) in
     let long : c.directory_size-length.result ≡ length bytes = search rules in
     let len : c.directory_size-length.result ≡ length (listing lists) = long ∙ ap length spelled in
-    let sha : c.digests_of.result.sha256 ≡ (digests (listing lists)).sha256 =
-    ap (λ (d : _). d.sha256) c.digests_of.ensures ∙ ap (λ (l : List ℕ). (digests l).sha256) (c.deref.ensures.value ∙ spelled) in
+    let sha : c.sha256_of-sha256.result ≡ (digests (listing lists)).sha256 =
+    c.sha256_of-sha256.ensures ∙ ap (λ (l : List ℕ). (digests l).sha256) (c.deref.ensures.value ∙ spelled) in
     let blocks : c.blocks_for.result ≡ blocks_of (length (listing lists)) = c.blocks_for.ensures ∙ ap blocks_of len in
     record {
       contents = made_contents c.args.base.now c.args.limit c.args.now h c.empty.result c.empty-2.result c.empty-3.result c.in_ok-header.ensures.header c.empty.ensures c.empty-2.ensures c.empty-3.ensures;

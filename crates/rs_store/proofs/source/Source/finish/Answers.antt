@@ -1,20 +1,24 @@
-use Rattle.std.proofs.Common.{arith, ◌≡◌, inl, inr, ◌≤◌, ℕ, true, List, length, refl, ◌∙◌, ap, subst, Result, Ok, Err, IsErrOf}
+use Rattle.std.proofs.Common.{arith, ◌≡◌, inl, inr, ◌≤◌, ℕ, true, List, length, refl, sym, ◌∙◌, ap, subst, Result, Ok, Err, IsErrOf}
 use Rattle.rs_disk.specs.Medium.{DiskState}
 use Rattle.rs_disk.specs.Leaves.{Runs}
 use Rattle.rs_extent.specs.declared.Extent.{Extent}
 use Rattle.rs_commit.specs.declared.root.Root.{Root}
 use Rattle.rs_commit.specs.declared.faults.CommitFault.{CommitFault}
 use Rattle.rs_commit.specs.declared.faults.CommitFault.TheVariants.{Device as Failed, Exhausted as Spent}
-use Rattle.rs_commit.specs.Slots.{other}
+use Rattle.rs_commit.specs.Slots.{Standing, other}
 use Rattle.rs_commit.specs.Commit.{next, with_root, device_in_commit}
 use Rattle.rs_image.specs.declared.contents.Contents.{Contents}
+use Rattle.rs_model.specs.declared.command.Command.{Command}
 use Rattle.rs_image.specs.Reach.{is_kept}
+use Rattle.rs_image.specs.Whole.{IsWhole}
+use Rattle.rs_image.specs.Tells.{AreListable}
 use Rattle.rs_store.specs.declared.refusal.Refusal.TheVariants.{Device, NoMemory}
 use Rattle.rs_store.specs.declared.writing.WriteFault.{WriteFault}
 use Rattle.rs_store.specs.declared.writing.Written.{Written}
 use Rattle.rs_store.specs.Source.{Stored}
+use Rattle.rs_store.specs.Inside.{IsKept}
 use Rattle.rs_store.specs.Refusals.{HasFailed}
-use Rattle.rs_plan.specs.Plans.{once_stored, planned_root, planned_listing}
+use Rattle.rs_plan.specs.Plans.{once_stored, planned_root, planned_listing, IsPlanned}
 use Rattle.rs_plan.specs.declared.plan.Plan.{Plan}
 use Rattle.rs_store.specs.Writing.{IsDigestOf, AreLists}
 use Rattle.rs_store.proofs.Answered.{Promised, stopped, broken_off, not_committed, committed}
@@ -26,11 +30,33 @@ same_root r p directory w is digest =
     ap (λ (d : Extent). next r d w.length w.sha256) is ∙ ap (λ (n : ℕ). next r p.directory n w.sha256) digest.len
     ∙ ap (λ (h : List ℕ). next r p.directory (length (planned_listing p)) h) digest.sha256
 
+kept_next : (size size' : ℕ) (slots : Standing) (root : Root) (old c : Contents) (command : Command) (moment : ℕ) (p : Plan) → size' ≡ size → 1024 ≤ size → slots.root ≡ planned_root root p
+    → c ≡ once_stored p.contents → IsPlanned size root old command moment p → IsKept size' slots c
+kept_next size size' slots root old c command moment p same room at lists planned = record {
+  room = subst (λ (n : ℕ). 1024 ≤ n) (sym same) room;
+  whole = subst (λ (n : ℕ). IsWhole n slots.root c) (sym same)
+      (subst (λ (r : Root). IsWhole size r c) (sym at) (subst (λ (l : Contents). IsWhole size (planned_root root p) l) (sym lists) planned.whole));
+  listable = subst (λ (l : Contents). AreListable l) (sym lists) planned.listable;
+}
+
 commit_failed : (old mid new : DiskState) (result : Result (Unit {0}) CommitFault) (fault : CommitFault) → result ≡ Err fault → (IsErrOf result Spent → ⊥)
     → old.faults ≤ mid.faults → Runs mid new (device_in_commit result) → HasFailed old new
 commit_failed old mid new (Ok x) fault is spare le runs = absurd cc
 commit_failed old mid new (Err Spent) fault is spare le runs = absurd (spare refl)
 commit_failed old mid new (Err Failed) fault is spare le runs = elim runs.cause [ inl more ↦ inl (omega (arith, more, le)) | inr last ↦ inr last ]
+
+pub invariant_of-self-2 : goal.invariant_of-self-2
+invariant_of-self-2 g c =
+    let device = g.D.Disk.state in
+    let o : Stored g.row.D.Denot = record { disk = c.self.inside.disk; slots = c.self.inside.slots; contents = c.self.inside.contents; is_closed = c.self.inside.is_closed } in
+    let p = c.args.plan in
+    let given = c.requires.planned in
+    let planned : IsPlanned (device o.disk).size o.slots.root o.contents given.command given.moment p =
+    subst (λ (s : Stored g.row.D.Denot). IsPlanned (device s.disk).size s.slots.root s.contents given.command given.moment p) (sym c.self.view_is) given.planned in
+    kept_next (device o.disk).size (device c.commit-committed.new.disk).size c.commit-committed.new.self o.slots.root o.contents c.write_plan.new.plan.contents given.command given.moment p
+    (c.commit-committed.ensures.runs.size ∙ c.write_plan.ensures.size) c.self.invariant.room
+    (c.in-Ok-committed.ensures.root ∙ same_root o.slots.root p c.write_plan.new.plan.directory c.in-Ok.written c.write_plan.ensures.places.1 c.in-Ok.ensures.written)
+    c.in-Ok.ensures.contents planned
 
 pub returns-in-Err-NoMemory-clause-answers : goal.returns-in-Err-NoMemory-clause-answers
 returns-in-Err-NoMemory-clause-answers g c =

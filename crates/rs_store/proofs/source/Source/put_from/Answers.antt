@@ -21,7 +21,7 @@ use Rattle.rs_store.specs.Writing.{of_plan}
 use Rattle.rs_store.specs.Answered.{Answers}
 use Rattle.rs_store.specs.Received.{IsCutShort}
 use Rattle.rs_store.proofs.Answered.{unless_err, unless_ok, at_once, unplanned, of_source}
-use Rattle.rs_store.proofs.Received.{nothing_came, refused_as, answered_whole, zeros, left_by, cut_from}
+use Rattle.rs_store.proofs.Received.{nothing_came, refused_as, answered_whole, zeros, left_by, cut_from, refused_elsewhere}
 use Rattle.rs_store.proofs.source.Source.put_from.Given as Given
 use Rattle.rs_store.proofs.source.Source.put_from.Goals as goal
 
@@ -111,6 +111,17 @@ returns-in_err-bytes-clause-came g c =
       rw (given.1, given.2) (cut_from device old old name kind n c.args.now cut.0 (g.R.Read.remaining (watched c.read_whole.new.reader)) r cut.2 short (λ body is. refused body is.len)),
     )
 
+-- the refusal is that of the reading
+pub returns-in_err-bytes-clause-failed : goal.returns-in_err-bytes-clause-failed
+returns-in_err-bytes-clause-failed g c =
+    let given = err_from_is_err_and c.from_residual-in_err-bytes.result c.from_residual-in_err-bytes.ensures.1 in
+    rw (given.1, given.2) (λ e. c.in_err-bytes.ensures.failed (refused_elsewhere c.in_err-bytes.field-0.0 ReadFault e))
+
+pub returns-in_err-bytes-clause-sound : goal.returns-in_err-bytes-clause-sound
+returns-in_err-bytes-clause-sound g c =
+    let given = err_from_is_err_and c.from_residual-in_err-bytes.result c.from_residual-in_err-bytes.ensures.1 in
+    rw (given.1, given.2) (λ other. c.in_err-bytes.ensures.sound (λ e. other (refused_elsewhere c.in_err-bytes.field-0.0 ReadFault e)))
+
 -- what was answered to the put of the bytes that came
 said : (g : Given.Over) (c : goal.After-drop-bytes g)
     → Answers g.D.Disk.state c.args.self.now c.finish.new.self (Put c.args.name.now c.args.kind.now c.in_ok-bytes.bytes.items) c.args.now c.finish.result
@@ -137,7 +148,7 @@ said g c =
 pub returns-clause-came : goal.returns-clause-came
 returns-clause-came g c = (
   c.in_ok-bytes.bytes.items,
-  c.in_ok-bytes.ensures.ok,
+  c.in_ok-bytes.ensures.ok.0,
   answered_whole g.D.Disk.state c.args.self.now c.finish.new.self c.args.name.now c.args.kind.now c.args.body_length c.args.now c.in_ok-bytes.bytes.items c.finish.result c.finish.ensures.late c.in_ok-bytes.ensures.whole (said g c),
 )
 
