@@ -1,6 +1,5 @@
 -- What the answers of the source come to.
 use Rattle.std.proofs.Common.{◌≡◌, ℕ, List, Option, Some, None, Result, Ok, Err, Vec, Global, Bool, true, false, ◌↔◌, length, refl, ap, sym, subst, ◌∙◌, if◌then◌else◌, IsErrOf, IsTrue, IfOk, OnOk, option_map}
-use Rattle.std.specs.Io.KnownBytes.{Appends}
 use Rattle.rs_disk.specs.Medium.{DiskState}
 use Rattle.rs_model.specs.Step.{is_held}
 use Rattle.rs_lists.specs.declared.doc.Doc.{Doc}
@@ -19,10 +18,10 @@ use Rattle.rs_http.specs.Gives.{IsRead, document_or_none, document_shown, Respon
 use Rattle.rs_http.proofs.Documents.{one_text}
 
 -- an outcome is answered
-pub answered : {E : Type 0} (framing : Framing) (before after : Option (List ℕ)) (comes : Outcome → Type 0) (result : Result ℕ E) (outcome : Outcome)
-    → comes outcome → IfOk result (λ status. status ≡ status_of outcome) → OnOk result (Appends before after (response_text framing outcome))
-    → Responds framing before after comes result
-answered framing before after comes result outcome c s w = record { outcome = outcome; comes_of_it = c; status = s; written = w }
+pub answered : {E : Type 0} (framing : Framing) (Written : List ℕ → Type 0) (comes : Outcome → Type 0) (result : Result ℕ E) (outcome : Outcome)
+    → comes outcome → IfOk result (λ status. status ≡ status_of outcome) → OnOk result (Written (response_text framing outcome))
+    → Responds framing Written comes result
+answered framing Written comes result outcome c s w = record { outcome = outcome; comes_of_it = c; status = s; written = w }
 
 -- the source is open where it gives what it is asked
 opened : {T : Type 0} (given : T) (closed : Bool) → IsErrOf {E = stored.Refusal} (Ok given) Closed ↔ IsTrue closed → closed ≡ false

@@ -1,13 +1,15 @@
 -- What several writes append.
 use Rattle.std.proofs.Common.{ℕ, List, ◌++◌, Option, Result, OnOk}
 use Rattle.std.proofs.lemmas.Result.{on_ok_weaker}
-use Rattle.std.proofs.KnownBytes.{Appends-trans}
-use Rattle.std.specs.Io.KnownBytes.{Appends}
+use Rattle.rs_io.specs.declared.watch.Watched.{Watched}
+use Rattle.rs_io.specs.Watch.{Wrote}
+use Rattle.rs_io.proofs.Growth.{wrote_then}
 
-pub two : {T E : Type 0} (last : Result T E) (w x y : Option (List ℕ)) (a b : List ℕ)
-    → Appends w x a → OnOk last (Appends x y b) → OnOk last (Appends w y (a ++ b))
-two last w x y a b h k = on_ok_weaker last (λ l. Appends-trans w x y a b h l) k
+module _ {W T E : Type 0} (contents : W → Option (List ℕ)) (last : Result T E) where
+  pub two : (w x y : Watched W) (a b : List ℕ) → Wrote contents w x a → OnOk last (Wrote contents x y b) → OnOk last (Wrote contents w y (a ++ b))
+  two w x y a b h k =
+      on_ok_weaker last (λ (l : Wrote contents x y b). wrote_then contents w x y a b h l) k
 
-pub three : {T E : Type 0} (last : Result T E) (w x y z : Option (List ℕ)) (a b c : List ℕ)
-    → Appends w x a → Appends x y b → OnOk last (Appends y z c) → OnOk last (Appends w z (a ++ (b ++ c)))
-three last w x y z a b c h k l = two last w x z a (b ++ c) h (two last x y z b c k l)
+  pub three : (w x y z : Watched W) (a b c : List ℕ) → Wrote contents w x a → Wrote contents x y b → OnOk last (Wrote contents y z c)
+      → OnOk last (Wrote contents w z (a ++ (b ++ c)))
+  three w x y z a b c h k l = two w x z a (b ++ c) h (two x y z b c k l)

@@ -7,6 +7,8 @@ use Rattle.httpdate.specs.Date.{unix_secs}
 use Rattle.httpdate.specs.declared.date.HttpDate.{HttpDate}
 use Rattle.rs_disk.specs.Medium.{DiskState}
 use Rattle.rs_io.specs.declared.fault.WriteFault.{WriteFault}
+use Rattle.rs_io.specs.declared.watch.Watched.{Watched}
+use Rattle.rs_io.specs.Watch.{watched, Wrote}
 use Rattle.rs_store.specs.Source.{Stored}
 use Rattle.rs_http.specs.declared.fault.FrontFault.{FrontFault}
 use Rattle.rs_http.specs.declared.fault.FrontFault.TheVariants.{Read, Write}
@@ -24,23 +26,23 @@ use Rattle.rs_http.specs.Gives.{Gives, Responds}
 use Rattle.rs_http.specs.Serving.{PlanEnds, RequestEnds, preface_of, Reads, Serves, Breaks, Halts}
 
 -- an answer that was sent ends a plan, for which these bytes were read
-pub sent_ends : {D : Type 0} (device : D → DiskState) (old new : Stored D) (now : ℕ) (plan asked : Result Plan NoPlan) (framing : Framing)
-    (left rest before after : Option (List ℕ)) (more : List ℕ) (comes : Outcome → Type 0) (result : Result ℕ WriteFault) (out : Result ℕ FrontFault)
-    → Consumes left rest more → plan ≡ asked → MatchResult result (λ status. out ≡ Ok status) (λ _. out ≡ Err Write) → Responds framing before after comes result
-    → ((outcome : Outcome) → comes outcome → Gives device old now asked more rest outcome new) → PlanEnds device old now plan framing left rest before after new out
-sent_ends device old new now plan asked framing left rest before after more comes (Ok status) out came same e r gives =
-    subst (λ o. PlanEnds device old now plan framing left rest before after new o) (sym e) (
+pub sent_ends : {D W : Type 0} (device : D → DiskState) (old new : Stored D) (now : ℕ) (plan asked : Result Plan NoPlan) (framing : Framing)
+    (left rest : Option (List ℕ)) (contents : W → Option (List ℕ)) (before after : Watched W) (more : List ℕ) (comes : Outcome → Type 0) (result : Result ℕ WriteFault) (out : Result ℕ FrontFault)
+    → Consumes left rest more → plan ≡ asked → MatchResult result (λ status. out ≡ Ok status) (λ _. out ≡ Err Write) → Responds framing (Wrote contents before after) comes result
+    → ((outcome : Outcome) → comes outcome → Gives device old now asked more rest outcome new) → PlanEnds device old now plan framing left rest (contents (watched before)) (contents (watched after)) new out
+sent_ends device old new now plan asked framing left rest contents before after more comes (Ok status) out came same e r gives =
+    subst (λ o. PlanEnds device old now plan framing left rest (contents (watched before)) (contents (watched after)) new o) (sym e) (
       more,
       came,
       record {
         outcome = r.outcome;
         comes_of_it = subst (λ p. Gives device old now p more rest r.outcome new) (sym same) (gives r.outcome r.comes_of_it);
         status = r.status;
-        written = r.written;
+        written = r.written.0;
       },
     )
-sent_ends device old new now plan asked framing left rest before after more comes (Err fault) out came same e r gives =
-    subst (λ o. PlanEnds device old now plan framing left rest before after new o) (sym e) (
+sent_ends device old new now plan asked framing left rest contents before after more comes (Err fault) out came same e r gives =
+    subst (λ o. PlanEnds device old now plan framing left rest (contents (watched before)) (contents (watched after)) new o) (sym e) (
       more,
       came,
       record {

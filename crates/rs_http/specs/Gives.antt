@@ -1,7 +1,7 @@
 -- What may come of a request that is asked of a stored source.
 use Rattle.std.specs.Prelude.{◌≡◌, ℕ, if◌then◌else◌, List, [], codes, Option, Some, None, Result, Ok, Err, Vec, IfOk, OnOk, IsErrOf}
 use Rattle.std.specs.Global.{Global}
-use Rattle.std.specs.Io.KnownBytes.{Appends, IsAtEnd}
+use Rattle.std.specs.Io.KnownBytes.{IsAtEnd}
 use Rattle.rs_disk.specs.Medium.{DiskState}
 use Rattle.rs_model.specs.State.{Source}
 use Rattle.rs_model.specs.declared.command.Command.{Command}
@@ -85,8 +85,8 @@ Gives device old now (Ok plan) more rest outcome new = PlanGives device old now 
 Gives device old now (Err reason) more rest outcome new = (more ≡ []) × (outcome ≡ unplanned reason) × (new ≡ old)
 
 -- An outcome of which this holds is answered: its status is given, and its response is written, unless the writer fails.
-pub record Responds {E : Type 0} (framing : Framing) (before after : Option (List ℕ)) (comes : Outcome → Type 0) (result : Result ℕ E) : Type 0 where
+pub record Responds {E : Type 0} (framing : Framing) (Written : List ℕ → Type 0) (comes : Outcome → Type 0) (result : Result ℕ E) : Type 0 where
   pub outcome : Outcome
   pub comes_of_it : comes outcome
   pub status : IfOk result (λ status. status ≡ status_of outcome)
-  pub written : OnOk result (Appends before after (response_text framing outcome))
+  pub written : OnOk result (Written (response_text framing outcome))

@@ -39,7 +39,7 @@ abbrev pub PlanEnds : {D : Type 0} → (D → DiskState) → Stored D → ℕ �
 PlanEnds device old now plan framing left rest before after new (Err Read) =
     (after ≡ before) × (more : List ℕ) × Consumes left rest more × IsBroken device old now plan more new
 PlanEnds device old now plan framing left rest before after new result =
-    (more : List ℕ) × Consumes left rest more × Responds framing before after (λ outcome. Gives device old now plan more rest outcome new) result
+    (more : List ℕ) × Consumes left rest more × Responds framing (Appends before after) (λ outcome. Gives device old now plan more rest outcome new) result
 
 -- What came of a request is answered: the status is given, and after what went out before, its response is written.
 pub record IsAnswered {D : Type 0} (device : D → DiskState) (old : Stored D) (now : ℕ) (request : Request) (more : List ℕ) (rest : Option (List ℕ)) (output : List ℕ) (status : ℕ) (new : Stored D) : Type 0 where

@@ -1,9 +1,9 @@
 //! The answer to a request that was read.
 
-ghost use Rattle.std.specs.Prelude.{◌≡◌, ◌/◌, Bool, Ok, Err, IfOk, OnOk, OnErr, IsErrOf, IsTrue, MatchResult};
-ghost use Rattle.std.specs.Io.KnownBytes.{Appends, Keeps};
+ghost use Rattle.std.specs.Prelude.{◌≡◌, ◌/◌, Bool, Ok, Err, IfOk, OnOk, OnErr, IsErrOf, MatchResult};
+ghost use Rattle.std.specs.Io.KnownBytes.{Keeps};
 ghost use Rattle.httpdate.specs.Date.{unix_secs};
-ghost use Rattle.rs_io.specs.Watch.{watched, has_failed};
+ghost use Rattle.rs_io.specs.Watch.{watched, failures, EndFailed, Wrote};
 ghost use Rattle.rs_http.specs.Serving.{PlanEnds, RequestEnds, preface_of};
 ghost use Rattle.rs_http.specs.Responses.{go_on, response_text, status_of};
 ghost use Rattle.rs_http.specs.Gives.{unplanned};
@@ -38,8 +38,8 @@ fn write_unplanned<W: Write>(
     reason: NoPlan,
 ) -> Result<u16, WriteFault>
     ensures status { IfOk result (λ status. status ≡ status_of (unplanned reason)) }
-    ensures ok { OnOk result (Appends (W.contents (watched writer.old)) (W.contents (watched writer.new)) (response_text framing (unplanned reason))) }
-    ensures failed { OnErr result (IsTrue (has_failed writer.new)) }
+    ensures ok { OnOk result (Wrote W.contents writer.old writer.new (response_text framing (unplanned reason))) }
+    ensures failed { OnErr result (EndFailed writer.old writer.new) }
 {
     match reason {
         NoPlan::Refused(fault) => write_fault(writer, framing, fault),
@@ -60,8 +60,9 @@ fn put<D: Disk, R: Read, W: Write>(
 ) -> Result<u16, FrontFault>
     ensures ends { (waits : Bool) → PlanEnds D.state source.old now (Ok (Plan.Put name.now kind.now body_length waits)) framing
         (R.remaining (watched reader.old)) (R.remaining (watched reader.new)) (W.contents (watched writer.old)) (W.contents (watched writer.new)) source.new result }
-    ensures read { IsErrOf result FrontFault.Read → IsTrue (has_failed reader.new) }
-    ensures write { IsErrOf result FrontFault.Write → IsTrue (has_failed writer.new) }
+    ensures sound { OnOk result ((failures reader.new ≡ failures reader.old) × (failures writer.new ≡ failures writer.old)) }
+    ensures read { IsErrOf result FrontFault.Read → EndFailed reader.old reader.new × (failures writer.new ≡ failures writer.old) }
+    ensures write { IsErrOf result FrontFault.Write → EndFailed writer.old writer.new × (failures reader.new ≡ failures reader.old) }
 {
     match source.put_from(name, kind, reader, body_length, now) {
         Ok(reply) => sent(write_reply(writer, framing, reply)),
@@ -83,8 +84,9 @@ fn respond<D: Disk, R: Read, W: Write>(
 ) -> Result<u16, FrontFault>
     ensures ends { PlanEnds D.state source.old now plan framing
         (R.remaining (watched reader.old)) (R.remaining (watched reader.new)) (W.contents (watched writer.old)) (W.contents (watched writer.new)) source.new result }
-    ensures read { IsErrOf result FrontFault.Read → IsTrue (has_failed reader.new) }
-    ensures write { IsErrOf result FrontFault.Write → IsTrue (has_failed writer.new) }
+    ensures sound { OnOk result ((failures reader.new ≡ failures reader.old) × (failures writer.new ≡ failures writer.old)) }
+    ensures read { IsErrOf result FrontFault.Read → EndFailed reader.old reader.new × (failures writer.new ≡ failures writer.old) }
+    ensures write { IsErrOf result FrontFault.Write → EndFailed writer.old writer.new × (failures reader.new ≡ failures reader.old) }
 {
     match plan {
         Err(reason) => sent(write_unplanned(writer, framing, reason)),
@@ -108,8 +110,8 @@ fn write_preface<W: Write>(
     writer: &mut Watched<W>,
     plan: &Result<Plan, NoPlan>,
 ) -> Result<(), WriteFault>
-    ensures ok { OnOk result (Appends (W.contents (watched writer.old)) (W.contents (watched writer.new)) (preface_of plan.now)) }
-    ensures failed { OnErr result (IsTrue (has_failed writer.new) × (preface_of plan.now ≡ go_on)) }
+    ensures ok { OnOk result (Wrote W.contents writer.old writer.new (preface_of plan.now)) }
+    ensures failed { OnErr result (EndFailed writer.old writer.new × (preface_of plan.now ≡ go_on)) }
 {
     match plan {
         Ok(Plan::Put { waits: true, .. }) => {
@@ -134,7 +136,8 @@ fn date_of(now: Moment) -> HttpDate
 fn finish<W: Write>(writer: &mut Watched<W>, status: u16) -> Result<u16, FrontFault>
     ensures value { MatchResult result (λ given. given ≡ status) (λ fault. fault ≡ FrontFault.Write) }
     ensures bytes { Keeps (W.contents (watched writer.old)) (W.contents (watched writer.new)) }
-    ensures failed { OnErr result (IsTrue (has_failed writer.new)) }
+    ensures sound { OnOk result (failures writer.new ≡ failures writer.old) }
+    ensures failed { OnErr result (EndFailed writer.old writer.new) }
 {
     match writer.flush() {
         Ok(()) => Ok(status),
@@ -146,8 +149,8 @@ fn finish<W: Write>(writer: &mut Watched<W>, status: u16) -> Result<u16, FrontFa
 ///
 /// # Errors
 ///
-/// - [`FrontFault::Read`] where the reader failed in the body of a put. It is not done then.
-/// - [`FrontFault::Write`] where the writer failed. What was done stands.
+/// - [`FrontFault::Read`] where a read of the body of a put failed. It is not done then.
+/// - [`FrontFault::Write`] where a call of the writer failed. What was done stands.
 pub(crate) fn answer<D: Disk, R: Read, W: Write>(
     source: &mut Source<D>,
     reader: &mut Watched<R>,
@@ -157,8 +160,9 @@ pub(crate) fn answer<D: Disk, R: Read, W: Write>(
 ) -> Result<u16, FrontFault>
     ensures ends { RequestEnds D.state source.old now request
         (R.remaining (watched reader.old)) (R.remaining (watched reader.new)) (W.contents (watched writer.old)) (W.contents (watched writer.new)) source.new result }
-    ensures read { IsErrOf result FrontFault.Read → IsTrue (has_failed reader.new) }
-    ensures write { IsErrOf result FrontFault.Write → IsTrue (has_failed writer.new) }
+    ensures sound { OnOk result ((failures reader.new ≡ failures reader.old) × (failures writer.new ≡ failures writer.old)) }
+    ensures read { IsErrOf result FrontFault.Read → EndFailed reader.old reader.new × (failures writer.new ≡ failures writer.old) }
+    ensures write { IsErrOf result FrontFault.Write → EndFailed writer.old writer.new × (failures reader.new ≡ failures reader.old) }
 {
     let framing = Framing {
         date: date_of(now),

@@ -1,8 +1,7 @@
 //! Asking the source, and writing its answer.
 
-ghost use Rattle.std.specs.Prelude.{◌≡◌, Some, IfOk, OnErr, IsTrue, option_map, length, ℕ, List, OnOk, codes};
-ghost use Rattle.std.specs.Io.KnownBytes.{Appends};
-ghost use Rattle.rs_io.specs.Watch.{watched, has_failed};
+ghost use Rattle.std.specs.Prelude.{◌≡◌, Some, IfOk, OnErr, option_map, length, ℕ, List, OnOk, codes};
+ghost use Rattle.rs_io.specs.Watch.{EndFailed, Wrote};
 ghost use Rattle.rs_model.specs.declared.command.Command.TheVariants.{Delete, Publish};
 ghost use Rattle.rs_caps.specs.DocumentTexts.{document_text};
 ghost use Rattle.rs_http.specs.Responses.{shown, response_text};
@@ -28,9 +27,9 @@ pub(crate) fn delete<D: Disk, W: Write>(
     writer: &mut Watched<W>,
     framing: Framing,
 ) -> Result<u16, WriteFault>
-    ensures answered { Responds framing (W.contents (watched writer.old)) (W.contents (watched writer.new))
+    ensures answered { Responds framing (Wrote W.contents writer.old writer.new)
         (IsRun D.state source.old source.new (Delete name.now) now) result }
-    ensures failed { OnErr result (IsTrue (has_failed writer.new)) }
+    ensures failed { OnErr result (EndFailed writer.old writer.new) }
 {
     match source.delete(name, now) {
         Ok(reply) => write_reply(writer, framing, reply),
@@ -45,9 +44,9 @@ pub(crate) fn publish<D: Disk, W: Write>(
     writer: &mut Watched<W>,
     framing: Framing,
 ) -> Result<u16, WriteFault>
-    ensures answered { Responds framing (W.contents (watched writer.old)) (W.contents (watched writer.new))
+    ensures answered { Responds framing (Wrote W.contents writer.old writer.new)
         (IsRun D.state source.old source.new Publish now) result }
-    ensures failed { OnErr result (IsTrue (has_failed writer.new)) }
+    ensures failed { OnErr result (EndFailed writer.old writer.new) }
 {
     match source.publish(now) {
         Ok(reply) => write_reply(writer, framing, reply),
@@ -62,9 +61,9 @@ pub(crate) fn show_body<D: Disk, W: Write>(
     writer: &mut Watched<W>,
     framing: Framing,
 ) -> Result<u16, WriteFault>
-    ensures answered { Responds framing (W.contents (watched writer.old)) (W.contents (watched writer.new))
+    ensures answered { Responds framing (Wrote W.contents writer.old writer.new)
         (IsRead D.state source.old source.new name.now) result }
-    ensures failed { OnErr result (IsTrue (has_failed writer.new)) }
+    ensures failed { OnErr result (EndFailed writer.old writer.new) }
 {
     let bytes = match source.body(name) {
         Ok(bytes) => bytes,
@@ -87,8 +86,8 @@ fn write_shown_document<V: View, W: Write>(
     requires { option_map length (document_text (V.shown view.now) doc) ≡ Some count }
     ensures status { IfOk result (λ status. status ≡ 200) }
     ensures ok { OnOk result ((text : List ℕ) × (document_text (V.shown view.now) doc ≡ Some text)
-        × Appends (W.contents (watched writer.old)) (W.contents (watched writer.new)) (response_text framing (shown (codes "application/xml") text))) }
-    ensures failed { OnErr result (IsTrue (has_failed writer.new)) }
+        × Wrote W.contents writer.old writer.new (response_text framing (shown (codes "application/xml") text))) }
+    ensures failed { OnErr result (EndFailed writer.old writer.new) }
 {
     write_document_head(writer, framing, count)?;
     if framing.is_head {
@@ -108,9 +107,9 @@ pub(crate) fn show_document<D: Disk, W: Write>(
     writer: &mut Watched<W>,
     framing: Framing,
 ) -> Result<u16, WriteFault>
-    ensures answered { Responds framing (W.contents (watched writer.old)) (W.contents (watched writer.new))
+    ensures answered { Responds framing (Wrote W.contents writer.old writer.new)
         (λ outcome. outcome ≡ document_shown D.state source.now doc) result }
-    ensures failed { OnErr result (IsTrue (has_failed writer.new)) }
+    ensures failed { OnErr result (EndFailed writer.old writer.new) }
 {
     let view = match source.view() {
         Ok(view) => view,

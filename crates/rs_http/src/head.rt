@@ -1,8 +1,8 @@
 //! The head of a request, as it comes.
 
-ghost use Rattle.std.specs.Prelude.{◌≡◌, ℕ, List, ◌<◌, ◌≤◌, length, take, IfOk, OnErr, IsTrue, IfNone, option_to_list};
+ghost use Rattle.std.specs.Prelude.{◌≡◌, ℕ, List, ◌<◌, ◌≤◌, length, take, IfOk, OnErr, IfNone, option_to_list};
 ghost use Rattle.std.specs.Io.KnownBytes.{Consumes, Keeps, IsAtEnd};
-ghost use Rattle.rs_io.specs.Watch.{watched, has_failed};
+ghost use Rattle.rs_io.specs.Watch.{watched, EndFailed, Took};
 ghost use Rattle.rs_http.specs.Head.{ends_head, HasNoEnd, HeadIs};
 
 use rs_io::{ReadFault, Watched};
@@ -37,12 +37,12 @@ fn is_end(bytes: &[u8]) -> bool
 ///
 /// # Errors
 ///
-/// [`ReadFault`] where the reader failed.
+/// [`ReadFault`] where the read failed.
 pub(crate) fn read_byte<R: Read>(reader: &mut Watched<R>) -> Result<Option<u8>, ReadFault>
-    ensures ok { IfOk result (λ byte. Consumes (R.remaining (watched reader.old)) (R.remaining (watched reader.new)) (option_to_list byte)) }
+    ensures ok { IfOk result (λ byte. Took R.remaining reader.old reader.new (option_to_list byte)) }
     ensures end { IfOk result (λ byte. IfNone byte (IsAtEnd (R.remaining (watched reader.new)))) }
     ensures err { OnErr result (Keeps (R.remaining (watched reader.old)) (R.remaining (watched reader.new))) }
-    ensures failed { OnErr result (IsTrue (has_failed reader.new)) }
+    ensures failed { OnErr result (EndFailed reader.old reader.new) }
 {
     let mut byte = [0u8; 1];
     let count = reader.read(&mut byte)?;
@@ -56,19 +56,19 @@ pub(crate) fn read_byte<R: Read>(reader: &mut Watched<R>) -> Result<Option<u8>, 
 ///
 /// # Errors
 ///
-/// [`ReadFault`] where the reader failed. The head had not ended then.
+/// [`ReadFault`] where a read failed. The head had not ended then.
 pub(crate) fn read_head<R: Read>(
     reader: &mut Watched<R>,
     buf: &mut [u8],
 ) -> Result<(HeadRead, usize), ReadFault>
     requires { length buf.old ≡ 8192 }
     ensures ok { IfOk result (λ r. (r.1 ≤ 8192)
-        × Consumes (R.remaining (watched reader.old)) (R.remaining (watched reader.new)) (take r.1 buf.new)
+        × Took R.remaining reader.old reader.new (take r.1 buf.new)
         × HeadIs (take r.1 buf.new) r.0) }
     ensures end { IfOk result (λ r. r.0 ≡ HeadRead.Ended → IsAtEnd (R.remaining (watched reader.new))) }
     ensures err { OnErr result ((bytes : List ℕ)
         × Consumes (R.remaining (watched reader.old)) (R.remaining (watched reader.new)) bytes × HasNoEnd bytes) }
-    ensures failed { OnErr result (IsTrue (has_failed reader.new)) }
+    ensures failed { OnErr result (EndFailed reader.old reader.new) }
 {
     for came in 0..buf.len() {
         let Some(byte) = read_byte(reader)? else {

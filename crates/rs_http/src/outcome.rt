@@ -1,9 +1,8 @@
 //! The responses to what came of requests.
 
-ghost use Rattle.std.specs.Prelude.{◌≡◌, ◌≤◌, length, IfOk, OnOk, OnErr, IsTrue};
+ghost use Rattle.std.specs.Prelude.{◌≡◌, ◌≤◌, length, IfOk, OnOk, OnErr};
 ghost use Rattle.std.specs.Fmt.{decimal};
-ghost use Rattle.std.specs.Io.KnownBytes.{Appends};
-ghost use Rattle.rs_io.specs.Watch.{watched, has_failed};
+ghost use Rattle.rs_io.specs.Watch.{EndFailed, Wrote};
 ghost use Rattle.rs_http.specs.Responses.{fault_status as status_of_fault, fault_text as text_of_fault, refusal_status as status_of_refusal, refusal_text as text_of_refusal, allow_of, published_text, content_lines, sent_body, framed, response_text, status_of, plain};
 ghost use Rattle.rs_http.specs.Responses.{faulted, replied, shown, refused};
 
@@ -115,8 +114,8 @@ pub(crate) fn write_fault<W: Write>(
     fault: RequestFault,
 ) -> Result<u16, WriteFault>
     ensures status { IfOk result (λ status. status ≡ status_of (faulted fault)) }
-    ensures ok { OnOk result (Appends (W.contents (watched writer.old)) (W.contents (watched writer.new)) (response_text framing (faulted fault))) }
-    ensures failed { OnErr result (IsTrue (has_failed writer.new)) }
+    ensures ok { OnOk result (Wrote W.contents writer.old writer.new (response_text framing (faulted fault))) }
+    ensures failed { OnErr result (EndFailed writer.old writer.new) }
 {
     let status = fault_status(fault);
     let allow = allow_text(fault);
@@ -139,8 +138,8 @@ pub(crate) fn write_refusal<W: Write>(
     refusal: Refusal,
 ) -> Result<u16, WriteFault>
     ensures status { IfOk result (λ status. status ≡ status_of (refused refusal)) }
-    ensures ok { OnOk result (Appends (W.contents (watched writer.old)) (W.contents (watched writer.new)) (response_text framing (refused refusal))) }
-    ensures failed { OnErr result (IsTrue (has_failed writer.new)) }
+    ensures ok { OnOk result (Wrote W.contents writer.old writer.new (response_text framing (refused refusal))) }
+    ensures failed { OnErr result (EndFailed writer.old writer.new) }
 {
     let status = refusal_status(refusal);
     let text = refusal_text(refusal);
@@ -156,8 +155,8 @@ pub(crate) fn write_shown<W: Write>(
     bytes: &[u8],
 ) -> Result<u16, WriteFault>
     ensures status { IfOk result (λ status. status ≡ status_of (shown kind.now bytes.now)) }
-    ensures ok { OnOk result (Appends (W.contents (watched writer.old)) (W.contents (watched writer.new)) (response_text framing (shown kind.now bytes.now))) }
-    ensures failed { OnErr result (IsTrue (has_failed writer.new)) }
+    ensures ok { OnOk result (Wrote W.contents writer.old writer.new (response_text framing (shown kind.now bytes.now))) }
+    ensures failed { OnErr result (EndFailed writer.old writer.new) }
 {
     write_text(writer, framing, 200, "", kind, bytes)?;
     Ok(200)
@@ -181,8 +180,8 @@ fn write_publication<W: Write>(
     number: u64,
     moment: Moment,
 ) -> Result<(), WriteFault>
-    ensures ok { OnOk result (Appends (W.contents (watched writer.old)) (W.contents (watched writer.new)) (sent_body framing (published_text number moment))) }
-    ensures failed { OnErr result (IsTrue (has_failed writer.new)) }
+    ensures ok { OnOk result (Wrote W.contents writer.old writer.new (sent_body framing (published_text number moment))) }
+    ensures failed { OnErr result (EndFailed writer.old writer.new) }
 {
     if framing.is_head {
         return writer.put(b"");
@@ -199,9 +198,9 @@ fn write_published<W: Write>(
     number: u64,
     moment: Moment,
 ) -> Result<(), WriteFault>
-    ensures ok { OnOk result (Appends (W.contents (watched writer.old)) (W.contents (watched writer.new))
+    ensures ok { OnOk result (Wrote W.contents writer.old writer.new
         (framed framing 200 (content_lines plain (length (published_text number moment))) (published_text number moment))) }
-    ensures failed { OnErr result (IsTrue (has_failed writer.new)) }
+    ensures failed { OnErr result (EndFailed writer.old writer.new) }
 {
     let length = count_digits(number) + 36;
     write_first(writer, 200, &framing.date)?;
@@ -216,8 +215,8 @@ pub(crate) fn write_reply<W: Write>(
     reply: Reply,
 ) -> Result<u16, WriteFault>
     ensures status { IfOk result (λ status. status ≡ status_of (replied reply)) }
-    ensures ok { OnOk result (Appends (W.contents (watched writer.old)) (W.contents (watched writer.new)) (response_text framing (replied reply))) }
-    ensures failed { OnErr result (IsTrue (has_failed writer.new)) }
+    ensures ok { OnOk result (Wrote W.contents writer.old writer.new (response_text framing (replied reply))) }
+    ensures failed { OnErr result (EndFailed writer.old writer.new) }
 {
     match reply {
         Reply::Created(_) => {

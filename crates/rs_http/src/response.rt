@@ -1,9 +1,8 @@
 //! The text of a response, piece by piece.
 
-ghost use Rattle.std.specs.Prelude.{◌≡◌, ◌++◌, [], length, codes, OnOk, OnErr, IsTrue};
-ghost use Rattle.std.specs.Io.KnownBytes.{Appends};
+ghost use Rattle.std.specs.Prelude.{◌≡◌, ◌++◌, [], length, codes, OnOk, OnErr};
 ghost use Rattle.httpdate.specs.Date.{date_text};
-ghost use Rattle.rs_io.specs.Watch.{watched, has_failed};
+ghost use Rattle.rs_io.specs.Watch.{EndFailed, Wrote};
 ghost use Rattle.rs_http.specs.Responses.{reason_of as reason_text, content_lines, first_lines, sent_body, framed};
 
 use httpdate::HttpDate;
@@ -47,8 +46,8 @@ pub(crate) fn write_first<W: Write>(
     status: u16,
     date: &HttpDate,
 ) -> Result<(), WriteFault>
-    ensures ok { OnOk result (Appends (W.contents (watched writer.old)) (W.contents (watched writer.new)) (first_lines status (date_text date.now))) }
-    ensures failed { OnErr result (IsTrue (has_failed writer.new)) }
+    ensures ok { OnOk result (Wrote W.contents writer.old writer.new (first_lines status (date_text date.now))) }
+    ensures failed { OnErr result (EndFailed writer.old writer.new) }
 {
     let reason = reason_of(status);
     writer.put_text(format_args!(
@@ -62,8 +61,8 @@ pub(crate) fn write_content<W: Write>(
     kind: &[u8],
     length: u64,
 ) -> Result<(), WriteFault>
-    ensures ok { OnOk result (Appends (W.contents (watched writer.old)) (W.contents (watched writer.new)) (content_lines kind.now length)) }
-    ensures failed { OnErr result (IsTrue (has_failed writer.new)) }
+    ensures ok { OnOk result (Wrote W.contents writer.old writer.new (content_lines kind.now length)) }
+    ensures failed { OnErr result (EndFailed writer.old writer.new) }
 {
     writer.put(b"Content-Type: ")?;
     writer.put(kind)?;
@@ -77,8 +76,8 @@ fn write_lines<W: Write>(
     kind: &[u8],
     length: u64,
 ) -> Result<(), WriteFault>
-    ensures ok { OnOk result (Appends (W.contents (watched writer.old)) (W.contents (watched writer.new)) (allow.now ++ content_lines kind.now length)) }
-    ensures failed { OnErr result (IsTrue (has_failed writer.new)) }
+    ensures ok { OnOk result (Wrote W.contents writer.old writer.new (allow.now ++ content_lines kind.now length)) }
+    ensures failed { OnErr result (EndFailed writer.old writer.new) }
 {
     writer.put(allow.as_bytes())?;
     write_content(writer, kind, length)
@@ -90,8 +89,8 @@ fn write_body<W: Write>(
     framing: Framing,
     body: &[u8],
 ) -> Result<(), WriteFault>
-    ensures ok { OnOk result (Appends (W.contents (watched writer.old)) (W.contents (watched writer.new)) (sent_body framing body.now)) }
-    ensures failed { OnErr result (IsTrue (has_failed writer.new)) }
+    ensures ok { OnOk result (Wrote W.contents writer.old writer.new (sent_body framing body.now)) }
+    ensures failed { OnErr result (EndFailed writer.old writer.new) }
 {
     if framing.is_head {
         return writer.put(b"");
@@ -108,9 +107,9 @@ pub(crate) fn write_text<W: Write>(
     kind: &[u8],
     body: &[u8],
 ) -> Result<(), WriteFault>
-    ensures ok { OnOk result (Appends (W.contents (watched writer.old)) (W.contents (watched writer.new))
+    ensures ok { OnOk result (Wrote W.contents writer.old writer.new
         (framed framing status (allow.now ++ content_lines kind.now (length body.now)) body.now)) }
-    ensures failed { OnErr result (IsTrue (has_failed writer.new)) }
+    ensures failed { OnErr result (EndFailed writer.old writer.new) }
 {
     write_first(writer, status, &framing.date)?;
     write_lines(writer, allow, kind, body.len() as u64)?;
@@ -124,8 +123,8 @@ pub(crate) fn write_bare<W: Write>(
     status: u16,
     lines: &[u8],
 ) -> Result<(), WriteFault>
-    ensures ok { OnOk result (Appends (W.contents (watched writer.old)) (W.contents (watched writer.new)) (framed framing status lines.now [])) }
-    ensures failed { OnErr result (IsTrue (has_failed writer.new)) }
+    ensures ok { OnOk result (Wrote W.contents writer.old writer.new (framed framing status lines.now [])) }
+    ensures failed { OnErr result (EndFailed writer.old writer.new) }
 {
     write_first(writer, status, &framing.date)?;
     writer.put(lines)?;
@@ -138,9 +137,9 @@ pub(crate) fn write_document_head<W: Write>(
     framing: Framing,
     length: u64,
 ) -> Result<(), WriteFault>
-    ensures ok { OnOk result (Appends (W.contents (watched writer.old)) (W.contents (watched writer.new))
+    ensures ok { OnOk result (Wrote W.contents writer.old writer.new
         (first_lines 200 (date_text framing.date) ++ content_lines (codes "application/xml") length)) }
-    ensures failed { OnErr result (IsTrue (has_failed writer.new)) }
+    ensures failed { OnErr result (EndFailed writer.old writer.new) }
 {
     write_first(writer, 200, &framing.date)?;
     write_content(writer, b"application/xml", length)

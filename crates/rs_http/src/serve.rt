@@ -1,8 +1,8 @@
 //! One request to a source.
 
-ghost use Rattle.std.specs.Prelude.{◌≡◌, ℕ, List, IfOk, IsErrOf, IsTrue};
-ghost use Rattle.std.specs.Io.KnownBytes.{Consumes, Appends};
-ghost use Rattle.rs_io.specs.Watch.{watched, has_failed};
+ghost use Rattle.std.specs.Prelude.{◌≡◌, ℕ, List, IfOk, IsErrOf};
+ghost use Rattle.std.specs.Io.KnownBytes.{Consumes};
+ghost use Rattle.rs_io.specs.Watch.{watched, EndFailed, Took, Wrote};
 ghost use Rattle.rs_http.specs.Held.{GoesOnOnce};
 ghost use Rattle.rs_http.specs.Serving.{Serves, Breaks, Halts};
 
@@ -34,8 +34,8 @@ pub enum Served {
 ///
 /// # Errors
 ///
-/// - [`FrontFault::Read`] where the reader failed: nothing is done, and no more than the word to go on is written.
-/// - [`FrontFault::Write`] where the writer failed. Where it was the word to go on that was not written, nothing is
+/// - [`FrontFault::Read`] where a read failed in this call: nothing is done, and no more than the word to go on is written.
+/// - [`FrontFault::Write`] where a call of the writer failed in this one. Where it was the word to go on that was not written, nothing is
 ///   done; else a command that was accepted stands.
 pub fn serve_one<D: Disk, R: Read, W: Write>(
     alloc: Global,
@@ -46,19 +46,19 @@ pub fn serve_one<D: Disk, R: Read, W: Write>(
 ) -> Result<Served, FrontFault>
     // What is written is the response to what was read.
     ensures ok { IfOk result (λ served. (input : List ℕ) × (output : List ℕ)
-        × Consumes (R.remaining (watched reader.old)) (R.remaining (watched reader.new)) input
-        × Appends (W.contents (watched writer.old)) (W.contents (watched writer.new)) output
+        × Took R.remaining reader.old reader.new input
+        × Wrote W.contents writer.old writer.new output
         × Serves D.state source.old now (R.remaining (watched reader.old)) input (R.remaining (watched reader.new)) output served source.new) }
 
-    // The reader failed within what was read.
-    ensures read { IsErrOf result FrontFault.Read → IsTrue (has_failed reader.new) × (input : List ℕ) × (output : List ℕ)
+    // A read failed within what was read, and the writer did not.
+    ensures read { IsErrOf result FrontFault.Read → EndFailed reader.old reader.new × (input : List ℕ) × (output : List ℕ)
         × Consumes (R.remaining (watched reader.old)) (R.remaining (watched reader.new)) input
-        × Appends (W.contents (watched writer.old)) (W.contents (watched writer.new)) output
+        × Wrote W.contents writer.old writer.new output
         × Breaks D.state source.old now (R.remaining (watched reader.old)) input (R.remaining (watched reader.new)) output source.new }
 
-    // The writer failed, and what was done stands.
-    ensures write { IsErrOf result FrontFault.Write → IsTrue (has_failed writer.new) × (input : List ℕ)
-        × Consumes (R.remaining (watched reader.old)) (R.remaining (watched reader.new)) input
+    // A call of the writer failed, and none of the reader; what was done stands.
+    ensures write { IsErrOf result FrontFault.Write → EndFailed writer.old writer.new × (input : List ℕ)
+        × Took R.remaining reader.old reader.new input
         × Halts D.state source.old now (R.remaining (watched reader.old)) input (R.remaining (watched reader.new)) source.new }
 
     // Whatever the result is, a state that was held has become what one command at most makes of it, while the source is open.

@@ -1,13 +1,16 @@
 -- One more run of bytes, one more line.
-use Rattle.std.proofs.Common.{◌≡◌, ◌≢◌, ℕ, ◌+◌, ◌<◌, ◌≤◌, ◌^◌, ◌⊎◌, List, [], ◌∷◌, ◌++◌, length, take, map, Option, refl, ap, sym, ◌∙◌, append_assoc, append-nil, arith, subst, length-append, length-take}
+use Rattle.std.proofs.Common.{◌≡◌, ◌≢◌, ℕ, ◌+◌, ◌*◌, ◌<◌, ◌≤◌, ◌^◌, ◌⊎◌, List, [], ◌∷◌, ◌++◌, length, take, map, Option, refl, ap, sym, ◌∙◌, append_assoc, append-nil, arith, subst, length-append, length-take}
 use Rattle.std.proofs.lemmas.Grind.{common_steps, flat_map-append}
 use Rattle.std.proofs.lemmas.List.{map-append}
 use Rattle.std.proofs.lemmas.List.Elements.{All-append}
 use Rattle.std.specs.List.{flat_map}
 use Rattle.std.specs.Prelude.{Result, Ok, Err, OnOk, OnErr}
-use Rattle.std.specs.Io.KnownBytes.{Consumes, Appends, Keeps as KnownKeeps}
-use Rattle.std.proofs.KnownBytes.{Appends-nil, Appends-trans, Appends-kept, Consumes-trans}
+use Rattle.std.specs.Io.KnownBytes.{Consumes, Keeps as KnownKeeps}
+use Rattle.std.proofs.KnownBytes.{Appends-kept, Consumes-trans}
 use Rattle.rs_disk.specs.Medium.{DiskState}
+use Rattle.rs_io.specs.declared.watch.Watched.{Watched}
+use Rattle.rs_io.specs.Watch.{watched, failures, Wrote}
+use Rattle.rs_io.proofs.Growth.{wrote_nothing, wrote_then}
 use Rattle.rs_model.specs.declared.command.Command.{Command}
 use Rattle.rs_store.specs.Source.{Stored}
 use Rattle.rs_script.specs.declared.line.Line.{Line}
@@ -65,10 +68,10 @@ Splits-break input raws rest run h s =
     }
 
 -- more bytes of the line
-pub Progress-run : {D : Type 0} (device : D → DiskState) (start : Session (Stored D)) (before : Option (List ℕ)) (input : List ℕ) (line : Line) (c : Option (List ℕ)) (now : Session (Stored D))
+pub Progress-run : {D W : Type 0} (device : D → DiskState) (contents : W → Option (List ℕ)) (start : Session (Stored D)) (before : Watched W) (input : List ℕ) (line : Line) (c : Watched W) (now : Session (Stored D))
     (run : List ℕ) (next : Line) → HasNoBreak run → ((raw : List ℕ) → Keeps line raw → Keeps next (raw ++ run))
-    → Progress device start before input line c now → Progress device start before (input ++ run) next c now
-Progress-run device start before input line c now run next h k p = record {
+    → Progress device contents start before input line c now → Progress device contents start before (input ++ run) next c now
+Progress-run device contents start before input line c now run next h k p = record {
   raws = p.raws;
   rest = p.rest ++ run;
   outcomes = p.outcomes;
@@ -95,16 +98,16 @@ whole_more {D = D} device start raws raw outcomes commands now answer new e t g 
     (Transcript-more device (map cut_return raws) start outcomes commands now (cut_return raw) answer t g))
 
 -- a line feed has come, and the answer is written
-pub take_ok : {T E D : Type 0} (device : D → DiskState) (r : Result T E) (line mid next : Line) (now new : Session (Stored D)) (c d : Option (List ℕ)) (run : List ℕ)
+pub take_ok : {T E D W : Type 0} (device : D → DiskState) (contents : W → Option (List ℕ)) (r : Result T E) (line mid next : Line) (now new : Session (Stored D)) (c d : Watched W) (run : List ℕ)
     → ((raw : List ℕ) → Keeps line raw → Keeps mid (raw ++ run))
-    → ((raw : List ℕ) → Keeps mid raw → LineAnswers device now (cut_return raw) new (λ text. OnOk r (Appends c d text)))
+    → ((raw : List ℕ) → Keeps mid raw → LineAnswers device now (cut_return raw) new (λ text. OnOk r (Wrote contents c d text)))
     → Keeps next []
-    → OnOk r ((start : Session (Stored D)) (before : Option (List ℕ)) (input : List ℕ) → HasNoBreak run
-    → Progress device start before input line c now → Progress device start before (input ++ with_break run) next d new)
-take_ok device (Err e) line mid next now new c d run k given fresh = tt
-take_ok device (Ok x) line mid next now new c d run k given fresh = λ start before input h p.
+    → OnOk r ((start : Session (Stored D)) (before : Watched W) (input : List ℕ) → HasNoBreak run
+    → Progress device contents start before input line c now → Progress device contents start before (input ++ with_break run) next d new)
+take_ok device contents (Err e) line mid next now new c d run k given fresh = tt
+take_ok device contents (Ok x) line mid next now new c d run k given fresh = λ start before input h p.
     let e = given (p.rest ++ run) (k p.rest p.kept) in
-    let Q : List ℕ → Type 0 = λ text. Appends before d text in
+    let Q : List ℕ → Type 0 = λ text. Wrote contents before d text in
     record {
       raws = p.raws ++ (p.rest ++ run) ∷ [];
       rest = [];
@@ -114,17 +117,17 @@ take_ok device (Ok x) line mid next now new c d run k given fresh = λ start bef
       kept = fresh;
       answered = whole_more device start p.raws (p.rest ++ run) p.outcomes p.commands now e.answer new e.session_is p.answered e.gives;
       written = subst Q (sym (output-more p.outcomes e.answer.outcome))
-          (Appends-trans before c d (output_of p.outcomes) (outcome_text e.answer.outcome) p.written e.written);
+          (wrote_then contents before c d (output_of p.outcomes) (outcome_text e.answer.outcome) p.written e.written);
     }
 
 -- and the answer is not written
-pub take_err : {T E D : Type 0} (device : D → DiskState) (r : Result T E) (line mid : Line) (now new : Session (Stored D)) (c : Option (List ℕ)) (run : List ℕ) (W : List ℕ → Type 0)
+pub take_err : {T E D W : Type 0} (device : D → DiskState) (contents : W → Option (List ℕ)) (r : Result T E) (line mid : Line) (now new : Session (Stored D)) (c : Watched W) (run : List ℕ) (Written : List ℕ → Type 0)
     → ((raw : List ℕ) → Keeps line raw → Keeps mid (raw ++ run))
-    → ((raw : List ℕ) → Keeps mid raw → LineAnswers device now (cut_return raw) new W)
-    → OnErr r ((start : Session (Stored D)) (before : Option (List ℕ)) (input : List ℕ) → HasNoBreak run
-    → Progress device start before input line c now → Answered device start (input ++ with_break run) new × AreWholeLines (input ++ with_break run))
-take_err device (Ok x) line mid now new c run W k given = tt
-take_err device (Err e) line mid now new c run W k given = λ start before input h p.
+    → ((raw : List ℕ) → Keeps mid raw → LineAnswers device now (cut_return raw) new Written)
+    → OnErr r ((start : Session (Stored D)) (before : Watched W) (input : List ℕ) → HasNoBreak run
+    → Progress device contents start before input line c now → Answered device start (input ++ with_break run) new × AreWholeLines (input ++ with_break run))
+take_err device contents (Ok x) line mid now new c run Written k given = tt
+take_err device contents (Err e) line mid now new c run Written k given = λ start before input h p.
     let e = given (p.rest ++ run) (k p.rest p.kept) in
     let splits = Splits-break input p.raws p.rest run h p.splits in
     let P : List (List ℕ) → Type 0 = λ lines. Transcript device start lines (p.outcomes ++ e.answer.outcome ∷ []) (p.commands ++ e.answer.commands) new in (
@@ -156,28 +159,28 @@ last_more {D = D} device start raws rest outcomes commands now answer new e some
     let Q : Session (Stored D) → Type 0 = λ s. Transcript device start (script_lines raws rest) (outcomes ++ answer.outcome ∷ []) (commands ++ answer.commands) s in
     subst Q e (subst P (sym (last_line-some rest some)) (Transcript-more device (map cut_return raws) start outcomes commands now rest answer t g))
 
-pub end_ok : {T E D : Type 0} (device : D → DiskState) (r : Result T E) (line : Line) (now new : Session (Stored D)) (c d : Option (List ℕ))
+pub end_ok : {T E D W : Type 0} (device : D → DiskState) (contents : W → Option (List ℕ)) (r : Result T E) (line : Line) (now new : Session (Stored D)) (c d : Watched W)
     → ((raw : List ℕ) → Keeps line raw → 0 < length raw)
-    → ((raw : List ℕ) → Keeps line raw → LineAnswers device now raw new (λ text. OnOk r (Appends c d text)))
-    → OnOk r ((start : Session (Stored D)) (before : Option (List ℕ)) (input : List ℕ) → Progress device start before input line c now
-    → (outcomes : List Outcome) × (commands : List (Command × ℕ)) × ScriptGives device start input outcomes commands new × Appends before d (output_of outcomes))
-end_ok device (Err e) line now new c d some given = tt
-end_ok device (Ok x) line now new c d some given = λ start before input p.
+    → ((raw : List ℕ) → Keeps line raw → LineAnswers device now raw new (λ text. OnOk r (Wrote contents c d text)))
+    → OnOk r ((start : Session (Stored D)) (before : Watched W) (input : List ℕ) → Progress device contents start before input line c now
+    → (outcomes : List Outcome) × (commands : List (Command × ℕ)) × ScriptGives device start input outcomes commands new × Wrote contents before d (output_of outcomes))
+end_ok device contents (Err e) line now new c d some given = tt
+end_ok device contents (Ok x) line now new c d some given = λ start before input p.
     let e = given p.rest p.kept in
-    let Q : List ℕ → Type 0 = λ text. Appends before d text in (
+    let Q : List ℕ → Type 0 = λ text. Wrote contents before d text in (
       p.outcomes ++ e.answer.outcome ∷ [],
       p.commands ++ e.answer.commands,
       (p.raws, p.rest, p.splits, last_more device start p.raws p.rest p.outcomes p.commands now e.answer new e.session_is (some p.rest p.kept) p.answered e.gives),
       subst Q (sym (output-more p.outcomes e.answer.outcome))
-          (Appends-trans before c d (output_of p.outcomes) (outcome_text e.answer.outcome) p.written e.written),
+          (wrote_then contents before c d (output_of p.outcomes) (outcome_text e.answer.outcome) p.written e.written),
     )
 
-pub end_err : {T E D : Type 0} (device : D → DiskState) (r : Result T E) (line : Line) (now new : Session (Stored D)) (c : Option (List ℕ)) (W : List ℕ → Type 0)
+pub end_err : {T E D W : Type 0} (device : D → DiskState) (contents : W → Option (List ℕ)) (r : Result T E) (line : Line) (now new : Session (Stored D)) (c : Watched W) (Written : List ℕ → Type 0)
     → ((raw : List ℕ) → Keeps line raw → 0 < length raw)
-    → ((raw : List ℕ) → Keeps line raw → LineAnswers device now raw new W)
-    → OnErr r ((start : Session (Stored D)) (before : Option (List ℕ)) (input : List ℕ) → Progress device start before input line c now → Answered device start input new)
-end_err device (Ok x) line now new c W some given = tt
-end_err device (Err e) line now new c W some given = λ start before input p.
+    → ((raw : List ℕ) → Keeps line raw → LineAnswers device now raw new Written)
+    → OnErr r ((start : Session (Stored D)) (before : Watched W) (input : List ℕ) → Progress device contents start before input line c now → Answered device start input new)
+end_err device contents (Ok x) line now new c Written some given = tt
+end_err device contents (Err e) line now new c Written some given = λ start before input p.
     let e = given p.rest p.kept in (
       p.outcomes ++ e.answer.outcome ∷ [],
       p.commands ++ e.answer.commands,
@@ -185,10 +188,10 @@ end_err device (Err e) line now new c W some given = λ start before input p.
     )
 
 -- the input ended right after a line feed, or is empty
-pub end_none : {D : Type 0} (device : D → DiskState) (line : Line) (now : Session (Stored D)) (c : Option (List ℕ)) → ((raw : List ℕ) → Keeps line raw → raw ≡ [])
-    → (start : Session (Stored D)) (before : Option (List ℕ)) (input : List ℕ) → Progress device start before input line c now
-    → (outcomes : List Outcome) × (commands : List (Command × ℕ)) × ScriptGives device start input outcomes commands now × Appends before c (output_of outcomes)
-end_none device line now c none start before input p =
+pub end_none : {D W : Type 0} (device : D → DiskState) (contents : W → Option (List ℕ)) (line : Line) (now : Session (Stored D)) (c : Watched W) → ((raw : List ℕ) → Keeps line raw → raw ≡ [])
+    → (start : Session (Stored D)) (before : Watched W) (input : List ℕ) → Progress device contents start before input line c now
+    → (outcomes : List Outcome) × (commands : List (Command × ℕ)) × ScriptGives device start input outcomes commands now × Wrote contents before c (output_of outcomes)
+end_none device contents line now c none start before input p =
     let P : List (List ℕ) → Type 0 = λ lines. Transcript device start lines p.outcomes p.commands now in
     let Q : List ℕ → Type 0 = λ rest. Transcript device start (script_lines p.raws rest) p.outcomes p.commands now in (
       p.outcomes,
@@ -198,8 +201,8 @@ end_none device line now c none start before input p =
     )
 
 -- nothing has come, and nothing was written
-pub Progress-none : {D : Type 0} (device : D → DiskState) (start : Session (Stored D)) (a : Option (List ℕ)) (line : Line) → Keeps line [] → Progress device start a [] line a start
-Progress-none device start a line k = record {
+pub Progress-none : {D W : Type 0} (device : D → DiskState) (contents : W → Option (List ℕ)) (start : Session (Stored D)) (a : Watched W) (line : Line) → Keeps line [] → Progress device contents start a [] line a start
+Progress-none device contents start a line k = record {
   raws = [];
   rest = [];
   outcomes = [];
@@ -207,13 +210,13 @@ Progress-none device start a line k = record {
   splits = record { whole = refl; each = grind (arith, common_steps); partial = grind (arith, common_steps) };
   kept = k;
   answered = (refl, refl, refl);
-  written = Appends-nil a;
+  written = wrote_nothing contents a;
 }
 
 -- the writer was flushed
-pub Progress-kept : {D : Type 0} (device : D → DiskState) (start : Session (Stored D)) (before : Option (List ℕ)) (input : List ℕ) (line : Line) (c d : Option (List ℕ)) (now : Session (Stored D))
-    → KnownKeeps c d → Progress device start before input line c now → Progress device start before input line d now
-Progress-kept device start before input line c d now k p = record {
+pub Progress-kept : {D W : Type 0} (device : D → DiskState) (contents : W → Option (List ℕ)) (start : Session (Stored D)) (before : Watched W) (input : List ℕ) (line : Line) (c d : Watched W) (now : Session (Stored D))
+    → KnownKeeps (contents (watched c)) (contents (watched d)) → failures d ≡ failures c → Progress device contents start before input line c now → Progress device contents start before input line d now
+Progress-kept device contents start before input line c d now k sound p = record {
   raws = p.raws;
   rest = p.rest;
   outcomes = p.outcomes;
@@ -221,17 +224,20 @@ Progress-kept device start before input line c d now k p = record {
   splits = p.splits;
   kept = p.kept;
   answered = p.answered;
-  written = Appends-kept before c d (output_of p.outcomes) p.written k;
+  written = (
+    Appends-kept (contents (watched before)) (contents (watched c)) (contents (watched d)) (output_of p.outcomes) p.written.0 k,
+    sound ∙ p.written.1,
+  );
 }
 
 -- the whole lines of what came, and the part of a line after them
-pub Progress-whole : {D : Type 0} (device : D → DiskState) (start : Session (Stored D)) (before : Option (List ℕ)) (input : List ℕ) (line : Line) (c : Option (List ℕ)) (now : Session (Stored D))
+pub Progress-whole : {D W : Type 0} (device : D → DiskState) (contents : W → Option (List ℕ)) (start : Session (Stored D)) (before : Watched W) (input : List ℕ) (line : Line) (c : Watched W) (now : Session (Stored D))
     (r s : Option (List ℕ)) (F : Type 0) → F ⊎ (2 ^ 40 ≤ length input) → Consumes r s input
-    → Progress device start before input line c now
+    → Progress device contents start before input line c now
     → (lines : List ℕ) × (part : List ℕ) × (outcomes : List Outcome) × (commands : List (Command × ℕ)) × Consumes r s (lines ++ part) × HasNoBreak part
-    × Appends before c (output_of outcomes) × ScriptGives device start lines outcomes commands now × (F ⊎ (2 ^ 40 ≤ length (lines ++ part)))
+    × Wrote contents before c (output_of outcomes) × ScriptGives device start lines outcomes commands now × (F ⊎ (2 ^ 40 ≤ length (lines ++ part)))
     × AreWholeLines lines
-Progress-whole device start before input line c now r s F why gave p =
+Progress-whole device contents start before input line c now r s F why gave p =
     let Q : List ℕ → Type 0 = λ bytes. Consumes r s bytes in
     let R : List ℕ → Type 0 = λ bytes. F ⊎ (2 ^ 40 ≤ length bytes) in
     let splits : Splits (flat_map with_break p.raws) p.raws [] =
@@ -271,3 +277,8 @@ Gave-front r s t input piece used tail e h k =
 pub count_more : (counter n : ℕ) (input buf : List ℕ) → counter ≤ length input → (n ≡ 0 → ⊥) → n ≤ length buf
     → counter + 1 ≤ length (input ++ take n buf)
 count_more counter n input buf le some fits = simp length-append (omega (arith, length-take n buf))
+
+-- and no more than there is room for
+pub no_more : (counter n : ℕ) (input buf : List ℕ) → length input ≤ counter * 65536 → n ≤ length buf → length buf ≡ 65536
+    → length (input ++ take n buf) ≤ (counter + 1) * 65536
+no_more counter n input buf le fits room = simp length-append (omega (arith, length-take n buf, le, fits, room))

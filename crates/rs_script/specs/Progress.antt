@@ -1,7 +1,9 @@
 -- How far a script has come.
 use Rattle.std.specs.Prelude.{◌≡◌, ℕ, ◌⊎◌, List, ◌++◌, map, Option, Result}
-use Rattle.std.specs.Io.KnownBytes.{Consumes, IsAtEnd, Appends}
+use Rattle.std.specs.Io.KnownBytes.{Consumes, IsAtEnd}
 use Rattle.rs_disk.specs.Medium.{DiskState}
+use Rattle.rs_io.specs.declared.watch.Watched.{Watched}
+use Rattle.rs_io.specs.Watch.{Wrote}
 use Rattle.rs_model.specs.declared.command.Command.{Command}
 use Rattle.rs_store.specs.Source.{Stored}
 use Rattle.rs_script.specs.declared.refusal.Refusal.{Refusal}
@@ -29,9 +31,9 @@ pub record LineAnswers {D : Type 0} (device : D → DiskState) (old : Session (S
   pub written : Written (outcome_text answer.outcome)
 
 -- these bytes came: whole lines, whose answers were written, and then what is kept of the next
-pub record Progress {D : Type 0} (device : D → DiskState)
-    (start : Session (Stored D)) (before : Option (List ℕ)) (input : List ℕ) (line : Line)
-    (after : Option (List ℕ)) (now : Session (Stored D)) : Type 0 where
+pub record Progress {D W : Type 0} (device : D → DiskState) (contents : W → Option (List ℕ))
+    (start : Session (Stored D)) (before : Watched W) (input : List ℕ) (line : Line)
+    (after : Watched W) (now : Session (Stored D)) : Type 0 where
   pub raws : List (List ℕ)
   pub rest : List ℕ
   pub outcomes : List Outcome
@@ -39,7 +41,7 @@ pub record Progress {D : Type 0} (device : D → DiskState)
   pub splits : Splits input raws rest
   pub kept : Keeps line rest
   pub answered : Transcript device start (map cut_return raws) outcomes commands now
-  pub written : Appends before after (output_of outcomes)
+  pub written : Wrote contents before after (output_of outcomes)
 
 -- the lines of this input were answered, whatever of the answers was written
 abbrev pub Answered : {D : Type 0} → (D → DiskState) → Session (Stored D) → List ℕ → Session (Stored D) → Type 0

@@ -1,8 +1,7 @@
 //! The texts of answers.
 
-ghost use Rattle.std.specs.Prelude.{◌≡◌, ◌++◌, OnOk, OnErr, IsTrue};
-ghost use Rattle.std.specs.Io.KnownBytes.{Appends};
-ghost use Rattle.rs_io.specs.Watch.{watched, has_failed};
+ghost use Rattle.std.specs.Prelude.{◌≡◌, ◌++◌, OnOk, OnErr};
+ghost use Rattle.rs_io.specs.Watch.{EndFailed, Wrote};
 ghost use Rattle.rs_script.specs.Answers.{moment_end, reply_text, status_text, outcome_text, word_of, source_word};
 ghost use Rattle.rs_script.specs.Session.{refused};
 
@@ -52,8 +51,8 @@ fn name_of(refusal: Refusal) -> &'static str
 
 /// Writes the answer `refused NAME`.
 pub fn write_refusal<W: Write>(refusal: Refusal, writer: &mut Watched<W>) -> Result<(), WriteFault>
-    ensures ok { OnOk result (Appends (W.contents (watched writer.old)) (W.contents (watched writer.new)) (outcome_text (refused refusal))) }
-    ensures failed { OnErr result (IsTrue (has_failed writer.new)) }
+    ensures ok { OnOk result (Wrote W.contents writer.old writer.new (outcome_text (refused refusal))) }
+    ensures failed { OnErr result (EndFailed writer.old writer.new) }
 {
     let name = name_of(refusal);
     writer.put_text(format_args!("refused {name}\n"))
@@ -61,8 +60,8 @@ pub fn write_refusal<W: Write>(refusal: Refusal, writer: &mut Watched<W>) -> Res
 
 /// Writes the text of a moment and the end of the line.
 fn write_moment<W: Write>(moment: Moment, writer: &mut Watched<W>) -> Result<(), WriteFault>
-    ensures ok { OnOk result (Appends (W.contents (watched writer.old)) (W.contents (watched writer.new)) (moment_end moment)) }
-    ensures failed { OnErr result (IsTrue (has_failed writer.new)) }
+    ensures ok { OnOk result (Wrote W.contents writer.old writer.new (moment_end moment)) }
+    ensures failed { OnErr result (EndFailed writer.old writer.new) }
 {
     writer.put(&moment.text())?;
     writer.put(b"\n")
@@ -74,8 +73,8 @@ fn write_word<W: Write>(
     moment: Moment,
     writer: &mut Watched<W>,
 ) -> Result<(), WriteFault>
-    ensures ok { OnOk result (Appends (W.contents (watched writer.old)) (W.contents (watched writer.new)) (word.now ++ moment_end moment)) }
-    ensures failed { OnErr result (IsTrue (has_failed writer.new)) }
+    ensures ok { OnOk result (Wrote W.contents writer.old writer.new (word.now ++ moment_end moment)) }
+    ensures failed { OnErr result (EndFailed writer.old writer.new) }
 {
     writer.put(word)?;
     write_moment(moment, writer)
@@ -87,8 +86,8 @@ fn write_published<W: Write>(
     moment: Moment,
     writer: &mut Watched<W>,
 ) -> Result<(), WriteFault>
-    ensures ok { OnOk result (Appends (W.contents (watched writer.old)) (W.contents (watched writer.new)) (reply_text (Reply.Published number moment))) }
-    ensures failed { OnErr result (IsTrue (has_failed writer.new)) }
+    ensures ok { OnOk result (Wrote W.contents writer.old writer.new (reply_text (Reply.Published number moment))) }
+    ensures failed { OnErr result (EndFailed writer.old writer.new) }
 {
     writer.put_text(format_args!("published {number} "))?;
     write_moment(moment, writer)
@@ -96,8 +95,8 @@ fn write_published<W: Write>(
 
 /// Writes the answer of an accepted command.
 pub fn write_reply<W: Write>(reply: Reply, writer: &mut Watched<W>) -> Result<(), WriteFault>
-    ensures ok { OnOk result (Appends (W.contents (watched writer.old)) (W.contents (watched writer.new)) (reply_text reply)) }
-    ensures failed { OnErr result (IsTrue (has_failed writer.new)) }
+    ensures ok { OnOk result (Wrote W.contents writer.old writer.new (reply_text reply)) }
+    ensures failed { OnErr result (EndFailed writer.old writer.new) }
 {
     match reply {
         Reply::Created(moment) => write_word(b"created ", moment, writer),
@@ -109,8 +108,8 @@ pub fn write_reply<W: Write>(reply: Reply, writer: &mut Watched<W>) -> Result<()
 
 /// Writes the answer of `status`.
 pub fn write_status<W: Write>(status: Status, writer: &mut Watched<W>) -> Result<(), WriteFault>
-    ensures ok { OnOk result (Appends (W.contents (watched writer.old)) (W.contents (watched writer.new)) (status_text status)) }
-    ensures failed { OnErr result (IsTrue (has_failed writer.new)) }
+    ensures ok { OnOk result (Wrote W.contents writer.old writer.new (status_text status)) }
+    ensures failed { OnErr result (EndFailed writer.old writer.new) }
 {
     let resources = status.resources;
     let changes = status.changes;

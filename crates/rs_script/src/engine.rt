@@ -1,8 +1,9 @@
 //! The script engine: every line of an input is answered in turn.
 
-ghost use Rattle.std.specs.Prelude.{◌≡◌, ◌++◌, ◌≤◌, ◌^◌, ◌⊎◌, true, length, ℕ, List, Option, OnOk, OnErr, IsErrOf, IsTrue};
-ghost use Rattle.std.specs.Io.KnownBytes.{Consumes, IsAtEnd, Appends};
-ghost use Rattle.rs_io.specs.Watch.{watched, has_failed};
+ghost use Rattle.std.specs.Prelude.{◌≡◌, ◌++◌, ◌≤◌, ◌^◌, ◌*◌, ◌⊎◌, true, length, ℕ, List, Option, OnOk, OnErr, IsErrOf, IsTrue};
+ghost use Rattle.std.specs.Io.KnownBytes.{Consumes, IsAtEnd};
+ghost use Rattle.rs_io.specs.Watch.{watched, failures, EndFailed, Took, Wrote};
+ghost use Rattle.rs_io.specs.declared.watch.Watched.{Watched as End};
 ghost use Rattle.rs_model.specs.declared.command.Command.{Command};
 ghost use Rattle.rs_script.specs.Answers.{output_of};
 ghost use Rattle.rs_script.specs.Kept.{Keeps};
@@ -47,8 +48,9 @@ fn answer_kept<D: Disk, W: Write>(
 ) -> Result<(), WriteFault>
     ensures answered { (raw : List ℕ) → Keeps line.now raw
         → LineAnswers D.state (session source.old now.old) (line_of has_break raw) (session source.new now.new)
-        (λ text. OnOk result (Appends (W.contents (watched writer.old)) (W.contents (watched writer.new)) text)) }
-    ensures failed { OnErr result (IsTrue (has_failed writer.new)) }
+        (λ text. OnOk result (Wrote W.contents writer.old writer.new text)) }
+    ensures sound { OnOk result (failures writer.new ≡ failures writer.old) }
+    ensures failed { OnErr result (EndFailed writer.old writer.new) }
 {
     match line.content(has_break) {
         Content::Bytes(bytes) => answer_line(alloc, source, now, bytes, writer),
@@ -67,14 +69,15 @@ fn take_line<D: Disk, W: Write>(
     run: &[u8],
     writer: &mut Watched<W>,
 ) -> Result<(), WriteFault>
-    ensures ok { OnOk result ((start : Session (Stored D)) (before : Option (List ℕ)) (input : List ℕ) → HasNoBreak run.now
-        → Progress D.state start before input line.old (W.contents (watched writer.old)) (session source.old now.old)
-        → Progress D.state start before (input ++ with_break run.now) line.new (W.contents (watched writer.new)) (session source.new now.new)) }
-    ensures err { OnErr result ((start : Session (Stored D)) (before : Option (List ℕ)) (input : List ℕ) → HasNoBreak run.now
-        → Progress D.state start before input line.old (W.contents (watched writer.old)) (session source.old now.old)
+    ensures ok { OnOk result ((start : Session (Stored D)) (before : End W) (input : List ℕ) → HasNoBreak run.now
+        → Progress D.state W.contents start before input line.old writer.old (session source.old now.old)
+        → Progress D.state W.contents start before (input ++ with_break run.now) line.new writer.new (session source.new now.new)) }
+    ensures err { OnErr result ((start : Session (Stored D)) (before : End W) (input : List ℕ) → HasNoBreak run.now
+        → Progress D.state W.contents start before input line.old writer.old (session source.old now.old)
         → Answered D.state start (input ++ with_break run.now) (session source.new now.new)
         × AreWholeLines (input ++ with_break run.now)) }
-    ensures failed { OnErr result (IsTrue (has_failed writer.new)) }
+    ensures sound { OnOk result (failures writer.new ≡ failures writer.old) }
+    ensures failed { OnErr result (EndFailed writer.old writer.new) }
 {
     line.extend(run);
     let written = answer_kept(alloc, source, now, line, true, writer);
@@ -91,15 +94,15 @@ fn take_piece<D: Disk, W: Write>(
     piece: &[u8],
     writer: &mut Watched<W>,
 ) -> Result<(), WriteFault>
-    ensures ok { OnOk result ((start : Session (Stored D)) (before : Option (List ℕ)) (input : List ℕ)
-        → Progress D.state start before input line.old (W.contents (watched writer.old)) (session source.old now.old)
-        → Progress D.state start before (input ++ piece.now) line.new (W.contents (watched writer.new)) (session source.new now.new)) }
-    ensures err { OnErr result ((start : Session (Stored D)) (before : Option (List ℕ)) (input : List ℕ)
-        → Progress D.state start before input line.old (W.contents (watched writer.old)) (session source.old now.old)
+    ensures ok { OnOk result ((start : Session (Stored D)) (before : End W) (input : List ℕ)
+        → Progress D.state W.contents start before input line.old writer.old (session source.old now.old)
+        → Progress D.state W.contents start before (input ++ piece.now) line.new writer.new (session source.new now.new)) }
+    ensures err { OnErr result ((start : Session (Stored D)) (before : End W) (input : List ℕ)
+        → Progress D.state W.contents start before input line.old writer.old (session source.old now.old)
         → (used : List ℕ) × (tail : List ℕ) × (piece.now ≡ used ++ tail)
         × Answered D.state start (input ++ used) (session source.new now.new)
         × AreWholeLines (input ++ used)) }
-    ensures failed { OnErr result (IsTrue (has_failed writer.new)) }
+    ensures failed { OnErr result (EndFailed writer.old writer.new) }
 {
     let mut rest = piece;
     while let Some(i) = position_of(b'\n', rest) {
@@ -118,15 +121,15 @@ fn take_end<D: Disk, W: Write>(
     line: &Line,
     writer: &mut Watched<W>,
 ) -> Result<(), WriteFault>
-    ensures ok { OnOk result ((start : Session (Stored D)) (before : Option (List ℕ)) (input : List ℕ)
-        → Progress D.state start before input line.now (W.contents (watched writer.old)) (session source.old now.old)
+    ensures ok { OnOk result ((start : Session (Stored D)) (before : End W) (input : List ℕ)
+        → Progress D.state W.contents start before input line.now writer.old (session source.old now.old)
         → (outcomes : List Outcome) × (commands : List (Command × ℕ))
         × ScriptGives D.state start input outcomes commands (session source.new now.new)
-        × Appends before (W.contents (watched writer.new)) (output_of outcomes)) }
-    ensures err { OnErr result ((start : Session (Stored D)) (before : Option (List ℕ)) (input : List ℕ)
-        → Progress D.state start before input line.now (W.contents (watched writer.old)) (session source.old now.old)
+        × Wrote W.contents before writer.new (output_of outcomes)) }
+    ensures err { OnErr result ((start : Session (Stored D)) (before : End W) (input : List ℕ)
+        → Progress D.state W.contents start before input line.now writer.old (session source.old now.old)
         → Answered D.state start input (session source.new now.new)) }
-    ensures failed { OnErr result (IsTrue (has_failed writer.new)) }
+    ensures failed { OnErr result (EndFailed writer.old writer.new) }
 {
     if line.is_empty() {
         return Ok(());
@@ -158,10 +161,10 @@ pub fn first_moment() -> Moment
 ///
 /// # Errors
 ///
-/// - [`ScriptFault::Read`]: the reader failed, or 2^40 reads came to no end. The lines that had come
-///   whole are answered, and of a part of a line after them nothing is done.
-/// - [`ScriptFault::Write`]: the writer failed. What the lines up to the one asked for whose answer
-///   was not written is done.
+/// - [`ScriptFault::Read`]: a read failed in this call, or 2^40 reads came to no end. The lines that
+///   had come whole are answered, and of a part of a line after them nothing is done.
+/// - [`ScriptFault::Write`]: a call of the writer failed in this one. What the lines up to the one
+///   asked for whose answer was not written is done.
 pub fn script<D: Disk, R: Read, W: Write>(
     alloc: Global,
     source: &mut Source<D>,
@@ -170,27 +173,31 @@ pub fn script<D: Disk, R: Read, W: Write>(
 ) -> Result<(), ScriptFault>
     // All that the reader gave, up to its end, was answered.
     ensures ok { OnOk result ((input : List ℕ) × (outcomes : List Outcome) × (commands : List (Command × ℕ)) × (last : ℕ)
-        × Consumes (R.remaining (watched reader.old)) (R.remaining (watched reader.new)) input
+        × Took R.remaining reader.old reader.new input
         × IsAtEnd (R.remaining (watched reader.new))
-        × Appends (W.contents (watched writer.old)) (W.contents (watched writer.new)) (output_of outcomes)
+        × Wrote W.contents writer.old writer.new (output_of outcomes)
         × ScriptGives D.state (session source.old 0) input outcomes commands (session source.new last)) }
 
-    // The reader failed, or gave 2^40 bytes and more: its whole lines were answered, and a part of a
-    // line after them was not.
+    // A read failed, or the reader gave 2^40 bytes and more: its whole lines were answered, and a
+    // part of a line after them was not.
     ensures read { IsErrOf result ScriptFault.Read → (input : List ℕ) × (part : List ℕ)
         × (outcomes : List Outcome) × (commands : List (Command × ℕ)) × (last : ℕ)
         × Consumes (R.remaining (watched reader.old)) (R.remaining (watched reader.new)) (input ++ part)
         × AreWholeLines input × HasNoBreak part
-        × Appends (W.contents (watched writer.old)) (W.contents (watched writer.new)) (output_of outcomes)
+        × Wrote W.contents writer.old writer.new (output_of outcomes)
         × ScriptGives D.state (session source.old 0) input outcomes commands (session source.new last)
-        × (IsTrue (has_failed reader.new) ⊎ (2 ^ 40 ≤ length (input ++ part))) }
+        × (EndFailed reader.old reader.new ⊎ (2 ^ 40 ≤ length (input ++ part))) }
 
-    // The writer failed: what the lines so far asked for is done. They had come whole, or the input
-    // had ended.
+    // A call of the writer failed, and none of the reader: what the lines so far asked for is done.
+    // They had come whole, or the input had ended.
     ensures write { IsErrOf result ScriptFault.Write → (input : List ℕ) × (last : ℕ)
         × Came (R.remaining (watched reader.old)) (R.remaining (watched reader.new)) input
         × Answered D.state (session source.old 0) input (session source.new last)
-        × IsTrue (has_failed writer.new) }
+        × EndFailed writer.old writer.new × (failures reader.new ≡ failures reader.old) }
+
+    // Whatever it answers, it read at most 2^40 times, 65,536 bytes each time.
+    ensures bound { (gave : List ℕ) × Consumes (R.remaining (watched reader.old)) (R.remaining (watched reader.new)) gave
+        × (length gave ≤ 2 ^ 40 * 65536) }
 {
     let mut line = Line::new(alloc);
     let mut now = first_moment();

@@ -1,8 +1,7 @@
 //! One line: what it asks for is asked of the source, and its answer is written.
 
-ghost use Rattle.std.specs.Prelude.{Ok, OnOk, OnErr, IsTrue};
-ghost use Rattle.std.specs.Io.KnownBytes.{Appends};
-ghost use Rattle.rs_io.specs.Watch.{watched, has_failed};
+ghost use Rattle.std.specs.Prelude.{Ok, OnOk, OnErr};
+ghost use Rattle.rs_io.specs.Watch.{EndFailed, Wrote};
 ghost use Rattle.rs_store.specs.Answered.{Answers};
 ghost use Rattle.rs_script.specs.Progress.{RequestAnswers};
 ghost use Rattle.rs_script.specs.Requests.{request_of};
@@ -47,8 +46,8 @@ fn run_command<D: Disk, W: Write>(
     writer: &mut Watched<W>,
 ) -> Result<(), WriteFault>
     ensures answered { RequestAnswers D.state (session source.old now) (Ok (Run command.now)) (session source.new now)
-        (λ text. OnOk result (Appends (W.contents (watched writer.old)) (W.contents (watched writer.new)) text)) }
-    ensures failed { OnErr result (IsTrue (has_failed writer.new)) }
+        (λ text. OnOk result (Wrote W.contents writer.old writer.new text)) }
+    ensures failed { OnErr result (EndFailed writer.old writer.new) }
 {
     match ask(source, command, now) {
         Ok(reply) => write_reply(reply, writer),
@@ -64,8 +63,8 @@ fn show_document<D: Disk, W: Write>(
     writer: &mut Watched<W>,
 ) -> Result<(), WriteFault>
     ensures answered { RequestAnswers D.state (session source.now now) (Ok (Document doc)) (session source.now now)
-        (λ text. OnOk result (Appends (W.contents (watched writer.old)) (W.contents (watched writer.new)) text)) }
-    ensures failed { OnErr result (IsTrue (has_failed writer.new)) }
+        (λ text. OnOk result (Wrote W.contents writer.old writer.new text)) }
+    ensures failed { OnErr result (EndFailed writer.old writer.new) }
 {
     let view = match source.view() {
         Ok(view) => view,
@@ -85,8 +84,8 @@ fn show_body<D: Disk, W: Write>(
     writer: &mut Watched<W>,
 ) -> Result<(), WriteFault>
     ensures answered { RequestAnswers D.state (session source.old now) (Ok (Shown name.now)) (session source.new now)
-        (λ text. OnOk result (Appends (W.contents (watched writer.old)) (W.contents (watched writer.new)) text)) }
-    ensures failed { OnErr result (IsTrue (has_failed writer.new)) }
+        (λ text. OnOk result (Wrote W.contents writer.old writer.new text)) }
+    ensures failed { OnErr result (EndFailed writer.old writer.new) }
 {
     match source.body(name) {
         Ok(bytes) => write_shown(bytes.as_slice(), writer),
@@ -101,8 +100,8 @@ fn show_status<D: Disk, W: Write>(
     writer: &mut Watched<W>,
 ) -> Result<(), WriteFault>
     ensures answered { RequestAnswers D.state (session source.now now) (Ok Counted) (session source.now now)
-        (λ text. OnOk result (Appends (W.contents (watched writer.old)) (W.contents (watched writer.new)) text)) }
-    ensures failed { OnErr result (IsTrue (has_failed writer.new)) }
+        (λ text. OnOk result (Wrote W.contents writer.old writer.new text)) }
+    ensures failed { OnErr result (EndFailed writer.old writer.new) }
 {
     match source.status() {
         Ok(status) => write_status(status, writer),
@@ -118,8 +117,8 @@ fn answer_request<D: Disk, W: Write>(
     writer: &mut Watched<W>,
 ) -> Result<(), WriteFault>
     ensures answered { RequestAnswers D.state (session source.old now.old) (Ok request) (session source.new now.new)
-        (λ text. OnOk result (Appends (W.contents (watched writer.old)) (W.contents (watched writer.new)) text)) }
-    ensures failed { OnErr result (IsTrue (has_failed writer.new)) }
+        (λ text. OnOk result (Wrote W.contents writer.old writer.new text)) }
+    ensures failed { OnErr result (EndFailed writer.old writer.new) }
 {
     match request {
         Request::At(moment) => {
@@ -147,8 +146,8 @@ pub fn answer_line<D: Disk, W: Write>(
     writer: &mut Watched<W>,
 ) -> Result<(), WriteFault>
     ensures answered { RequestAnswers D.state (session source.old now.old) (request_of line.now) (session source.new now.new)
-        (λ text. OnOk result (Appends (W.contents (watched writer.old)) (W.contents (watched writer.new)) text)) }
-    ensures failed { OnErr result (IsTrue (has_failed writer.new)) }
+        (λ text. OnOk result (Wrote W.contents writer.old writer.new text)) }
+    ensures failed { OnErr result (EndFailed writer.old writer.new) }
 {
     match parse_request(alloc, line) {
         Ok(request) => answer_request(source, now, request, writer),

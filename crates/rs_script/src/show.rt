@@ -1,9 +1,8 @@
 //! Showing documents and bodies.
 
-ghost use Rattle.std.specs.Prelude.{◌≡◌, Some, ℕ, List, OnOk, OnErr, IsTrue, length, option_map};
-ghost use Rattle.std.specs.Io.KnownBytes.{Appends};
+ghost use Rattle.std.specs.Prelude.{◌≡◌, Some, ℕ, List, OnOk, OnErr, length, option_map};
 ghost use Rattle.rs_caps.specs.DocumentTexts.{document_text};
-ghost use Rattle.rs_io.specs.Watch.{watched, has_failed};
+ghost use Rattle.rs_io.specs.Watch.{EndFailed, Wrote};
 ghost use Rattle.rs_script.specs.Answers.{shown_text};
 
 use rs_caps::write_document;
@@ -17,8 +16,8 @@ use std::io::Write;
 ///
 /// [`WriteFault`] where the writer failed. Some of the text may be written.
 pub fn write_shown<W: Write>(bytes: &[u8], writer: &mut Watched<W>) -> Result<(), WriteFault>
-    ensures ok { OnOk result (Appends (W.contents (watched writer.old)) (W.contents (watched writer.new)) (shown_text bytes.now)) }
-    ensures failed { OnErr result (IsTrue (has_failed writer.new)) }
+    ensures ok { OnOk result (Wrote W.contents writer.old writer.new (shown_text bytes.now)) }
+    ensures failed { OnErr result (EndFailed writer.old writer.new) }
 {
     let count = bytes.len();
     writer.put_text(format_args!("bytes {count}\n"))?;
@@ -39,8 +38,8 @@ pub fn write_shown_document<V: View, W: Write>(
 ) -> Result<(), WriteFault>
     requires { option_map length (document_text (V.shown view.now) doc) ≡ Some count }
     ensures ok { OnOk result ((text : List ℕ) × (document_text (V.shown view.now) doc ≡ Some text)
-        × Appends (W.contents (watched writer.old)) (W.contents (watched writer.new)) (shown_text text)) }
-    ensures failed { OnErr result (IsTrue (has_failed writer.new)) }
+        × Wrote W.contents writer.old writer.new (shown_text text)) }
+    ensures failed { OnErr result (EndFailed writer.old writer.new) }
 {
     writer.put_text(format_args!("bytes {count}\n"))?;
     match write_document(view, doc, writer) {

@@ -13,5 +13,5 @@ returns-in-Ok-clause-ends g c =
     finished g.D.Disk.state c.args.source.now c.respond.new.source c.args.now c.args.request c.date_of.result c.date_of.ensures
     (g.R.Read.remaining (watched c.args.reader.now)) (g.R.Read.remaining (watched c.respond.new.reader))
     (g.W.Write.contents (watched c.args.writer.now)) (g.W.Write.contents (watched c.write_preface.new.writer)) (g.W.Write.contents (watched c.respond.new.writer))
-    c.in_default.ensures.ok (g.W.Write.contents (watched c.finish.new.writer)) c.in-Ok.status c.finish.result
+    c.in_default.ensures.ok.0 (g.W.Write.contents (watched c.finish.new.writer)) c.in-Ok.status c.finish.result
     c.in-Ok.ensures.ends c.finish.ensures.bytes c.finish.ensures.value

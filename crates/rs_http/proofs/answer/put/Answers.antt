@@ -1,6 +1,6 @@
 -- What the source answers to the put, unless the reader failed.
 use Rattle.std.proofs.Common.{◌≡◌, Result, Ok, ap, refl, sym}
-use Rattle.rs_io.specs.Watch.{watched}
+use Rattle.rs_io.specs.Watch.{watched, Wrote}
 use Rattle.rs_store.specs.declared.refusal.Refusal.TheVariants.{ReadFault}
 use Rattle.rs_http.specs.declared.request.NoPlan.{NoPlan}
 use Rattle.rs_http.specs.declared.request.Plan.{Plan}
@@ -15,8 +15,8 @@ pub returns-in-Ok-clause-ends : goal.returns-in-Ok-clause-ends
 returns-in-Ok-clause-ends g c = λ waits.
     let left = g.R.Read.remaining (watched c.args.reader.now) in
     let rest = g.R.Read.remaining (watched c.put_from.new.reader) in
-    let before = g.W.Write.contents (watched c.args.writer.now) in
-    let after = g.W.Write.contents (watched c.write_reply.new.writer) in
+    let before = c.args.writer.now in
+    let after = c.write_reply.new.writer in
     let came = c.put_from.ensures.came in
     let asked : Result Plan NoPlan = Ok (Put c.args.name.now c.args.kind.now c.args.body_length waits) in
     let comes = IsPut g.D.Disk.state c.args.source.now c.put_from.new.self c.args.name.now c.args.kind.now c.args.body_length c.args.now came.0 rest in
@@ -27,16 +27,16 @@ returns-in-Ok-clause-ends g c = λ waits.
       ended = c.put_from.ensures.ended;
       outcome_is = sym (ap replied_as c.in-Ok.is);
     } in
-    sent_ends g.D.Disk.state c.args.source.now c.put_from.new.self c.args.now asked asked c.args.framing left rest before after came.0
+    sent_ends g.D.Disk.state c.args.source.now c.put_from.new.self c.args.now asked asked c.args.framing left rest g.W.Write.contents before after came.0
     comes c.write_reply.result c.sent.result came.1 refl c.sent.ensures
-    (answered c.args.framing before after comes c.write_reply.result (replied c.in-Ok.reply) is c.write_reply.ensures.status c.write_reply.ensures.ok) (λ o h. h)
+    (answered c.args.framing (Wrote g.W.Write.contents before after) comes c.write_reply.result (replied c.in-Ok.reply) is c.write_reply.ensures.status c.write_reply.ensures.ok) (λ o h. h)
 
 pub returns-in_default-clause-ends : goal.returns-in_default-clause-ends
 returns-in_default-clause-ends g c = λ waits.
     let left = g.R.Read.remaining (watched c.args.reader.now) in
     let rest = g.R.Read.remaining (watched c.put_from.new.reader) in
-    let before = g.W.Write.contents (watched c.args.writer.now) in
-    let after = g.W.Write.contents (watched c.write_refusal.new.writer) in
+    let before = c.args.writer.now in
+    let after = c.write_refusal.new.writer in
     let came = c.put_from.ensures.came in
     let asked : Result Plan NoPlan = Ok (Put c.args.name.now c.args.kind.now c.args.body_length waits) in
     let comes = IsPut g.D.Disk.state c.args.source.now c.put_from.new.self c.args.name.now c.args.kind.now c.args.body_length c.args.now came.0 rest in
@@ -47,6 +47,6 @@ returns-in_default-clause-ends g c = λ waits.
       ended = c.put_from.ensures.ended;
       outcome_is = sym (ap replied_as c.in-Err.is);
     } in
-    sent_ends g.D.Disk.state c.args.source.now c.put_from.new.self c.args.now asked asked c.args.framing left rest before after came.0
+    sent_ends g.D.Disk.state c.args.source.now c.put_from.new.self c.args.now asked asked c.args.framing left rest g.W.Write.contents before after came.0
     comes c.write_refusal.result c.sent-in_default.result came.1 refl c.sent-in_default.ensures
-    (answered c.args.framing before after comes c.write_refusal.result (refused c.in-Err.refusal) is c.write_refusal.ensures.status c.write_refusal.ensures.ok) (λ o h. h)
+    (answered c.args.framing (Wrote g.W.Write.contents before after) comes c.write_refusal.result (refused c.in-Err.refusal) is c.write_refusal.ensures.status c.write_refusal.ensures.ok) (λ o h. h)

@@ -1,5 +1,5 @@
 -- What came stays, and the byte that comes ends it or does not.
-use Rattle.std.proofs.Common.{◌<◌, ◌≤◌, ◌+◌, take, set, length, arith, sym, ◌∙◌}
+use Rattle.std.proofs.Common.{◌<◌, ◌≤◌, ◌+◌, take, set, length, arith, refl, sym, ◌∙◌}
 use Rattle.std.proofs.lemmas.Grind.{common_steps}
 use Rattle.std.proofs.KnownBytes.{Consumes-nil, Consumes-kept}
 use Rattle.rs_io.specs.Watch.{watched}
@@ -8,7 +8,7 @@ use Rattle.rs_http.proofs.head.read_head.Goals as goal
 
 pub loop-came-init : goal.loop-came-init
 loop-came-init g c = record {
-  came = Consumes-nil (g.R.Read.remaining (watched c.args.reader.now));
+  came = (Consumes-nil (g.R.Read.remaining (watched c.args.reader.now)), refl);
   open_yet = no_end_at_none;
 }
 
@@ -18,7 +18,7 @@ returns-in_err-byte-clause-err g c =
     on_err c.from_residual.result (
       bytes,
       Consumes-kept (g.R.Read.remaining (watched c.args.reader.now)) (g.R.Read.remaining (watched c.loop-came.reader)) (g.R.Read.remaining (watched c.read_byte.new.reader)) bytes
-          c.loop-came.invariant.came c.in_err-byte.ensures.err,
+          c.loop-came.invariant.came.0 c.in_err-byte.ensures.err,
       c.loop-came.invariant.open_yet,
     )
 
@@ -28,8 +28,11 @@ returns-then-is_end-clause-ok g c =
     let e = rw c.in-Some.is at c.in_ok-byte.ensures.ok in
     let at_most : length (take (c.loop-came.came + 1) (set c.loop-came.buf c.loop-came.came c.in-Some.byte)) ≤ 8192 = grind (arith, common_steps) in (
       omega arith,
-      came_more (g.R.Read.remaining (watched c.args.reader.now)) (g.R.Read.remaining (watched c.loop-came.reader)) (g.R.Read.remaining (watched c.read_byte.new.reader))
-          c.loop-came.buf c.loop-came.came c.in-Some.byte small c.loop-came.invariant.came e,
+      (
+        came_more (g.R.Read.remaining (watched c.args.reader.now)) (g.R.Read.remaining (watched c.loop-came.reader)) (g.R.Read.remaining (watched c.read_byte.new.reader))
+            c.loop-came.buf c.loop-came.came c.in-Some.byte small c.loop-came.invariant.came.0 e.0,
+        e.1 ∙ c.loop-came.invariant.came.1,
+      ),
       (at_most, IsHead-more c.loop-came.buf c.loop-came.came c.in-Some.byte small c.loop-came.invariant.open_yet (sym c.is_end.ensures ∙ c.if-is_end.true)),
     )
 
@@ -38,7 +41,10 @@ loop-came-preserved g c =
     let small : c.loop-came.came < length c.loop-came.buf = omega arith in
     let e = rw c.in-Some.is at c.in_ok-byte.ensures.ok in
     record {
-      came = came_more (g.R.Read.remaining (watched c.args.reader.now)) (g.R.Read.remaining (watched c.loop-came.reader)) (g.R.Read.remaining (watched c.read_byte.new.reader))
-          c.loop-came.buf c.loop-came.came c.in-Some.byte small c.loop-came.invariant.came e;
+      came = (
+        came_more (g.R.Read.remaining (watched c.args.reader.now)) (g.R.Read.remaining (watched c.loop-came.reader)) (g.R.Read.remaining (watched c.read_byte.new.reader))
+            c.loop-came.buf c.loop-came.came c.in-Some.byte small c.loop-came.invariant.came.0 e.0,
+        e.1 ∙ c.loop-came.invariant.came.1,
+      );
       open_yet = HasNoEnd-more c.loop-came.buf c.loop-came.came c.in-Some.byte small c.loop-came.invariant.open_yet (sym c.is_end.ensures ∙ c.if-is_end.false);
     }

@@ -1,6 +1,7 @@
 -- The head, and then the answer to what it asks for.
-use Rattle.std.proofs.Common.{◌≡◌, Ok, Err, take, ap}
+use Rattle.std.proofs.Common.{◌≡◌, ◌∙◌, Ok, Err, take, ap}
 use Rattle.rs_io.specs.Watch.{watched}
+use Rattle.rs_io.proofs.Faults.{later_fault}
 use Rattle.rs_http.specs.declared.fault.FrontFault.TheVariants.{Read, Write}
 use Rattle.rs_http.proofs.Endings.{served, broken, halted}
 use Rattle.rs_http.proofs.Going.{request_goes}
@@ -9,10 +10,12 @@ use Rattle.rs_http.proofs.serve.serve_one.Goals as goal
 pub returns-in-Ok-answer-clause-ok : goal.returns-in-Ok-answer-clause-ok
 returns-in-Ok-answer-clause-ok g c =
     let bytes = take c.in-Ok.came c.read_head.new.buf in
-    served g.D.Disk.state c.args.source.now c.answer.new.source c.args.now c.in-Some.request bytes c.in-Ok.read
+    let whole = served g.D.Disk.state c.args.source.now c.answer.new.source c.args.now c.in-Some.request bytes c.in-Ok.read
     (g.R.Read.remaining (watched c.args.reader.now)) (g.R.Read.remaining (watched c.read_head.new.reader)) (g.R.Read.remaining (watched c.answer.new.reader))
     (g.W.Write.contents (watched c.args.writer.now)) (g.W.Write.contents (watched c.answer.new.writer))
-    c.in-Ok.ensures.ok.1 c.in-Ok.ensures.ok.2 c.in-Ok.ensures.end c.in-Some.ensures c.in-Ok-answer.status c.in-Ok-answer.ensures.ends
+    c.in-Ok.ensures.ok.1.0 c.in-Ok.ensures.ok.2 c.in-Ok.ensures.end c.in-Some.ensures c.in-Ok-answer.status c.in-Ok-answer.ensures.ends in
+    let sound = c.in-Ok-answer.ensures.sound in
+    (whole.0, whole.1, (whole.2, sound.0 ∙ c.in-Ok.ensures.ok.1.1), (whole.3, sound.1), whole.4)
 
 pub returns-in-Err-clause-read : goal.returns-in-Err-clause-read
 returns-in-Err-clause-read g c = λ e.
@@ -21,8 +24,9 @@ returns-in-Err-clause-read g c = λ e.
     let whole = broken g.D.Disk.state c.args.source.now c.answer.new.source c.args.now c.in-Some.request bytes c.in-Ok.read
     (g.R.Read.remaining (watched c.args.reader.now)) (g.R.Read.remaining (watched c.read_head.new.reader)) (g.R.Read.remaining (watched c.answer.new.reader))
     (g.W.Write.contents (watched c.args.writer.now)) (g.W.Write.contents (watched c.answer.new.writer))
-    c.in-Ok.ensures.ok.1 c.in-Ok.ensures.ok.2 c.in-Ok.ensures.end c.in-Some.ensures c.in-Err.fault is c.in-Err.ensures.ends in
-    (c.in-Err.ensures.read (ap Err is), whole.0, whole.1, whole.2, whole.3, whole.4)
+    c.in-Ok.ensures.ok.1.0 c.in-Ok.ensures.ok.2 c.in-Ok.ensures.end c.in-Some.ensures c.in-Err.fault is c.in-Err.ensures.ends in
+    let failed = c.in-Err.ensures.read (ap Err is) in
+    (later_fault c.args.reader.now c.read_head.new.reader c.answer.new.reader c.in-Ok.ensures.ok.1.1 failed.0, whole.0, whole.1, whole.2, (whole.3, failed.1), whole.4)
 
 pub returns-in-Err-clause-write : goal.returns-in-Err-clause-write
 returns-in-Err-clause-write g c = λ e.
@@ -31,8 +35,9 @@ returns-in-Err-clause-write g c = λ e.
     let whole = halted g.D.Disk.state c.args.source.now c.answer.new.source c.args.now c.in-Some.request bytes c.in-Ok.read
     (g.R.Read.remaining (watched c.args.reader.now)) (g.R.Read.remaining (watched c.read_head.new.reader)) (g.R.Read.remaining (watched c.answer.new.reader))
     (g.W.Write.contents (watched c.args.writer.now)) (g.W.Write.contents (watched c.answer.new.writer))
-    c.in-Ok.ensures.ok.1 c.in-Ok.ensures.ok.2 c.in-Ok.ensures.end c.in-Some.ensures c.in-Err.fault is c.in-Err.ensures.ends in
-    (c.in-Err.ensures.write (ap Err is), whole.0, whole.1, whole.2)
+    c.in-Ok.ensures.ok.1.0 c.in-Ok.ensures.ok.2 c.in-Ok.ensures.end c.in-Some.ensures c.in-Err.fault is c.in-Err.ensures.ends in
+    let failed = c.in-Err.ensures.write (ap Err is) in
+    (failed.0, whole.0, (whole.1, failed.1 ∙ c.in-Ok.ensures.ok.1.1), whole.2)
 
 pub returns-in-Ok-answer-clause-goes_on : goal.returns-in-Ok-answer-clause-goes_on
 returns-in-Ok-answer-clause-goes_on g c =

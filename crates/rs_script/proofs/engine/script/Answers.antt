@@ -1,43 +1,56 @@
 -- Each exit, by what came up to it.
-use Rattle.std.proofs.Common.{ℕ, [], ◌++◌, ◌≤◌, take, arith, inl, inr, subst, sym, IsTrue}
+use Rattle.std.proofs.Common.{rules, ℕ, [], ◌++◌, ◌≤◌, take, arith, inl, inr, refl, subst, sym, ◌∙◌}
 use Rattle.std.proofs.KnownBytes.{Consumes-nil, Consumes-trans, Consumes-kept, Appends-kept}
-use Rattle.rs_io.specs.Watch.{watched, has_failed}
+use Rattle.rs_io.specs.Watch.{watched, EndFailed}
+use Rattle.rs_io.proofs.Faults.{later_fault}
 use Rattle.rs_script.specs.Answers.{output_of}
 use Rattle.rs_script.specs.Progress.{Progress}
 use Rattle.rs_script.specs.Session.{session}
-use Rattle.rs_script.proofs.Steps.{Progress-none, Progress-kept, Progress-whole, Consumes-end, Gave-front, count_more}
+use Rattle.rs_script.proofs.Steps.{Progress-none, Progress-kept, Progress-whole, Consumes-end, Gave-front, count_more, no_more}
 use Rattle.rs_script.proofs.engine.script.Goals as goal
 
 pub loop-init : goal.loop-init
 loop-init g c =
     let start = session c.args.source.now 0 in
-    let a = g.W.Write.contents (watched c.args.writer.now) in
-    let P : ℕ → Type 0 = λ now. Progress g.D.Disk.state start a [] c.new-line.result a (session c.args.source.now now) in
-    ([], Consumes-nil (g.R.Read.remaining (watched c.args.reader.now)), subst P (sym c.first_moment-now.ensures) (Progress-none g.D.Disk.state start a c.new-line.result c.new-line.ensures), omega arith)
+    let a = c.args.writer.now in
+    let P : ℕ → Type 0 = λ now. Progress g.D.Disk.state g.W.Write.contents start a [] c.new-line.result a (session c.args.source.now now) in (
+      [],
+      (Consumes-nil (g.R.Read.remaining (watched c.args.reader.now)), refl),
+      subst P (sym c.first_moment-now.ensures) (Progress-none g.D.Disk.state g.W.Write.contents start a c.new-line.result c.new-line.ensures),
+      omega arith,
+      omega arith,
+    )
 
 pub returns-in_default-clause-write : goal.returns-in_default-clause-write
 returns-in_default-clause-write g c = λ _.
     let before = g.R.Read.remaining (watched c.args.reader.now) in
     let after = g.R.Read.remaining (watched c.loop.reader) in
     let inv = c.loop.invariant in
-    let whole = Progress-whole g.D.Disk.state _ _ inv.0 _ _ _ before after (0 ≤ 0) (inl (omega arith)) inv.1 inv.2 in
-    (whole.0, c.loop.now, inl ((whole.1, whole.4), whole.9), (whole.2, whole.3, whole.7), c.in_default.ensures.failed)
+    let whole = Progress-whole g.D.Disk.state g.W.Write.contents _ _ inv.0 _ _ _ before after (0 ≤ 0) (inl (omega arith)) inv.1.0 inv.2 in (
+      whole.0,
+      c.loop.now,
+      inl ((whole.1, whole.4), whole.9),
+      (whole.2, whole.3, whole.7),
+      later_fault c.args.writer.now c.loop.writer c.flush.new.self inv.2.written.1 c.in_default.ensures.failed,
+      inv.1.1,
+    )
 
 pub returns-in_default-read-clause-read : goal.returns-in_default-read-clause-read
 returns-in_default-read-clause-read g c = λ _.
     let before = g.R.Read.remaining (watched c.args.reader.now) in
     let after = g.R.Read.remaining (watched c.read.new.self) in
     let inv = c.loop.invariant in
-    let p = Progress-kept g.D.Disk.state _ _ inv.0 _ _ (g.W.Write.contents (watched c.flush.new.self)) _ c.flush.ensures.bytes inv.2 in
-    let whole = Progress-whole g.D.Disk.state _ _ inv.0 _ _ _ before after (IsTrue (has_failed c.read.new.self)) (inl c.in_default-read.ensures.failed)
-    (Consumes-kept before (g.R.Read.remaining (watched c.loop.reader)) after inv.0 inv.1 c.in_default-read.ensures.err) p in
+    let p = Progress-kept g.D.Disk.state g.W.Write.contents _ _ inv.0 _ _ c.flush.new.self _ c.flush.ensures.bytes c.in-Ok.ensures.sound inv.2 in
+    let whole = Progress-whole g.D.Disk.state g.W.Write.contents _ _ inv.0 _ _ _ before after (EndFailed c.args.reader.now c.read.new.self)
+    (inl (later_fault c.args.reader.now c.loop.reader c.read.new.self inv.1.1 c.in_default-read.ensures.failed))
+    (Consumes-kept before (g.R.Read.remaining (watched c.loop.reader)) after inv.0 inv.1.0 c.in_default-read.ensures.err) p in
     (whole.0, whole.1, whole.2, whole.3, c.loop.now, whole.4, whole.9, whole.5, whole.6, whole.7, whole.8)
 
 pub returns-clause-read : goal.returns-clause-read
 returns-clause-read g c = λ _.
     let inv = c.loop.invariant in
-    let whole = Progress-whole g.D.Disk.state _ _ inv.0 _ _ _ (g.R.Read.remaining (watched c.args.reader.now)) (g.R.Read.remaining (watched c.loop.reader))
-    (IsTrue (has_failed c.loop.reader)) (inr (omega (arith, inv.3))) inv.1 inv.2 in
+    let whole = Progress-whole g.D.Disk.state g.W.Write.contents _ _ inv.0 _ _ _ (g.R.Read.remaining (watched c.args.reader.now)) (g.R.Read.remaining (watched c.loop.reader))
+    (EndFailed c.args.reader.now c.loop.reader) (inr (omega (arith, inv.3))) inv.1.0 inv.2 in
     (whole.0, whole.1, whole.2, whole.3, c.loop.now, whole.4, whole.9, whole.5, whole.6, whole.7, whole.8)
 
 pub returns-in_default-take_end-clause-write : goal.returns-in_default-take_end-clause-write
@@ -45,35 +58,53 @@ returns-in_default-take_end-clause-write g c = λ _.
     let before = g.R.Read.remaining (watched c.args.reader.now) in
     let after = g.R.Read.remaining (watched c.read.new.self) in
     let inv = c.loop.invariant in
-    let p = Progress-kept g.D.Disk.state _ _ inv.0 _ _ (g.W.Write.contents (watched c.flush.new.self)) _ c.flush.ensures.bytes inv.2 in
-    let gave = Consumes-end before (g.R.Read.remaining (watched c.loop.reader)) after inv.0 c.read.new.buf c.in-Ok-read.count c.if-count-eq0.true inv.1 c.in-Ok-read.ensures.ok in
-    (inv.0, c.take_end.new.now, inr (gave, c.in-Ok-read.ensures.end c.if-count-eq0.true (omega arith)), c.in_default-take_end.ensures.err _ _ inv.0 p, c.in_default-take_end.ensures.failed)
+    let p = Progress-kept g.D.Disk.state g.W.Write.contents _ _ inv.0 _ _ c.flush.new.self _ c.flush.ensures.bytes c.in-Ok.ensures.sound inv.2 in
+    let gave = Consumes-end before (g.R.Read.remaining (watched c.loop.reader)) after inv.0 c.read.new.buf c.in-Ok-read.count c.if-count-eq0.true inv.1.0 c.in-Ok-read.ensures.ok.0 in (
+      inv.0,
+      c.take_end.new.now,
+      inr (gave, c.in-Ok-read.ensures.end c.if-count-eq0.true (omega arith)),
+      c.in_default-take_end.ensures.err _ _ inv.0 p,
+      later_fault c.args.writer.now c.flush.new.self c.take_end.new.writer p.written.1 c.in_default-take_end.ensures.failed,
+      c.in-Ok-read.ensures.ok.1 ∙ inv.1.1,
+    )
 
 pub returns-in_default-flush-clause-write : goal.returns-in_default-flush-clause-write
 returns-in_default-flush-clause-write g c = λ _.
     let before = g.R.Read.remaining (watched c.args.reader.now) in
     let after = g.R.Read.remaining (watched c.read.new.self) in
     let inv = c.loop.invariant in
-    let p = Progress-kept g.D.Disk.state _ _ inv.0 _ _ (g.W.Write.contents (watched c.flush.new.self)) _ c.flush.ensures.bytes inv.2 in
-    let gave = Consumes-end before (g.R.Read.remaining (watched c.loop.reader)) after inv.0 c.read.new.buf c.in-Ok-read.count c.if-count-eq0.true inv.1 c.in-Ok-read.ensures.ok in
-    let end = c.in-Ok-take_end.ensures.ok _ _ inv.0 p in
-    (inv.0, c.take_end.new.now, inr (gave, c.in-Ok-read.ensures.end c.if-count-eq0.true (omega arith)), (end.0, end.1, end.2), c.in_default-flush.ensures.failed)
+    let p = Progress-kept g.D.Disk.state g.W.Write.contents _ _ inv.0 _ _ c.flush.new.self _ c.flush.ensures.bytes c.in-Ok.ensures.sound inv.2 in
+    let gave = Consumes-end before (g.R.Read.remaining (watched c.loop.reader)) after inv.0 c.read.new.buf c.in-Ok-read.count c.if-count-eq0.true inv.1.0 c.in-Ok-read.ensures.ok.0 in
+    let end = c.in-Ok-take_end.ensures.ok _ _ inv.0 p in (
+      inv.0,
+      c.take_end.new.now,
+      inr (gave, c.in-Ok-read.ensures.end c.if-count-eq0.true (omega arith)),
+      (end.0, end.1, end.2),
+      later_fault c.args.writer.now c.take_end.new.writer c.flush-then-count-eq0.new.self end.3.1 c.in_default-flush.ensures.failed,
+      c.in-Ok-read.ensures.ok.1 ∙ inv.1.1,
+    )
 
 pub returns-then-count-eq0-clause-ok : goal.returns-then-count-eq0-clause-ok
 returns-then-count-eq0-clause-ok g c =
     let before = g.R.Read.remaining (watched c.args.reader.now) in
     let after = g.R.Read.remaining (watched c.read.new.self) in
     let inv = c.loop.invariant in
-    let p = Progress-kept g.D.Disk.state _ _ inv.0 _ _ (g.W.Write.contents (watched c.flush.new.self)) _ c.flush.ensures.bytes inv.2 in
+    let p = Progress-kept g.D.Disk.state g.W.Write.contents _ _ inv.0 _ _ c.flush.new.self _ c.flush.ensures.bytes c.in-Ok.ensures.sound inv.2 in
     let end = c.in-Ok-take_end.ensures.ok _ _ inv.0 p in (
       inv.0,
       end.0,
       end.1,
       c.take_end.new.now,
-      Consumes-end before (g.R.Read.remaining (watched c.loop.reader)) after inv.0 c.read.new.buf c.in-Ok-read.count c.if-count-eq0.true inv.1 c.in-Ok-read.ensures.ok,
+      (
+        Consumes-end before (g.R.Read.remaining (watched c.loop.reader)) after inv.0 c.read.new.buf c.in-Ok-read.count c.if-count-eq0.true inv.1.0 c.in-Ok-read.ensures.ok.0,
+        c.in-Ok-read.ensures.ok.1 ∙ inv.1.1,
+      ),
       c.in-Ok-read.ensures.end c.if-count-eq0.true (omega arith),
-      Appends-kept (g.W.Write.contents (watched c.args.writer.now)) (g.W.Write.contents (watched c.take_end.new.writer))
-          (g.W.Write.contents (watched c.flush-then-count-eq0.new.self)) (output_of end.0) end.3 c.flush-then-count-eq0.ensures.bytes,
+      (
+        Appends-kept (g.W.Write.contents (watched c.args.writer.now)) (g.W.Write.contents (watched c.take_end.new.writer))
+            (g.W.Write.contents (watched c.flush-then-count-eq0.new.self)) (output_of end.0) end.3.0 c.flush-then-count-eq0.ensures.bytes,
+        c.in-Ok-flush.ensures.sound ∙ end.3.1,
+      ),
       end.2,
     )
 
@@ -82,23 +113,70 @@ returns-in_default-take_piece-clause-write g c = λ _.
     let before = g.R.Read.remaining (watched c.args.reader.now) in
     let after = g.R.Read.remaining (watched c.read.new.self) in
     let inv = c.loop.invariant in
-    let p = Progress-kept g.D.Disk.state _ _ inv.0 _ _ (g.W.Write.contents (watched c.flush.new.self)) _ c.flush.ensures.bytes inv.2 in
+    let p = Progress-kept g.D.Disk.state g.W.Write.contents _ _ inv.0 _ _ c.flush.new.self _ c.flush.ensures.bytes c.in-Ok.ensures.sound inv.2 in
     let e = c.in_default-take_piece.ensures.err _ _ inv.0 p in (
       inv.0 ++ e.0,
       c.take_piece.new.now,
-      inl (Gave-front before (g.R.Read.remaining (watched c.loop.reader)) after inv.0 (take c.in-Ok-read.count c.read.new.buf) e.0 e.1 e.2 inv.1 c.in-Ok-read.ensures.ok, e.4),
+      inl (Gave-front before (g.R.Read.remaining (watched c.loop.reader)) after inv.0 (take c.in-Ok-read.count c.read.new.buf) e.0 e.1 e.2 inv.1.0 c.in-Ok-read.ensures.ok.0, e.4),
       e.3,
-      c.in_default-take_piece.ensures.failed,
+      later_fault c.args.writer.now c.flush.new.self c.take_piece.new.writer p.written.1 c.in_default-take_piece.ensures.failed,
+      c.in-Ok-read.ensures.ok.1 ∙ inv.1.1,
     )
 
 pub loop-preserved : goal.loop-preserved
 loop-preserved g c =
     let inv = c.loop.invariant in
     let piece = take c.in-Ok-read.count c.read.new.buf in
-    let p = Progress-kept g.D.Disk.state _ _ inv.0 _ _ (g.W.Write.contents (watched c.flush.new.self)) _ c.flush.ensures.bytes inv.2 in (
+    let p = Progress-kept g.D.Disk.state g.W.Write.contents _ _ inv.0 _ _ c.flush.new.self _ c.flush.ensures.bytes c.in-Ok.ensures.sound inv.2 in (
       inv.0 ++ piece,
-      Consumes-trans (g.R.Read.remaining (watched c.args.reader.now)) (g.R.Read.remaining (watched c.loop.reader)) (g.R.Read.remaining (watched c.read.new.self))
-          inv.0 piece inv.1 c.in-Ok-read.ensures.ok,
+      (
+        Consumes-trans (g.R.Read.remaining (watched c.args.reader.now)) (g.R.Read.remaining (watched c.loop.reader)) (g.R.Read.remaining (watched c.read.new.self))
+            inv.0 piece inv.1.0 c.in-Ok-read.ensures.ok.0,
+        c.in-Ok-read.ensures.ok.1 ∙ inv.1.1,
+      ),
       c.in-Ok-take_piece.ensures.ok _ _ inv.0 p,
       count_more c.loop.counter c.in-Ok-read.count inv.0 c.read.new.buf inv.3 c.if-count-eq0.false c.in-Ok-read.ensures.bound,
+      no_more c.loop.counter c.in-Ok-read.count inv.0 c.read.new.buf inv.4 c.in-Ok-read.ensures.bound (search rules),
     )
+
+pub returns-in_default-clause-bound : goal.returns-in_default-clause-bound
+returns-in_default-clause-bound g c = (c.loop.invariant.0, c.loop.invariant.1.0, omega (arith, c.loop.invariant.4))
+
+pub returns-in_default-read-clause-bound : goal.returns-in_default-read-clause-bound
+returns-in_default-read-clause-bound g c = (
+  c.loop.invariant.0,
+  Consumes-kept (g.R.Read.remaining (watched c.args.reader.now)) (g.R.Read.remaining (watched c.loop.reader)) (g.R.Read.remaining (watched c.read.new.self)) c.loop.invariant.0 c.loop.invariant.1.0 c.in_default-read.ensures.err,
+  omega (arith, c.loop.invariant.4),
+)
+
+pub returns-clause-bound : goal.returns-clause-bound
+returns-clause-bound g c = (c.loop.invariant.0, c.loop.invariant.1.0, omega (arith, c.loop.invariant.4))
+
+pub returns-in_default-take_end-clause-bound : goal.returns-in_default-take_end-clause-bound
+returns-in_default-take_end-clause-bound g c = (
+  c.loop.invariant.0,
+  Consumes-end (g.R.Read.remaining (watched c.args.reader.now)) (g.R.Read.remaining (watched c.loop.reader)) (g.R.Read.remaining (watched c.read.new.self)) c.loop.invariant.0 c.read.new.buf c.in-Ok-read.count c.if-count-eq0.true c.loop.invariant.1.0 c.in-Ok-read.ensures.ok.0,
+  omega (arith, c.loop.invariant.4),
+)
+
+pub returns-in_default-flush-clause-bound : goal.returns-in_default-flush-clause-bound
+returns-in_default-flush-clause-bound g c = (
+  c.loop.invariant.0,
+  Consumes-end (g.R.Read.remaining (watched c.args.reader.now)) (g.R.Read.remaining (watched c.loop.reader)) (g.R.Read.remaining (watched c.read.new.self)) c.loop.invariant.0 c.read.new.buf c.in-Ok-read.count c.if-count-eq0.true c.loop.invariant.1.0 c.in-Ok-read.ensures.ok.0,
+  omega (arith, c.loop.invariant.4),
+)
+
+pub returns-then-count-eq0-clause-bound : goal.returns-then-count-eq0-clause-bound
+returns-then-count-eq0-clause-bound g c = (
+  c.loop.invariant.0,
+  Consumes-end (g.R.Read.remaining (watched c.args.reader.now)) (g.R.Read.remaining (watched c.loop.reader)) (g.R.Read.remaining (watched c.read.new.self)) c.loop.invariant.0 c.read.new.buf c.in-Ok-read.count c.if-count-eq0.true c.loop.invariant.1.0 c.in-Ok-read.ensures.ok.0,
+  omega (arith, c.loop.invariant.4),
+)
+
+pub returns-in_default-take_piece-clause-bound : goal.returns-in_default-take_piece-clause-bound
+returns-in_default-take_piece-clause-bound g c = (
+  c.loop.invariant.0 ++ take c.in-Ok-read.count c.read.new.buf,
+  Consumes-trans (g.R.Read.remaining (watched c.args.reader.now)) (g.R.Read.remaining (watched c.loop.reader)) (g.R.Read.remaining (watched c.read.new.self))
+      c.loop.invariant.0 (take c.in-Ok-read.count c.read.new.buf) c.loop.invariant.1.0 c.in-Ok-read.ensures.ok.0,
+  omega (arith, no_more c.loop.counter c.in-Ok-read.count c.loop.invariant.0 c.read.new.buf c.loop.invariant.4 c.in-Ok-read.ensures.bound (search rules)),
+)

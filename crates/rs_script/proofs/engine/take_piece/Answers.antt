@@ -1,7 +1,6 @@
 -- The rest is cut at its first line feed.
 use Rattle.std.proofs.Common.{◌≡◌, ◌++◌, ◌+◌, ◌-◌, ◌∙◌, List, ℕ, ap, append_assoc, arith, drop, length, sym, take, subst}
 use Rattle.std.proofs.lemmas.Grind.{common_steps}
-use Rattle.rs_io.specs.Watch.{watched}
 use Rattle.rs_script.specs.Lines.{AreWholeLines, with_break}
 use Rattle.rs_script.specs.Progress.{Progress, Answered}
 use Rattle.rs_script.specs.Session.{session}
@@ -40,17 +39,18 @@ loop-i-preserved g c =
       inv.0 ++ run,
       piece_cut c.args.piece.now inv.0 rest i inv.1 found ∙ ap (λ z. (inv.0 ++ run) ++ z) (sym all),
       λ start before input p.
-          let P : List ℕ → Type 0 = λ bytes. Progress g.D.Disk.state start before bytes c.take_line.new.line (g.W.Write.contents (watched c.take_line.new.writer))
+          let P : List ℕ → Type 0 = λ bytes. Progress g.D.Disk.state g.W.Write.contents start before bytes c.take_line.new.line c.take_line.new.writer
           (session c.take_line.new.source c.take_line.new.now) in
           subst P (append_assoc input inv.0 run)
           (c.in_ok-take_line.ensures.ok start before (input ++ inv.0) (before_break rest i found) (inv.2 start before input p)),
+      c.in_ok-take_line.ensures.sound ∙ inv.3,
     )
 
 pub returns-clause-ok : goal.returns-clause-ok
 returns-clause-ok g c = λ start before input p.
     let inv = c.loop-i.invariant in
-    let P : List ℕ → Type 0 = λ bytes. Progress g.D.Disk.state start before bytes c.extend.new.self (g.W.Write.contents (watched c.loop-i.writer))
+    let P : List ℕ → Type 0 = λ bytes. Progress g.D.Disk.state g.W.Write.contents start before bytes c.extend.new.self c.loop-i.writer
     (session c.loop-i.source c.loop-i.now) in
     subst P (append_assoc input inv.0 c.loop-i.rest.now ∙ ap (λ z. input ++ z) (sym inv.1))
-    (Progress-run g.D.Disk.state start before (input ++ inv.0) _ _ _ c.loop-i.rest.now c.extend.new.self
+    (Progress-run g.D.Disk.state g.W.Write.contents start before (input ++ inv.0) _ _ _ c.loop-i.rest.now c.extend.new.self
     (no_break c.loop-i.rest.now (sym c.position_of.ensures ∙ c.in_default.is)) c.extend.ensures (inv.2 start before input p))

@@ -1,6 +1,7 @@
 -- What stands before the rest has been taken.
 use Rattle.std.proofs.Common.{◌≡◌, ℕ, List, Option, length, ◌++◌}
-use Rattle.rs_io.specs.Watch.{watched}
+use Rattle.rs_io.specs.declared.watch.Watched.{Watched}
+use Rattle.rs_io.specs.Watch.{failures}
 use Rattle.rs_script.specs.Progress.{Progress}
 use Rattle.rs_store.specs.Source.{Stored}
 use Rattle.rs_script.specs.Session.{Session, session}
@@ -12,6 +13,7 @@ decreases-loop-i g l = length l.rest
 abbrev pub invariant-loop-i : goal.invariant-loop-i
 invariant-loop-i g l =
     (used : List ℕ) × (l.piece ≡ used ++ l.rest)
-    × ((start : Session (Stored g.row.D.Denot)) (before : Option (List ℕ)) (input : List ℕ)
-    → Progress g.D.Disk.state start before input l.fn.line (g.W.Write.contents (watched l.fn.writer)) (session l.fn.source l.fn.now)
-    → Progress g.D.Disk.state start before (input ++ used) l.line (g.W.Write.contents (watched l.writer)) (session l.source l.now))
+    × ((start : Session (Stored g.row.D.Denot)) (before : Watched g.row.W.Denot) (input : List ℕ)
+    → Progress g.D.Disk.state g.W.Write.contents start before input l.fn.line l.fn.writer (session l.fn.source l.fn.now)
+    → Progress g.D.Disk.state g.W.Write.contents start before (input ++ used) l.line l.writer (session l.source l.now))
+    × (failures l.writer ≡ failures l.fn.writer)

@@ -1,7 +1,6 @@
 -- A document is shown where it is there, unless the source is closed.
 use Rattle.std.proofs.Common.{List, ℕ, ap, sym, ◌∙◌}
-use Rattle.std.specs.Io.KnownBytes.{Appends}
-use Rattle.rs_io.specs.Watch.{watched}
+use Rattle.rs_io.specs.Watch.{Wrote}
 use Rattle.rs_caps.specs.DocumentTexts.{document_text}
 use Rattle.rs_store.specs.Views.{shown_by}
 use Rattle.rs_script.specs.declared.refusal.Refusal.TheVariants.{NoSuchDocument}
@@ -18,7 +17,7 @@ returns-in-Err-clause-answered g c =
 pub returns-in-Some-clause-answered : goal.returns-in-Some-clause-answered
 returns-in-Some-clause-answered g c =
     let view = shown_by c.in-Ok.view in
-    let W : List ℕ → Type 0 = λ text. Appends (g.W.Write.contents (watched c.args.writer.now)) (g.W.Write.contents (watched c.write_shown_document.new.writer)) text in
+    let W : List ℕ → Type 0 = λ text. Wrote g.W.Write.contents c.args.writer.now c.write_shown_document.new.writer text in
     let whole = shown_whole c.write_shown_document.result (document_text view c.args.doc) c.in-Some.length W (sym c.document_length.ensures ∙ c.in-Some.is) c.write_shown_document.ensures.ok in
     document_answered g.D.Disk.state c.args.source.now c.args.now c.args.doc view (shown whole.0) _
     (is_open c.view.result c.in-Ok.view c.args.source.now.is_closed c.in-Ok.is c.view.ensures.closed) c.in-Ok.ensures.shows

@@ -1,16 +1,14 @@
 -- Whatever came of the request.
-use Rattle.rs_io.specs.Watch.{watched, has_failed}
-use Rattle.std.proofs.Common.{IsTrue}
-use Rattle.std.specs.Io.KnownBytes.{Consumes, Appends}
+use Rattle.std.specs.Io.KnownBytes.{Consumes}
+use Rattle.rs_io.specs.Watch.{watched, EndFailed, Took, Wrote}
 use Rattle.rs_source.proofs.Connecting.{request_connects}
 use Rattle.rs_source.proofs.serving.serve_request.Goals as goal
 
 pub returns : goal.returns
 returns g c =
-    let before = g.R.Read.remaining (watched c.args.reader.now) in
+    let left = g.R.Read.remaining (watched c.args.reader.now) in
     let rest = g.R.Read.remaining (watched c.serve_one.new.reader) in
-    let held = g.W.Write.contents (watched c.args.writer.now) in
-    let holds = g.W.Write.contents (watched c.serve_one.new.writer) in
-    request_connects g.D.Disk.state c.args.source.now c.serve_one.new.source c.args.now before rest (Consumes before rest) (Appends held holds)
-    (IsTrue (has_failed c.serve_one.new.reader)) (IsTrue (has_failed c.serve_one.new.writer)) c.serve_one.result
+    request_connects g.D.Disk.state c.args.source.now c.serve_one.new.source c.args.now left rest
+    (Took g.R.Read.remaining c.args.reader.now c.serve_one.new.reader) (Consumes left rest) (Wrote g.W.Write.contents c.args.writer.now c.serve_one.new.writer)
+    (EndFailed c.args.reader.now c.serve_one.new.reader) (EndFailed c.args.writer.now c.serve_one.new.writer) c.serve_one.result
     c.serve_one.ensures.ok c.serve_one.ensures.read c.serve_one.ensures.write c.serve_one.ensures.goes_on
