@@ -6,6 +6,7 @@
 #   make rows     runs the worked rows of examples/rows on the proved program
 #   make bench    measures speed (docs/BENCH.md has figures; it needs wrk, lighttpd and python3-lmdb of Debian)
 #   make memory   refuses each growth of memory of the program in turn
+#   make crash    stops the program at each of its calls on a file, thousands of images over nine sessions ('make test' has a short form)
 
 SCRIPT ?= examples/first.script
 BASE ?= http://127.0.0.1:8080
@@ -14,7 +15,7 @@ CRATES ?=
 # How many checks go side by side: one a processor, with 3 GB of free memory for each.
 LANES ?= $(shell awk -v processors=$$(nproc) '/^MemAvailable:/ { fit = int($$2 / 3000000); print fit < 1 ? 1 : fit < processors ? fit : processors }' /proc/meminfo)
 
-.PHONY: demo test edits build rows bench memory
+.PHONY: demo test edits build rows bench memory crash
 
 # `rt try` builds without proving: quick, and no more than an unproved build.
 demo:
@@ -45,3 +46,6 @@ bench: build
 
 memory: build
 	@python3 examples/check_memory.py
+
+crash: build
+	@python3 examples/crash.py

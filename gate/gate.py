@@ -7,7 +7,7 @@
     commit's own hash picks (`make edits` tries all of them, and writes the record); a line of the record that is
     older than its crate fails the gate;
   - on the program that the copy proved and built: the worked rows, its calls of the system, its edges, the documents
-    read by tools that are not ours, the tour;
+    read by tools that are not ours, the tour, the images of crashes at its calls on a file;
   - the tests of the gate itself, and the list of proofs by hand.
 
 N counts crates, edits and the other parts. The minutes of a processor of each part are told before.
@@ -25,7 +25,6 @@ from pathlib import Path
 
 import edits
 import record
-from edit import Outcome
 from meter import Meter
 
 ROOT = Path(__file__).resolve().parent.parent
@@ -94,13 +93,7 @@ def some_edits(copy):
         shutil.copytree(ROOT / "crates" / name / "must-fail", copy / "crates" / name / "must-fail")
     tried = edits.try_crates(str(copy), names, lanes())
     every = [it for found in tried.values() for it in found]
-    return sum(it.is_refused for it in every), [it.label for it in every if fails(it, record.lines(ROOT))]
-
-
-def fails(edit, recorded):
-    """Whether an edit fails the gate. One that falls by no goal does so in a crate that has a line; elsewhere it is told, to be mended."""
-    is_of_no_line = edit.label.partition("/")[0] not in recorded
-    return not edit.is_refused and not (edit.outcome is Outcome.NO_GOAL and is_of_no_line)
+    return sum(it.is_refused for it in every), [it.label for it in every if not it.is_refused]
 
 
 def lanes():
@@ -144,6 +137,7 @@ def main():
             parts.run("must-fail edits", lambda: some_edits(copy))
             for name in ("rows", "calls", "edges", "documents", "tour"):
                 parts.run(name, script(copy / "examples" / f"check_{name}.py"))
+            parts.run("crash", script(copy / "examples" / "crash.py", "--short"))
         tell(parts, meter, started)
     for it in parts.failed:
         print(f"FAILED: {it}")

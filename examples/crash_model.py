@@ -1,0 +1,251 @@
+"""What a source serves after a list of commands, written from docs/SCRIPT.md and docs/DOCUMENTS.md.
+
+It is plain and slow, and shares nothing with the program: a state is a few Python values, a command
+gives the next one, and each document is text that is put together anew.
+"""
+import dataclasses
+import datetime
+import hashlib
+import os
+
+HEAD = '<?xml version="1.0" encoding="UTF-8"?>\n'
+SPACES = (
+    'xmlns="http://www.sitemaps.org/schemas/sitemap/0.9" '
+    'xmlns:rs="http://www.openarchives.org/rs/terms/"'
+)
+CHANGES = 'capability="changelist" '
+REFERENCES = {"&": "&amp;", "'": "&apos;", '"': "&quot;", ">": "&gt;", "<": "&lt;"}
+
+
+def moment_text(moment):
+    """A moment, in milliseconds since 1970, as a W3C Datetime."""
+    time = datetime.datetime(1970, 1, 1) + datetime.timedelta(milliseconds=moment)
+    return time.isoformat(timespec="milliseconds") + "Z"
+
+
+def escaped(text):
+    return "".join(REFERENCES.get(it, it) for it in text)
+
+
+@dataclasses.dataclass(frozen=True)
+class Entry:
+    """What is known of a resource: its facts, and the moment at which it got them."""
+
+    kind: str
+    length: int
+    hash: str
+    moment: int
+
+    def attributes(self):
+        return f'hash="{self.hash}" length="{self.length}" type="{escaped(self.kind)}"'
+
+
+def entry_of(kind, body, moment):
+    digests = f"md5:{hashlib.md5(body).hexdigest()} sha-256:{hashlib.sha256(body).hexdigest()}"
+    return Entry(kind, len(body), digests, moment)
+
+
+@dataclasses.dataclass(frozen=True)
+class Change:
+    """A change: `entry` is None where the name was deleted."""
+
+    what: str
+    name: str
+    moment: int
+    entry: Entry | None
+
+
+@dataclasses.dataclass(frozen=True)
+class State:
+    """A source: what it holds, what has changed, and what it listed last. It stays as it is."""
+
+    base: str
+    limit: int
+    last: int = 0
+    held: dict = dataclasses.field(default_factory=dict)
+    changes: tuple = ()
+    number: int = 0
+    at: int = 0
+    listed: dict = dataclasses.field(default_factory=dict)
+
+    def after(self, line, now):
+        """The answer to a line, and the next state, or None where the line is refused."""
+        words = line.split(" ", 3)
+        moment = max(now, self.last + 1)
+        if words[0] == "put":
+            body = b"" if words[2] == "-" else bytes.fromhex(words[2])
+            return self.after_put(words[1], body, words[3], moment)
+        if words[0] == "delete":
+            return self.after_delete(words[1], moment)
+        facts = {"last": moment, "number": self.number + 1, "at": moment}
+        then = dataclasses.replace(self, **facts, listed=self.entries())
+        return f"published {then.number} {moment_text(moment)}", then
+
+    def entries(self):
+        """What is known of each resource held."""
+        return {name: entry for name, (_, entry) in self.held.items()}
+
+    def after_put(self, name, body, kind, moment):
+        what = "updated" if name in self.held else "created"
+        entry = entry_of(kind, body, moment)
+        changes = self.changes + (Change(what, name, moment, entry),)
+        held = {**self.held, name: (body, entry)}
+        then = dataclasses.replace(self, last=moment, held=held, changes=changes)
+        return f"{what} {moment_text(moment)}", then
+
+    def after_delete(self, name, moment):
+        if name not in self.held:
+            return "refused NotHeld", None
+        held = {it: value for it, value in self.held.items() if it != name}
+        changes = self.changes + (Change("deleted", name, moment, None),)
+        then = dataclasses.replace(self, last=moment, held=held, changes=changes)
+        return f"deleted {moment_text(moment)}", then
+
+    def status(self):
+        counts = f"resources {len(self.held)} changes {len(self.changes)} publication {self.number}"
+        return f"{counts} last {moment_text(self.last)}\n".encode()
+
+
+def run(state, lines):
+    """The answers to lines, all states, and how many commands each number of lines has made."""
+    now, answers, states, made = 0, [], [state], [0]
+    for line in lines:
+        if line.startswith("at "):
+            now, answer, then = int(line[3:]), "ok", None
+        else:
+            answer, then = states[-1].after(line, now)
+        answers.append(answer)
+        states += [then] if then else []
+        made.append(len(states) - 1)
+    return answers, states, made
+
+
+def document(root, links, facts, children):
+    """The text of a document."""
+    lines = [f'<rs:ln rel="{rel}" href="{href}"/>' for rel, href in links]
+    lines += [f"<rs:md {facts}/>", *children]
+    return f"{HEAD}<{root} {SPACES}>\n" + "".join(it + "\n" for it in lines) + f"</{root}>\n"
+
+
+def resource(base, name, entry):
+    place, time = f"<loc>{base}/resource/{escaped(name)}</loc>", moment_text(entry.moment)
+    return f"<url>{place}<lastmod>{time}</lastmod><rs:md {entry.attributes()}/></url>"
+
+
+def changed(base, change):
+    place, time = f"<loc>{base}/resource/{escaped(change.name)}</loc>", moment_text(change.moment)
+    facts = f'change="{change.what}" datetime="{time}"'
+    if change.entry is None:
+        return f"<url>{place}<rs:md {facts}/></url>"
+    facts = f"{facts} {change.entry.attributes()}"
+    return f"<url>{place}<lastmod>{time}</lastmod><rs:md {facts}/></url>"
+
+
+def chunks(items, limit):
+    return [items[at : at + limit] for at in range(0, len(items), limit)]
+
+
+def pointed(base, path, facts):
+    return f"<sitemap><loc>{base}{path}</loc><rs:md {facts}/></sitemap>"
+
+
+def resource_documents(state):
+    """The Resource List, or its index and its parts."""
+    base, up = state.base, ("up", state.base + "/capabilitylist.xml")
+    at = f'at="{moment_text(state.at)}"'
+    facts = f'capability="resourcelist" {at}'
+    names = sorted(state.listed, key=str.encode)
+    parts = chunks([resource(base, it, state.listed[it]) for it in names], state.limit)
+    if len(parts) <= 1:
+        return {"/resourcelist.xml": document("urlset", [up], facts, sum(parts, []))}
+    paths = [f"/resourcelist/{state.number}/{k}.xml" for k in range(len(parts))]
+    index = document("sitemapindex", [up], facts, [pointed(base, it, at) for it in paths])
+    links = [up, ("index", base + "/resourcelist.xml")]
+    texts = [document("urlset", links, facts, it) for it in parts]
+    return {"/resourcelist.xml": index, **dict(zip(paths, texts))}
+
+
+def change_documents(state):
+    """The Change List, or its index and its parts."""
+    base, up = state.base, ("up", state.base + "/capabilitylist.xml")
+    start = f'from="{moment_text(0)}"'
+    parts = chunks(state.changes, state.limit)
+    if len(parts) <= 1:
+        children = [changed(base, it) for it in state.changes]
+        return {"/changelist.xml": document("urlset", [up], CHANGES + start, children)}
+    links, found, index, bound = [up, ("index", base + "/changelist.xml")], {}, [], start
+    for k, part in enumerate(parts):
+        end = moment_text(part[-1].moment)
+        facts = bound + (f' until="{end}"' if len(part) == state.limit else "")
+        path, bound = f"/changelist/{k}.xml", f'from="{end}"'
+        children = [changed(base, it) for it in part]
+        found[path] = document("urlset", links, CHANGES + facts, children)
+        index.append(pointed(base, path, facts))
+    return {"/changelist.xml": document("sitemapindex", [up], CHANGES + start, index), **found}
+
+
+def documents(state):
+    """Each document that there is, by its path."""
+    base = state.base
+
+    def capability(name):
+        return f'<url><loc>{base}/{name}.xml</loc><rs:md capability="{name}"/></url>'
+
+    described, facts = "/.well-known/resourcesync", 'capability="capabilitylist"'
+    capabilities = capability("capabilitylist")
+    lists = [capability("resourcelist"), capability("changelist")]
+    return {
+        described: document("urlset", [], 'capability="description"', [capabilities]),
+        "/capabilitylist.xml": document("urlset", [("up", base + described)], facts, lists),
+        **resource_documents(state),
+        **change_documents(state),
+    }
+
+
+class Questions:
+    """A script that asks for all that some states have, and the states by what they answer."""
+
+    def __init__(self, states):
+        served = [all_served(it) for it in states]
+        self.paths = sorted({path for it in served for path in it})
+        self.script = b"status\n" + "".join(f"show {it}\n" for it in self.paths).encode()
+        answers = map(self.answer, states, served)
+        self.states = {answer: number for number, answer in enumerate(answers)}
+
+    def answer(self, state, served):
+        return state.status() + b"".join(shown(path, served.get(path)) for path in self.paths)
+
+    def difference(self, output):
+        """How an output that no state has differs from the answer with the same counts."""
+        counts = output.partition(b"\n")[0]
+        for answer, number in self.states.items():
+            if answer.startswith(counts + b"\n"):
+                at = len(os.path.commonprefix([answer, output]))
+                found, wanted = (it[at : at + 40] for it in (output, answer))
+                return f"the counts of {number} commands, but {found!r}, not {wanted!r}"
+        return f"the counts of no state: {counts[:100]!r}"
+
+    def shown_in(self, output):
+        """What is shown in an output, by path, without what was refused."""
+        found, at = {}, output.index(b"\n") + 1
+        for path in self.paths:
+            end = output.index(b"\n", at) + 1
+            is_shown = output.startswith(b"bytes ", at)
+            length = int(output[at + 6 : end]) if is_shown else 0
+            if is_shown:
+                found[path] = output[end : end + length]
+            at = end + length + is_shown
+        return found
+
+
+def all_served(state):
+    """Each document and each body, by its path."""
+    texts = {path: it.encode() for path, it in documents(state).items()}
+    return {**texts, **{f"/resource/{name}": body for name, (body, _) in state.held.items()}}
+
+
+def shown(path, served):
+    """The answer to a line that shows a path."""
+    if served is not None:
+        return b"bytes %d\n%s\n" % (len(served), served)
+    return b"refused NotHeld\n" if path.startswith("/resource/") else b"refused NoSuchDocument\n"

@@ -1,0 +1,153 @@
+"""Records the calls by which a program changes a file, in their order among its answers.
+
+The program runs with a C library (`cc` builds it) that notes each write to the file, with its
+offset and its bytes, each sync of it, each length that it is given, and what goes to standard
+output. It is given its script line by line, each line after the answer to the one before it.
+"""
+import collections
+import os
+import pathlib
+import subprocess
+import threading
+
+# No session takes longer than this.
+SECONDS = 120
+WRITE, SYNC, LENGTH, ANSWER = "write", "sync", "length", "answer"
+# A call that succeeded: `at` is the offset of a write or the length of the file, `data` what was
+# written, or answered.
+Call = collections.namedtuple("Call", "kind at data")
+NOTES = r"""
+#define _GNU_SOURCE
+#include <errno.h>
+#include <fcntl.h>
+#include <stdio.h>
+#include <stdlib.h>
+#include <sys/stat.h>
+#include <sys/syscall.h>
+#include <unistd.h>
+static int is_disk(int fd) {
+    struct stat here, disk;
+    int error = errno, is = fstat(fd, &here) == 0 && stat(getenv("DISK"), &disk) == 0;
+    errno = error;
+    return is && here.st_dev == disk.st_dev && here.st_ino == disk.st_ino;
+}
+static void note(const char *kind, long at, const void *bytes, long length) {
+    int error = errno;
+    char line[100];
+    long log = syscall(SYS_openat, AT_FDCWD, getenv("CALLS"), O_WRONLY | O_CREAT | O_APPEND, 0600);
+    syscall(SYS_write, log, line, snprintf(line, sizeof line, "%s %ld %ld\n", kind, at, length));
+    syscall(SYS_write, log, bytes, length);
+    syscall(SYS_close, log);
+    errno = error;
+}
+ssize_t pwrite(int fd, const void *from, size_t n, off_t at) {
+    ssize_t done = syscall(SYS_pwrite64, fd, from, n, at);
+    if (done > 0 && is_disk(fd)) note("write", at, from, done);
+    return done;
+}
+ssize_t pwrite64(int fd, const void *from, size_t n, off_t at) { return pwrite(fd, from, n, at); }
+ssize_t write(int fd, const void *from, size_t n) {
+    if (fd == 1) note("answer", 0, from, n);
+    return syscall(SYS_write, fd, from, n);
+}
+static int synced(int fd, int result) {
+    if (result == 0 && is_disk(fd)) note("sync", 0, "", 0);
+    return result;
+}
+int fsync(int fd) { return synced(fd, syscall(SYS_fsync, fd)); }
+int fdatasync(int fd) { return synced(fd, syscall(SYS_fdatasync, fd)); }
+int ftruncate(int fd, off_t length) {
+    int result = syscall(SYS_ftruncate, fd, length);
+    if (result == 0 && is_disk(fd)) note("length", length, "", 0);
+    return result;
+}
+int ftruncate64(int fd, off_t length) { return ftruncate(fd, length); }
+"""
+
+
+class Unrecorded(Exception):
+    """The program did something that the record does not have, or answered other than it should."""
+
+
+class Recorder:
+    """Runs a program in a folder of its own, over the file `source.disk`, and records its calls."""
+
+    def __init__(self, program, room):
+        self.program, self.room = program, pathlib.Path(room)
+        self.disk, self.log = self.room / "source.disk", self.room / "calls"
+        source, self.library = self.room / "notes.c", self.room / "notes.so"
+        source.write_text(NOTES)
+        words = ["cc", "-O1", "-shared", "-fPIC", "-o", self.library, source]
+        subprocess.run(words, check=True)
+
+    def format(self, size, base, limit):
+        """The calls by which a source is made on a new file."""
+        self.disk.unlink(missing_ok=True)
+        words = ["format", "source.disk", str(size), base, str(limit)]
+        return self.record(words, b"", [], [f"formatted {size}"])
+
+    def run(self, before, lines, answers):
+        """The calls of these lines, which are to be answered so, over a disk of these bytes."""
+        self.disk.write_bytes(before)
+        return self.record(["run", "source.disk"], before, lines, answers)
+
+    def record(self, words, before, lines, answers):
+        self.log.unlink(missing_ok=True)
+        paths = {"LD_PRELOAD": self.library, "CALLS": self.log, "DISK": self.disk}
+        names = {**os.environ, **{name: str(path) for name, path in paths.items()}}
+        how = {"cwd": self.room, "env": names, "stdin": subprocess.PIPE, "stdout": subprocess.PIPE}
+        with subprocess.Popen([self.program, *words], **how) as ran:
+            watch = threading.Timer(SECONDS, ran.kill)
+            watch.daemon = True
+            watch.start()
+            told = b"".join([asked(ran, line) for line in lines] + [ran.communicate()[0]])
+            watch.cancel()
+        calls = calls_of(self.log.read_bytes() if self.log.exists() else b"")
+        wanted = "".join(it + "\n" for it in answers).encode()
+        if ran.returncode or told != wanted:
+            found = f"status {ran.returncode}, answered {told!r}, and not {wanted!r}"
+            raise Unrecorded(f"{words}: {found}")
+        if b"".join(it.data for it in calls if it.kind == ANSWER) != told:
+            raise Unrecorded(f"{words}: an answer is not in the record")
+        if replayed(before, calls) != self.disk.read_bytes():
+            raise Unrecorded(f"{words}: the file is not what the recorded writes make it")
+        return calls
+
+
+def asked(ran, line):
+    """The answer to one line, or nothing where the program has ended."""
+    try:
+        ran.stdin.write(line.encode() + b"\n")
+        ran.stdin.flush()
+    except BrokenPipeError:
+        return b""
+    return ran.stdout.readline()
+
+
+def calls_of(log):
+    """The calls of a log."""
+    calls, at = [], 0
+    while at < len(log):
+        end = log.index(b"\n", at) + 1
+        kind, place, length = log[at:end].split()
+        calls.append(Call(kind.decode(), int(place), log[end : end + int(length)]))
+        at = end + int(length)
+    return calls
+
+
+def over(disk, writes):
+    """A disk with each of these writes, the later over the earlier."""
+    disk = bytearray(disk)
+    for at, data in writes:
+        disk[at : at + len(data)] = data
+    return bytes(disk)
+
+
+def replayed(disk, calls):
+    """What a read gives after these calls."""
+    for it in calls:
+        if it.kind == LENGTH:
+            disk = disk[: it.at].ljust(it.at, b"\0")
+        elif it.kind == WRITE:
+            disk = over(disk, [(it.at, it.data)])
+    return disk
