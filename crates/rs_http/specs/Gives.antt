@@ -84,7 +84,7 @@ abbrev pub Gives : {D : Type 0} → (D → DiskState) → Stored D → ℕ → R
 Gives device old now (Ok plan) more rest outcome new = PlanGives device old now plan more rest outcome new
 Gives device old now (Err reason) more rest outcome new = (more ≡ []) × (outcome ≡ unplanned reason) × (new ≡ old)
 
--- An outcome of which this holds is answered: its status is given, and its response is written, unless the writer fails.
+-- An outcome of which this holds is answered: its status is given, and its response is Written, unless the writer fails.
 pub record Responds {E : Type 0} (framing : Framing) (Written : List ℕ → Type 0) (comes : Outcome → Type 0) (result : Result ℕ E) : Type 0 where
   pub outcome : Outcome
   pub comes_of_it : comes outcome

@@ -34,9 +34,10 @@ pub enum Served {
 ///
 /// # Errors
 ///
-/// - [`FrontFault::Read`] where a read failed in this call: nothing is done, and no more than the word to go on is written.
-/// - [`FrontFault::Write`] where a call of the writer failed in this one. Where it was the word to go on that was not written, nothing is
-///   done; else a command that was accepted stands.
+/// - [`FrontFault::Read`] where a read failed in this call: nothing is done, and no more than the word to go on is
+///   written.
+/// - [`FrontFault::Write`] where a call of the writer failed in this one. Where it was the word to go on that was not
+///   written, nothing is done; else a command that was accepted stands.
 pub fn serve_one<D: Disk, R: Read, W: Write>(
     alloc: Global,
     source: &mut Source<D>,

@@ -43,8 +43,7 @@ impl From<WriteFault> for ListError {
 /// # Errors
 ///
 /// [`ListError::NoSuchDocument`] exactly where the document does not exist; nothing is written
-/// then. [`ListError::WriteFault`] only where a call of the writer failed
-/// in this one.
+/// then. [`ListError::WriteFault`] only where a call of the writer failed in this one.
 pub fn write_list<V: View, W: Write>(
     view: &V,
     doc: Doc,
