@@ -6,10 +6,12 @@ ghost use Rattle.rs_store.specs.Laws.{EarlyFaultsLeave};
 
 use rs_disk::Disk;
 
-/// A put that [`put_from`](crate::Source::put_from) answers by [`Device`](crate::Refusal::Device), while the reader gave fewer
-/// bytes than the body has, left the old state: of a source that holds a state, each image of a crash within the call and
-/// after it stands for this one. For what is answered then is the answer to each body that begins so, and no image stands
-/// for two of them.
+/// A put of a source that holds a state, which [`put_from`](crate::Source::put_from) answers by
+/// [`Device`](crate::Refusal::Device) while the reader gave fewer bytes than the body has: each image
+/// of a crash within the call and after it stands for this state.
+///
+/// For what is answered then is the answer to each body that begins so, and no image stands for the
+/// states after two of them.
 pub fn early_faults_leave<D: Disk>()
     ensures { EarlyFaultsLeave D.state }
 {}
