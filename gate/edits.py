@@ -18,9 +18,10 @@ import os
 import shutil
 import sys
 import tempfile
-from concurrent.futures import ThreadPoolExecutor
+from concurrent.futures import ThreadPoolExecutor, as_completed
 from dataclasses import dataclass
 from pathlib import Path
+from threading import Semaphore
 
 import edit as edits_of_a_crate
 import kit
@@ -31,12 +32,13 @@ from edit import Outcome
 
 @dataclass
 class Trial:
-    """The edits of one crate, tried in a copy of it over the work that its last check kept."""
+    """The edits of one crate, tried in copies of it over the work that its last check kept."""
 
     root: str
     name: str
     uses: dict
     home: Path
+    turns: Semaphore
     checks: int = 0
 
     @property
@@ -46,34 +48,35 @@ class Trial:
     def files(self):
         return sorted(map(str, Path(self.folder, "must-fail").glob("*.edit")))
 
-    def check(self, room, texts):
-        """Checks the copy of the crate with these texts in place of its own, and reads what the prover told."""
+    def check(self, kept, texts):
+        """Checks a copy of the crate with these texts in place of its own, with its work kept in the folder `kept`."""
         self.checks += 1
-        kit.linked_copy(f"{room}/kept", f"{room}/work")
-        were = {path: Path(room, "crate", path).read_text() for path in texts}
-        for path, text in texts.items():
-            Path(room, "crate", path).write_text(text)
-        told = kit.check(kit.command(self.home, self.root, self.uses, self.name, f"{room}/work"), f"{room}/crate")
-        for path, text in were.items():
-            Path(room, "crate", path).write_text(text)
-        return told
+        with self.turns, tempfile.TemporaryDirectory(prefix="copy-", dir=os.path.dirname(kept)) as crate:
+            for part in ("src", "specs", "proofs"):
+                if os.path.isdir(f"{self.folder}/{part}"):
+                    shutil.copytree(f"{self.folder}/{part}", f"{crate}/{part}")
+            for path, text in texts.items():
+                Path(crate, path).write_text(text)
+            return kit.check(kit.command(self.home, self.root, self.uses, self.name, kept), crate)
 
-    def prepare(self, room):
-        """Copies the crate into the room, proves it there, and returns what the prover told."""
-        for part in ("src", "specs", "proofs"):
-            if os.path.isdir(f"{self.folder}/{part}"):
-                shutil.copytree(f"{self.folder}/{part}", f"{room}/crate/{part}")
-        kit.linked_copy(f"{self.folder}/out/incremental", f"{room}/kept")
-        told = self.check(room, {})
-        shutil.rmtree(f"{room}/kept")
-        os.rename(f"{room}/work", f"{room}/kept")
-        return told
+    def check_each(self, kept, every):
+        """Checks each of these texts in a copy of its own, side by side as turns come free, and gives what was told of each."""
+
+        def check(texts):
+            with tempfile.TemporaryDirectory(prefix="work-", dir=os.path.dirname(kept)) as room:
+                kit.linked_copy(kept, f"{room}/work")
+                return self.check(f"{room}/work", texts)
+
+        with ThreadPoolExecutor(max(1, len(every))) as pool:
+            return list(pool.map(check, every))
 
     def run(self):
         """Tries the crate's edits, and returns them."""
         edits = [edits_of_a_crate.read(self.name, it) for it in self.files()]
         with tempfile.TemporaryDirectory(prefix="edits-") as room:
-            told = self.prepare(room)
+            kept = f"{room}/kept"
+            kit.linked_copy(f"{self.folder}/out/incremental", kept)
+            told = self.check(kept, {})
             symbols = verdict.proved(told)
             for it in edits:
                 if not told.is_proved:
@@ -83,11 +86,12 @@ class Trial:
                 else:
                     it.symbols = edits_of_a_crate.touched(it, self.folder, symbols)
             left = [it for it in edits if it.outcome is Outcome.NOT_TRIED and told.is_proved]
-            for members, texts in edits_of_a_crate.grouped([it for it in left if it.symbols], self.folder):
-                self.judge(members, self.check(room, texts))
-            for it in left:
-                if not it.is_refused:
-                    self.judge_alone(it, self.check(room, edits_of_a_crate.applied(it, self.folder)))
+            groups = edits_of_a_crate.grouped([it for it in left if it.symbols], self.folder)
+            for (members, _), told in zip(groups, self.check_each(kept, [texts for _, texts in groups])):
+                self.judge(members, told)
+            alone = [it for it in left if not it.is_refused]
+            for it, told in zip(alone, self.check_each(kept, [edits_of_a_crate.applied(it, self.folder) for it in alone])):
+                self.judge_alone(it, told)
         return edits
 
     def judge(self, members, told):
@@ -116,12 +120,15 @@ class Trial:
 
 
 def try_crates(root, names, jobs, when_done=lambda name, edits: None):
-    """Tries the edits of these crates side by side, prints what came of each, and returns the edits by crate. Each crate is told of when it is done."""
-    home, uses = kit.folder(), kit.crates_of(root)
-    trials = [it for it in (Trial(root, name, uses, home) for name in names) if it.files()]
+    """Tries the edits of these crates, so many checks side by side, prints what came of each, and returns the edits by crate. Each crate is told of when it is done."""
+    home, uses, turns = kit.folder(), kit.crates_of(root), Semaphore(jobs)
+    trials = [it for it in (Trial(root, name, uses, home, turns) for name in names) if it.files()]
     tried = {}
+    # A crate's own checks go side by side too, so that the last one leaves no processor idle.
     with ThreadPoolExecutor(jobs) as pool:
-        for trial, edits in zip(trials, pool.map(Trial.run, trials)):
+        running = {pool.submit(it.run): it for it in trials}
+        for done in as_completed(running):
+            trial, edits = running[done], done.result()
             tried[trial.name] = edits
             for it in edits:
                 print(f"{it.outcome.value}: {it.label}: {it.why[:200]}")
