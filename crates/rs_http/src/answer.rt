@@ -1,9 +1,9 @@
 //! The answer to a request that was read.
 
-ghost use Rattle.std.specs.Prelude.{◌≡◌, ◌/◌, Bool, Ok, Err, IfOk, OnOk, OnErr, IsErrOf, MatchResult};
+ghost use Rattle.std.specs.Prelude.{◌≡◌, ◌/◌, Bool, true, Ok, Err, IfOk, OnOk, OnErr, IsErrOf, MatchResult};
 ghost use Rattle.std.specs.Io.KnownBytes.{Keeps};
 ghost use Rattle.httpdate.specs.Date.{unix_secs};
-ghost use Rattle.rs_io.specs.Watch.{watched, failures, EndFailed, Wrote};
+ghost use Rattle.rs_io.specs.Watch.{watched, failures, is_flushed, StaysFlushed, EndFailed, Wrote};
 ghost use Rattle.rs_http.specs.Serving.{PlanEnds, RequestEnds, preface_of};
 ghost use Rattle.rs_http.specs.Responses.{go_on, response_text, status_of};
 ghost use Rattle.rs_http.specs.Gives.{unplanned};
@@ -63,6 +63,7 @@ fn put<D: Disk, R: Read, W: Write>(
     ensures sound { OnOk result ((failures reader.new ≡ failures reader.old) × (failures writer.new ≡ failures writer.old)) }
     ensures read { IsErrOf result FrontFault.Read → EndFailed reader.old reader.new × (failures writer.new ≡ failures writer.old) }
     ensures write { IsErrOf result FrontFault.Write → EndFailed writer.old writer.new × (failures reader.new ≡ failures reader.old) }
+    ensures silent { IsErrOf result FrontFault.Read → writer.new ≡ writer.old }
 {
     match source.put_from(name, kind, reader, body_length, now) {
         Ok(reply) => sent(write_reply(writer, framing, reply)),
@@ -87,6 +88,7 @@ fn respond<D: Disk, R: Read, W: Write>(
     ensures sound { OnOk result ((failures reader.new ≡ failures reader.old) × (failures writer.new ≡ failures writer.old)) }
     ensures read { IsErrOf result FrontFault.Read → EndFailed reader.old reader.new × (failures writer.new ≡ failures writer.old) }
     ensures write { IsErrOf result FrontFault.Write → EndFailed writer.old writer.new × (failures reader.new ≡ failures reader.old) }
+    ensures silent { IsErrOf result FrontFault.Read → writer.new ≡ writer.old }
 {
     match plan {
         Err(reason) => sent(write_unplanned(writer, framing, reason)),
@@ -112,6 +114,7 @@ fn write_preface<W: Write>(
 ) -> Result<(), WriteFault>
     ensures ok { OnOk result (Wrote W.contents writer.old writer.new (preface_of plan.now)) }
     ensures failed { OnErr result (EndFailed writer.old writer.new × (preface_of plan.now ≡ go_on)) }
+    ensures flushed { OnOk result (StaysFlushed writer.old writer.new) }
 {
     match plan {
         Ok(Plan::Put { waits: true, .. }) => {
@@ -138,6 +141,7 @@ fn finish<W: Write>(writer: &mut Watched<W>, status: u16) -> Result<u16, FrontFa
     ensures bytes { Keeps (W.contents (watched writer.old)) (W.contents (watched writer.new)) }
     ensures sound { OnOk result (failures writer.new ≡ failures writer.old) }
     ensures failed { OnErr result (EndFailed writer.old writer.new) }
+    ensures flushed { OnOk result (is_flushed writer.new ≡ true) }
 {
     match writer.flush() {
         Ok(()) => Ok(status),
@@ -163,6 +167,8 @@ pub(crate) fn answer<D: Disk, R: Read, W: Write>(
     ensures sound { OnOk result ((failures reader.new ≡ failures reader.old) × (failures writer.new ≡ failures writer.old)) }
     ensures read { IsErrOf result FrontFault.Read → EndFailed reader.old reader.new × (failures writer.new ≡ failures writer.old) }
     ensures write { IsErrOf result FrontFault.Write → EndFailed writer.old writer.new × (failures reader.new ≡ failures reader.old) }
+    ensures flushed { OnOk result (is_flushed writer.new ≡ true) }
+    ensures waits { IsErrOf result FrontFault.Read → StaysFlushed writer.old writer.new }
 {
     let framing = Framing {
         date: date_of(now),

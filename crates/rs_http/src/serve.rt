@@ -1,8 +1,8 @@
 //! One request to a source.
 
-ghost use Rattle.std.specs.Prelude.{◌≡◌, ℕ, List, IfOk, IsErrOf};
+ghost use Rattle.std.specs.Prelude.{◌≡◌, ℕ, List, IfOk, OnOk, IsErrOf};
 ghost use Rattle.std.specs.Io.KnownBytes.{Consumes};
-ghost use Rattle.rs_io.specs.Watch.{watched, EndFailed, Took, Wrote};
+ghost use Rattle.rs_io.specs.Watch.{watched, StaysFlushed, EndFailed, Took, Wrote};
 ghost use Rattle.rs_http.specs.Held.{GoesOnOnce};
 ghost use Rattle.rs_http.specs.Serving.{Serves, Breaks, Halts};
 
@@ -61,6 +61,10 @@ pub fn serve_one<D: Disk, R: Read, W: Write>(
     ensures write { IsErrOf result FrontFault.Write → EndFailed writer.old writer.new × (input : List ℕ)
         × Took R.remaining reader.old reader.new input
         × Halts D.state source.old now (R.remaining (watched reader.old)) input (R.remaining (watched reader.new)) source.new }
+
+    // What was written was flushed too: the whole response, and the word to go on before the body was read.
+    ensures flushed { OnOk result (StaysFlushed writer.old writer.new) }
+    ensures waits { IsErrOf result FrontFault.Read → StaysFlushed writer.old writer.new }
 
     // Whatever the result is, a state that was held has become what one command at most makes of it, while the source is open.
     ensures goes_on { GoesOnOnce D.state source.old now source.new }

@@ -1,6 +1,6 @@
 -- What contracts see of a watched reader or writer. What an end holds, W.contents of a writer or R.remaining of a reader,
 -- is passed to the words that speak of its bytes.
-use Rattle.std.specs.Prelude.{◌≡◌, ◌⊎◌, ℕ, ◌+◌, ◌<◌, ◌≤◌, ◌^◌, List, Option}
+use Rattle.std.specs.Prelude.{◌≡◌, ◌⊎◌, ℕ, ◌+◌, ◌<◌, ◌≤◌, ◌^◌, Bool, true, not, List, Option}
 use Rattle.std.specs.Io.KnownBytes.{Consumes, Appends}
 use Rattle.rs_io.specs.declared.watch.Watched.{Watched}
 
@@ -11,6 +11,14 @@ watched w = w.inner
 -- how many calls of it have failed
 abbrev pub failures : {T : Type 0} → Watched T → ℕ
 failures w = w.failures
+
+-- nothing was put into it since its last flush that succeeded
+abbrev pub is_flushed : {T : Type 0} → Watched T → Bool
+is_flushed w = not w.holds_back
+
+-- what was put into it in between was flushed too
+abbrev pub StaysFlushed : {T : Type 0} → Watched T → Watched T → Type 0
+StaysFlushed old new = is_flushed old ≡ true → is_flushed new ≡ true
 
 -- a call failed in between, or the count stands at its last value
 abbrev pub EndFailed : {T : Type 0} → Watched T → Watched T → Type 0

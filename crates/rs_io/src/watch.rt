@@ -1,5 +1,5 @@
-//! A reader or a writer that counts its calls that failed.
-ghost use Rattle.std.specs.Prelude.{◌≡◌, ◌<◌, ◌≤◌, length, take, IfOk, OnOk, OnErr, IfSome, MatchResult};
+//! A reader or a writer that counts its calls that failed, and knows whether all it took was flushed.
+ghost use Rattle.std.specs.Prelude.{◌≡◌, ◌+◌, ◌<◌, ◌≤◌, true, false, length, take, IfOk, OnOk, OnErr, IfSome, MatchResult};
 ghost use Rattle.std.specs.Io.KnownBytes.{IsAtEnd, Keeps};
 
 use crate::fault::{ReadFault, WriteFault};
@@ -7,26 +7,34 @@ use std::fmt::Display;
 use std::io;
 use std::io::{Read, Write};
 
-/// A reader or a writer, with a count of its calls that failed.
+/// A reader or a writer, with a count of its calls that failed, and with whether all that was put
+/// into it has been flushed.
 ///
-/// Each call that answers an error is counted, and no other; the count stays at `u64::MAX` once it
-/// is there. Nothing is tried again but an interrupted write, which Rust's `write_all` tries again.
+/// Each call that answers an error is counted once, and no other; the count stays at `u64::MAX` once
+/// it is there. Nothing is tried again but an interrupted write, which Rust's `write_all` tries again.
 /// A caller may go on after an error: what the end does then is its own matter.
 #[derive(Debug, Drop)]
 pub struct Watched<T> {
     inner: T,
     failures: u64,
+    holds_back: bool,
 }
 
 impl<T> Watched<T> {
-    ghost use Rattle.rs_io.specs.Watch.{watched, failures, EndFailed};
+    ghost use Rattle.rs_io.specs.Watch.{watched, failures, is_flushed, EndFailed};
 
-    /// Watches `inner` from here on. What failed before is not counted.
+    /// Watches `inner` from here on. What failed before is not counted, and what was written before
+    /// counts as flushed.
     pub fn new(inner: T) -> Watched<T>
         ensures inner { watched result ≡ inner }
         ensures failures { failures result ≡ 0 }
+        ensures flushed { is_flushed result ≡ true }
     {
-        Watched { inner, failures: 0 }
+        Watched {
+            inner,
+            failures: 0,
+            holds_back: false,
+        }
     }
 
     /// How many calls have failed since [`Watched::new`], or `u64::MAX` where they are more.
@@ -34,6 +42,14 @@ impl<T> Watched<T> {
         ensures { result ≡ failures self.now }
     {
         self.failures
+    }
+
+    /// Whether a flush has succeeded since the last call that put bytes or text, or none was put
+    /// since [`Watched::new`]. A put counts before it is tried: one that fails may leave bytes too.
+    pub fn is_flushed(&self) -> bool
+        ensures { result ≡ is_flushed self.now }
+    {
+        !self.holds_back
     }
 
     /// The reader or the writer, to look at.
@@ -56,6 +72,8 @@ impl<T> Watched<T> {
         ensures inner { watched self.new ≡ watched self.old }
         ensures sound { OnOk result (failures self.new ≡ failures self.old) }
         ensures failed { OnErr result (EndFailed self.old self.new) }
+        ensures once { failures self.new ≤ failures self.old + 1 }
+        ensures flushed { is_flushed self.new ≡ is_flushed self.old }
     {
         match answer {
             Ok(value) => Ok(value),
@@ -68,7 +86,7 @@ impl<T> Watched<T> {
 }
 
 impl<R: Read> Watched<R> {
-    ghost use Rattle.rs_io.specs.Watch.{watched, EndFailed, Took};
+    ghost use Rattle.rs_io.specs.Watch.{watched, failures, is_flushed, EndFailed, Took};
 
     /// Reads once into the front of `buf`, and says how many bytes came.
     ///
@@ -83,6 +101,8 @@ impl<R: Read> Watched<R> {
         ensures end { IfOk result (λ n. n ≡ 0 → 0 < length buf.new → IsAtEnd (R.remaining (watched self.new))) }
         ensures err { OnErr result (Keeps (R.remaining (watched self.old)) (R.remaining (watched self.new))) }
         ensures failed { OnErr result (EndFailed self.old self.new) }
+        ensures once { failures self.new ≤ failures self.old + 1 }
+        ensures flushed { is_flushed self.new ≡ is_flushed self.old }
     {
         let answer = self.inner.read(buf);
         self.noted(answer, ReadFault)
@@ -90,7 +110,7 @@ impl<R: Read> Watched<R> {
 }
 
 impl<W: Write> Watched<W> {
-    ghost use Rattle.rs_io.specs.Watch.{watched, failures, EndFailed, Wrote};
+    ghost use Rattle.rs_io.specs.Watch.{watched, failures, is_flushed, EndFailed, Wrote};
 
     /// Writes all of `bytes`.
     ///
@@ -100,7 +120,10 @@ impl<W: Write> Watched<W> {
     pub fn put(&mut self, bytes: &[u8]) -> Result<(), WriteFault>
         ensures ok { OnOk result (Wrote W.contents self.old self.new bytes.now) }
         ensures failed { OnErr result (EndFailed self.old self.new) }
+        ensures once { failures self.new ≤ failures self.old + 1 }
+        ensures unflushed { is_flushed self.new ≡ false }
     {
+        self.holds_back = true;
         let answer = self.inner.write_all(bytes);
         self.noted(answer, WriteFault)
     }
@@ -115,7 +138,10 @@ impl<W: Write> Watched<W> {
         ensures ok { OnOk result (IfSome (D.output text) (Wrote W.contents self.old self.new)) }
         ensures sound { OnOk result (failures self.new ≡ failures self.old) }
         ensures failed { OnErr result (EndFailed self.old self.new) }
+        ensures once { failures self.new ≤ failures self.old + 1 }
+        ensures unflushed { is_flushed self.new ≡ false }
     {
+        self.holds_back = true;
         let answer = self.inner.write_fmt(text);
         self.noted(answer, WriteFault)
     }
@@ -129,8 +155,13 @@ impl<W: Write> Watched<W> {
         ensures bytes { Keeps (W.contents (watched self.old)) (W.contents (watched self.new)) }
         ensures sound { OnOk result (failures self.new ≡ failures self.old) }
         ensures failed { OnErr result (EndFailed self.old self.new) }
+        ensures once { failures self.new ≤ failures self.old + 1 }
+        ensures flushed { OnOk result (is_flushed self.new ≡ true) }
+        ensures unflushed { OnErr result (is_flushed self.new ≡ is_flushed self.old) }
     {
         let answer = self.inner.flush();
-        self.noted(answer, WriteFault)
+        self.noted(answer, WriteFault)?;
+        self.holds_back = false;
+        Ok(())
     }
 }

@@ -2,7 +2,7 @@
 
 ghost use Rattle.std.specs.Prelude.{◌≡◌, ◌++◌, ◌≤◌, ◌^◌, ◌*◌, ◌⊎◌, true, length, ℕ, List, Option, OnOk, OnErr, IsErrOf, IsTrue};
 ghost use Rattle.std.specs.Io.KnownBytes.{Consumes, IsAtEnd};
-ghost use Rattle.rs_io.specs.Watch.{watched, failures, EndFailed, Took, Wrote};
+ghost use Rattle.rs_io.specs.Watch.{watched, failures, is_flushed, EndFailed, Took, Wrote};
 ghost use Rattle.rs_io.specs.declared.watch.Watched.{Watched as End};
 ghost use Rattle.rs_model.specs.declared.command.Command.{Command};
 ghost use Rattle.rs_script.specs.Answers.{output_of};
@@ -178,15 +178,15 @@ pub fn script<D: Disk, R: Read, W: Write>(
         × Wrote W.contents writer.old writer.new (output_of outcomes)
         × ScriptGives D.state (session source.old 0) input outcomes commands (session source.new last)) }
 
-    // A read failed, or the reader gave 2^40 bytes and more: its whole lines were answered, and a
-    // part of a line after them was not.
+    // A read failed, and all answers were flushed before it; or the reader gave 2^40 bytes and more.
+    // The whole lines were answered, and a part of a line after them was not.
     ensures read { IsErrOf result ScriptFault.Read → (input : List ℕ) × (part : List ℕ)
         × (outcomes : List Outcome) × (commands : List (Command × ℕ)) × (last : ℕ)
         × Consumes (R.remaining (watched reader.old)) (R.remaining (watched reader.new)) (input ++ part)
         × AreWholeLines input × HasNoBreak part
         × Wrote W.contents writer.old writer.new (output_of outcomes)
         × ScriptGives D.state (session source.old 0) input outcomes commands (session source.new last)
-        × (EndFailed reader.old reader.new ⊎ (2 ^ 40 ≤ length (input ++ part))) }
+        × ((EndFailed reader.old reader.new × (is_flushed writer.new ≡ true)) ⊎ (2 ^ 40 ≤ length (input ++ part))) }
 
     // A call of the writer failed, and none of the reader: what the lines so far asked for is done.
     // They had come whole, or the input had ended.
@@ -194,6 +194,9 @@ pub fn script<D: Disk, R: Read, W: Write>(
         × Came (R.remaining (watched reader.old)) (R.remaining (watched reader.new)) input
         × Answered D.state (session source.old 0) input (session source.new last)
         × EndFailed writer.old writer.new × (failures reader.new ≡ failures reader.old) }
+
+    // At the end all that was written is flushed.
+    ensures flushed { OnOk result (is_flushed writer.new ≡ true) }
 
     // Whatever it answers, it read at most 2^40 times, 65,536 bytes each time.
     ensures bound { (gave : List ℕ) × Consumes (R.remaining (watched reader.old)) (R.remaining (watched reader.new)) gave

@@ -150,3 +150,20 @@ fn each_failure_is_counted(rt: HostRuntime) {
     assert_eq!(rt; writer.flush(), FAILED);
     assert_eq!(rt; writer.failures(), 4);
 }
+
+#[test]
+fn flushed_until_more_is_put(rt: HostRuntime) {
+    let mut writer = Watched::new(FailsOnce {
+        inner: Vec::new(rt.alloc()),
+        calls_before: Some(1),
+    });
+    assert!(rt; writer.is_flushed());
+    assert_eq!(rt; writer.put(b"ab"), WROTE);
+    assert!(rt; !writer.is_flushed());
+    assert_eq!(rt; writer.flush(), FAILED);
+    assert!(rt; !writer.is_flushed());
+    assert_eq!(rt; writer.flush(), WROTE);
+    assert!(rt; writer.is_flushed());
+    assert_eq!(rt; writer.put_text("c"), WROTE);
+    assert!(rt; !writer.is_flushed());
+}

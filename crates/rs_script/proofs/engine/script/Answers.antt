@@ -1,7 +1,7 @@
 -- Each exit, by what came up to it.
-use Rattle.std.proofs.Common.{rules, ℕ, [], ◌++◌, ◌≤◌, take, arith, inl, inr, refl, subst, sym, ◌∙◌}
+use Rattle.std.proofs.Common.{◌≡◌, rules, ℕ, true, [], ◌++◌, ◌≤◌, take, arith, inl, inr, refl, subst, sym, ◌∙◌}
 use Rattle.std.proofs.KnownBytes.{Consumes-nil, Consumes-trans, Consumes-kept, Appends-kept}
-use Rattle.rs_io.specs.Watch.{watched, EndFailed}
+use Rattle.rs_io.specs.Watch.{watched, is_flushed, EndFailed}
 use Rattle.rs_io.proofs.Faults.{later_fault}
 use Rattle.rs_script.specs.Answers.{output_of}
 use Rattle.rs_script.specs.Progress.{Progress}
@@ -41,8 +41,8 @@ returns-in_default-read-clause-read g c = λ _.
     let after = g.R.Read.remaining (watched c.read.new.self) in
     let inv = c.loop.invariant in
     let p = Progress-kept g.D.Disk.state g.W.Write.contents _ _ inv.0 _ _ c.flush.new.self _ c.flush.ensures.bytes c.in-Ok.ensures.sound inv.2 in
-    let whole = Progress-whole g.D.Disk.state g.W.Write.contents _ _ inv.0 _ _ _ before after (EndFailed c.args.reader.now c.read.new.self)
-    (inl (later_fault c.args.reader.now c.loop.reader c.read.new.self inv.1.1 c.in_default-read.ensures.failed))
+    let whole = Progress-whole g.D.Disk.state g.W.Write.contents _ _ inv.0 _ _ _ before after (EndFailed c.args.reader.now c.read.new.self × (is_flushed c.flush.new.self ≡ true))
+    (inl (later_fault c.args.reader.now c.loop.reader c.read.new.self inv.1.1 c.in_default-read.ensures.failed, c.in-Ok.ensures.flushed))
     (Consumes-kept before (g.R.Read.remaining (watched c.loop.reader)) after inv.0 inv.1.0 c.in_default-read.ensures.err) p in
     (whole.0, whole.1, whole.2, whole.3, c.loop.now, whole.4, whole.9, whole.5, whole.6, whole.7, whole.8)
 
@@ -50,7 +50,7 @@ pub returns-clause-read : goal.returns-clause-read
 returns-clause-read g c = λ _.
     let inv = c.loop.invariant in
     let whole = Progress-whole g.D.Disk.state g.W.Write.contents _ _ inv.0 _ _ _ (g.R.Read.remaining (watched c.args.reader.now)) (g.R.Read.remaining (watched c.loop.reader))
-    (EndFailed c.args.reader.now c.loop.reader) (inr (omega (arith, inv.3))) inv.1.0 inv.2 in
+    (EndFailed c.args.reader.now c.loop.reader × (is_flushed c.loop.writer ≡ true)) (inr (omega (arith, inv.3))) inv.1.0 inv.2 in
     (whole.0, whole.1, whole.2, whole.3, c.loop.now, whole.4, whole.9, whole.5, whole.6, whole.7, whole.8)
 
 pub returns-in_default-take_end-clause-write : goal.returns-in_default-take_end-clause-write

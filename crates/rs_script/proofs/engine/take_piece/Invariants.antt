@@ -1,5 +1,5 @@
 -- What stands before the rest has been taken.
-use Rattle.std.proofs.Common.{◌≡◌, ℕ, List, Option, length, ◌++◌}
+use Rattle.std.proofs.Common.{◌≡◌, ℕ, List, length, ◌++◌}
 use Rattle.rs_io.specs.declared.watch.Watched.{Watched}
 use Rattle.rs_io.specs.Watch.{failures}
 use Rattle.rs_script.specs.Progress.{Progress}
