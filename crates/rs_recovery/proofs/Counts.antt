@@ -1,9 +1,8 @@
 -- How many commands a state has behind it, so that an image stands for one number of them alone.
 use Rattle.std.proofs.Common.{◌≡◌, ⊎_elim, ℕ, zero, suc, ◌+◌, ◌≤◌, Bool, true, false, ◌||◌, List, [], ◌∷◌, ◌++◌, length, take, refl, sym, ◌∙◌, ap, subst, arith, cond, Option, Some, None, Result, Ok, Err}
-use Rattle.std.specs.Prelude.{is_ok, nat_le}
+use Rattle.std.specs.Prelude.{nat_le}
 use Rattle.std.proofs.lemmas.List.{length-append}
 use Rattle.rs_disk.specs.Medium.{DiskState, IsMedium}
-use Rattle.rs_record.specs.declared.change.Change.{Change}
 use Rattle.rs_record.specs.Changes.{deleted}
 use Rattle.rs_model.specs.State.{Source, facts_of}
 use Rattle.rs_model.specs.Step.{step, state_after, fold_of, refusal_of, accepted_unless, next_state, reply_to, moment_at, put_change}
@@ -12,17 +11,15 @@ use Rattle.rs_model.specs.declared.command.Command.TheVariants.{Put, Delete, Pub
 use Rattle.rs_model.specs.declared.command.Reply.{Reply}
 use Rattle.rs_model.specs.declared.command.Refusal as model
 use Rattle.rs_image.specs.Tells.{StandsFor}
-use Rattle.rs_image.proofs.Once.{stands_once}
 use Rattle.rs_store.specs.declared.refusal.Refusal.{Refusal}
 use Rattle.rs_store.specs.declared.refusal.Refusal.TheVariants.{Closed, Device}
 use Rattle.rs_store.specs.Source.{Stored, Holds, state_of}
 use Rattle.rs_store.specs.Refusals.{decided, or_spent, is_spent}
 use Rattle.rs_store.specs.Answered.{Answers}
 use Rattle.rs_store.specs.declared.running.Ack.{Ack}
-use Rattle.rs_store.specs.Counted.{is_accepted, is_device, is_in_doubt, answered, counted, begun}
+use Rattle.rs_store.specs.Counted.{is_accepted, is_in_doubt, answered, counted, begun}
 use Rattle.rs_store.specs.Runs.{InTurn}
-use Rattle.rs_store.proofs.Turns.{Commands, Acks, closed_run, none_counts, closed_is_no_ok, closed_is_no_device, one}
-use Rattle.rs_store.proofs.Moments.{not_done, is_device_or_not}
+use Rattle.rs_recovery.proofs.Below.{Commands, Acks, one, Below}
 
 -- how many commands were accepted
 pub commands_behind : Source → ℕ
@@ -88,7 +85,7 @@ begun_counts {D} device m old (c ∷ cs) (a ∷ acks) new turn =
 begun_counts {D} device m old [] (a ∷ acks) new turn = absurd turn
 begun_counts {D} device m old (c ∷ cs) [] new turn = absurd turn
 
-module _ {D : Type 0} (device : D → DiskState) (sound : (disk : D) → IsMedium (device disk).size (device disk).now) where
+module _ {D : Type 0} (device : D → DiskState) (sound : (disk : D) → IsMedium (device disk).size (device disk).now) (below : Below device) where
   -- a command that was answered Device is one that the model accepts
   not_refused : (old new : Stored D) (s : Source) (command : Command) (now : ℕ) → Holds device old s → Answers device old new command now (Err Device) → refusal_of s command ≡ None
   not_refused old new s command now holds answers =
@@ -117,8 +114,8 @@ module _ {D : Type 0} (device : D → DiskState) (sound : (disk : D) → IsMediu
       alone : (refusal : Refusal) → refusal ≡ Device → Answers device turn.0 turn.2 c.0 c.1 (Err refusal) → counted_with (Err Device) ≡ c ∷ []
       alone refusal is answers =
           let here : Answers device turn.0 turn.2 c.0 c.1 (Err Device) = subst (λ (r : Refusal). Answers device turn.0 turn.2 c.0 c.1 (Err r)) is answers in
-          let closed = (closed_run device turn.2 cs acks new (here.closes refl) turn.5).2 in
-          λ i. none_counts is_accepted closed_is_no_ok cs acks closed i ++ c ∷ none_counts is_in_doubt closed_is_no_device cs acks closed i
+          let closed = (below.closed turn.2 cs acks new (here.closes refl) turn.5).2 in
+          λ i. (below.none_counts cs acks closed).0 i ++ c ∷ (below.none_counts cs acks closed).1 i
 
       single : (more : commands_behind (state_after s (step s c.0 c.1)) ≡ commands_behind s + 1) (j : ℕ) → j ≤ length (c ∷ []) → commands_behind (fold_of s (take j (c ∷ []))) ≡ commands_behind s + j
       single more zero le = omega arith
@@ -147,11 +144,11 @@ module _ {D : Type 0} (device : D → DiskState) (sound : (disk : D) → IsMediu
           subst (λ (r : Refusal). goal_of (Err r)) (sym is)
           (subst (λ (l : Commands). (j : ℕ) → j ≤ length l → commands_behind (fold_of s (take j l)) ≡ commands_behind s + j) (sym (alone refusal is answers)) (single more)))
           (λ other.
-          let lead = not_done device turn.0 turn.2 s c.0 c.1 refusal other (answers.leads s kept) in
+          let lead = below.kept turn.0 turn.2 s c.0 c.1 refusal other (answers.leads s kept) in
           let same : counted_with (Err refusal) ≡ counted cs acks =
           ap (λ (l : Commands). answered is_accepted cs acks ++ l) (ap (λ (b : Bool). cond b (c ∷ answered is_in_doubt cs acks) (answered is_in_doubt cs acks)) other) in
           subst (λ (l : Commands). (j : ℕ) → j ≤ length l → commands_behind (fold_of s (take j l)) ≡ commands_behind s + j) (sym same) (rest s lead.0))
-          (is_device_or_not refusal)
+          (below.kinds refusal)
   each_behind s old [] (a ∷ acks) new holds turn j le = absurd turn
   each_behind s old (c ∷ cs) [] new holds turn j le = absurd turn
 
@@ -162,6 +159,6 @@ module _ {D : Type 0} (device : D → DiskState) (sound : (disk : D) → IsMediu
       let all = begun_counts device m old cs acks new turn in
       let first = each_behind s old cs acks new holds turn j (omega (arith, all, most_j)) in
       let second = each_behind s old cs acks new holds turn k (omega (arith, all, most_k)) in
-      let same : fold_of s (take k (counted cs acks)) ≡ fold_of s (take j (counted cs acks)) = stands_once image (fold_of s (take k (counted cs acks))) (fold_of s (take j (counted cs acks))) also stands in
+      let same : fold_of s (take k (counted cs acks)) ≡ fold_of s (take j (counted cs acks)) = below.stands_once image (fold_of s (take k (counted cs acks))) (fold_of s (take j (counted cs acks))) also stands in
       let one_count = ap commands_behind same in
       omega (arith, first, second, one_count)

@@ -1,10 +1,9 @@
 -- What joins a run of commands.
-use Rattle.std.proofs.Common.{◌≡◌, ◌⊎◌, inl, inr, ℕ, Bool, true, List, [], ◌∷◌, refl, sym, ◌∙◌, ap, subst, cond, Some, None, Result, Ok, Err, Vec}
+use Rattle.std.proofs.Common.{◌≡◌, inl, inr, ℕ, Bool, true, List, sym, ◌∙◌, ap, subst, cond, Some, None, Result, Vec}
 use Rattle.std.specs.Prelude.{replicate}
 use Rattle.std.specs.Global.{Global}
 use Rattle.std.proofs.lemmas.List.{length-replicate}
-use Rattle.rs_disk.specs.Medium.{Medium, DiskState, IsMedium, IsImage}
-use Rattle.rs_disk.proofs.Steps.{weaker}
+use Rattle.rs_disk.specs.Medium.{Medium, DiskState, IsImage}
 use Rattle.rs_commit.specs.Slots.{Standing}
 use Rattle.rs_commit.specs.Commit.{IsReady}
 use Rattle.rs_model.specs.State.{Source}
@@ -20,10 +19,11 @@ use Rattle.rs_store.specs.Refusals.{decided, or_spent, is_spent}
 use Rattle.rs_store.specs.AnswersBody.{AnswersBody}
 use Rattle.rs_store.specs.Received.{IsCutShort}
 use Rattle.rs_store.specs.Runs.{IsIdle}
-use Rattle.rs_store.proofs.Turns.{images_stand}
+use Rattle.rs_store.specs.Laws.{HeldStands}
+use Rattle.rs_recovery.proofs.Below.{weaker}
 use Rattle.rs_recovery.specs.Going.{BodiesIdle, CutPutsIdle}
 
-module _ {D : Type 0} (device : D → DiskState) (sound : (disk : D) → IsMedium (device disk).size (device disk).now) where
+module _ {D : Type 0} (device : D → DiskState) (images_stand : HeldStands device) where
   -- a source whose body was asked for holds what it held
   holds_on : (old new : Stored D) (name : List ℕ) (result : Result (Vec ℕ Global) Refusal) → AnswersBody device old new name result → (s : Source) → Holds device old s → Holds device new s
   holds_on old new name result answers s holds = record {
@@ -39,7 +39,7 @@ module _ {D : Type 0} (device : D → DiskState) (sound : (disk : D) → IsMediu
     is_closed = answers.is_closed;
     holds = λ s holds. (
       holds_on old new name result answers s holds,
-      weaker (device old.disk) (device new.disk) (λ _. IsImage (device old.disk).now) (λ _ image. StandsFor image s) (λ m image is. images_stand device sound old s holds image is) answers.rests.leaves,
+      weaker (device old.disk) (device new.disk) (λ _. IsImage (device old.disk).now) (λ _ image. StandsFor image s) (λ m image is. images_stand old s holds image is) answers.rests.leaves,
     );
     rests = λ _. answers.rests;
     calls = answers.rests.leaves.later;

@@ -1,3 +1,4 @@
+pub mod Below
 pub mod Opened
 pub mod Going
 pub mod Counts

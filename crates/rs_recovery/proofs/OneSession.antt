@@ -3,28 +3,30 @@ use Rattle.std.proofs.Common.{◌≡◌, ℕ, ◌≤◌, List, [], ◌∷◌, le
 use Rattle.std.specs.List.{AllByRecursion}
 use Rattle.std.proofs.lemmas.List.{take_all}
 use Rattle.rs_disk.specs.declared.memory.MemoryDisk.{MemoryDisk}
-use Rattle.rs_disk.specs.Medium.{Medium, DiskState, IsImage, resting}
+use Rattle.rs_disk.specs.Medium.{Medium, DiskState, IsImage, image_of, resting}
 use Rattle.rs_disk.specs.Memory.{state_of}
 use Rattle.rs_model.specs.State.{start_of}
 use Rattle.rs_model.specs.Step.{fold_of}
+use Rattle.rs_image.specs.Tells.{StandsFor}
 use Rattle.rs_store.specs.declared.opening.OpenFault.{OpenFault}
 use Rattle.rs_store.specs.declared.opening.OpenFault.TheVariants as openings
 use Rattle.rs_store.specs.Source.{Stored, Holds}
 use Rattle.rs_recovery.specs.declared.surviving.Halt.TheVariants.{Opening}
-use Rattle.rs_store.specs.Counted.{is_accepted, answered, acknowledged}
+use Rattle.rs_store.specs.Counted.{is_accepted, answered, counted, acknowledged}
 use Rattle.rs_store.specs.Runs.{InTurn}
 use Rattle.rs_recovery.specs.Sessions.{Session, IsStopped, AreStanding, behind}
 use Rattle.rs_recovery.specs.Recovered.{IsExcuse, YieldsHeld, Headline}
 use Rattle.rs_recovery.specs.Surviving.{Survives, IsLost}
-use Rattle.rs_store.proofs.Turns.{Commands, Acks, calls_rise}
+use Rattle.rs_store.specs.Laws.{CallsRise}
+use Rattle.rs_recovery.proofs.Below.{Commands, Acks}
 use Rattle.rs_recovery.proofs.Sessions.{few_answered}
 
 -- all answers came before the end
-all_by : {D : Type 0} (device : D → DiskState) (old : Stored D) (cs : Commands) (acks : Acks) (new : Stored D) → InTurn device old cs acks new
+all_by : {D : Type 0} (device : D → DiskState) → CallsRise device → (old : Stored D) (cs : Commands) (acks : Acks) (new : Stored D) → InTurn device old cs acks new
     → AllByRecursion (λ a. a.at_call ≤ (device new.disk).calls) acks
-all_by {D} device old cs [] new turn = tt
-all_by {D} device old (c ∷ cs) (a ∷ acks) new turn = (omega (arith, turn.4, calls_rise device turn.2 cs acks new turn.5), all_by device turn.2 cs acks new turn.5)
-all_by {D} device old [] (a ∷ acks) new turn = absurd turn
+all_by {D} device rise old cs [] new turn = tt
+all_by {D} device rise old (c ∷ cs) (a ∷ acks) new turn = (omega (arith, turn.4, rise turn.2 cs acks new turn.5), all_by device rise turn.2 cs acks new turn.5)
+all_by {D} device rise old [] (a ∷ acks) new turn = absurd turn
 
 same_length : {D : Type 0} (device : D → DiskState) (old : Stored D) (cs : Commands) (acks : Acks) (new : Stored D) → InTurn device old cs acks new → length cs ≡ length acks
 same_length {D} device old [] [] new turn = refl
@@ -33,21 +35,21 @@ same_length {D} device old [] (a ∷ acks) new turn = absurd turn
 same_length {D} device old (c ∷ cs) [] new turn = absurd turn
 
 -- all that were accepted were acknowledged before the end
-all_acknowledged : {D : Type 0} (device : D → DiskState) (old : Stored D) (cs : Commands) (acks : Acks) (new : Stored D) → InTurn device old cs acks new
+all_acknowledged : {D : Type 0} (device : D → DiskState) → CallsRise device → (old : Stored D) (cs : Commands) (acks : Acks) (new : Stored D) → InTurn device old cs acks new
     → length (answered is_accepted cs acks) ≤ acknowledged (device new.disk).calls acks
-all_acknowledged {D} device old cs acks new turn =
+all_acknowledged {D} device rise old cs acks new turn =
     let m = (device new.disk).calls in
     let n = length acks in
     let same : length cs ≡ n = same_length device old cs acks new turn in
     let all_acks : take n acks ≡ acks = take_all n acks (omega arith) in
     let all_cs : take n cs ≡ cs = take_all n cs (omega (arith, same)) in
-    let few = few_answered m n cs acks (subst (AllByRecursion (λ a. a.at_call ≤ m)) (sym all_acks) (all_by device old cs acks new turn)) in
+    let few = few_answered m n cs acks (subst (AllByRecursion (λ a. a.at_call ≤ m)) (sym all_acks) (all_by device rise old cs acks new turn)) in
     let these : answered is_accepted (take n cs) (take n acks) ≡ answered is_accepted cs acks = λ i. answered is_accepted (all_cs i) (all_acks i) in
     omega (arith, few, ap length these)
 
-module _ (base : List ℕ) (limit moment : ℕ) (first last : Stored MemoryDisk) (cs : Commands) (acks : Acks) (image : List ℕ) (disk : MemoryDisk)
+module _ (rise : CallsRise state_of) (base : List ℕ) (limit moment : ℕ) (first last : Stored MemoryDisk) (cs : Commands) (acks : Acks) (image : List ℕ) (disk : MemoryDisk)
     (made : Holds state_of first (start_of base limit moment)) (turn : InTurn state_of first cs acks last)
-    (left : IsImage (state_of last.disk).now image) (bytes : (state_of disk).now ≡ resting image) where
+    (choice : List ℕ) (chosen : image ≡ image_of choice (state_of last.disk).now) (left : IsImage (state_of last.disk).now image) (bytes : (state_of disk).now ≡ resting image) where
   -- the one session
   abbrev session : Session MemoryDisk
   session = record { first = first; commands = cs; acks = acks; last = last; stop = (state_of last.disk).calls; image = image }
@@ -55,20 +57,30 @@ module _ (base : List ℕ) (limit moment : ℕ) (first last : Stored MemoryDisk)
   stopped : IsStopped state_of session
   stopped = record {
     turn = turn;
-    from = calls_rise state_of first cs acks last turn;
+    from = rise first cs acks last turn;
     to = omega arith;
     image = record { past = λ lt. absurd (omega (arith, lt)); now = λ _. left };
   }
 
   by_one : (source : Stored MemoryDisk) (standing : List ℕ) → AreStanding (start_of base limit moment) (session ∷ []) standing
       → Holds state_of source (fold_of (start_of base limit moment) (behind (session ∷ []) standing)) → YieldsHeld (fold_of (start_of base limit moment) (behind (session ∷ []) standing))
-      → Survives (start_of base limit moment) cs acks source
+      → Survives (start_of base limit moment) cs acks choice source
   by_one source [] hold state yields = absurd hold
   by_one source (j ∷ []) hold state yields =
-      record { j = j; accepted = omega (arith, hold.0, all_acknowledged state_of first cs acks last turn); holds = state; yields = yields }
+      record {
+        first = first;
+        last = last;
+        began = made;
+        turn = turn;
+        j = j;
+        image = subst (λ (l : List ℕ). StandsFor l (fold_of (start_of base limit moment) (take j (counted cs acks)))) chosen hold.2;
+        accepted = omega (arith, hold.0, all_acknowledged state_of rise first cs acks last turn);
+        holds = state;
+        yields = yields;
+      }
   by_one source (j ∷ k ∷ standing) hold state yields = absurd hold.3
 
-  pub survives : (source : Stored MemoryDisk) → Headline state_of disk (Ok source) → Survives (start_of base limit moment) cs acks source
+  pub survives : (source : Stored MemoryDisk) → Headline state_of disk (Ok source) → Survives (start_of base limit moment) cs acks choice source
   survives source headline =
       let is = headline base limit moment (session ∷ []) (stopped, made) (ap (λ (m : Medium). m.seen) bytes) refl in
       by_one source is.standing is.stand.holds is.state is.yields

@@ -5,7 +5,7 @@ use Rattle.rs_disk.specs.Medium.{DiskState}
 use Rattle.rs_commit.specs.Slots.{Standing, current}
 use Rattle.rs_model.specs.State.{Source}
 use Rattle.rs_image.specs.Tells.{StandsFor}
-use Rattle.rs_image.proofs.Once.{stands_once}
+use Rattle.rs_image.specs.Laws.{StandsOnce}
 use Rattle.rs_store.specs.declared.opening.OpenFault.{OpenFault}
 use Rattle.rs_store.specs.declared.opening.OpenFault.TheVariants.{NotASource, Damaged, Device, NoMemory}
 use Rattle.rs_store.specs.Source.{Stored, Holds, state_of}
@@ -17,19 +17,19 @@ use Rattle.rs_recovery.specs.Recovered.{GivesBack}
 no_slots : (image : List ℕ) (slots : Standing) → current image ≡ Some slots → current image ≡ None → ⊥
 no_slots image slots is none = let clash : Some slots ≡ None = sym is ∙ none in cc
 
-pub gives_back : {D : Type 0} (device : D → DiskState) (disk : D) (result : Result (Stored D) (D × OpenFault))
+pub gives_back : StandsOnce → {D : Type 0} (device : D → DiskState) (disk : D) (result : Result (Stored D) (D × OpenFault))
     → IfOk result (λ source. IsTrue (device source.disk).honest → Holds device source (state_of device source) × StandsFor (device disk).now.seen (state_of device source))
     → IfErr result (λ e. e.1 ≡ NotASource → IsTrue (device e.0).honest → current (device disk).now.seen ≡ None)
     → IfErr result (λ e. e.1 ≡ Damaged → IsTrue (device e.0).honest → (s : Source) → ¬ StandsFor (device disk).now.seen s)
     → IfErr result (λ e. e.1 ≡ Device → HasFailed (device disk) (device e.0))
     → IsTrue (device (disk_of result)).honest → (s : Source) → StandsFor (device disk).now.seen s → GivesBack device disk result s
-gives_back device disk (Ok source) holds none damaged failed honest s stands =
+gives_back stands_once device disk (Ok source) holds none damaged failed honest s stands =
     let found = holds honest in
     subst (Holds device source) (stands_once (device disk).now.seen (state_of device source) s found.1 stands) found.0
-gives_back device disk (Err (back, NotASource)) holds none damaged failed honest s stands = no_slots (device disk).now.seen stands.1.0 stands.1.1 (none refl honest)
-gives_back device disk (Err (back, Damaged)) holds none damaged failed honest s stands = damaged refl honest s stands
-gives_back device disk (Err (back, Device)) holds none damaged failed honest s stands = failed refl
-gives_back device disk (Err (back, NoMemory)) holds none damaged failed honest s stands = tt
+gives_back stands_once device disk (Err (back, NotASource)) holds none damaged failed honest s stands = no_slots (device disk).now.seen stands.1.0 stands.1.1 (none refl honest)
+gives_back stands_once device disk (Err (back, Damaged)) holds none damaged failed honest s stands = damaged refl honest s stands
+gives_back stands_once device disk (Err (back, Device)) holds none damaged failed honest s stands = failed refl
+gives_back stands_once device disk (Err (back, NoMemory)) holds none damaged failed honest s stands = tt
 
 pub opened_on : {D : Type 0} (device : D → DiskState) (disk : D) (result : Result (Stored D) (D × OpenFault))
     → IfOk result (λ source. IsTrue (device source.disk).honest → Holds device source (state_of device source) × StandsFor (device disk).now.seen (state_of device source))

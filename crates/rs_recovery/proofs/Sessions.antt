@@ -1,15 +1,14 @@
 -- Sessions one after another.
 use Rattle.std.proofs.Common.{◌≡◌, ⊎_elim, ℕ, zero, suc, ◌+◌, ◌≤◌, Bool, true, false, ◌&&◌, List, [], ◌∷◌, ◌++◌, length, take, refl, sym, ◌∙◌, ap, subst, arith, cond, Result, Ok, Err, true≢false, append_assoc, inl, inr, ◌<◌}
 use Rattle.std.specs.List.{AllByRecursion}
+use Rattle.std.proofs.lemmas.Bool.{le-leb}
 use Rattle.std.proofs.lemmas.List.{append-nil}
 use Rattle.rs_disk.specs.Medium.{DiskState, IsMedium, IsImage, IsImageAt}
-use Rattle.rs_disk.proofs.Steps.{weaker}
 use Rattle.rs_model.specs.State.{Source}
 use Rattle.rs_model.specs.Regular.{IsRegular}
 use Rattle.rs_model.specs.Step.{step, state_after, fold_of}
 use Rattle.rs_model.specs.declared.command.Reply.{Reply}
 use Rattle.rs_image.specs.Tells.{StandsFor}
-use Rattle.rs_image.proofs.Once.{stands_once}
 use Rattle.rs_store.specs.declared.refusal.Refusal.{Refusal}
 use Rattle.rs_store.specs.declared.refusal.Refusal.TheVariants.{Device}
 use Rattle.rs_store.specs.Source.{Stored, Holds}
@@ -21,8 +20,7 @@ use Rattle.rs_recovery.specs.Sessions.{Session, IsStopped, IsOpenedOn, AreSessio
 use Rattle.rs_recovery.specs.Served.{Asking, CouldServe, HasServed, IsNoLater, IsPrefixOf, Stand, SessionsStand}
 use Rattle.rs_recovery.specs.Recovered.{YieldsHeld}
 use Rattle.rs_recovery.proofs.Counts.{one_number}
-use Rattle.rs_store.proofs.Turns.{Commands, Acks, closed_run, one, by_then}
-use Rattle.rs_store.proofs.Moments.{each_moment, holds_all, is_device_or_not}
+use Rattle.rs_recovery.proofs.Below.{Commands, Acks, one, Below, weaker}
 
 pub fold_append : (s : Source) (a b : Commands) → fold_of s (a ++ b) ≡ fold_of (fold_of s a) b
 fold_append s [] b = refl
@@ -66,7 +64,7 @@ few_answered m (suc n) [] acks all = omega arith
 few_answered m (suc n) (c ∷ cs) [] all = omega arith
 few_answered m (suc n) (c ∷ cs) (a ∷ acks) all =
     let more = few_answered m n cs acks all.1 in
-    let here : acknowledged m (a ∷ acks) ≡ one (is_accepted a && true) + acknowledged m acks = ap (λ (b : Bool). one (is_accepted a && b) + acknowledged m acks) (by_then m a.at_call all.0) in
+    let here : acknowledged m (a ∷ acks) ≡ one (is_accepted a && true) + acknowledged m acks = ap (λ (b : Bool). one (is_accepted a && b) + acknowledged m acks) (le-leb a.at_call m all.0) in
     elim (is_accepted a) as (λ b. acknowledged m (a ∷ acks) ≡ one (b && true) + acknowledged m acks
     → length (cond b (c ∷ answered is_accepted (take n cs) (take n acks)) (answered is_accepted (take n cs) (take n acks))) ≤ acknowledged m (a ∷ acks)) [
       | true ↦ λ e. omega (arith, e, more)
@@ -80,7 +78,7 @@ prefix_on front whole more (rest, is) = (rest ++ more, sym (append_assoc front r
 prefix_under : (base front whole : Commands) → IsPrefixOf front whole → IsPrefixOf (base ++ front) (base ++ whole)
 prefix_under base front whole (rest, is) = (rest, append_assoc base front rest ∙ ap (λ (l : Commands). base ++ l) is)
 
-module _ {D : Type 0} (device : D → DiskState) (sound : (disk : D) → IsMedium (device disk).size (device disk).now) where
+module _ {D : Type 0} (device : D → DiskState) (sound : (disk : D) → IsMedium (device disk).size (device disk).now) (below : Below device) where
   -- a run that leaves a source open has no command in doubt
   none_in_doubt : (old : Stored D) (cs : Commands) (acks : Acks) (new : Stored D) → InTurn device old cs acks new → new.is_closed ≡ false → answered is_in_doubt cs acks ≡ []
   none_in_doubt old [] [] new turn open_then = refl
@@ -93,15 +91,15 @@ module _ {D : Type 0} (device : D → DiskState) (sound : (disk : D) → IsMediu
           (λ is.
           let here : Answers device turn.0 turn.2 c.0 c.1 (Err Device) = subst (λ (r : Refusal). Answers device turn.0 turn.2 c.0 c.1 (Err r)) is answers in
           let shut : turn.2.is_closed ≡ true = here.closes refl in
-          absurd (true≢false (sym (closed_run device turn.2 cs acks new shut turn.5).0 ∙ open_then)))
+          absurd (true≢false (sym (below.closed turn.2 cs acks new shut turn.5).0 ∙ open_then)))
           (λ other. ap (λ (b : Bool). cond b (c ∷ answered is_in_doubt cs acks) (answered is_in_doubt cs acks)) other ∙ rest)
-          (is_device_or_not refusal)
+          (below.kinds refusal)
   none_in_doubt old [] (a ∷ acks) new turn open_then = absurd turn
   none_in_doubt old (c ∷ cs) [] new turn open_then = absurd turn
 
   -- what a stop of a session leaves, where its source held a state
   stopped_at : (s : Source) (x : Session D) → Holds device x.first s → IsStopped device x → StandsForPrefix s x.commands x.acks x.stop x.image
-  stopped_at s x holds stopped = (each_moment device sound s x.first x.commands x.acks x.last holds stopped.turn).each x.stop x.image stopped.from stopped.to stopped.image
+  stopped_at s x holds stopped = (below.moments s x.first x.commands x.acks x.last holds stopped.turn).each x.stop x.image stopped.from stopped.to stopped.image
 
   -- what a session could serve
   serves : (start : Source) (before : Commands) (x : Session D) (j n : ℕ) (source : Stored D) → Holds device x.first (fold_of start before) → acknowledged x.stop x.acks ≤ j → CouldServe device x n source
@@ -119,7 +117,7 @@ module _ {D : Type 0} (device : D → DiskState) (sound : (disk : D) → IsMediu
       let front : IsPrefixOf (answered is_accepted cs acks) (take j (counted x.commands x.acks)) =
       subst (λ (l : Commands). IsPrefixOf (answered is_accepted cs acks) (take j l)) whole (front_of (answered is_accepted cs acks) (part.0 ++ doubt) j few) in (
         subst (λ (t : Source). Holds device source t) (sym (fold_append start before (counted cs acks)))
-            (holds_all device sound (fold_of start before) x.first cs acks source holds could.turn could.is_open),
+            (below.end (fold_of start before) x.first cs acks source holds could.turn could.is_open),
         prefix_under before (counted cs acks) (take j (counted x.commands x.acks)) (subst (λ (l : Commands). IsPrefixOf l (take j (counted x.commands x.acks))) (sym these) front),
       )
 
@@ -204,7 +202,7 @@ module _ {D : Type 0} (device : D → DiskState) (sound : (disk : D) → IsMediu
   opened_holds : (start : Source) (x : Session D) (past : List (Session D)) (standing : List ℕ) (source : Stored D) → AreStanding start (x ∷ past) standing → IsOpenedOn device x.image source
       → Holds device source (fold_of start (behind (x ∷ past) standing))
   opened_holds start x past standing source stands (s, image, holds) =
-      subst (Holds device source) (stands_once x.image s (fold_of start (behind (x ∷ past) standing)) image (left_stands start x past standing stands)) holds
+      subst (Holds device source) (below.stands_once x.image s (fold_of start (behind (x ∷ past) standing)) image (left_stands start x past standing stands)) holds
 
   pub sessions_stand : SessionsStand device
   sessions_stand start [] are = absurd are
@@ -221,7 +219,7 @@ module _ {D : Type 0} (device : D → DiskState) (sound : (disk : D) → IsMediu
       let before = behind past standing in
       let cs = x.commands in
       let acks = x.acks in
-      one_number device sound (fold_of start before) x.first cs acks x.last holds stopped.turn x.stop x.image j k stands.1 also.1
+      one_number device sound below (fold_of start before) x.first cs acks x.last holds stopped.turn x.stop x.image j k stands.1 also.1
       (subst (λ (t : Source). StandsFor x.image t) (fold_append start before (take j (counted cs acks))) stands.2)
       (subst (λ (t : Source). StandsFor x.image t) (fold_append start before (take k (counted cs acks))) also.2)
 
@@ -238,14 +236,14 @@ module _ {D : Type 0} (device : D → DiskState) (sound : (disk : D) → IsMediu
       let same : k ≡ j = same_latest start x (y ∷ past) standing j k are.0 (opened_holds start y past standing x.first stands.3 are.1) stands these in
       λ i. same i ∷ tails i
 
-  -- a session whose stop left another image of the same moment
-  pub openings_stop_too : OpeningsStopToo device
-  openings_stop_too start x past before after are as_left opening =
-      weaker before after (λ _. IsImage before.now) (λ _ image. AreSessions device start (record x { image = image } ∷ past)) (λ m image is. again past are (as_left image is)) opening
-    where
-      again : {image : List ℕ} (past : List (Session D)) → AreSessions device start (x ∷ past) → IsImageAt (device x.last.disk) x.stop image → AreSessions device start (record x { image = image } ∷ past)
-      again [] are at = (record { turn = are.0.turn; from = are.0.from; to = are.0.to; image = at }, are.1)
-      again (y ∷ past) are at = (record { turn = are.0.turn; from = are.0.from; to = are.0.to; image = at }, are.1, are.2)
+-- a session whose stop left another image of the same moment
+pub openings_stop_too : {D : Type 0} (device : D → DiskState) → OpeningsStopToo device
+openings_stop_too {D} device start x past before after are as_left opening =
+    weaker before after (λ _. IsImage before.now) (λ _ image. AreSessions device start (record x { image = image } ∷ past)) (λ m image is. again past are (as_left image is)) opening
+  where
+    again : {image : List ℕ} (past : List (Session D)) → AreSessions device start (x ∷ past) → IsImageAt (device x.last.disk) x.stop image → AreSessions device start (record x { image = image } ∷ past)
+    again [] are at = (record { turn = are.0.turn; from = are.0.from; to = are.0.to; image = at }, are.1)
+    again (y ∷ past) are at = (record { turn = are.0.turn; from = are.0.from; to = are.0.to; image = at }, are.1, are.2)
 
 -- what the latest stop left, of any sessions
 pub left_standing : {D : Type 0} (device : D → DiskState) (start : Source) (sessions : List (Session D)) (standing : List ℕ) → AreSessions device start sessions → AreStanding start sessions standing

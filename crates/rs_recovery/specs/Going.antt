@@ -1,22 +1,16 @@
 -- What joins a run of commands.
-use Rattle.std.specs.Prelude.{◌⊎◌, ℕ, List, [], ◌∷◌, ◌++◌, Result, Err, Vec}
+use Rattle.std.specs.Prelude.{◌⊎◌, ℕ, List, [], ◌∷◌, Result, Err, Vec}
 use Rattle.std.specs.Global.{Global}
 use Rattle.rs_disk.specs.Medium.{DiskState}
 use Rattle.rs_model.specs.declared.command.Command.{Command}
 use Rattle.rs_model.specs.declared.command.Reply.{Reply}
 use Rattle.rs_store.specs.declared.refusal.Refusal.{Refusal}
 use Rattle.rs_store.specs.declared.refusal.Refusal.TheVariants.{ReadFault, ShortBody}
-use Rattle.rs_store.specs.declared.running.Ack.{Ack}
 use Rattle.rs_store.specs.Source.{Stored}
 use Rattle.rs_store.specs.Answered.{Answers}
 use Rattle.rs_store.specs.AnswersBody.{AnswersBody}
 use Rattle.rs_store.specs.Received.{AnswersFrom}
 use Rattle.rs_store.specs.Runs.{IsIdle, InTurn}
-
--- One run and then another are one run, by the commands and the answers of both.
-abbrev pub TurnsGoOn : {D : Type 0} → (D → DiskState) → Type 0
-TurnsGoOn {D} device = (old mid new : Stored D) (first then : List (Command × ℕ)) (early late : List Ack)
-    → InTurn device old first early mid → InTurn device mid then late new → InTurn device old (first ++ then) (early ++ late) new
 
 -- One command is a run of its own.
 abbrev pub CommandsAreTurns : {D : Type 0} → (D → DiskState) → Type 0

@@ -9,12 +9,18 @@ ghost use Rattle.rs_model.specs.declared.command.Command.{Command};
 ghost use Rattle.rs_image.specs.Tells.{StandsFor};
 ghost use Rattle.rs_store.specs.declared.running.Ack.{Ack};
 ghost use Rattle.rs_store.specs.Runs.{StandsForPrefix};
-ghost use Rattle.rs_recovery.specs.Going.{TurnsGoOn, CommandsAreTurns, BodiesIdle, CutPutsIdle};
+ghost use Rattle.rs_store.specs.Laws.{TurnsGoOn};
+ghost use Rattle.rs_recovery.specs.Going.{CommandsAreTurns, BodiesIdle, CutPutsIdle};
 ghost use Rattle.rs_recovery.specs.Sessions.{OneStanding, OpeningsStopToo};
 ghost use Rattle.rs_recovery.specs.Served.{SessionsStand};
 ghost use Rattle.rs_recovery.specs.Recovered.{YieldsHeld};
 
 use rs_disk::Disk;
+use rs_image::laws::stands_once;
+use rs_model::fold_is_regular;
+use rs_store::laws::{
+    closed_sources_stay, held_sources_rest, refused_is_not_done, runs_leave_prefixes, turns_go_on,
+};
 
 /// What else is asked of a source joins a run: one run and then another are one run; one command is a run of its own; and a source
 /// that is asked for a body, or for a put whose body does not come whole, idles.
@@ -23,18 +29,31 @@ pub fn runs_go_on<D: Disk>()
     ensures command { CommandsAreTurns D.state }
     ensures body { BodiesIdle D.state }
     ensures cut { CutPutsIdle D.state }
-{}
+{
+    turns_go_on::<D>();
+    held_sources_rest::<D>();
+}
 
 /// Whatever the stops, commands of each session stand, and those behind a source that could be asked
 /// are the first of those behind every later one.
 pub fn sessions_stand<D: Disk>()
     ensures { SessionsStand D.state }
-{}
+{
+    stands_once();
+    closed_sources_stay::<D>();
+    refused_is_not_done::<D>();
+    runs_leave_prefixes::<D>();
+}
 
 /// What the stops left determines how many commands of each session stand.
 pub fn one_standing<D: Disk>()
     ensures { OneStanding D.state }
-{}
+{
+    stands_once();
+    closed_sources_stay::<D>();
+    refused_is_not_done::<D>();
+    runs_leave_prefixes::<D>();
+}
 
 /// A stop within an opening is a stop of the session before it.
 pub fn openings_stop_too<D: Disk>()
@@ -48,4 +67,7 @@ pub fn stops_leave_regular()
         → IsRegular s → StandsForPrefix s commands acks m image → StandsFor image t → IsRegular t }
     ensures yields { (s t : Source) (commands : List (Command × ℕ)) (acks : List Ack) (m : ℕ) (image : List ℕ)
         → IsRegular s → StandsForPrefix s commands acks m image → StandsFor image t → YieldsHeld t }
-{}
+{
+    stands_once();
+    fold_is_regular();
+}

@@ -13,7 +13,10 @@ ghost use Rattle.rs_store.specs.Runs.{StandsForPrefix};
 ghost use Rattle.rs_recovery.specs.Sessions.{IsOpenedOn};
 ghost use Rattle.rs_recovery.specs.Recovered.{GivesBack, GivesBackPrefix, Headline};
 
+use crate::laws::sessions_stand;
 use rs_disk::Disk;
+use rs_image::laws::stands_once;
+use rs_model::{fold_is_regular, start_is_regular};
 use rs_store::{OpenFault, Source};
 use std::alloc::Global;
 
@@ -45,9 +48,15 @@ pub fn recover<D: Disk>(alloc: Global, disk: D) -> Result<Source<D>, (D, OpenFau
         → StandsForPrefix s commands acks m (D.state disk).now.seen → GivesBackPrefix D.state disk result s commands acks m }
     ensures headline { Headline D.state disk result }
 
-    // A stop within it leaves an image of its entry; and a device that has followed the model then had followed it before.
+    // What a read gives is as it was; a stop within it leaves an image of its entry; and a device that has followed the model
+    // then had followed it before.
+    ensures seen { (D.state (disk_of result)).now.seen ≡ (D.state disk).now.seen }
     ensures lasts { IsTrue (D.state (disk_of result)).honest → IsTrue (D.state disk).honest }
     ensures any_moment { Leaves (D.state disk) (D.state (disk_of result)) (λ _. IsImage (D.state disk).now) }
 {
+    sessions_stand::<D>();
+    start_is_regular();
+    fold_is_regular();
+    stands_once();
     Source::open(alloc, disk)
 }

@@ -7,6 +7,7 @@ ghost use Rattle.rs_recovery.specs.Surviving.{Survives, IsLost};
 use crate::recover;
 use rs_disk::MemoryDisk;
 use rs_model::Command;
+use rs_store::laws::turns_go_on;
 use rs_store::{Ack, FormatFault, OpenFault, Refusal, Source};
 use rs_time::Moment;
 use std::alloc::Global;
@@ -40,9 +41,10 @@ pub fn format_run_recover(
     commands: &[(Command, Moment)],
     choice: &[u8],
 ) -> Result<(Vec<Ack>, Source<MemoryDisk>), Halt>
-    ensures survives { IfOk result (λ x. Survives (start_of base.now limit now) commands.now x.0.items x.1) }
+    ensures survives { IfOk result (λ x. Survives (start_of base.now limit now) commands.now x.0.items choice.now x.1) }
     ensures found { IfErr result (λ halt. ¬ IsLost halt) }
 {
+    turns_go_on::<MemoryDisk>();
     let mut source = match Source::format(alloc, disk, base, limit, now) {
         Ok(source) => source,
         Err((_, fault)) => return Err(Halt::Formatting(fault)),

@@ -16,13 +16,13 @@ use Rattle.rs_store.specs.Refusals.{decided, named_as, is_spent, or_spent}
 use Rattle.rs_store.specs.Commands.{IsCause}
 use Rattle.rs_store.specs.Answered.{Answers}
 use Rattle.rs_store.specs.Counted.{is_device}
-use Rattle.rs_store.specs.Runs.{InTurn, IsOfMachine, MayAnswer, AreReplies, state_then}
+use Rattle.rs_store.specs.Runs.{InTurn, IsBeyondModel, MayAnswer, AreReplies, state_then}
 use Rattle.rs_store.proofs.Turns.{Commands, Acks, closed_run}
 use Rattle.rs_store.proofs.Moments.{not_done, is_device_or_not}
 
 -- where the model refuses nothing, a source decides Exhausted alone
-spent_alone : (spent : Bool) (refusal : Refusal) → or_spent None spent ≡ Some refusal → IsOfMachine refusal
-spent_alone true refusal is = let same : Exhausted ≡ refusal = cc in subst IsOfMachine same tt
+spent_alone : (spent : Bool) (refusal : Refusal) → or_spent None spent ≡ Some refusal → IsBeyondModel refusal
+spent_alone true refusal is = let same : Exhausted ≡ refusal = cc in subst IsBeyondModel same tt
 spent_alone false refusal is = absurd cc
 
 abbrev refused_as : Refusal → Result Reply Refusal
@@ -42,7 +42,7 @@ module _ {D : Type 0} (device : D → DiskState) (sound : (disk : D) → IsMediu
         ap (λ (t : Source). decided old t command) (told_state old s holds)
         ∙ (λ i. cond (holds.is_open i) (Some Closed) (or_spent (is i) (is_spent old)))
 
-    of_machine : refusal_of s command ≡ None → (refusal : Refusal) → IsCause device old new command now refusal → IsOfMachine refusal
+    of_machine : refusal_of s command ≡ None → (refusal : Refusal) → IsCause device old new command now refusal → IsBeyondModel refusal
     of_machine none Exhausted cause = tt
     of_machine none Full cause = tt
     of_machine none Device cause = tt
@@ -57,7 +57,7 @@ module _ {D : Type 0} (device : D → DiskState) (sound : (disk : D) → IsMediu
     of_machine none Damaged cause = absurd cause
 
     by_model : (refusal : Refusal) → Answers device old new command now (Err refusal) → (x : Option model.Refusal) → refusal_of s command ≡ x
-        → MatchOption x (IsOfMachine refusal) (λ r. refusal ≡ named_as r)
+        → MatchOption x (IsBeyondModel refusal) (λ r. refusal ≡ named_as r)
     by_model refusal answers None is = of_machine is refusal (answers.refused refusal refl)
     by_model refusal answers (Some r) is = same_refusal refusal (named_as r) (answers.decides (named_as r) (decides (Some r) is))
 

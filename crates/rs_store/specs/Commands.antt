@@ -25,9 +25,10 @@ IsCause device old new command now ShortBody = ⊥
 IsCause device old new command now NoMemory = decided old (state_of device old) command ≡ None
 IsCause device old new command now refusal = decided old (state_of device old) command ≡ Some refusal
 
--- What a command leaves of a source that holds a state, by its answer. Accepted, the source holds the next state; the device
--- failed, it is closed; refused otherwise, it holds the old one. At each moment in between, each image of a crash stands for
--- the old state or for the next one; for the old one alone, where the command is refused.
+-- What a command leaves of a source that holds a state, by its answer. Accepted, the source holds the next state; refused by
+-- anything but Device, it holds the old one. At each moment in between each image of a crash stands for the old state or for
+-- the next one; for the old one alone, where the command is refused by anything but Device. After Device nothing is said here of
+-- what the source holds: `Answers` says that it is closed.
 abbrev pub Leads : {D : Type 0} → (D → DiskState) → Stored D → Stored D → Source → Command → ℕ → Result Reply Refusal → Type 0
 Leads device old new s command now (Ok reply) =
     (t : Source) × (step s command now ≡ Ok (t, reply)) × Holds device new t

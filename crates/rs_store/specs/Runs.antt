@@ -45,18 +45,18 @@ pub record StandsForPrefix (s : Source) (commands : List (Command × ℕ)) (acks
   pub stands : StandsFor image (fold_of s (take j (counted commands acks)))
 
 -- a refusal that the model does not decide
-abbrev pub IsOfMachine : Refusal → Type 0
-IsOfMachine Exhausted = Unit {0}
-IsOfMachine Full = Unit {0}
-IsOfMachine Device = Unit {0}
-IsOfMachine NoMemory = Unit {0}
-IsOfMachine refusal = ⊥
+abbrev pub IsBeyondModel : Refusal → Type 0
+IsBeyondModel Exhausted = Unit {0}
+IsBeyondModel Full = Unit {0}
+IsBeyondModel Device = Unit {0}
+IsBeyondModel NoMemory = Unit {0}
+IsBeyondModel refusal = ⊥
 
 -- What an open source that holds a state may answer: Ok with the model's reply; where the model refuses, its refusal; and else
 -- a refusal that the model does not decide.
 abbrev pub MayAnswer : Source → Command → ℕ → Result Reply Refusal → Type 0
 MayAnswer s command now (Ok reply) = (t : Source) × (step s command now ≡ Ok (t, reply))
-MayAnswer s command now (Err refusal) = MatchOption (refusal_of s command) (IsOfMachine refusal) (λ r. refusal ≡ named_as r)
+MayAnswer s command now (Err refusal) = MatchOption (refusal_of s command) (IsBeyondModel refusal) (λ r. refusal ≡ named_as r)
 
 -- the state after a command that was answered so
 abbrev pub state_then : Source → Command × ℕ → Ack → Source

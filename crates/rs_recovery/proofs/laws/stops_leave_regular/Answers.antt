@@ -1,8 +1,6 @@
 use Rattle.std.proofs.Common.{take, subst}
 use Rattle.rs_model.specs.Step.{fold_of}
 use Rattle.rs_model.specs.Regular.{IsRegular}
-use Rattle.rs_model.proofs.RegularLemmas.{fold_regular}
-use Rattle.rs_image.proofs.Once.{stands_once}
 use Rattle.rs_store.specs.Counted.{counted}
 use Rattle.rs_recovery.proofs.Sessions.{yields_held}
 use Rattle.rs_recovery.proofs.laws.stops_leave_regular.Goals as goal
@@ -10,7 +8,7 @@ use Rattle.rs_recovery.proofs.laws.stops_leave_regular.Goals as goal
 pub returns-clause-regular : goal.returns-clause-regular
 returns-clause-regular c = λ s t commands acks m image regular prefix stands.
     let front = take prefix.j (counted commands acks) in
-    subst IsRegular (stands_once image (fold_of s front) t prefix.stands stands) (fold_regular s front regular)
+    subst IsRegular (c.stands_once.ensures image (fold_of s front) t prefix.stands stands) (c.fold_is_regular.ensures.regular s front regular)
 
 pub returns-clause-yields : goal.returns-clause-yields
 returns-clause-yields c = λ s t commands acks m image regular prefix stands.
