@@ -1,8 +1,8 @@
 -- The changes of a part lie between its bounds.
 use Rattle.std.proofs.Common.{◌≡◌, ℕ, ◌+◌, ◌*◌, ◌<◌, ◌≤◌, List, [], ◌∷◌, ◌++◌, take, drop, refl, sym, ap, ◌∙◌, arith, nat_lt, subst}
-use Rattle.std.specs.Prelude.{IsTrue, Bool, true, false, ◌&&◌}
+use Rattle.std.specs.Prelude.{IsTrue, Bool}
 use Rattle.std.specs.Cmp.{first_so, second_so}
-use Rattle.std.proofs.lemmas.Bool.{ltb-true, lt-ltb}
+use Rattle.std.proofs.lemmas.Bool.{and_from, ltb-true, lt-ltb}
 use Rattle.std.specs.List.{AllByRecursion}
 use Rattle.std.proofs.lemmas.List.{take-append-drop}
 use Rattle.std.proofs.Math.Seq.{take-add}
@@ -20,14 +20,10 @@ first_rises low c cs h =
     let rises : Bool = rises_from c.moment cs in
     (ltb-true low c.moment (first_so (nat_lt low c.moment) rises h), second_so (nat_lt low c.moment) rises h)
 
-both_so : (a b : Bool) → IsTrue a → IsTrue b → IsTrue (a && b)
-both_so true b h k = k
-both_so false b h k = h
-
 -- changes that rise, all after a moment, rise from it
 rises_after : (low : ℕ) (cs : List Change) → IsTrue (is_rising cs) → AllByRecursion (IsAfter low) cs → IsTrue (rises_from low cs)
 rises_after low [] h after = refl
-rises_after low (c ∷ cs) h after = both_so (nat_lt low c.moment) (rises_from c.moment cs) (lt-ltb low c.moment after.0) h
+rises_after low (c ∷ cs) h after = and_from (nat_lt low c.moment) (rises_from c.moment cs) (lt-ltb low c.moment after.0) h
 
 rising_after : (low : ℕ) (a b : List Change) → IsTrue (rises_from low (a ++ b)) → IsTrue (rises_from (last_moment low a) b)
 rising_after low [] b h = h

@@ -1,23 +1,13 @@
 -- Names that strictly rise, by pairs of neighbours.
-use Rattle.std.proofs.Common.{◌≡◌, ℕ, zero, suc, ◌<◌, List, [], ◌∷◌, length, ◌≤◌, ◌-◌, get_or, Bool, true, false, refl, ap, ◌∙◌, sym, subst, arith}
+use Rattle.std.proofs.Common.{◌≡◌, ℕ, zero, suc, ◌<◌, List, [], ◌∷◌, length, ◌≤◌, ◌-◌, get_or, true, false, refl, ap, ◌∙◌, sym, subst, arith}
+use Rattle.std.specs.Cmp.{first_so, second_so}
+use Rattle.std.proofs.lemmas.Bool.{and_from}
 use Rattle.std.proofs.lemmas.Option.{get_or_from_slice_get, slice_get-get_or}
-use Rattle.std.specs.Prelude.{IsTrue, ◌&&◌}
+use Rattle.std.specs.Prelude.{IsTrue}
 use Rattle.std.specs.Ordering.{is_lt}
 use Rattle.rs_record.specs.declared.record.Record.{Record}
 use Rattle.rs_model.specs.Names.{by_bytes, is_ordered, is_above}
 use Rattle.rs_catalogue.specs.Named.{named}
-
-both_of : (a b : Bool) → IsTrue a → IsTrue b → IsTrue (a && b)
-both_of true b h k = k
-both_of false b h k = h
-
-first_of : (a b : Bool) → IsTrue (a && b) → IsTrue a
-first_of true b h = refl
-first_of false b h = h
-
-second_of : (a b : Bool) → IsTrue (a && b) → IsTrue b
-second_of true b h = h
-second_of false b h = cc
 
 -- the name at a place is below the next one
 abbrev pub Rises : List Record → ℕ → Record → Type 0
@@ -27,14 +17,14 @@ pub ordered_from : (records : List Record) → ((k : ℕ) (d : Record) → suc k
 ordered_from [] h = refl
 ordered_from (x ∷ []) h = refl
 ordered_from (x ∷ y ∷ records) h =
-    both_of (is_lt (by_bytes x.name y.name)) (is_above y.name (named records)) (h 0 x (omega arith)) (ordered_from (y ∷ records) (λ k d inside. h (suc k) d (omega arith)))
+    and_from (is_lt (by_bytes x.name y.name)) (is_above y.name (named records)) (h 0 x (omega arith)) (ordered_from (y ∷ records) (λ k d inside. h (suc k) d (omega arith)))
 
 pub rises_at : (records : List Record) (k : ℕ) (d : Record) → IsTrue (is_ordered (named records)) → suc k < length records → Rises records k d
 rises_at [] k d h inside = absurd (omega arith)
 rises_at (x ∷ []) k d h inside = absurd (omega arith)
-rises_at (x ∷ y ∷ records) zero d h inside = first_of (is_lt (by_bytes x.name y.name)) (is_above y.name (named records)) h
+rises_at (x ∷ y ∷ records) zero d h inside = (first_so (is_lt (by_bytes x.name y.name)) (is_above y.name (named records)) h)
 rises_at (x ∷ y ∷ records) (suc k) d h inside =
-    rises_at (y ∷ records) k d (second_of (is_lt (by_bytes x.name y.name)) (is_above y.name (named records)) h) (omega arith)
+    rises_at (y ∷ records) k d (second_so (is_lt (by_bytes x.name y.name)) (is_above y.name (named records)) h) (omega arith)
 
 -- within a list the default does not matter
 get_or-agree : (records : List Record) (i : ℕ) (d e : Record) → i < length records → get_or records i d ≡ get_or records i e

@@ -1,14 +1,16 @@
 -- Changes of which the last one was filled.
 use Rattle.std.proofs.Common.{◌≡◌, ℕ, ◌<◌, ◌≤◌, ◌+◌, ◌-◌, List, [], ◌∷◌, ◌++◌, length, get_or, refl, sym, ap, ◌∙◌, subst, arith, length-append, Some}
 use Rattle.std.specs.Prelude.{IsTrue, nat_lt, slice_get, slice_set, IfSome}
+use Rattle.std.specs.Cmp.{first_so, second_so}
+use Rattle.std.proofs.lemmas.Bool.{and_from}
 use Rattle.std.proofs.lemmas.List.{length-set}
 use Rattle.std.proofs.lemmas.Option.{slice_get-get_or}
 use Rattle.rs_fixity.specs.declared.Digests.{Digests}
 use Rattle.rs_record.specs.declared.change.Change.{Change}
 use Rattle.rs_page.specs.Items.{change_filled}
-use Rattle.rs_changes.specs.History.{is_rising, is_after, AreKept}
+use Rattle.rs_model.specs.Regular.{is_rising, rises_from}
+use Rattle.rs_changes.specs.History.{AreKept}
 use Rattle.rs_changes.specs.Filled.{fill_end}
-use Rattle.rs_changes.proofs.Rising.{both_of, first_of, second_of}
 
 get-end : (before : List Change) (last : Change) → slice_get (before ++ last ∷ []) (length before) ≡ Some last
 get-end [] last = refl
@@ -45,9 +47,9 @@ rising-filled : (digests : Digests) (before : List Change) (last : Change) → I
 rising-filled digests [] last h = refl
 rising-filled digests (x ∷ []) last h = h
 rising-filled digests (x ∷ y ∷ before) last h =
-    both_of (nat_lt x.moment y.moment) (is_after y.moment (before ++ change_filled digests last ∷ []))
-    (first_of (nat_lt x.moment y.moment) (is_after y.moment (before ++ last ∷ [])) h)
-    (rising-filled digests (y ∷ before) last (second_of (nat_lt x.moment y.moment) (is_after y.moment (before ++ last ∷ [])) h))
+    and_from (nat_lt x.moment y.moment) (rises_from y.moment (before ++ change_filled digests last ∷ []))
+    (first_so (nat_lt x.moment y.moment) (rises_from y.moment (before ++ last ∷ [])) h)
+    (rising-filled digests (y ∷ before) last (second_so (nat_lt x.moment y.moment) (rises_from y.moment (before ++ last ∷ [])) h))
 
 end_of : (changes : List Change) → 1 ≤ length changes → (before : List Change) × (last : Change) × (changes ≡ before ++ last ∷ [])
 end_of [] h = absurd (omega arith)

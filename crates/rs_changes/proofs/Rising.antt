@@ -1,23 +1,13 @@
 -- Moments that strictly rise, by pairs of neighbours.
-use Rattle.std.proofs.Common.{◌≡◌, ℕ, zero, suc, ◌<◌, ◌≤◌, ◌+◌, ◌-◌, List, [], ◌∷◌, ◌++◌, length, get_or, Bool, true, false, refl, sym, ap, ◌∙◌, subst, arith, length-append}
-use Rattle.std.specs.Prelude.{IsTrue, ◌&&◌, nat_lt, slice_get, IfSome}
+use Rattle.std.proofs.Common.{◌≡◌, ℕ, zero, suc, ◌<◌, ◌≤◌, ◌+◌, ◌-◌, List, [], ◌∷◌, ◌++◌, length, get_or, true, refl, sym, ap, ◌∙◌, subst, arith, length-append}
+use Rattle.std.specs.Prelude.{IsTrue, nat_lt, slice_get, IfSome}
+use Rattle.std.specs.Cmp.{first_so, second_so}
+use Rattle.std.proofs.lemmas.Bool.{and_from}
 use Rattle.std.proofs.lemmas.Bool.Decides.{nat_tests}
 use Rattle.std.proofs.lemmas.Option.{get_or_from_slice_get, slice_get-get_or}
 use Rattle.rs_record.specs.declared.change.Change.{Change}
-use Rattle.rs_changes.specs.History.{is_rising, is_after, last_of, AreKept}
-
--- both of two tests, and each of them
-pub both_of : (a b : Bool) → IsTrue a → IsTrue b → IsTrue (a && b)
-both_of true b h k = k
-both_of false b h k = h
-
-pub first_of : (a b : Bool) → IsTrue (a && b) → IsTrue a
-first_of true b h = refl
-first_of false b h = h
-
-pub second_of : (a b : Bool) → IsTrue (a && b) → IsTrue b
-second_of true b h = h
-second_of false b h = cc
+use Rattle.rs_model.specs.Regular.{is_rising, rises_from}
+use Rattle.rs_changes.specs.History.{last_of, AreKept}
 
 is_below : (a b : ℕ) → a < b → IsTrue (nat_lt a b)
 is_below a b h = grind (arith, nat_tests)
@@ -33,14 +23,14 @@ pub rising_from : (changes : List Change) → ((k : ℕ) (d : Change) → suc k 
 rising_from [] h = refl
 rising_from (x ∷ []) h = refl
 rising_from (x ∷ y ∷ changes) h =
-    both_of (nat_lt x.moment y.moment) (is_after y.moment changes) (is_below x.moment y.moment (h 0 x (omega arith))) (rising_from (y ∷ changes) (λ k d inside. h (suc k) d (omega arith)))
+    and_from (nat_lt x.moment y.moment) (rises_from y.moment changes) (is_below x.moment y.moment (h 0 x (omega arith))) (rising_from (y ∷ changes) (λ k d inside. h (suc k) d (omega arith)))
 
 pub rises_at : (changes : List Change) (k : ℕ) (d : Change) → IsTrue (is_rising changes) → suc k < length changes → Rises changes k d
 rises_at [] k d h inside = absurd (omega arith)
 rises_at (x ∷ []) k d h inside = absurd (omega arith)
-rises_at (x ∷ y ∷ changes) zero d h inside = below_of x.moment y.moment (first_of (nat_lt x.moment y.moment) (is_after y.moment changes) h)
+rises_at (x ∷ y ∷ changes) zero d h inside = below_of x.moment y.moment (first_so (nat_lt x.moment y.moment) (rises_from y.moment changes) h)
 rises_at (x ∷ y ∷ changes) (suc k) d h inside =
-    rises_at (y ∷ changes) k d (second_of (nat_lt x.moment y.moment) (is_after y.moment changes) h) (omega arith)
+    rises_at (y ∷ changes) k d (second_so (nat_lt x.moment y.moment) (rises_from y.moment changes) h) (omega arith)
 
 -- within a list the default does not matter
 get_or-agree : (changes : List Change) (i : ℕ) (d e : Change) → i < length changes → get_or changes i d ≡ get_or changes i e
@@ -61,14 +51,14 @@ refuted changes i a b low high falls h =
 -- a change after the last one
 pub rising-append : (changes : List Change) (c : Change) → IsTrue (is_rising changes) → IfSome (last_of changes) (λ last. last.moment < c.moment) → IsTrue (is_rising (changes ++ c ∷ []))
 rising-append [] c h below = refl
-rising-append (x ∷ []) c h below = both_of (nat_lt x.moment c.moment) true (is_below x.moment c.moment below) refl
+rising-append (x ∷ []) c h below = and_from (nat_lt x.moment c.moment) true (is_below x.moment c.moment below) refl
 rising-append (x ∷ y ∷ changes) c h below =
     let next : length (x ∷ y ∷ changes) - 1 ≡ suc (length (y ∷ changes) - 1) = omega arith in
     let later : IfSome (last_of (y ∷ changes)) (λ last. last.moment < c.moment) =
     subst (λ (i : ℕ). IfSome (slice_get (x ∷ y ∷ changes) i) (λ last. last.moment < c.moment)) next below in
-    both_of (nat_lt x.moment y.moment) (is_after y.moment (changes ++ c ∷ []))
-    (first_of (nat_lt x.moment y.moment) (is_after y.moment changes) h)
-    (rising-append (y ∷ changes) c (second_of (nat_lt x.moment y.moment) (is_after y.moment changes) h) later)
+    and_from (nat_lt x.moment y.moment) (rises_from y.moment (changes ++ c ∷ []))
+    (first_so (nat_lt x.moment y.moment) (rises_from y.moment changes) h)
+    (rising-append (y ∷ changes) c (second_so (nat_lt x.moment y.moment) (rises_from y.moment changes) h) later)
 
 pub kept-append : (old new : List Change) (c : Change) → AreKept old → IfSome (last_of old) (λ last. last.moment < c.moment) → length old < 50000 → new ≡ old ++ c ∷ [] → AreKept new
 kept-append old new c kept rises room is =

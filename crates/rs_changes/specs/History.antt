@@ -1,7 +1,8 @@
 -- A history: changes in the order of their moments, in pages.
-use Rattle.std.specs.Prelude.{◌≡◌, ◌≤◌, ◌+◌, ◌-◌, ◌*◌, ℕ, Bool, true, false, ◌&&◌, nat_lt, min, is_some, IsTrue, List, [], ◌∷◌, length, flat_map, slice_get, All, Option}
+use Rattle.std.specs.Prelude.{◌≡◌, ◌≤◌, ◌+◌, ◌-◌, ◌*◌, ℕ, false, min, is_some, IsTrue, List, [], ◌∷◌, length, flat_map, slice_get, All, Option}
 use Rattle.rs_record.specs.declared.change.Change.{Change}
 use Rattle.rs_model.specs.State.{most_changes}
+use Rattle.rs_model.specs.Regular.{is_rising}
 use Rattle.rs_page.specs.declared.place.PageRef.{PageRef}
 use Rattle.rs_page.specs.Items.{change_format}
 use Rattle.rs_page.specs.Sheets.{Sheet, items_of, stored_ref}
@@ -10,16 +11,6 @@ use Rattle.rs_page.specs.Pages.{ArePages}
 -- the changes of a list of pages, the earliest first
 abbrev pub changes_of : List (Sheet Change) → List Change
 changes_of sheets = items_of sheets
-
--- the moments strictly rise, from above this one
-abbrev pub is_after : ℕ → List Change → Bool
-is_after moment [] = true
-is_after moment (c ∷ cs) = nat_lt moment c.moment && is_after c.moment cs
-
--- the moments strictly rise
-abbrev pub is_rising : List Change → Bool
-is_rising [] = true
-is_rising (c ∷ cs) = is_after c.moment cs
 
 -- the last change, if there is one
 abbrev pub last_of : List Change → Option Change

@@ -1,7 +1,7 @@
 //! Lists of changes in the order of their moments.
 
 ghost use Rattle.std.specs.Prelude.{◌≡◌, ◌↔◌, [], ◌∷◌, ◌++◌, IfOk, IsTrue};
-ghost use Rattle.rs_changes.specs.History.{is_rising as rising};
+ghost use Rattle.rs_model.specs.Regular.{is_rising as rising};
 
 use rs_record::{Change, duplicate_all};
 use std::alloc::{AllocError, Global};

@@ -22,7 +22,8 @@ use Rattle.rs_lists.specs.Shown.{Shown}
 use Rattle.rs_lists.specs.Text.{line, joined, resource_line, change_line, location_parts, lastmod_parts, some_facts_parts, facts_parts, facts_of_record, what_text, resource_part_path, change_part_path, until_parts, until_of, from_of, resource_entry, change_entry}
 use Rattle.rs_lists.proofs.Items.{change_line_with}
 use Rattle.rs_lists.proofs.Lengths.{length-moment_text}
-use Rattle.rs_lists.proofs.Plain.{first_true, second_true, escape-uri}
+use Rattle.rs_lists.proofs.Plain.{escape-uri}
+use Rattle.std.specs.Cmp.{first_so, second_so}
 
 -- the length of texts joined
 unfoldable pub total_length : List (List ℕ) → ℕ
@@ -59,20 +60,20 @@ at_most : (a b : ℕ) → IsTrue (nat_le a b) → a ≤ b
 at_most a b h = let e : nat_le a b ≡ true = h in grind (arith, nat_tests)
 
 pub name_length : (name : List ℕ) → IsTrue (is_name name) → length name ≤ 240
-name_length name h = at_most (length name) 240 (first_true (nat_le (length name) 240) (list_all is_segment (segments name)) h)
+name_length name h = at_most (length name) 240 (first_so (nat_le (length name) 240) (list_all is_segment (segments name)) h)
 
 pub base_length : (base : List ℕ) → IsTrue (is_base base) → length base ≤ 128
 base_length base h =
-    at_most (length base) 128 (second_true (nat_le 8 (length base)) (nat_le (length base) 128)
-    (first_true (nat_le 8 (length base) && nat_le (length base) 128) (has_scheme (codes "http://") base || has_scheme (codes "https://") base) (first_true _ (not (ends_with nat_eq base (codes "/"))) h)))
+    at_most (length base) 128 (second_so (nat_le 8 (length base)) (nat_le (length base) 128)
+    (first_so (nat_le 8 (length base) && nat_le (length base) 128) (has_scheme (codes "http://") base || has_scheme (codes "https://") base) (first_so _ (not (ends_with nat_eq base (codes "/"))) h)))
 
 pub kind_length : (kind : List ℕ) → IsTrue (is_media_type kind) → length kind ≤ 100
 kind_length kind h =
-    let a = first_true _ (not (ends_with nat_eq kind (codes " "))) h in
-    let b = first_true _ (begins_subtype (after_token kind)) a in
-    let d = first_true _ (begins_token kind) b in
-    let e = first_true (nat_le 3 (length kind) && nat_le (length kind) 100) (list_all (is_between 32 126) kind) d in
-    at_most (length kind) 100 (second_true (nat_le 3 (length kind)) (nat_le (length kind) 100) e)
+    let a = first_so _ (not (ends_with nat_eq kind (codes " "))) h in
+    let b = first_so _ (begins_subtype (after_token kind)) a in
+    let d = first_so _ (begins_token kind) b in
+    let e = first_so (nat_le 3 (length kind) && nat_le (length kind) 100) (list_all (is_between 32 126) kind) d in
+    at_most (length kind) 100 (second_so (nat_le 3 (length kind)) (nat_le (length kind) 100) e)
 
 pub uri_length : (base name : List ℕ) → IsTrue (is_base base) → length (escape (uri base name)) ≡ length base + 10 + length (escape name)
 uri_length base name h =

@@ -7,7 +7,7 @@ use Rattle.rs_lists.specs.declared.doc.Doc.TheVariants.{Description, Capabilitie
 use Rattle.rs_lists.specs.Chunks.{part_at}
 use Rattle.rs_lists.specs.Shown.{Shown, resource_parts_of, change_parts_of}
 use Rattle.rs_lists.specs.Text.{list_text, is_part, up_line, part_links, resource_list, resource_index, change_list, change_index, change_part_text}
-use Rattle.rs_lists.proofs.Plain.{first_true, second_true}
+use Rattle.std.specs.Cmp.{first_so, second_so}
 
 -- a sink took the text of a document
 pub on_document : {A X E : Type 0} (R : A → A → List ℕ → Type 0) (r : Result X E) (a b : A) (d : Option (List ℕ)) (t : List ℕ) → OnOk r (R a b t) → d ≡ Some t → OnOk r (IfSome d (R a b))
@@ -49,16 +49,16 @@ tested false x h = cc
 -- the number of a part that is there
 pub within : (parts first number : ℕ) → IsTrue (is_part parts first number) → (first ≤ number) × (number < first + parts)
 within parts first number h =
-    let front = first_true (nat_lt 1 parts && nat_le first number) (nat_lt number (first + parts)) h in
-    let low : nat_le first number ≡ true = second_true (nat_lt 1 parts) (nat_le first number) front in
-    let high : nat_lt number (first + parts) ≡ true = second_true (nat_lt 1 parts && nat_le first number) (nat_lt number (first + parts)) h in
+    let front = first_so (nat_lt 1 parts && nat_le first number) (nat_lt number (first + parts)) h in
+    let low : nat_le first number ≡ true = second_so (nat_lt 1 parts) (nat_le first number) front in
+    let high : nat_lt number (first + parts) ≡ true = second_so (nat_lt 1 parts && nat_le first number) (nat_lt number (first + parts)) h in
     (grind (arith, nat_tests), grind (arith, nat_tests))
 
 pub resource_part_there : (s : Shown) (publication k : ℕ) → IsSome (list_text s (ResourcePart publication k)) → k < resource_parts_of s
 unfolding list_text
 resource_part_there s publication k h =
     let t = (tested ((publication == s.number) && is_part (resource_parts_of s) 0 k) _ h).0 in
-    let w = within (resource_parts_of s) 0 k (second_true (publication == s.number) (is_part (resource_parts_of s) 0 k) t) in
+    let w = within (resource_parts_of s) 0 k (second_so (publication == s.number) (is_part (resource_parts_of s) 0 k) t) in
     omega arith
 
 pub resource_part_is : (s : Shown) (publication k : ℕ) → IsSome (list_text s (ResourcePart publication k))

@@ -24,7 +24,7 @@ pub facts_lawful : (kind bytes : List ℕ) → IsTrue (is_media_type kind) → l
 facts_lawful kind bytes k h = record { kind = k; length = omega arith; md5 = md5-bytes bytes; sha256 = sha256-bytes bytes }
 
 -- one more element
-all_appended : {A : Type 0} (P : A → Type 0) (a : List A) (x : A) → AllByRecursion P a → P x → AllByRecursion P (a ++ x ∷ [])
+pub all_appended : {A : Type 0} (P : A → Type 0) (a : List A) (x : A) → AllByRecursion P a → P x → AllByRecursion P (a ++ x ∷ [])
 all_appended P [] x h p = (p, tt)
 all_appended P (y ∷ a) x h p = (h.0, all_appended P a x h.1 p)
 
@@ -35,7 +35,7 @@ bind_by P Less name v e m a b d f = (a, (b, d))
 bind_by P Equal name v e m a b d f = (a, d)
 bind_by P Greater name v e m a b d f = (b, f)
 
-all_bound : {V : Type 0} (P : List ℕ × V → Type 0) (name : List ℕ) (v : V) (m : Names V) → P (name, v) → AllByRecursion P m → AllByRecursion P (bind name v m)
+pub all_bound : {V : Type 0} (P : List ℕ × V → Type 0) (name : List ℕ) (v : V) (m : Names V) → P (name, v) → AllByRecursion P m → AllByRecursion P (bind name v m)
 all_bound P name v [] a h = (a, tt)
 all_bound P name v (e ∷ m) a h = bind_by P (by_bytes name e.0) name v e m a h.0 h.1 (all_bound P name v m a h.1)
 
@@ -45,7 +45,7 @@ unbind_by P Less name e m b d f = (b, d)
 unbind_by P Equal name e m b d f = d
 unbind_by P Greater name e m b d f = (b, f)
 
-all_unbound : {V : Type 0} (P : List ℕ × V → Type 0) (name : List ℕ) (m : Names V) → AllByRecursion P m → AllByRecursion P (unbind name m)
+pub all_unbound : {V : Type 0} (P : List ℕ × V → Type 0) (name : List ℕ) (m : Names V) → AllByRecursion P m → AllByRecursion P (unbind name m)
 all_unbound P name [] h = tt
 all_unbound P name (e ∷ m) h = unbind_by P (by_bytes name e.0) name e m h.0 h.1 (all_unbound P name m h.1)
 

@@ -8,7 +8,7 @@ use Rattle.std.specs.declared.cmp.Ordering.TheVariants.{Less, Equal, Greater}
 use Rattle.std.proofs.lemmas.Map.Text.{is_eq-slice_cmp}
 use Rattle.std.proofs.lemmas.Slice.Eq.{bytes_eq-Decides}
 use Rattle.rs_model.specs.Names.{Names, by_bytes, by_order, value_of, bind, unbind, is_above, is_ordered}
-use Rattle.rs_model.proofs.MirrorLemmas.{first_of}
+use Rattle.std.specs.Cmp.{first_so}
 use Rattle.rs_model.proofs.OrderLemmas.{is_less, tail_ordered}
 
 -- names compare as equal where they are the same, and only there
@@ -71,12 +71,12 @@ other-bind name other v (e ∷ m) differ = other_by name other v e m (by_bytes n
 none_above : {V : Type 0} (lower name : List ℕ) (m : Names V) → by_bytes name lower ≡ Less → IsTrue (is_above lower m) → value_of name m ≡ None
 none_above lower name [] k h = refl
 none_above lower name (e ∷ m) k h =
-    ap (λ q. by_order q None (Some e.1) (value_of name m)) (nat_list_cmp_total.trans name lower e.0 k (is_less (by_bytes lower e.0) (first_of _ _ h)))
+    ap (λ q. by_order q None (Some e.1) (value_of name m)) (nat_list_cmp_total.trans name lower e.0 k (is_less (by_bytes lower e.0) (first_so _ _ h)))
 
 none_after : {V : Type 0} (lower name : List ℕ) (m : Names V) → by_bytes name lower ≡ Equal → IsTrue (is_above lower m) → value_of name m ≡ None
 none_after lower name [] k h = refl
 none_after lower name (e ∷ m) k h =
-    ap (λ q. by_order q None (Some e.1) (value_of name m)) (nat_list_cmp_total.congr name lower e.0 k ∙ is_less (by_bytes lower e.0) (first_of _ _ h))
+    ap (λ q. by_order q None (Some e.1) (value_of name m)) (nat_list_cmp_total.congr name lower e.0 k ∙ is_less (by_bytes lower e.0) (first_so _ _ h))
 
 gone_by : {V : Type 0} (name : List ℕ) (e : List ℕ × V) (m : Names V) (r : Ordering) → by_bytes name e.0 ≡ r → IsTrue (is_above e.0 m) → value_of name (unbind name m) ≡ None
     → value_of name (by_order r (e ∷ m) m (e ∷ unbind name m)) ≡ None

@@ -1,7 +1,9 @@
 -- The mirror, and the entries of what is held.
-use Rattle.std.proofs.Common.{◌≡◌, ℕ, ◌<◌, ◌≤◌, List, [], ◌∷◌, ◌++◌, Bool, true, false, cond, nat_lt, nat_le, refl, ap, ◌∙◌, arith}
-use Rattle.std.specs.Prelude.{IsTrue, ◌&&◌}
+use Rattle.std.proofs.Common.{◌≡◌, ℕ, ◌<◌, ◌≤◌, List, [], ◌∷◌, ◌++◌, Bool, true, false, cond, nat_lt, refl, ap, ◌∙◌, arith}
+use Rattle.std.specs.Prelude.{IsTrue}
+use Rattle.std.specs.Cmp.{first_so, second_so}
 use Rattle.std.specs.List.{AllByRecursion}
+use Rattle.std.proofs.lemmas.Bool.{and_from}
 use Rattle.std.proofs.lemmas.Bool.Decides.{nat_tests}
 use Rattle.std.specs.declared.cmp.Ordering.{Ordering}
 use Rattle.std.specs.declared.cmp.Ordering.TheVariants.{Less, Equal, Greater}
@@ -21,27 +23,15 @@ not_before : (b : Bool) (n m : ℕ) → nat_lt n m ≡ b → m ≤ n → b ≡ f
 not_before true n m e h = absurd (grind (arith, nat_tests))
 not_before false n m e h = refl
 
-pub first_of : (a b : Bool) → IsTrue (a && b) → IsTrue a
-first_of true b h = refl
-first_of false b h = h
-
-pub second_of : (a b : Bool) → IsTrue (a && b) → IsTrue b
-second_of true b h = h
-second_of false b h = cc
-
-pub both_of : (a b : Bool) → IsTrue a → IsTrue b → IsTrue (a && b)
-both_of true b h k = k
-both_of false b h k = h
-
 pub below : (n m : ℕ) → n < m → IsTrue (nat_lt n m)
 below n m h = grind (arith, nat_tests)
 
 -- one more change, above all that are there
 rises-append : (low last : ℕ) (cs : List Change) (c : Change) → IsTrue (rises_from low cs) → low ≤ last → AllByRecursion (IsChangeUpTo last) cs
     → last < c.moment → IsTrue (rises_from low (cs ++ c ∷ []))
-rises-append low last [] c h k m later = both_of _ _ (below low c.moment (omega (arith, k, later))) refl
+rises-append low last [] c h k m later = and_from _ _ (below low c.moment (omega (arith, k, later))) refl
 rises-append low last (d ∷ cs) c h k m later =
-    both_of _ _ (first_of _ _ h) (rises-append d.moment last cs c (second_of (nat_lt low d.moment) _ h) m.0 m.1 later)
+    and_from _ _ (first_so _ _ h) (rises-append d.moment last cs c (second_so (nat_lt low d.moment) _ h) m.0 m.1 later)
 
 pub rising-append : (last : ℕ) (cs : List Change) (c : Change) → IsTrue (is_rising cs) → AllByRecursion (IsChangeUpTo last) cs
     → last < c.moment → IsTrue (is_rising (cs ++ c ∷ []))

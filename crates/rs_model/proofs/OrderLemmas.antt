@@ -12,7 +12,8 @@ use Rattle.rs_model.specs.declared.value.Held.{Held}
 use Rattle.rs_model.specs.State.{entries}
 use Rattle.rs_model.specs.Step.{applied, mirror_step, mirror_of}
 use Rattle.rs_model.specs.Names.{Names, by_bytes, by_order, bind, unbind, is_above, is_ordered}
-use Rattle.rs_model.proofs.MirrorLemmas.{first_of, second_of, both_of}
+use Rattle.std.proofs.lemmas.Bool.{and_from}
+use Rattle.std.specs.Cmp.{first_so, second_so}
 
 pub is_less : (r : Ordering) → IsTrue (is_lt r) → r ≡ Less
 is_less Less h = refl
@@ -26,26 +27,26 @@ swapped x y r h = nat_list_cmp_total.antisymm y x ∙ ap ordering_reverse h
 above_same : {V : Type 0} (x y : List ℕ) (m : Names V) → by_bytes x y ≡ Equal → IsTrue (is_above y m) → IsTrue (is_above x m)
 above_same x y [] e h = refl
 above_same x y (z ∷ m) e h =
-    both_of _ _ (ap is_lt (nat_list_cmp_total.congr x y z.0 e) ∙ first_of _ _ h) (second_of (is_lt (by_bytes y z.0)) _ h)
+    and_from _ _ (ap is_lt (nat_list_cmp_total.congr x y z.0 e) ∙ first_so _ _ h) (second_so (is_lt (by_bytes y z.0)) _ h)
 
 above_lower : {V : Type 0} (x y : List ℕ) (m : Names V) → by_bytes x y ≡ Less → IsTrue (is_above y m) → IsTrue (is_above x m)
 above_lower x y [] e h = refl
 above_lower x y (z ∷ m) e h =
-    let one = is_less (by_bytes y z.0) (first_of _ _ h) in
-    both_of _ _ (ap is_lt (nat_list_cmp_total.trans x y z.0 e one)) (second_of (is_lt (by_bytes y z.0)) _ h)
+    let one = is_less (by_bytes y z.0) (first_so _ _ h) in
+    and_from _ _ (ap is_lt (nat_list_cmp_total.trans x y z.0 e one)) (second_so (is_lt (by_bytes y z.0)) _ h)
 
 one_above : {V : Type 0} (lower name : List ℕ) (v : V) (e : List ℕ × V) (m : Names V) (r : Ordering) → by_bytes name e.0 ≡ r → by_bytes lower name ≡ Less → IsTrue (is_above lower (e ∷ m)) → (by_bytes e.0 name ≡ Less → IsTrue (is_above e.0 (bind name v m)))
     → IsTrue (is_above lower (by_order r ((name, v) ∷ e ∷ m) ((name, v) ∷ m) (e ∷ bind name v m)))
-one_above lower name v e m Less is l h next = both_of _ _ (ap is_lt l) (both_of _ _ (ap is_lt is) (second_of (is_lt (by_bytes lower e.0)) _ h))
-one_above lower name v e m Equal is l h next = both_of _ _ (ap is_lt l) (above_same name e.0 m is (second_of (is_lt (by_bytes lower e.0)) _ h))
-one_above lower name v e m Greater is l h next = both_of _ _ (first_of _ _ h) (next (swapped name e.0 Greater is))
+one_above lower name v e m Less is l h next = and_from _ _ (ap is_lt l) (and_from _ _ (ap is_lt is) (second_so (is_lt (by_bytes lower e.0)) _ h))
+one_above lower name v e m Equal is l h next = and_from _ _ (ap is_lt l) (above_same name e.0 m is (second_so (is_lt (by_bytes lower e.0)) _ h))
+one_above lower name v e m Greater is l h next = and_from _ _ (first_so _ _ h) (next (swapped name e.0 Greater is))
 
 above-bind : {V : Type 0} (lower name : List ℕ) (v : V) (m : Names V) → by_bytes lower name ≡ Less → IsTrue (is_above lower m) → IsTrue (is_above lower (bind name v m))
-above-bind lower name v [] l h = both_of _ _ (ap is_lt l) refl
-above-bind lower name v (e ∷ m) l h = one_above lower name v e m (by_bytes name e.0) refl l h (λ k. above-bind e.0 name v m k (second_of (is_lt (by_bytes lower e.0)) _ h))
+above-bind lower name v [] l h = and_from _ _ (ap is_lt l) refl
+above-bind lower name v (e ∷ m) l h = one_above lower name v e m (by_bytes name e.0) refl l h (λ k. above-bind e.0 name v m k (second_so (is_lt (by_bytes lower e.0)) _ h))
 
 one_ordered : {V : Type 0} (name : List ℕ) (v : V) (e : List ℕ × V) (m : Names V) (r : Ordering) → by_bytes name e.0 ≡ r → IsTrue (is_above e.0 m) → IsTrue (is_ordered (by_order r ((name, v) ∷ e ∷ m) ((name, v) ∷ m) (e ∷ bind name v m)))
-one_ordered name v e m Less is h = both_of _ _ (ap is_lt is) h
+one_ordered name v e m Less is h = and_from _ _ (ap is_lt is) h
 one_ordered name v e m Equal is h = above_same name e.0 m is h
 one_ordered name v e m Greater is h = above-bind e.0 name v m (swapped name e.0 Greater is) h
 
@@ -55,16 +56,16 @@ ordered-bind name v (e ∷ m) h = one_ordered name v e m (by_bytes name e.0) ref
 
 one_without : {V : Type 0} (lower name : List ℕ) (e : List ℕ × V) (m : Names V) (r : Ordering) → IsTrue (is_above lower (e ∷ m)) → IsTrue (is_above e.0 (unbind name m)) → IsTrue (is_above lower (by_order r (e ∷ m) m (e ∷ unbind name m)))
 one_without lower name e m Less h k = h
-one_without lower name e m Equal h k = above_lower lower e.0 m (is_less (by_bytes lower e.0) (first_of _ _ h)) (second_of (is_lt (by_bytes lower e.0)) _ h)
-one_without lower name e m Greater h k = both_of _ _ (first_of _ _ h) k
+one_without lower name e m Equal h k = above_lower lower e.0 m (is_less (by_bytes lower e.0) (first_so _ _ h)) (second_so (is_lt (by_bytes lower e.0)) _ h)
+one_without lower name e m Greater h k = and_from _ _ (first_so _ _ h) k
 
 above-unbind : {V : Type 0} (lower name : List ℕ) (m : Names V) → IsTrue (is_above lower m) → IsTrue (is_above lower (unbind name m))
 above-unbind lower name [] h = refl
-above-unbind lower name (e ∷ m) h = one_without lower name e m (by_bytes name e.0) h (above-unbind e.0 name m (second_of (is_lt (by_bytes lower e.0)) _ h))
+above-unbind lower name (e ∷ m) h = one_without lower name e m (by_bytes name e.0) h (above-unbind e.0 name m (second_so (is_lt (by_bytes lower e.0)) _ h))
 
 pub tail_ordered : {V : Type 0} (lower : List ℕ) (m : Names V) → IsTrue (is_above lower m) → IsTrue (is_ordered m)
 tail_ordered lower [] h = refl
-tail_ordered lower (e ∷ m) h = second_of (is_lt (by_bytes lower e.0)) _ h
+tail_ordered lower (e ∷ m) h = second_so (is_lt (by_bytes lower e.0)) _ h
 
 rest_ordered : {V : Type 0} (name : List ℕ) (e : List ℕ × V) (m : Names V) (r : Ordering) → IsTrue (is_above e.0 m) → IsTrue (is_ordered (by_order r (e ∷ m) m (e ∷ unbind name m)))
 rest_ordered name e m Less h = h
@@ -78,7 +79,7 @@ ordered-unbind name (e ∷ m) h = rest_ordered name e m (by_bytes name e.0) h
 -- the entries have the names of what is held
 above-entries : (lower : List ℕ) (held : Names Held) → IsTrue (is_above lower held) → IsTrue (is_above lower (entries held))
 above-entries lower [] h = refl
-above-entries lower (e ∷ held) h = both_of _ _ (first_of _ _ h) (above-entries e.0 held (second_of (is_lt (by_bytes lower e.0)) _ h))
+above-entries lower (e ∷ held) h = and_from _ _ (first_so _ _ h) (above-entries e.0 held (second_so (is_lt (by_bytes lower e.0)) _ h))
 
 pub ordered-entries : (held : Names Held) → IsTrue (is_ordered held) → IsTrue (is_ordered (entries held))
 ordered-entries [] h = refl

@@ -1,21 +1,20 @@
 -- A step keeps a state regular.
-use Rattle.std.proofs.Common.{◌≡◌, ℕ, ◌<◌, ◌≤◌, List, [], ◌∷◌, ◌++◌, refl, sym, ap, subst, ◌∙◌, arith, Option, Some, None}
+use Rattle.std.proofs.Common.{◌≡◌, ℕ, ◌<◌, ◌≤◌, List, [], ◌∷◌, refl, sym, ap, subst, ◌∙◌, arith, Option, Some, None}
 use Rattle.std.specs.Prelude.{IfOk}
 use Rattle.std.specs.List.{AllByRecursion}
-use Rattle.std.specs.declared.cmp.Ordering.{Ordering}
-use Rattle.std.specs.declared.cmp.Ordering.TheVariants.{Less, Equal, Greater}
 use Rattle.rs_model.specs.declared.value.Held.{Held}
 use Rattle.rs_model.specs.declared.command.Command.{Command}
 use Rattle.rs_model.specs.declared.command.Command.TheVariants.{Put, Delete, Publish}
 use Rattle.rs_model.specs.declared.command.Reply.{Reply}
 use Rattle.rs_model.specs.declared.command.Refusal.{Refusal}
 use Rattle.rs_record.specs.Changes.{deleted}
-use Rattle.rs_model.specs.Names.{Names, by_bytes, by_order, bind, unbind}
+use Rattle.rs_model.specs.Names.{Names, bind, unbind}
 use Rattle.rs_model.specs.State.{Source, start_of, facts_of, entries}
 use Rattle.rs_model.specs.Step.{step, state_after, fold_of, next_state, reply_to, accepted_unless, moment_at, refusal_of, put_change}
 use Rattle.rs_model.specs.declared.value.Entry.{Entry}
 use Rattle.rs_record.specs.declared.change.Change.{Change}
 use Rattle.rs_model.specs.Regular.{IsSound, IsUpTo, IsChangeUpTo, IsAfter, IsRegular, IsTimely}
+use Rattle.rs_model.proofs.LawfulLemmas.{all_appended, all_bound, all_unbound}
 use Rattle.rs_model.proofs.MirrorLemmas.{rising-append, mirror-append, mirror_before, entries-bind, entries-unbind}
 
 abbrev AreSound : Names Held → Type 0
@@ -31,29 +30,6 @@ later last t (e ∷ m) k h = (omega (arith, k, h.0), later last t m k h.1)
 changes_later : (last t : ℕ) (cs : List Change) → last ≤ t → AllByRecursion (IsChangeUpTo last) cs → AllByRecursion (IsChangeUpTo t) cs
 changes_later last t [] k h = tt
 changes_later last t (c ∷ cs) k h = (omega (arith, k, h.0), changes_later last t cs k h.1)
-
--- one more change, and what all of them are
-and_one : (P : Change → Type 0) (cs : List Change) (c : Change) → AllByRecursion P cs → P c → AllByRecursion P (cs ++ c ∷ [])
-and_one P [] c h one = (one, tt)
-and_one P (d ∷ cs) c h one = (h.0, and_one P cs c h.1 one)
-
--- what stands of each list of names stands of the one that an order picks
-picked : {V : Type 0} (P : List ℕ × V → Type 0) (r : Ordering) (a b c : Names V)
-    → AllByRecursion P a → AllByRecursion P b → AllByRecursion P c → AllByRecursion P (by_order r a b c)
-picked P Less a b c x y z = x
-picked P Equal a b c x y z = y
-picked P Greater a b c x y z = z
-
-all-bind : {V : Type 0} (P : List ℕ × V → Type 0) (name : List ℕ) (v : V) (m : Names V) → P (name, v) → AllByRecursion P m → AllByRecursion P (bind name v m)
-all-bind P name v [] one h = (one, tt)
-all-bind P name v (e ∷ m) one h =
-    picked P (by_bytes name e.0) ((name, v) ∷ e ∷ m) ((name, v) ∷ m) (e ∷ bind name v m)
-    (one, h) (one, h.1) (h.0, all-bind P name v m one h.1)
-
-all-unbind : {V : Type 0} (P : List ℕ × V → Type 0) (name : List ℕ) (m : Names V) → AllByRecursion P m → AllByRecursion P (unbind name m)
-all-unbind P name [] h = h
-all-unbind P name (e ∷ m) h =
-    picked P (by_bytes name e.0) (e ∷ m) m (e ∷ unbind name m) h h.1 (h.0, all-unbind P name m h.1)
 
 pub start_regular : (base : List ℕ) (limit moment : ℕ) → IsRegular (start_of base limit moment)
 start_regular base limit moment =
@@ -74,15 +50,15 @@ next_regular s (Put name kind bytes) t r after =
     let bound : entries held ≡ bind name entry (entries s.held) = entries-bind name (record { bytes = bytes; entry = entry }) s.held in
     let no_later : s.last ≤ t = omega (arith, after) in
     record {
-      sound = all-bind IsSound name (record { bytes = bytes; entry = entry }) s.held refl r.sound;
+      sound = all_bound IsSound name (record { bytes = bytes; entry = entry }) s.held refl r.sound;
       rising = rising-append s.last s.changes (put_change s name (facts_of kind bytes) t) r.rising r.latest.changes after;
       start = r.start;
       last = omega (arith, r.last);
       latest =
           record {
             held = subst (AreAllUpTo t) (sym bound)
-                (all-bind (IsUpTo t) name entry (entries s.held) (omega arith) (later s.last t (entries s.held) no_later r.latest.held));
-            changes = and_one (IsChangeUpTo t) s.changes _ (changes_later s.last t s.changes no_later r.latest.changes) (omega arith);
+                (all_bound (IsUpTo t) name entry (entries s.held) (omega arith) (later s.last t (entries s.held) no_later r.latest.held));
+            changes = all_appended (IsChangeUpTo t) s.changes _ (changes_later s.last t s.changes no_later r.latest.changes) (omega arith);
             listed = later s.last t s.listed no_later r.latest.listed;
           };
       mirrored =
@@ -93,15 +69,15 @@ next_regular s (Delete name) t r after =
     let unbound : entries (unbind name s.held) ≡ unbind name (entries s.held) = entries-unbind name s.held in
     let no_later : s.last ≤ t = omega (arith, after) in
     record {
-      sound = all-unbind IsSound name s.held r.sound;
+      sound = all_unbound IsSound name s.held r.sound;
       rising = rising-append s.last s.changes (deleted name t) r.rising r.latest.changes after;
       start = r.start;
       last = omega (arith, r.last);
       latest =
           record {
             held = subst (AreAllUpTo t) (sym unbound)
-                (all-unbind (IsUpTo t) name (entries s.held) (later s.last t (entries s.held) no_later r.latest.held));
-            changes = and_one (IsChangeUpTo t) s.changes _ (changes_later s.last t s.changes no_later r.latest.changes) (omega arith);
+                (all_unbound (IsUpTo t) name (entries s.held) (later s.last t (entries s.held) no_later r.latest.held));
+            changes = all_appended (IsChangeUpTo t) s.changes _ (changes_later s.last t s.changes no_later r.latest.changes) (omega arith);
             listed = later s.last t s.listed no_later r.latest.listed;
           };
       mirrored =
@@ -127,9 +103,9 @@ start_timely base limit moment = record { changes = tt; listed = tt }
 -- An accepted command of a regular state leaves it timely: a change comes after the last command, which is not before the start.
 pub next_timely : (s : Source) (command : Command) (t : ℕ) → IsRegular s → IsTimely s → s.last < t → IsTimely (next_state s command t)
 next_timely s (Put name kind bytes) t r timely after =
-    record { changes = and_one (IsAfter s.start) s.changes _ timely.changes (omega (arith, r.start, r.last)); listed = timely.listed }
+    record { changes = all_appended (IsAfter s.start) s.changes _ timely.changes (omega (arith, r.start, r.last)); listed = timely.listed }
 next_timely s (Delete name) t r timely after =
-    record { changes = and_one (IsAfter s.start) s.changes _ timely.changes (omega (arith, r.start, r.last)); listed = timely.listed }
+    record { changes = all_appended (IsAfter s.start) s.changes _ timely.changes (omega (arith, r.start, r.last)); listed = timely.listed }
 next_timely s Publish t r timely after =
     record { changes = timely.changes; listed = later s.last t (entries s.held) (omega (arith, after)) r.latest.held }
 

@@ -8,16 +8,16 @@ use Rattle.std.specs.Cmp.Lexicographic.{nat_list_cmp_total}
 use Rattle.std.specs.declared.cmp.Ordering.TheVariants.{Less, Equal, Greater}
 use Rattle.std.proofs.lemmas.List.Sorted.{searchable_from_sorted}
 use Rattle.rs_model.specs.Names.{Names, by_bytes, is_above, is_ordered, IsFoundAt, IsMissingAt, IsPlaceOf}
-use Rattle.rs_model.proofs.MirrorLemmas.{first_of, second_of}
+use Rattle.std.specs.Cmp.{first_so, second_so}
 use Rattle.rs_model.proofs.OrderLemmas.{is_less, swapped, tail_ordered}
 use Rattle.rs_model.proofs.Places.{first_found, first_missing, later_found, later_missing, missing_all}
 
 -- a name is below each of the ascending names above it
 above_at : {V : Type 0} (lower : List ℕ) (m : Names V) (i : ℕ) (d : List ℕ × V) → IsTrue (is_above lower m) → i < length m → by_bytes lower (get_or m i d).0 ≡ Less
 above_at lower [] i d h k = absurd (omega arith)
-above_at lower (e ∷ m) zero d h k = is_less (by_bytes lower e.0) (first_of _ _ h)
+above_at lower (e ∷ m) zero d h k = is_less (by_bytes lower e.0) (first_so _ _ h)
 above_at lower (e ∷ m) (suc i) d h k =
-    nat_list_cmp_total.trans lower e.0 (get_or m i d).0 (is_less (by_bytes lower e.0) (first_of _ _ h)) (above_at e.0 m i d (second_of (is_lt (by_bytes lower e.0)) _ h) (omega arith))
+    nat_list_cmp_total.trans lower e.0 (get_or m i d).0 (is_less (by_bytes lower e.0) (first_so _ _ h)) (above_at e.0 m i d (second_so (is_lt (by_bytes lower e.0)) _ h) (omega arith))
 
 ascends : {V : Type 0} (m : Names V) (i : ℕ) (d : List ℕ × V) → IsTrue (is_ordered m) → suc i < length m → by_bytes (get_or m i d).0 (get_or m (suc i) d).0 ≡ Less
 ascends [] i d h k = absurd (omega arith)

@@ -1,7 +1,9 @@
 -- The published pages that a root reaches beside those of its catalogue.
 use Rattle.std.proofs.Common.{true≢false, ◌≡◌, ◌⊎◌, inl, inr, ℕ, ◌≤◌, Bool, true, false, ◌&&◌, ◌||◌, cond, not, List, [], ◌∷◌, length, nat_eq, refl, sym, ◌∙◌, ap, ap₂, subst, arith}
 use Rattle.std.specs.Prelude.{bytes_eq}
+use Rattle.std.specs.Cmp.{first_so, second_so}
 use Rattle.std.specs.List.{list_any}
+use Rattle.std.proofs.lemmas.Bool.{and_from}
 use Rattle.std.proofs.lemmas.Bool.Decides.{nat_tests}
 use Rattle.std.proofs.lemmas.Slice.Eq.{bytes_eq-Decides}
 use Rattle.rs_extent.specs.declared.Extent.{Extent}
@@ -13,18 +15,6 @@ use Rattle.rs_page.specs.Kept.{IsSublist, AreApart}
 use Rattle.rs_image.specs.Reach.{same_page, unshared}
 use Rattle.rs_plan.proofs.Extents.{Disjoint}
 
-both_of : (a b : Bool) → a ≡ true → b ≡ true → (a && b) ≡ true
-both_of true b h k = k
-both_of false b h k = h
-
-first_of : (a b : Bool) → (a && b) ≡ true → a ≡ true
-first_of true b h = refl
-first_of false b h = h
-
-second_of : (a b : Bool) → (a && b) ≡ true → b ≡ true
-second_of true b h = h
-second_of false b h = cc
-
 same_number : (m n : ℕ) → nat_eq m n ≡ true → m ≡ n
 same_number m n h = grind (arith, nat_tests)
 
@@ -34,20 +24,20 @@ itself_number n = grind (arith, nat_tests)
 -- a page is itself
 pub itself : (ref : PageRef) → same_page ref ref ≡ true
 itself ref =
-    both_of (nat_eq ref.extent.first ref.extent.first && nat_eq ref.extent.blocks ref.extent.blocks && nat_eq ref.length ref.length) (bytes_eq ref.sha256 ref.sha256)
-    (both_of (nat_eq ref.extent.first ref.extent.first && nat_eq ref.extent.blocks ref.extent.blocks) (nat_eq ref.length ref.length)
-    (both_of (nat_eq ref.extent.first ref.extent.first) (nat_eq ref.extent.blocks ref.extent.blocks) (itself_number ref.extent.first) (itself_number ref.extent.blocks))
+    and_from (nat_eq ref.extent.first ref.extent.first && nat_eq ref.extent.blocks ref.extent.blocks && nat_eq ref.length ref.length) (bytes_eq ref.sha256 ref.sha256)
+    (and_from (nat_eq ref.extent.first ref.extent.first && nat_eq ref.extent.blocks ref.extent.blocks) (nat_eq ref.length ref.length)
+    (and_from (nat_eq ref.extent.first ref.extent.first) (nat_eq ref.extent.blocks ref.extent.blocks) (itself_number ref.extent.first) (itself_number ref.extent.blocks))
     (itself_number ref.length))
     ((bytes_eq-Decides ref.sha256 ref.sha256).1 refl)
 
 -- the same page has the same blocks
 pub same_extent : (a b : PageRef) → same_page a b ≡ true → a.extent ≡ b.extent
 same_extent a b h =
-    let extents = first_of (nat_eq a.extent.first b.extent.first && nat_eq a.extent.blocks b.extent.blocks) (nat_eq a.length b.length)
-    (first_of (nat_eq a.extent.first b.extent.first && nat_eq a.extent.blocks b.extent.blocks && nat_eq a.length b.length) (bytes_eq a.sha256 b.sha256) h) in
+    let extents = first_so (nat_eq a.extent.first b.extent.first && nat_eq a.extent.blocks b.extent.blocks) (nat_eq a.length b.length)
+    (first_so (nat_eq a.extent.first b.extent.first && nat_eq a.extent.blocks b.extent.blocks && nat_eq a.length b.length) (bytes_eq a.sha256 b.sha256) h) in
     ap₂ (λ (f n : ℕ). let e : Extent = record { first = f; blocks = n } in e)
-    (same_number a.extent.first b.extent.first (first_of (nat_eq a.extent.first b.extent.first) (nat_eq a.extent.blocks b.extent.blocks) extents))
-    (same_number a.extent.blocks b.extent.blocks (second_of (nat_eq a.extent.first b.extent.first) (nat_eq a.extent.blocks b.extent.blocks) extents))
+    (same_number a.extent.first b.extent.first (first_so (nat_eq a.extent.first b.extent.first) (nat_eq a.extent.blocks b.extent.blocks) extents))
+    (same_number a.extent.blocks b.extent.blocks (second_so (nat_eq a.extent.first b.extent.first) (nat_eq a.extent.blocks b.extent.blocks) extents))
 
 -- a page that is one of these has their blocks
 shared_some : (ref : PageRef) (refs : List PageRef) (b : ℕ) → list_any (same_page ref) refs ≡ true → within ref.extent b ≡ true → in_some (extents_of refs) b ≡ true
