@@ -1,6 +1,6 @@
 //! Reading a body.
-ghost use Rattle.std.specs.Prelude.{◌≡◌, ◌⊎◌, ◌+◌, ◌*◌, ◌≤◌, ◌<◌, ◌^◌, [], length, vec_len, vec_capacity, OnOk, OnErr, IsErrOf, IsTrue};
-ghost use Rattle.rs_disk.specs.Leaves.{Rests, Runs};
+ghost use Rattle.std.specs.Prelude.{◌≡◌, ◌+◌, ◌*◌, ◌≤◌, ◌<◌, [], length, vec_len, vec_capacity, OnOk, OnErr, IsErrOf, IsTrue};
+ghost use Rattle.rs_disk.specs.Leaves.{Rests, Runs, HasFailed};
 ghost use Rattle.rs_fixity.specs.Digests.{digests};
 ghost use Rattle.rs_body.specs.Blocks.{IsOnDisk, part};
 
@@ -65,13 +65,10 @@ pub fn read_body<D: Disk>(
     ensures digest { OnOk result ((digests into.new.items).sha256 ≡ sha256.now) }
     ensures empty { OnErr result (into.new.items ≡ []) }
     ensures damaged { IsErrOf result BodyFault.Damaged → IsTrue (D.state disk.new).honest → (digests (part extent length (D.state disk.old).now.seen)).sha256 ≡ sha256.now → ⊥ }
-    ensures device { IsErrOf result BodyFault.Device → ((D.state disk.old).faults < (D.state disk.new).faults) ⊎ (2 ^ 64 ≤ (D.state disk.new).calls + 1) }
+    ensures device { IsErrOf result BodyFault.Device → HasFailed (D.state disk.old) (D.state disk.new) }
     ensures no_memory { IsErrOf result BodyFault.NoMemory → (vec_capacity into.old < length) × (D.state disk.new ≡ D.state disk.old) }
 
     ensures rests { Rests (D.state disk.old) (D.state disk.new) }
-    ensures size { (D.state disk.new).size ≡ (D.state disk.old).size }
-    ensures lasts { IsTrue (D.state disk.new).honest → IsTrue (D.state disk.old).honest }
-    ensures faults { (D.state disk.old).faults ≤ (D.state disk.new).faults }
     ensures one_call { (D.state disk.new).calls ≤ (D.state disk.old).calls + 1 }
     ensures no_call { length ≡ 0 → D.state disk.new ≡ D.state disk.old }
 {

@@ -1,16 +1,16 @@
 //! A catalogue on the disk.
 
-ghost use Rattle.std.specs.Prelude.{◌≡◌, ◌⊎◌, ◌<◌, ◌≤◌, ◌+◌, ◌^◌, ℕ, Bool, List, [], ◌∷◌, length, map, All, IfOk, IfSome, OnOk, OnErr, IsErrOf, IsTrue};
+ghost use Rattle.std.specs.Prelude.{◌≡◌, ◌⊎◌, ◌<◌, ◌≤◌, ◌+◌, ℕ, Bool, List, [], ◌∷◌, length, map, All, IfOk, OnOk, OnErr, IsErrOf, IsTrue};
 ghost use Rattle.std.specs.List.{AllZip};
-ghost use Rattle.rs_disk.specs.Leaves.{Rests};
+ghost use Rattle.rs_disk.specs.Leaves.{Advances, Rests, HasFailed};
 ghost use Rattle.rs_body.specs.Outside.{AreBeside, WritesOutside};
 ghost use Rattle.rs_record.specs.declared.record.Record.{Record};
 ghost use Rattle.rs_page.specs.Items.{record_format};
 ghost use Rattle.rs_page.specs.Placing.{Places, HasNoPlace};
 ghost use Rattle.rs_page.specs.Pages.{IsWritten};
-ghost use Rattle.rs_page.specs.Sheets.{IsStored, IsTouched, placed_extent, placed_extents, sheet_stored, stored, stored_refs};
+ghost use Rattle.rs_page.specs.Sheets.{IsStored, IsTouched, placed_extents, sheet_stored, stored, stored_refs};
 ghost use Rattle.rs_page.specs.Kept.{AreApart, AreOnDisk, AreTaken};
-ghost use Rattle.rs_catalogue.specs.Catalogue.{records_of, IsCatalogue, StandsUnstored, HoldsCatalogue};
+ghost use Rattle.rs_catalogue.specs.Catalogue.{records_of, StandsUnstored, HoldsCatalogue};
 
 use crate::Catalogue;
 use crate::records::is_ordered;
@@ -68,16 +68,13 @@ impl Catalogue {
         ensures reads { OnOk result (All (IsWritten record_format (D.state disk.new).now.seen) self.old) }
         ensures records { OnErr result (records_of self.new ≡ records_of self.old) }
         ensures places { OnErr result (AllZip (λ old new. (new ≡ old) ⊎ ((new ≡ sheet_stored record_format old) × IsWritten record_format (D.state disk.new).now.seen old)) self.old self.new) }
-        ensures device { IsErrOf result StoreFault.Device → ((D.state disk.old).faults < (D.state disk.new).faults) ⊎ (2 ^ 64 ≤ (D.state disk.new).calls + 1) }
+        ensures device { IsErrOf result StoreFault.Device → HasFailed (D.state disk.old) (D.state disk.new) }
         ensures no_memory { IsErrOf result StoreFault.NoMemory → D.state disk.new ≡ D.state disk.old }
 
         // Whatever it answers.
         ensures outside { (kept : ℕ → Bool) → AreBeside kept (placed_extents self.old) → WritesOutside kept (D.state disk.old) (D.state disk.new) }
-        ensures size { (D.state disk.new).size ≡ (D.state disk.old).size }
-        ensures keeps { (D.state disk.new).honest ≡ (D.state disk.old).honest }
+        ensures advances { Advances (D.state disk.old) (D.state disk.new) }
         ensures one_each { (D.state disk.new).calls ≤ (D.state disk.old).calls + length (placed_extents self.old) }
-        ensures calls { (D.state disk.old).calls ≤ (D.state disk.new).calls }
-        ensures faults { (D.state disk.old).faults ≤ (D.state disk.new).faults }
     {
         let Some(page) = &mut self.page else {
             outside_none();
@@ -109,13 +106,10 @@ impl Catalogue {
         // What the disk holds is said of a device that has followed the model.
         ensures found { IfOk result (λ loaded. IsTrue (D.state disk.new).honest → HoldsCatalogue pages.now (D.state disk.new).now.seen (map (λ sheet. sheet.items) loaded)) }
         ensures damaged { IsErrOf result LoadFault.Damaged → IsTrue (D.state disk.new).honest → (records : List (List Record)) → ¬ HoldsCatalogue pages.now (D.state disk.new).now.seen records }
-        ensures device { IsErrOf result LoadFault.Device → ((D.state disk.old).faults < (D.state disk.new).faults) ⊎ (2 ^ 64 ≤ (D.state disk.new).calls + 1) }
+        ensures device { IsErrOf result LoadFault.Device → HasFailed (D.state disk.old) (D.state disk.new) }
 
         ensures rests { Rests (D.state disk.old) (D.state disk.new) }
-        ensures size { (D.state disk.new).size ≡ (D.state disk.old).size }
-        ensures lasts { IsTrue (D.state disk.new).honest → IsTrue (D.state disk.old).honest }
         ensures one_each { (D.state disk.new).calls ≤ (D.state disk.old).calls + length pages.now }
-        ensures faults { (D.state disk.old).faults ≤ (D.state disk.new).faults }
     {
         match pages {
             [] => Ok(Catalogue::empty(alloc)),
@@ -134,12 +128,9 @@ impl Catalogue {
         ensures stored { IfOk result (All IsStored) }
         ensures found { IfOk result (λ loaded. IsTrue (D.state disk.new).honest → HoldsCatalogue (page.now ∷ []) (D.state disk.new).now.seen (map (λ sheet. sheet.items) loaded)) }
         ensures damaged { IsErrOf result LoadFault.Damaged → IsTrue (D.state disk.new).honest → (records : List (List Record)) → ¬ HoldsCatalogue (page.now ∷ []) (D.state disk.new).now.seen records }
-        ensures device { IsErrOf result LoadFault.Device → ((D.state disk.old).faults < (D.state disk.new).faults) ⊎ (2 ^ 64 ≤ (D.state disk.new).calls + 1) }
+        ensures device { IsErrOf result LoadFault.Device → HasFailed (D.state disk.old) (D.state disk.new) }
         ensures rests { Rests (D.state disk.old) (D.state disk.new) }
-        ensures size { (D.state disk.new).size ≡ (D.state disk.old).size }
-        ensures lasts { IsTrue (D.state disk.new).honest → IsTrue (D.state disk.old).honest }
         ensures one_call { (D.state disk.new).calls ≤ (D.state disk.old).calls + 1 }
-        ensures faults { (D.state disk.old).faults ≤ (D.state disk.new).faults }
     {
         pages_hold_once::<Record>();
         let page = Page::load(alloc, disk, page)?;

@@ -108,21 +108,45 @@ pub exit_images : (old new : DiskState) (P : ℕ → List ℕ → Type 0) → Le
 exit_images old new P so_far image is =
     so_far.each new.calls image so_far.later (omega arith) (record { past = λ lt. absurd (omega (arith, lt)); now = λ _. is })
 
+-- Of every device: a run of no call, and one of one call.
+pub runs_started : {T E : Type 0} (disk : DiskState) (x : T) → Runs {T = T} {E = E} disk disk (Ok x)
+runs_started disk x = record { size = refl; lasts = λ h. h; calls = omega arith; faults = omega arith; cause = tt }
+
+pub runs_one : {T E : Type 0} (old new : DiskState) (result : Result T E) → Counts old new result → Runs old new result
+runs_one old new (Ok x) counts =
+    record { size = counts.size; lasts = counts.lasts; calls = (counts_calls old new (Ok x) counts).0; faults = let same : new.faults ≡ old.faults = counts.ok in omega arith; cause = tt }
+runs_one old new (Err e) counts = elim (cases_lt (old.calls + 1) (2 ^ 64)) [
+  | inl more ↦
+      let one : new.calls ≡ old.calls + 1 = counts.calls more in
+      let fault : new.faults ≡ old.faults + 1 = counts.fault more in
+      record { size = counts.size; lasts = counts.lasts; calls = omega arith; faults = omega arith; cause = inl (omega arith) }
+  | inr last ↦
+      let calls : new.calls ≡ old.calls = ap (λ (d : DiskState). d.calls) (counts.spent last).0 in
+      let faults : new.faults ≡ old.faults = ap (λ (d : DiskState). d.faults) (counts.spent last).0 in
+      record { size = counts.size; lasts = counts.lasts; calls = omega arith; faults = omega arith; cause = inr (omega arith) }
+]
+
 -- calls that change nothing
 pub rests : (disk : DiskState) → Rests disk disk
-rests disk = record { now = refl; leaves = started disk (λ _. IsImage disk.now) (λ image left. left) }
+rests disk = record { now = refl; size = refl; lasts = λ h. h; faults = omega arith; leaves = started disk (λ _. IsImage disk.now) (λ image left. left) }
 
 pub rest_one : {T E : Type 0} (old new : DiskState) (result : Result T E) → Counts old new result → Stays old new → Rests old new
 rest_one old new result counts stays =
     let calls = counts_calls old new result counts in
     record {
       now = stays.now;
+      size = counts.size;
+      lasts = counts.lasts;
+      faults = (runs_one old new result counts).faults;
       leaves = one_call old new (λ _. IsImage old.now) old.now stays.passes calls.0 calls.1 (λ image left. left) (λ image left. subst (λ (m : Medium). IsImage m image) stays.now left);
     }
 
 pub rest_on : (old mid new : DiskState) → Rests old mid → Rests mid new → Rests old new
 rest_on old mid new first behind = record {
   now = behind.now ∙ first.now;
+  size = behind.size ∙ first.size;
+  lasts = λ h. first.lasts (behind.lasts h);
+  faults = omega (arith, first.faults, behind.faults);
   leaves = goes_on old mid new (λ _. IsImage old.now) first.leaves (subst (λ (m : Medium). Leaves mid new (λ _. IsImage m)) first.now behind.leaves);
 }
 
@@ -144,24 +168,7 @@ past_images old new held passes later m image lt = (
   (λ is. record { past = λ _. subst (λ (k : Medium). IsImage k image) (passes.past m lt) (is.past (omega (arith, lt, later))); now = λ ge. absurd (omega (arith, ge, lt)) }),
 )
 
--- Of every device: a run of no call, of one call, of one run and then another, and of one that ends where a run of it failed.
-pub runs_started : {T E : Type 0} (disk : DiskState) (x : T) → Runs {T = T} {E = E} disk disk (Ok x)
-runs_started disk x = record { size = refl; lasts = λ h. h; calls = omega arith; faults = omega arith; cause = tt }
-
-pub runs_one : {T E : Type 0} (old new : DiskState) (result : Result T E) → Counts old new result → Runs old new result
-runs_one old new (Ok x) counts =
-    record { size = counts.size; lasts = counts.lasts; calls = (counts_calls old new (Ok x) counts).0; faults = let same : new.faults ≡ old.faults = counts.ok in omega arith; cause = tt }
-runs_one old new (Err e) counts = elim (cases_lt (old.calls + 1) (2 ^ 64)) [
-  | inl more ↦
-      let one : new.calls ≡ old.calls + 1 = counts.calls more in
-      let fault : new.faults ≡ old.faults + 1 = counts.fault more in
-      record { size = counts.size; lasts = counts.lasts; calls = omega arith; faults = omega arith; cause = inl (omega arith) }
-  | inr last ↦
-      let calls : new.calls ≡ old.calls = ap (λ (d : DiskState). d.calls) (counts.spent last).0 in
-      let faults : new.faults ≡ old.faults = ap (λ (d : DiskState). d.faults) (counts.spent last).0 in
-      record { size = counts.size; lasts = counts.lasts; calls = omega arith; faults = omega arith; cause = inr (omega arith) }
-]
-
+-- Of every device: a run and then another, and one that ends where a run of it failed.
 pub runs_on : {T E U F : Type 0} (old mid new : DiskState) (first : Result T E) (result : Result U F) → Runs old mid first → Runs mid new result → Runs old new result
 runs_on old mid new first (Ok x) one two =
     record { size = two.size ∙ one.size; lasts = λ h. one.lasts (two.lasts h); calls = omega (arith, one.calls, two.calls); faults = omega (arith, one.faults, two.faults); cause = tt }

@@ -4,8 +4,8 @@ use crate::sources::{commands_of, new_source};
 use rs_disk::{FaultyReader, FaultyWriter, MemoryDisk};
 use rs_http::{FrontFault, Served, serve_one};
 use rs_io::Watched;
-use rs_script::first_moment;
 use rs_store::Source;
+use rs_time::Moment;
 use std::alloc::Global;
 use std::cell::Cell;
 use std::io;
@@ -31,7 +31,7 @@ fn put_between(
 ) -> (Result<Served, FrontFault>, usize) {
     let mut reader = Watched::new(FaultyReader::new(PUT, 1, read_fails));
     let mut writer = Watched::new(FaultyWriter::new(alloc, write_fails));
-    let served = serve_one(alloc, source, &mut reader, &mut writer, first_moment());
+    let served = serve_one(alloc, source, &mut reader, &mut writer, Moment::first());
     (served, writer.get_ref().bytes().len())
 }
 
@@ -143,7 +143,7 @@ fn served_patiently(alloc: Global, source: &mut Source<MemoryDisk>) -> Result<Se
         written: &written,
     });
     let mut writer = Watched::new(CountingWriter { written: &written });
-    serve_one(alloc, source, &mut reader, &mut writer, first_moment())
+    serve_one(alloc, source, &mut reader, &mut writer, Moment::first())
 }
 
 #[test]

@@ -1,15 +1,15 @@
 //! The source that is asked.
 
 use rs_disk::MemoryDisk;
-use rs_script::first_moment;
 use rs_store::Source;
+use rs_time::Moment;
 use std::alloc::Global;
 use std::test::Fail;
 
 /// A source formatted at the moment 0, with lists of at most two items.
 pub fn new_source(alloc: Global) -> Result<Source<MemoryDisk>, Fail> {
     let disk = MemoryDisk::new(alloc, 65_536)?;
-    match Source::format(alloc, disk, b"http://127.0.0.1:8080", 2, first_moment()) {
+    match Source::format(alloc, disk, b"http://127.0.0.1:8080", 2, Moment::first()) {
         Ok(source) => Ok(source),
         Err((_, fault)) => Err(fault.into()),
     }

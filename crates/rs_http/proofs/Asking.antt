@@ -79,9 +79,6 @@ module _ {D : Type 0} (device : D → DiskState) (old new : Stored D) (name : Li
       contents = a.contents;
       is_closed = a.is_closed;
       rests = a.rests;
-      size = a.size;
-      lasts = a.lasts;
-      faults = a.faults;
     };
     outcome_is = refl;
   }

@@ -25,7 +25,7 @@ use Rattle.rs_http.specs.declared.request.Plan.TheVariants.{ShowBody, ShowDocume
 use Rattle.rs_http.specs.declared.request.NoPlan.{NoPlan}
 use Rattle.rs_http.specs.declared.request.Request.{Request}
 use Rattle.rs_http.specs.Gives.{Gives}
-use Rattle.rs_http.specs.Held.{GoesOnBy, GoesOnOnce}
+use Rattle.rs_store.specs.GoesOn.{GoesOnBy, GoesOnOnce}
 use Rattle.rs_http.specs.Responses.{Outcome}
 use Rattle.rs_http.specs.Serving.{IsBroken, Stands, RequestEnds}
 

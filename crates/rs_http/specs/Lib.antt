@@ -5,5 +5,4 @@ pub mod Checks
 pub mod Requests
 pub mod Responses
 pub mod Gives
-pub mod Held
 pub mod Serving

@@ -7,6 +7,7 @@ use Rattle.rs_model.specs.declared.command.Reply.{Reply}
 use Rattle.rs_model.specs.declared.command.Reply.TheVariants.{Created, Updated, Deleted, Published}
 use Rattle.rs_store.specs.declared.refusal.Refusal as stored
 use Rattle.rs_store.specs.declared.refusal.Refusal.TheVariants as refusals
+use Rattle.rs_store.specs.Refusals.{refusal_word}
 use Rattle.rs_http.specs.declared.target.Methods.{Methods}
 use Rattle.rs_http.specs.declared.target.Methods.TheVariants.{OfResources, OfDocuments, OfPublications}
 use Rattle.rs_http.specs.declared.request.RequestFault.{RequestFault}
@@ -82,34 +83,24 @@ reason_of status =
     else if status == 503 then codes "Service Unavailable"
     else codes "Insufficient Storage"
 
--- the body of a refusal: its name, and a line feed
-abbrev pub fault_text : RequestFault → List ℕ
-fault_text HeadTooLong = codes "HeadTooLong\n"
-fault_text BadHead = codes "BadHead\n"
-fault_text ManyFields = codes "ManyFields\n"
-fault_text BadHost = codes "BadHost\n"
-fault_text TransferEncoding = codes "TransferEncoding\n"
-fault_text BadLength = codes "BadLength\n"
-fault_text BadName = codes "BadName\n"
-fault_text NoSuchDocument = codes "NoSuchDocument\n"
-fault_text (BadMethod methods) = codes "BadMethod\n"
-fault_text NoLength = codes "NoLength\n"
-fault_text BadType = codes "BadType\n"
-fault_text TooLong = codes "TooLong\n"
+-- the word of a request that is refused before the source is asked
+abbrev pub fault_word : RequestFault → List ℕ
+fault_word HeadTooLong = codes "HeadTooLong"
+fault_word BadHead = codes "BadHead"
+fault_word ManyFields = codes "ManyFields"
+fault_word BadHost = codes "BadHost"
+fault_word TransferEncoding = codes "TransferEncoding"
+fault_word BadLength = codes "BadLength"
+fault_word BadName = codes "BadName"
+fault_word NoSuchDocument = codes "NoSuchDocument"
+fault_word (BadMethod methods) = codes "BadMethod"
+fault_word NoLength = codes "NoLength"
+fault_word BadType = codes "BadType"
+fault_word TooLong = codes "TooLong"
 
-abbrev pub refusal_text : stored.Refusal → List ℕ
-refusal_text refusals.Closed = codes "Closed\n"
-refusal_text refusals.TooLong = codes "TooLong\n"
-refusal_text refusals.NotHeld = codes "NotHeld\n"
-refusal_text refusals.TooManyResources = codes "TooManyResources\n"
-refusal_text refusals.TooManyChanges = codes "TooManyChanges\n"
-refusal_text refusals.Exhausted = codes "Exhausted\n"
-refusal_text refusals.Full = codes "Full\n"
-refusal_text refusals.ReadFault = codes "ReadFault\n"
-refusal_text refusals.ShortBody = codes "ShortBody\n"
-refusal_text refusals.Device = codes "Device\n"
-refusal_text refusals.Damaged = codes "Damaged\n"
-refusal_text refusals.NoMemory = codes "NoMemory\n"
+-- the body of a refusal: its word, and a line feed
+abbrev pub refusal_line : List ℕ → List ℕ
+refusal_line word = word ++ codes "\n"
 
 -- the body of the answer to a publication: `published`, its number and its moment, and a line feed (10)
 abbrev pub published_text : ℕ → ℕ → List ℕ
@@ -120,10 +111,10 @@ reply_text (Published number moment) = published_text number moment
 reply_text reply = []
 
 abbrev pub body_of : Outcome → List ℕ
-body_of (faulted fault) = fault_text fault
+body_of (faulted fault) = refusal_line (fault_word fault)
 body_of (replied reply) = reply_text reply
 body_of (shown kind bytes) = bytes
-body_of (refused refusal) = refusal_text refusal
+body_of (refused refusal) = refusal_line (refusal_word refusal)
 
 -- the methods that are allowed where another was asked for
 abbrev pub methods_text : Methods → List ℕ
@@ -150,10 +141,10 @@ reply_lines (Deleted moment) = codes "\r\n"
 reply_lines (Published number moment) = content_lines plain (length (published_text number moment))
 
 abbrev pub lines_of : Outcome → List ℕ
-lines_of (faulted fault) = allow_of fault ++ content_lines plain (length (fault_text fault))
+lines_of (faulted fault) = allow_of fault ++ content_lines plain (length (refusal_line (fault_word fault)))
 lines_of (replied reply) = reply_lines reply
 lines_of (shown kind bytes) = content_lines kind (length bytes)
-lines_of (refused refusal) = content_lines plain (length (refusal_text refusal))
+lines_of (refused refusal) = content_lines plain (length (refusal_line (refusal_word refusal)))
 
 -- the status line, the date (an IMF-fixdate of RFC 9110, section 5.6.7), and that the connection ends
 unfoldable pub first_lines : ℕ → List ℕ → List ℕ

@@ -3,11 +3,11 @@
 ghost use Rattle.std.specs.Prelude.{◌≡◌, ◌≤◌, length, IfOk, OnOk, OnErr};
 ghost use Rattle.std.specs.Fmt.{decimal};
 ghost use Rattle.rs_io.specs.Watch.{EndFailed, Wrote};
-ghost use Rattle.rs_http.specs.Responses.{fault_status as status_of_fault, fault_text as text_of_fault, refusal_status as status_of_refusal, refusal_text as text_of_refusal, allow_of, published_text, content_lines, sent_body, framed, response_text, status_of, plain};
+ghost use Rattle.rs_http.specs.Responses.{fault_status as status_of_fault, fault_word as word_of_fault, refusal_status as status_of_refusal, allow_of, published_text, content_lines, sent_body, framed, response_text, status_of, plain};
 ghost use Rattle.rs_http.specs.Responses.{faulted, replied, shown, refused};
 
 use crate::request::RequestFault;
-use crate::response::{Framing, write_bare, write_content, write_first, write_text};
+use crate::response::{Framing, write_bare, write_content, write_first, write_text, write_word};
 use crate::target::Methods;
 use rs_io::{Watched, WriteFault};
 use rs_model::Reply;
@@ -35,23 +35,23 @@ fn fault_status(fault: RequestFault) -> u16
     }
 }
 
-// The body of the response to it.
-fn fault_text(fault: RequestFault) -> &'static str
-    ensures { result.now ≡ text_of_fault fault }
+// The word of it.
+fn fault_word(fault: RequestFault) -> &'static str
+    ensures { result.now ≡ word_of_fault fault }
 {
     match fault {
-        RequestFault::HeadTooLong => "HeadTooLong\n",
-        RequestFault::BadHead => "BadHead\n",
-        RequestFault::ManyFields => "ManyFields\n",
-        RequestFault::BadHost => "BadHost\n",
-        RequestFault::TransferEncoding => "TransferEncoding\n",
-        RequestFault::BadLength => "BadLength\n",
-        RequestFault::BadName => "BadName\n",
-        RequestFault::NoSuchDocument => "NoSuchDocument\n",
-        RequestFault::BadMethod(_) => "BadMethod\n",
-        RequestFault::NoLength => "NoLength\n",
-        RequestFault::BadType => "BadType\n",
-        RequestFault::TooLong => "TooLong\n",
+        RequestFault::HeadTooLong => "HeadTooLong",
+        RequestFault::BadHead => "BadHead",
+        RequestFault::ManyFields => "ManyFields",
+        RequestFault::BadHost => "BadHost",
+        RequestFault::TransferEncoding => "TransferEncoding",
+        RequestFault::BadLength => "BadLength",
+        RequestFault::BadName => "BadName",
+        RequestFault::NoSuchDocument => "NoSuchDocument",
+        RequestFault::BadMethod(_) => "BadMethod",
+        RequestFault::NoLength => "NoLength",
+        RequestFault::BadType => "BadType",
+        RequestFault::TooLong => "TooLong",
     }
 }
 
@@ -87,26 +87,6 @@ fn refusal_status(refusal: Refusal) -> u16
     }
 }
 
-// The body of the response to it.
-fn refusal_text(refusal: Refusal) -> &'static str
-    ensures { result.now ≡ text_of_refusal refusal }
-{
-    match refusal {
-        Refusal::Closed => "Closed\n",
-        Refusal::TooLong => "TooLong\n",
-        Refusal::NotHeld => "NotHeld\n",
-        Refusal::TooManyResources => "TooManyResources\n",
-        Refusal::TooManyChanges => "TooManyChanges\n",
-        Refusal::Exhausted => "Exhausted\n",
-        Refusal::Full => "Full\n",
-        Refusal::ReadFault => "ReadFault\n",
-        Refusal::ShortBody => "ShortBody\n",
-        Refusal::Device => "Device\n",
-        Refusal::Damaged => "Damaged\n",
-        Refusal::NoMemory => "NoMemory\n",
-    }
-}
-
 /// Writes the response to a request that is refused before the source is asked, and gives its status.
 pub(crate) fn write_fault<W: Write>(
     writer: &mut Watched<W>,
@@ -119,15 +99,8 @@ pub(crate) fn write_fault<W: Write>(
 {
     let status = fault_status(fault);
     let allow = allow_text(fault);
-    let text = fault_text(fault);
-    write_text(
-        writer,
-        framing,
-        status,
-        allow,
-        b"text/plain",
-        text.as_bytes(),
-    )?;
+    let word = fault_word(fault);
+    write_word(writer, framing, status, allow, word)?;
     Ok(status)
 }
 
@@ -142,8 +115,8 @@ pub(crate) fn write_refusal<W: Write>(
     ensures failed { OnErr result (EndFailed writer.old writer.new) }
 {
     let status = refusal_status(refusal);
-    let text = refusal_text(refusal);
-    write_text(writer, framing, status, "", b"text/plain", text.as_bytes())?;
+    let word = refusal.word();
+    write_word(writer, framing, status, "", word)?;
     Ok(status)
 }
 

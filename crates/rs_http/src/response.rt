@@ -3,7 +3,7 @@
 ghost use Rattle.std.specs.Prelude.{◌≡◌, ◌++◌, [], length, codes, OnOk, OnErr};
 ghost use Rattle.httpdate.specs.Date.{date_text};
 ghost use Rattle.rs_io.specs.Watch.{EndFailed, Wrote};
-ghost use Rattle.rs_http.specs.Responses.{reason_of as reason_text, content_lines, first_lines, sent_body, framed};
+ghost use Rattle.rs_http.specs.Responses.{reason_of as reason_text, content_lines, first_lines, sent_body, framed, plain, refusal_line};
 
 use httpdate::HttpDate;
 use rs_io::{Watched, WriteFault};
@@ -114,6 +114,38 @@ pub(crate) fn write_text<W: Write>(
     write_first(writer, status, &framing.date)?;
     write_lines(writer, allow, kind, body.len() as u64)?;
     write_body(writer, framing, body)
+}
+
+// Writes a word and a line feed, unless the method is HEAD.
+fn write_line<W: Write>(
+    writer: &mut Watched<W>,
+    framing: Framing,
+    word: &str,
+) -> Result<(), WriteFault>
+    ensures ok { OnOk result (Wrote W.contents writer.old writer.new (sent_body framing (refusal_line word.now))) }
+    ensures failed { OnErr result (EndFailed writer.old writer.new) }
+{
+    if framing.is_head {
+        return writer.put(b"");
+    }
+    writer.put_text(format_args!("{word}\n"))
+}
+
+/// Writes a response whose body is a word and a line feed.
+pub(crate) fn write_word<W: Write>(
+    writer: &mut Watched<W>,
+    framing: Framing,
+    status: u16,
+    allow: &str,
+    word: &str,
+) -> Result<(), WriteFault>
+    ensures ok { OnOk result (Wrote W.contents writer.old writer.new
+        (framed framing status (allow.now ++ content_lines plain (length (refusal_line word.now))) (refusal_line word.now))) }
+    ensures failed { OnErr result (EndFailed writer.old writer.new) }
+{
+    write_first(writer, status, &framing.date)?;
+    write_lines(writer, allow, b"text/plain", word.len() as u64 + 1)?;
+    write_line(writer, framing, word)
 }
 
 /// Writes a response that describes no body but by these lines.

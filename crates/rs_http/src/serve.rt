@@ -1,9 +1,9 @@
 //! One request to a source.
 
-ghost use Rattle.std.specs.Prelude.{◌≡◌, ℕ, List, IfOk, OnOk, IsErrOf};
+ghost use Rattle.std.specs.Prelude.{ℕ, List, IfOk, OnOk, IsErrOf};
 ghost use Rattle.std.specs.Io.KnownBytes.{Consumes};
 ghost use Rattle.rs_io.specs.Watch.{watched, StaysFlushed, EndFailed, Took, Wrote};
-ghost use Rattle.rs_http.specs.Held.{GoesOnOnce};
+ghost use Rattle.rs_store.specs.GoesOn.{GoesOnOnce};
 ghost use Rattle.rs_http.specs.Serving.{Serves, Breaks, Halts};
 
 use crate::answer::answer;

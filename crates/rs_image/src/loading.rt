@@ -1,7 +1,7 @@
 //! Reading what stands behind a root.
 
-ghost use Rattle.std.specs.Prelude.{◌≡◌, ◌⊎◌, ◌↔◌, ◌<◌, ◌≤◌, ◌+◌, ◌^◌, ℕ, List, true, map, IfOk, OnOk, IsErrOf, IsTrue};
-ghost use Rattle.rs_disk.specs.Leaves.{Rests};
+ghost use Rattle.std.specs.Prelude.{◌≡◌, ◌↔◌, ◌<◌, ◌≤◌, ◌+◌, ℕ, List, true, map, IfOk, OnOk, IsErrOf, IsTrue};
+ghost use Rattle.rs_disk.specs.Leaves.{Rests, HasFailed};
 ghost use Rattle.rs_fixity.specs.Digests.{digests};
 ghost use Rattle.rs_body.specs.Blocks.{within, part};
 ghost use Rattle.rs_record.specs.declared.record.Record.{Record};
@@ -45,13 +45,10 @@ pub fn load<D: Disk>(alloc: Global, disk: &mut D, root: &Root) -> Result<Content
     // What the disk holds is said of a device that has followed the model.
     ensures told { IfOk result (λ c. IsTrue (D.state disk.new).honest → Tells root.now c (D.state disk.new).now.seen (state_in (D.state disk.new).now.seen c)) }
     ensures damaged { IsErrOf result LoadFault.Damaged → IsTrue (D.state disk.new).honest → (c : Contents) (s : Source) → ¬ Tells root.now c (D.state disk.new).now.seen s }
-    ensures device { IsErrOf result LoadFault.Device → ((D.state disk.old).faults < (D.state disk.new).faults) ⊎ (2 ^ 64 ≤ (D.state disk.new).calls + 1) }
+    ensures device { IsErrOf result LoadFault.Device → HasFailed (D.state disk.old) (D.state disk.new) }
     ensures no_memory { IsErrOf result LoadFault.NoMemory → IsPlaced (D.state disk.new).size root.now }
 
     ensures rests { Rests (D.state disk.old) (D.state disk.new) }
-    ensures size { (D.state disk.new).size ≡ (D.state disk.old).size }
-    ensures lasts { IsTrue (D.state disk.new).honest → IsTrue (D.state disk.old).honest }
-    ensures faults { (D.state disk.old).faults ≤ (D.state disk.new).faults }
 {
     let directory = load_directory(alloc, disk, root)?;
     let contents = load_lists(alloc, disk, directory)?;
@@ -70,12 +67,9 @@ fn load_directory<D: Disk>(alloc: Global, disk: &mut D, root: &Root) -> Result<D
     ensures digest { IfOk result (λ d. (digests (spelled d)).sha256 ≡ root.now.sha256) }
     ensures found { IfOk result (λ d. IsTrue (D.state disk.new).honest → part root.now.directory root.now.length (D.state disk.new).now.seen ≡ spelled d) }
     ensures damaged { IsErrOf result LoadFault.Damaged → IsTrue (D.state disk.new).honest → (c : Contents) (s : Source) → ¬ Tells root.now c (D.state disk.new).now.seen s }
-    ensures device { IsErrOf result LoadFault.Device → ((D.state disk.old).faults < (D.state disk.new).faults) ⊎ (2 ^ 64 ≤ (D.state disk.new).calls + 1) }
+    ensures device { IsErrOf result LoadFault.Device → HasFailed (D.state disk.old) (D.state disk.new) }
     ensures no_memory { IsErrOf result LoadFault.NoMemory → IsPlaced (D.state disk.new).size root.now }
     ensures rests { Rests (D.state disk.old) (D.state disk.new) }
-    ensures size { (D.state disk.new).size ≡ (D.state disk.old).size }
-    ensures lasts { IsTrue (D.state disk.new).honest → IsTrue (D.state disk.old).honest }
-    ensures faults { (D.state disk.old).faults ≤ (D.state disk.new).faults }
 {
     if !is_sized(root.directory, root.length) || !is_inside(root.directory, disk.size()) {
         return Err(LoadFault::Damaged);
@@ -103,11 +97,8 @@ fn load_lists<D: Disk>(
     ensures lists { IfOk result (AreOf directory) }
     ensures found { IfOk result (λ c. IsTrue (D.state disk.new).honest → Hold directory (D.state disk.new).now.seen (map (λ sheet. sheet.items) c.catalogue) (map (λ sheet. sheet.items) c.history) (map (λ sheet. sheet.items) c.published)) }
     ensures damaged { IsErrOf result LoadFault.Damaged → IsTrue (D.state disk.new).honest → (catalogue : List (List Record)) (changes : List (List Change)) (published : List (List Record)) → ¬ Hold directory (D.state disk.new).now.seen catalogue changes published }
-    ensures device { IsErrOf result LoadFault.Device → ((D.state disk.old).faults < (D.state disk.new).faults) ⊎ (2 ^ 64 ≤ (D.state disk.new).calls + 1) }
+    ensures device { IsErrOf result LoadFault.Device → HasFailed (D.state disk.old) (D.state disk.new) }
     ensures rests { Rests (D.state disk.old) (D.state disk.new) }
-    ensures size { (D.state disk.new).size ≡ (D.state disk.old).size }
-    ensures lasts { IsTrue (D.state disk.new).honest → IsTrue (D.state disk.old).honest }
-    ensures faults { (D.state disk.old).faults ≤ (D.state disk.new).faults }
 {
     let catalogue = Catalogue::load(alloc, disk, &directory.catalogue)?;
     let history = History::load(alloc, disk, &directory.changes)?;

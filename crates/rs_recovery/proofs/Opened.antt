@@ -9,7 +9,7 @@ use Rattle.rs_image.specs.Laws.{StandsOnce}
 use Rattle.rs_store.specs.declared.opening.OpenFault.{OpenFault}
 use Rattle.rs_store.specs.declared.opening.OpenFault.TheVariants.{NotASource, Damaged, Device, NoMemory}
 use Rattle.rs_store.specs.Source.{Stored, Holds, state_of}
-use Rattle.rs_store.specs.Refusals.{HasFailed}
+use Rattle.rs_disk.specs.Leaves.{HasFailed}
 use Rattle.rs_store.specs.Opening.{disk_of}
 use Rattle.rs_recovery.specs.Sessions.{IsOpenedOn}
 use Rattle.rs_recovery.specs.Recovered.{GivesBack}

@@ -10,7 +10,7 @@ use Rattle.rs_store.specs.declared.opening.OpenFault.{OpenFault}
 use Rattle.rs_store.specs.declared.opening.OpenFault.TheVariants.{NotASource, Damaged, Device, NoMemory}
 use Rattle.rs_store.specs.Source.{Stored, Holds}
 use Rattle.rs_store.specs.declared.running.Ack.{Ack}
-use Rattle.rs_store.specs.Refusals.{HasFailed}
+use Rattle.rs_disk.specs.Leaves.{HasFailed}
 use Rattle.rs_store.specs.Opening.{disk_of}
 use Rattle.rs_store.specs.Counted.{counted, acknowledged, begun}
 use Rattle.rs_recovery.specs.Sessions.{Session, AreSessions, left_by, behind}

@@ -1,8 +1,7 @@
 //! What is recovered after a stop.
 
 ghost use Rattle.std.specs.Prelude.{◌≡◌, ℕ, List, false, IfOk, IsTrue};
-ghost use Rattle.rs_disk.specs.Medium.{IsImage};
-ghost use Rattle.rs_disk.specs.Leaves.{Leaves};
+ghost use Rattle.rs_disk.specs.Leaves.{WritesNothing};
 ghost use Rattle.rs_model.specs.State.{Source as State};
 ghost use Rattle.rs_model.specs.declared.command.Command.{Command};
 ghost use Rattle.rs_image.specs.Tells.{StandsFor};
@@ -50,9 +49,7 @@ pub fn recover<D: Disk>(alloc: Global, disk: D) -> Result<Source<D>, (D, OpenFau
 
     // What a read gives is as it was; a stop within it leaves an image of its entry; and a device that has followed the model
     // then had followed it before.
-    ensures seen { (D.state (disk_of result)).now.seen ≡ (D.state disk).now.seen }
-    ensures lasts { IsTrue (D.state (disk_of result)).honest → IsTrue (D.state disk).honest }
-    ensures any_moment { Leaves (D.state disk) (D.state (disk_of result)) (λ _. IsImage (D.state disk).now) }
+    ensures writes_nothing { WritesNothing (D.state disk) (D.state (disk_of result)) }
 {
     sessions_stand::<D>();
     start_is_regular();

@@ -87,7 +87,7 @@ module _ {D : Type 0} (device : D → DiskState) (old : Stored D) where
       → AnswersBody device old new name result → Follows device old new commands
   read_follows new name result commands none a =
       rw none record {
-        lasts = a.lasts;
+        lasts = a.rests.lasts;
         opened = λ h. sym a.is_closed ∙ h;
         folds = λ _. ap (λ (held : Medium). state_in held.seen new.contents) a.rests.now ∙ ap (state_in (device old.disk).now.seen) a.contents;
         holds = λ s held free. record {

@@ -4,8 +4,7 @@ use Rattle.std.specs.Fmt.{decimal}
 use Rattle.rs_time.specs.Moment.{moment_text}
 use Rattle.rs_model.specs.declared.command.Reply.{Reply}
 use Rattle.rs_model.specs.declared.command.Reply.TheVariants.{Created, Updated, Deleted, Published}
-use Rattle.rs_store.specs.declared.refusal.Refusal as stored
-use Rattle.rs_store.specs.declared.refusal.Refusal.TheVariants as names
+use Rattle.rs_store.specs.Refusals.{refusal_word}
 use Rattle.rs_store.specs.declared.reading.Status.{Status}
 use Rattle.rs_script.specs.declared.refusal.Refusal.{Refusal}
 use Rattle.rs_script.specs.declared.refusal.Refusal.TheVariants.{BadLine, LongLine, BadMoment, BadName, BadHex, BadType, NoSuchDocument, Source, NoMemory}
@@ -21,21 +20,7 @@ reply_text (Updated t) = codes "updated " ++ moment_end t
 reply_text (Deleted t) = codes "deleted " ++ moment_end t
 reply_text (Published number t) = (codes "published " ++ (decimal number ++ codes " ")) ++ moment_end t
 
--- the name of a refusal of the source
-abbrev pub source_word : stored.Refusal → List ℕ
-source_word names.Closed = codes "Closed"
-source_word names.TooLong = codes "TooLong"
-source_word names.NotHeld = codes "NotHeld"
-source_word names.TooManyResources = codes "TooManyResources"
-source_word names.TooManyChanges = codes "TooManyChanges"
-source_word names.Exhausted = codes "Exhausted"
-source_word names.Full = codes "Full"
-source_word names.ReadFault = codes "ReadFault"
-source_word names.ShortBody = codes "ShortBody"
-source_word names.Device = codes "Device"
-source_word names.Damaged = codes "Damaged"
-source_word names.NoMemory = codes "NoMemory"
-
+-- the word of a refusal
 abbrev pub word_of : Refusal → List ℕ
 word_of BadLine = codes "BadLine"
 word_of LongLine = codes "LongLine"
@@ -44,7 +29,7 @@ word_of BadName = codes "BadName"
 word_of BadHex = codes "BadHex"
 word_of BadType = codes "BadType"
 word_of NoSuchDocument = codes "NoSuchDocument"
-word_of (Source refusal) = source_word refusal
+word_of (Source refusal) = refusal_word refusal
 word_of NoMemory = codes "NoMemory"
 
 -- bytes, after their number

@@ -2,7 +2,7 @@
 
 ghost use Rattle.std.specs.Prelude.{◌≡◌, ◌++◌, OnOk, OnErr};
 ghost use Rattle.rs_io.specs.Watch.{EndFailed, Wrote};
-ghost use Rattle.rs_script.specs.Answers.{moment_end, reply_text, status_text, outcome_text, word_of, source_word};
+ghost use Rattle.rs_script.specs.Answers.{moment_end, reply_text, status_text, outcome_text, word_of};
 ghost use Rattle.rs_script.specs.Session.{refused};
 
 use crate::refusal::Refusal;
@@ -11,26 +11,6 @@ use rs_model::Reply;
 use rs_store::Status;
 use rs_time::Moment;
 use std::io::Write;
-
-/// The name of a refusal of the source.
-fn source_name(refusal: rs_store::Refusal) -> &'static str
-    ensures { result.now ≡ source_word refusal }
-{
-    match refusal {
-        rs_store::Refusal::Closed => "Closed",
-        rs_store::Refusal::TooLong => "TooLong",
-        rs_store::Refusal::NotHeld => "NotHeld",
-        rs_store::Refusal::TooManyResources => "TooManyResources",
-        rs_store::Refusal::TooManyChanges => "TooManyChanges",
-        rs_store::Refusal::Exhausted => "Exhausted",
-        rs_store::Refusal::Full => "Full",
-        rs_store::Refusal::ReadFault => "ReadFault",
-        rs_store::Refusal::ShortBody => "ShortBody",
-        rs_store::Refusal::Device => "Device",
-        rs_store::Refusal::Damaged => "Damaged",
-        rs_store::Refusal::NoMemory => "NoMemory",
-    }
-}
 
 /// The name that stands after `refused ` in an answer.
 fn name_of(refusal: Refusal) -> &'static str
@@ -44,7 +24,7 @@ fn name_of(refusal: Refusal) -> &'static str
         Refusal::BadHex => "BadHex",
         Refusal::BadType => "BadType",
         Refusal::NoSuchDocument => "NoSuchDocument",
-        Refusal::Source(refusal) => source_name(refusal),
+        Refusal::Source(refusal) => refusal.word(),
         Refusal::NoMemory => "NoMemory",
     }
 }

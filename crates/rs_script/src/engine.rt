@@ -1,6 +1,6 @@
 //! The script engine: every line of an input is answered in turn.
 
-ghost use Rattle.std.specs.Prelude.{◌≡◌, ◌++◌, ◌≤◌, ◌^◌, ◌*◌, ◌⊎◌, true, length, ℕ, List, Option, OnOk, OnErr, IsErrOf, IsTrue};
+ghost use Rattle.std.specs.Prelude.{◌≡◌, ◌++◌, ◌≤◌, ◌^◌, ◌*◌, ◌⊎◌, true, length, ℕ, List, OnOk, OnErr, IsErrOf};
 ghost use Rattle.std.specs.Io.KnownBytes.{Consumes, IsAtEnd};
 ghost use Rattle.rs_io.specs.Watch.{watched, failures, is_flushed, EndFailed, Took, Wrote};
 ghost use Rattle.rs_io.specs.declared.watch.Watched.{Watched as End};
@@ -143,16 +143,6 @@ const PIECE: usize = 65_536;
 /// The reads of a script: as many as no reader in use gives.
 const READS: u64 = 1 << 40;
 
-/// The moment 1970-01-01T00:00:00.000Z, at which commands come until an `at`.
-pub fn first_moment() -> Moment
-    ensures { result ≡ 0 }
-{
-    match Moment::new(0) {
-        Some(moment) => moment,
-        None => unreachable!(),
-    }
-}
-
 /// Runs a script: each line that `reader` gives is asked of `source`, and its answer written to
 /// `writer`, which is flushed before each read and at the end. Commands come at the moment 0 until
 /// an `at` sets another.
@@ -203,7 +193,7 @@ pub fn script<D: Disk, R: Read, W: Write>(
         × (length gave ≤ 2 ^ 40 * 65536) }
 {
     let mut line = Line::new(alloc);
-    let mut now = first_moment();
+    let mut now = Moment::first();
     let mut buf = [0u8; PIECE];
     for _ in 0..READS {
         let Ok(()) = writer.flush() else {

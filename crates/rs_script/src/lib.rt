@@ -16,6 +16,6 @@ mod request;
 mod show;
 
 pub use decimal::number;
-pub use engine::{ScriptFault, first_moment, script};
+pub use engine::{ScriptFault, script};
 pub use memory::script_bytes;
 pub use refusal::Refusal;

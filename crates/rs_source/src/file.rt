@@ -13,8 +13,8 @@ use crate::command::SourceArguments;
 use crate::program::ProgramError;
 use rs_file::{FileDisk, Start};
 use rs_recovery::recover;
-use rs_script::first_moment;
 use rs_store::Source;
+use rs_time::Moment;
 use std::alloc::Global;
 use std::fs::File;
 use std::rt::Files;
@@ -43,7 +43,7 @@ pub fn format_file<R: Files<File = File>, S: Start>(
     ensures err { IfErr result IsOfFormat }
 {
     let disk = FileDisk::create(rt, file, made.size, start)?;
-    match Source::format(alloc, disk, made.base, made.limit, first_moment()) {
+    match Source::format(alloc, disk, made.base, made.limit, Moment::first()) {
         Ok(source) => Ok(source),
         Err((_, fault)) => Err(fault.into()),
     }

@@ -10,8 +10,9 @@ ghost use Rattle.rs_source.specs.Arguments.{error_of, error_of_file, error_of_fo
 
 use rs_disk::MemoryDisk;
 use rs_file::FileFault;
-use rs_script::{ScriptFault, first_moment};
+use rs_script::ScriptFault;
 use rs_store::{FormatFault, OpenFault, Source};
+use rs_time::Moment;
 use std::alloc::Global;
 use std::io::ErrorKind;
 use thiserror::Error;
@@ -159,7 +160,7 @@ pub fn start(
     let Ok(disk) = MemoryDisk::new(alloc, size) else {
         return Err(ProgramError::NoMemory);
     };
-    match Source::format(alloc, disk, base, limit, first_moment()) {
+    match Source::format(alloc, disk, base, limit, Moment::first()) {
         Ok(source) => Ok(source),
         Err((_, fault)) => Err(fault.into()),
     }

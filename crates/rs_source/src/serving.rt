@@ -3,13 +3,12 @@
 ghost use Rattle.std.specs.Prelude.{◌≡◌, ◌≤◌, ◌/◌, ℕ, List, IfOk, OnErr, length, min};
 ghost use Rattle.std.specs.Duration.{as_nanos};
 ghost use Rattle.rs_model.specs.declared.command.Command.{Command};
-ghost use Rattle.rs_http.specs.Held.{GoesOnBy};
+ghost use Rattle.rs_store.specs.GoesOn.{GoesOnBy};
 ghost use Rattle.rs_source.specs.Serving.{Connects, Connections};
 
 use rs_disk::Disk;
 use rs_http::{FrontFault, Served, serve_one};
 use rs_io::Watched;
-use rs_script::first_moment;
 use rs_store::Source;
 use rs_time::Moment;
 use std::alloc::Global;
@@ -44,7 +43,7 @@ pub fn moment_of(since_1970: io::Result<Duration>) -> Moment
 {
     match since_1970 {
         Ok(since_1970) => moment_after(since_1970),
-        Err(_) => first_moment(),
+        Err(_) => Moment::first(),
     }
 }
 

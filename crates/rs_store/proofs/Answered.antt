@@ -1,7 +1,7 @@
 -- What a source answers, by how far a command came.
 use Rattle.std.proofs.Common.{◌≡◌, ◌⊎◌, inl, inr, ℕ, Bool, true, false, List, length, refl, sym, ◌∙◌, ap, ap₂, subst, arith, Option, Some, None, Result, Ok, Err, if◌then◌else◌}
 use Rattle.rs_disk.specs.Medium.{Medium, DiskState, IsImage, IsMedium, resting}
-use Rattle.rs_disk.specs.Leaves.{Leaves}
+use Rattle.rs_disk.specs.Leaves.{Advances, Leaves, HasFailed}
 use Rattle.rs_disk.proofs.Steps.{started, goes_on, weaker}
 use Rattle.rs_disk.proofs.Images.{resting_image}
 use Rattle.rs_body.specs.Outside.{WritesOutside}
@@ -24,11 +24,11 @@ use Rattle.rs_plan.specs.declared.planning.PlanFault.TheVariants.{Full as NoRoom
 use Rattle.rs_store.specs.declared.refusal.Refusal.{Refusal}
 use Rattle.rs_store.specs.declared.refusal.Refusal.TheVariants.{Closed, TooLong, NotHeld, TooManyResources, TooManyChanges, Exhausted, Full, ReadFault, ShortBody, Device, Damaged, NoMemory}
 use Rattle.rs_store.specs.Source.{Stored, Holds, state_of}
-use Rattle.rs_store.specs.Refusals.{named_as, or_spent, is_spent, decided, HasFailed}
+use Rattle.rs_store.specs.Refusals.{named_as, or_spent, is_spent, decided}
 use Rattle.rs_plan.specs.Plans.{body_of_command, once_stored, planned_root, IsPlanned, LacksRoom, AreWritten}
 use Rattle.rs_store.specs.Writing.{of_plan, AreLists}
 use Rattle.rs_store.specs.Commands.{IsCause, Leads}
-use Rattle.rs_store.specs.Answered.{moment_unless, IsUnchanged, GoesOn, Answers}
+use Rattle.rs_store.specs.Answered.{moment_unless, IsUnchanged, Answers}
 use Rattle.rs_store.proofs.Stays.{ready_after, stands_meanwhile, told_after, stands_now, state_kept, state_behind, reach_kept}
 use Rattle.rs_store.proofs.Follows.{state_follows, tells_next}
 
@@ -133,7 +133,7 @@ module _ {D : Type 0} (device : D → DiskState) (medium : (disk : D) → IsMedi
       → ((q : Refusal) → decided old (state_of device old) command ≡ Some q → (r ≡ q) × (new ≡ old))
       → new.is_closed ≡ old.is_closed → IsUnchanged device old new
       → ((s : Source) → Holds device old s → Holds device new s × Leaves (device old.disk) (device new.disk) (λ _ image. StandsFor image s))
-      → GoesOn device old new → Answers device old new command now (Err r)
+      → Advances (device old.disk) (device new.disk) → Answers device old new command now (Err r)
   kept_answers new r cause other given closed same leads goes =
       record {
         decides = λ q is. ap refusing (given q is).0;
@@ -151,7 +151,7 @@ module _ {D : Type 0} (device : D → DiskState) (medium : (disk : D) → IsMedi
   nothing_done : IsUnchanged device old old
   nothing_done = record { slots = refl; contents = refl; state = refl }
 
-  no_call : GoesOn device old old
+  no_call : Advances (device old.disk) (device old.disk)
   no_call = record { size = refl; keeps = refl; calls = omega arith; faults = omega arith }
 
   at_rest : (s : Source) → Holds device old s → Holds device old s × Leaves (device old.disk) (device old.disk) (λ _ image. StandsFor image s)
@@ -184,7 +184,7 @@ module _ {D : Type 0} (device : D → DiskState) (medium : (disk : D) → IsMedi
         (reach_kept old.slots.root old.contents) run.seen
 
     -- memory was refused
-    pub stopped : GoesOn device old (record { disk = mid; slots = old.slots; contents = old.contents; is_closed = old.is_closed })
+    pub stopped : Advances (device old.disk) (device mid)
         → Answers device old (record { disk = mid; slots = old.slots; contents = old.contents; is_closed = old.is_closed }) command now (Err NoMemory)
     stopped goes =
         kept_answers (record { disk = mid; slots = old.slots; contents = old.contents; is_closed = old.is_closed }) NoMemory free
@@ -213,7 +213,7 @@ module _ {D : Type 0} (device : D → DiskState) (medium : (disk : D) → IsMedi
     -- the device failed
     broken : (new : Stored D) → new.is_closed ≡ true → HasFailed (device old.disk) (device new.disk)
         → ((s : Source) → Holds device old s → Leaves (device old.disk) (device new.disk) (λ _ image. StandsFor image s ⊎ StandsFor image (next s)))
-        → GoesOn device old new → Answers device old new command now (Err Device)
+        → Advances (device old.disk) (device new.disk) → Answers device old new command now (Err Device)
     unfolding next
     broken new closed failed leaves goes =
         record {
@@ -236,7 +236,7 @@ module _ {D : Type 0} (device : D → DiskState) (medium : (disk : D) → IsMedi
         (stands_meanwhile old.slots old.contents s (device old.disk) (medium old.disk) holds.ready holds.told (device mid) run)
 
     pub broken_off : (new : Stored D) → new.disk ≡ mid → new.is_closed ≡ true → HasFailed (device old.disk) (device new.disk)
-        → GoesOn device old new → Answers device old new command now (Err Device)
+        → Advances (device old.disk) (device new.disk) → Answers device old new command now (Err Device)
     unfolding next
     broken_off new disk closed failed goes =
         broken new closed failed
@@ -297,7 +297,7 @@ module _ {D : Type 0} (device : D → DiskState) (medium : (disk : D) → IsMedi
           (any (ready_after old.slots old.contents (device old.disk) (device mid) holds.ready run)))
 
       pub not_committed : (new : Stored D) → (IsReady old.slots (device mid).now → Leaves (device mid) (device new.disk) (λ _. OldOrNew (device mid).now old.slots.root root))
-          → new.is_closed ≡ true → HasFailed (device old.disk) (device new.disk) → GoesOn device old new → Answers device old new command now (Err Device)
+          → new.is_closed ≡ true → HasFailed (device old.disk) (device new.disk) → Advances (device old.disk) (device new.disk) → Answers device old new command now (Err Device)
       not_committed new any closed failed goes = broken new closed failed (meanwhile new.disk any) goes
 
       pub committed : (new : Stored D) (reply : Reply) (settled : List ℕ)
@@ -306,7 +306,7 @@ module _ {D : Type 0} (device : D → DiskState) (medium : (disk : D) → IsMedi
           → (IsReady old.slots (device mid).now → IsReady new.slots (device new.disk).now)
           → SameBehind (device new.disk).now.seen (device mid).now.seen → (device new.disk).now ≡ resting settled
           → reply ≡ reply_to (state_of device old) command (moment_at (state_of device old) now)
-          → GoesOn device old new → Answers device old new command now (Ok reply)
+          → Advances (device old.disk) (device new.disk) → Answers device old new command now (Ok reply)
       unfolding next
       committed new reply settled any at contents closed ready same rests replied goes =
           let moment = moment_at (state_of device old) now in

@@ -1,5 +1,6 @@
 -- What a source answers to a command.
-use Rattle.std.specs.Prelude.{◌≡◌, ◌≤◌, ◌+◌, ℕ, true, Option, Some, None, Result, Ok, Err, IfOk, IsErrOf}
+use Rattle.std.specs.Prelude.{◌≡◌, ◌+◌, ℕ, true, Option, Some, None, Result, Ok, Err, IfOk, IsErrOf}
+use Rattle.rs_disk.specs.Leaves.{Advances}
 use Rattle.rs_disk.specs.Medium.{DiskState}
 use Rattle.rs_model.specs.State.{Source}
 use Rattle.rs_model.specs.Step.{step}
@@ -22,13 +23,6 @@ pub record IsUnchanged {D : Type 0} (device : D → DiskState) (old new : Stored
   pub contents : new.contents ≡ old.contents
   pub state : state_of device new ≡ state_of device old
 
--- Two sources have disks of one size that were as honest, and neither count of the first one's is greater.
-pub record GoesOn {D : Type 0} (device : D → DiskState) (old new : Stored D) : Type 0 where
-  pub size : (device new.disk).size ≡ (device old.disk).size
-  pub keeps : (device new.disk).honest ≡ (device old.disk).honest
-  pub calls : (device old.disk).calls ≤ (device new.disk).calls
-  pub faults : (device old.disk).faults ≤ (device new.disk).faults
-
 -- What a source answers to a command that comes at `now`, and what it is then.
 -- `decides`, `untouched`: what is decided before anything is asked of memory or the disk is answered, and nothing changes.
 -- `refused`: the cause of each refusal is there.
@@ -48,4 +42,4 @@ pub record Answers {D : Type 0} (device : D → DiskState) (old new : Stored D) 
   pub closes : IsErrOf result Device → new.is_closed ≡ true
   pub stays_open : (IsErrOf result Device → ⊥) → new.is_closed ≡ old.is_closed
   pub unchanged : (r : Refusal) → IsErrOf result r → (r ≡ Device → ⊥) → IsUnchanged device old new
-  pub goes_on : GoesOn device old new
+  pub goes_on : Advances (device old.disk) (device new.disk)

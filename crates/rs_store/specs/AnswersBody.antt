@@ -1,14 +1,13 @@
 -- What a source answers where it is asked for a body.
-use Rattle.std.specs.Prelude.{◌≡◌, ◌↔◌, ◌≤◌, ℕ, false, List, Some, Result, Vec, IfOk, IfErr, IfSome, IsErrOf, IsTrue}
+use Rattle.std.specs.Prelude.{◌≡◌, ◌↔◌, ℕ, false, List, Some, Result, Vec, IfOk, IfErr, IfSome, IsErrOf, IsTrue}
 use Rattle.std.specs.Global.{Global}
 use Rattle.rs_disk.specs.Medium.{DiskState}
-use Rattle.rs_disk.specs.Leaves.{Rests}
+use Rattle.rs_disk.specs.Leaves.{Rests, HasFailed}
 use Rattle.rs_model.specs.Names.{value_of}
 use Rattle.rs_model.specs.State.{body_of}
 use Rattle.rs_model.specs.Step.{is_held}
 use Rattle.rs_store.specs.declared.refusal.Refusal.{Refusal}
 use Rattle.rs_store.specs.declared.refusal.Refusal.TheVariants.{Closed, NotHeld, Device, Damaged}
-use Rattle.rs_store.specs.Refusals.{HasFailed}
 use Rattle.rs_store.specs.Shows.{AreAsRecorded, HasItsDigest, IsOfBody}
 use Rattle.rs_store.specs.Source.{Stored, state_of}
 
@@ -29,6 +28,3 @@ pub record AnswersBody {D : Type 0} (device : D → DiskState) (old new : Stored
   pub contents : new.contents ≡ old.contents
   pub is_closed : new.is_closed ≡ old.is_closed
   pub rests : Rests (device old.disk) (device new.disk)
-  pub size : (device new.disk).size ≡ (device old.disk).size
-  pub lasts : IsTrue (device new.disk).honest → IsTrue (device old.disk).honest
-  pub faults : (device old.disk).faults ≤ (device new.disk).faults

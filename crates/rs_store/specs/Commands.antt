@@ -1,7 +1,7 @@
 -- What a command leaves.
 use Rattle.std.specs.Prelude.{◌≡◌, ◌⊎◌, ℕ, Some, None, Result, Ok, Err}
 use Rattle.rs_disk.specs.Medium.{DiskState}
-use Rattle.rs_disk.specs.Leaves.{Leaves}
+use Rattle.rs_disk.specs.Leaves.{Leaves, HasFailed}
 use Rattle.rs_model.specs.State.{Source}
 use Rattle.rs_model.specs.Step.{step, state_after, moment_at}
 use Rattle.rs_model.specs.declared.command.Command.{Command}
@@ -10,7 +10,7 @@ use Rattle.rs_image.specs.Tells.{StandsFor}
 use Rattle.rs_store.specs.declared.refusal.Refusal.{Refusal}
 use Rattle.rs_store.specs.declared.refusal.Refusal.TheVariants.{Full, ReadFault, ShortBody, Device, Damaged, NoMemory}
 use Rattle.rs_store.specs.Source.{Stored, Holds, state_of}
-use Rattle.rs_store.specs.Refusals.{decided, HasFailed}
+use Rattle.rs_store.specs.Refusals.{decided}
 use Rattle.rs_plan.specs.Plans.{LacksRoom}
 
 -- The cause of a refusal of a command is there.

@@ -14,3 +14,4 @@ pub mod AnswersBody
 pub mod Counted
 pub mod Runs
 pub mod Laws
+pub mod GoesOn

@@ -2,7 +2,7 @@
 use Rattle.std.specs.Prelude.{◌≡◌, ◌<◌, ◌≤◌, ℕ, List, [], length, take, Option, None, Result, Ok, Err}
 use Rattle.std.specs.Io.KnownBytes.{IsAtEnd}
 use Rattle.rs_disk.specs.Medium.{DiskState}
-use Rattle.rs_disk.specs.Leaves.{Leaves}
+use Rattle.rs_disk.specs.Leaves.{Advances, Leaves}
 use Rattle.rs_model.specs.State.{Source}
 use Rattle.rs_model.specs.Step.{moment_at}
 use Rattle.rs_model.specs.declared.command.Command.TheVariants.{Put}
@@ -14,7 +14,7 @@ use Rattle.rs_store.specs.declared.refusal.Refusal.{Refusal}
 use Rattle.rs_store.specs.declared.refusal.Refusal.TheVariants.{ReadFault, ShortBody, Device, NoMemory}
 use Rattle.rs_store.specs.Source.{Stored, Holds, state_of}
 use Rattle.rs_store.specs.Refusals.{decided}
-use Rattle.rs_store.specs.Answered.{Answers, IsUnchanged, GoesOn}
+use Rattle.rs_store.specs.Answered.{Answers, IsUnchanged}
 
 -- a body of n bytes, of which these came first
 pub record IsBodyOf (n : ℕ) (came body : List ℕ) : Type 0 where
@@ -27,7 +27,7 @@ pub record IsLeft {D : Type 0} (device : D → DiskState) (old new : Stored D) :
   pub unchanged : IsUnchanged device old new
   pub is_closed : new.is_closed ≡ old.is_closed
   pub holds : (s : Source) → Holds device old s → Holds device new s × Leaves (device old.disk) (device new.disk) (λ _ image. StandsFor image s)
-  pub goes_on : GoesOn device old new
+  pub goes_on : Advances (device old.disk) (device new.disk)
 
 -- The body of a put did not come whole: fewer bytes came, and the put is not done. No refusal before this one is met: none is
 -- decided of a body of that length, and each has a plan.

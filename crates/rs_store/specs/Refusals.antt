@@ -1,13 +1,12 @@
 -- Why a source refuses a command.
-use Rattle.std.specs.Prelude.{◌⊎◌, ◌<◌, ◌≤◌, ◌+◌, ◌^◌, Bool, nat_le, if◌then◌else◌, Option, Some, None}
-use Rattle.rs_disk.specs.Medium.{DiskState}
+use Rattle.std.specs.Prelude.{◌+◌, ◌^◌, ℕ, List, codes, Bool, nat_le, if◌then◌else◌, Option, Some, None}
 use Rattle.rs_model.specs.State.{Source}
 use Rattle.rs_model.specs.Step.{refusal_of}
 use Rattle.rs_model.specs.declared.command.Command.{Command}
 use Rattle.rs_model.specs.declared.command.Refusal as model
 use Rattle.rs_model.specs.declared.command.Refusal.TheVariants as decides
 use Rattle.rs_store.specs.declared.refusal.Refusal.{Refusal}
-use Rattle.rs_store.specs.declared.refusal.Refusal.TheVariants.{Closed, TooLong, NotHeld, TooManyResources, TooManyChanges, Exhausted}
+use Rattle.rs_store.specs.declared.refusal.Refusal.TheVariants.{Closed, TooLong, NotHeld, TooManyResources, TooManyChanges, Exhausted, Full, ReadFault, ShortBody, Device, Damaged, NoMemory}
 use Rattle.rs_store.specs.Source.{Stored}
 
 -- a refusal of the model, by the same name
@@ -32,6 +31,17 @@ or_spent None spent = if spent then Some Exhausted else None
 abbrev pub decided : {D : Type 0} → Stored D → Source → Command → Option Refusal
 decided source s command = if source.is_closed then Some Closed else or_spent (refusal_of s command) (is_spent source)
 
--- a device call failed in between, or the calls stand at their last value
-abbrev pub HasFailed : DiskState → DiskState → Type 0
-HasFailed before after = (before.faults < after.faults) ⊎ (2 ^ 64 ≤ after.calls + 1)
+-- the word by which a refusal is answered, in a script and over HTTP
+abbrev pub refusal_word : Refusal → List ℕ
+refusal_word Closed = codes "Closed"
+refusal_word TooLong = codes "TooLong"
+refusal_word NotHeld = codes "NotHeld"
+refusal_word TooManyResources = codes "TooManyResources"
+refusal_word TooManyChanges = codes "TooManyChanges"
+refusal_word Exhausted = codes "Exhausted"
+refusal_word Full = codes "Full"
+refusal_word ReadFault = codes "ReadFault"
+refusal_word ShortBody = codes "ShortBody"
+refusal_word Device = codes "Device"
+refusal_word Damaged = codes "Damaged"
+refusal_word NoMemory = codes "NoMemory"

@@ -1,8 +1,8 @@
 //! How a source is made.
 
-ghost use Rattle.std.specs.Prelude.{◌≡◌, ◌↔◌, ◌+◌, ◌*◌, ◌<◌, ◌≤◌, false, length, IfOk, OnOk, IfErr, IsErrAnd, IsErrOf, IsTrue};
+ghost use Rattle.std.specs.Prelude.{◌≡◌, ◌↔◌, ◌*◌, ◌<◌, ◌≤◌, false, length, IfOk, OnOk, IfErr, IsErrAnd, IsErrOf, IsTrue};
 ghost use Rattle.rs_disk.specs.Medium.{resting};
-ghost use Rattle.rs_disk.specs.Leaves.{Runs};
+ghost use Rattle.rs_disk.specs.Leaves.{Runs, HasFailed};
 ghost use Rattle.rs_body.specs.Blocks.{IsOnDisk, part};
 ghost use Rattle.rs_record.specs.Base.{is_base};
 ghost use Rattle.rs_commit.specs.Commit.{IsReady};
@@ -11,7 +11,6 @@ ghost use Rattle.rs_directory.specs.Limit.{IsLimit};
 ghost use Rattle.rs_model.specs.State.{start_of};
 ghost use Rattle.rs_image.specs.Reach.{blocks_of_disk};
 ghost use Rattle.rs_store.specs.Source.{Holds};
-ghost use Rattle.rs_store.specs.Refusals.{HasFailed};
 ghost use Rattle.rs_store.specs.Opening.{disk_of};
 ghost use Rattle.rs_store.specs.Formatting.{first_header as header_of, IsBlank};
 

@@ -1,15 +1,14 @@
 //! How a source is opened.
 
-ghost use Rattle.std.specs.Prelude.{◌≡◌, ◌≤◌, None, Some, false, IfOk, IfErr, IsSome, OnOk, IsErrOf, IsTrue};
-ghost use Rattle.rs_disk.specs.Medium.{IsImage, resting};
-ghost use Rattle.rs_disk.specs.Leaves.{Leaves, Rests};
+ghost use Rattle.std.specs.Prelude.{◌≡◌, None, Some, false, IfOk, IfErr, IsSome, OnOk, IsErrOf, IsTrue};
+ghost use Rattle.rs_disk.specs.Medium.{resting};
+ghost use Rattle.rs_disk.specs.Leaves.{Rests, HasFailed, WritesNothing};
 ghost use Rattle.rs_commit.specs.Slots.{current};
 ghost use Rattle.rs_commit.specs.Commit.{IsReady, AreSettled};
 ghost use Rattle.rs_model.specs.State.{Source as State};
 ghost use Rattle.rs_image.specs.Tells.{StandsFor, Tells, state_in};
 ghost use Rattle.rs_store.specs.Inside.{IsKept};
 ghost use Rattle.rs_store.specs.Source.{Holds, state_of};
-ghost use Rattle.rs_store.specs.Refusals.{HasFailed};
 ghost use Rattle.rs_store.specs.Opening.{disk_of};
 
 use crate::Source;
@@ -108,11 +107,7 @@ impl<D: Disk> Source<D> {
 
         // Whatever it answers, a crash within it leaves an image of its entry, and a read gives what
         // it gave.
-        ensures any_moment { Leaves (D.state disk) (D.state (disk_of result)) (λ _. IsImage (D.state disk).now) }
-        ensures seen { (D.state (disk_of result)).now.seen ≡ (D.state disk).now.seen }
-        ensures size { (D.state (disk_of result)).size ≡ (D.state disk).size }
-        ensures lasts { IsTrue (D.state (disk_of result)).honest → IsTrue (D.state disk).honest }
-        ensures faults { (D.state disk).faults ≤ (D.state (disk_of result)).faults }
+        ensures writes_nothing { WritesNothing (D.state disk) (D.state (disk_of result)) }
     {
         let mut disk = disk;
         match recover(alloc, &mut disk) {
@@ -139,11 +134,7 @@ fn recover<D: Disk>(alloc: Global, disk: &mut D) -> Result<(Slots, Contents), Op
     ensures a_source { IsErrOf result OpenFault.Damaged → IsTrue (D.state disk.new).honest → IsSome (current (D.state disk.old).now.seen) }
     ensures damaged { IsErrOf result OpenFault.Damaged → IsTrue (D.state disk.new).honest → (s : State) → ¬ StandsFor (D.state disk.old).now.seen s }
     ensures device { IsErrOf result OpenFault.Device → HasFailed (D.state disk.old) (D.state disk.new) }
-    ensures any_moment { Leaves (D.state disk.old) (D.state disk.new) (λ _. IsImage (D.state disk.old).now) }
-    ensures seen { (D.state disk.new).now.seen ≡ (D.state disk.old).now.seen }
-    ensures size { (D.state disk.new).size ≡ (D.state disk.old).size }
-    ensures lasts { IsTrue (D.state disk.new).honest → IsTrue (D.state disk.old).honest }
-    ensures faults { (D.state disk.old).faults ≤ (D.state disk.new).faults }
+    ensures writes_nothing { WritesNothing (D.state disk.old) (D.state disk.new) }
 {
     disk.sync()?;
     read_source(alloc, disk)
@@ -160,9 +151,6 @@ fn read_source<D: Disk>(alloc: Global, disk: &mut D) -> Result<(Slots, Contents)
     ensures damaged { IsErrOf result OpenFault.Damaged → IsTrue (D.state disk.new).honest → (s : State) → ¬ StandsFor (D.state disk.old).now.seen s }
     ensures device { IsErrOf result OpenFault.Device → HasFailed (D.state disk.old) (D.state disk.new) }
     ensures rests { Rests (D.state disk.old) (D.state disk.new) }
-    ensures size { (D.state disk.new).size ≡ (D.state disk.old).size }
-    ensures lasts { IsTrue (D.state disk.new).honest → IsTrue (D.state disk.old).honest }
-    ensures faults { (D.state disk.old).faults ≤ (D.state disk.new).faults }
 {
     let (slots, root) = open_slots(disk)?;
     // Behind the slots of so small a disk no directory has room.

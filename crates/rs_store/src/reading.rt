@@ -1,7 +1,7 @@
 //! What a source shows.
 
-ghost use Rattle.std.specs.Prelude.{◌≡◌, ◌↔◌, ◌≤◌, false, map, IfOk, IfErr, IfSome, IsOk, IsErrOf, IsOkUnless, Some, IsTrue};
-ghost use Rattle.rs_disk.specs.Leaves.{Rests};
+ghost use Rattle.std.specs.Prelude.{◌≡◌, ◌↔◌, false, map, IfOk, IfErr, IfSome, IsErrOf, IsOkUnless, Some, IsTrue};
+ghost use Rattle.rs_disk.specs.Leaves.{Rests, HasFailed};
 ghost use Rattle.rs_model.specs.Names.{value_of, is_ordered};
 ghost use Rattle.rs_model.specs.State.{body_of, entries};
 ghost use Rattle.rs_model.specs.Step.{is_held};
@@ -10,7 +10,6 @@ ghost use Rattle.rs_catalogue.specs.Named.{named};
 ghost use Rattle.rs_catalogue.specs.Catalogue.{records_of};
 ghost use Rattle.rs_changes.specs.History.{changes_of};
 ghost use Rattle.rs_store.specs.Source.{state_of};
-ghost use Rattle.rs_store.specs.Refusals.{HasFailed};
 ghost use Rattle.rs_store.specs.Shows.{AreAsRecorded, HasItsDigest, IsOfBody, IsOfKind, kind_of, status_of};
 ghost use Rattle.rs_store.specs.AnswersBody.{AnswersBody};
 ghost use Rattle.rs_store.specs.Views.{shown_of, shown_by};
@@ -99,9 +98,6 @@ impl<D: Disk> Source<D> {
         ensures contents { self.new.contents ≡ self.old.contents }
         ensures is_closed { self.new.is_closed ≡ self.old.is_closed }
         ensures rests { Rests (D.state self.old.disk) (D.state self.new.disk) }
-        ensures size { (D.state self.new.disk).size ≡ (D.state self.old.disk).size }
-        ensures lasts { IsTrue (D.state self.new.disk).honest → IsTrue (D.state self.old.disk).honest }
-        ensures faults { (D.state self.old.disk).faults ≤ (D.state self.new.disk).faults }
     {
         if self.is_closed {
             return Err(Refusal::Closed);

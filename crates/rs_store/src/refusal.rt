@@ -47,6 +47,30 @@ pub enum Refusal {
     NoMemory,
 }
 
+impl Refusal {
+    ghost use Rattle.rs_store.specs.Refusals.{refusal_word};
+
+    /// The word by which a refusal is answered, in a script and over HTTP: the name of its variant.
+    pub fn word(self) -> &'static str
+        ensures { result.now ≡ refusal_word self }
+    {
+        match self {
+            Refusal::Closed => "Closed",
+            Refusal::TooLong => "TooLong",
+            Refusal::NotHeld => "NotHeld",
+            Refusal::TooManyResources => "TooManyResources",
+            Refusal::TooManyChanges => "TooManyChanges",
+            Refusal::Exhausted => "Exhausted",
+            Refusal::Full => "Full",
+            Refusal::ReadFault => "ReadFault",
+            Refusal::ShortBody => "ShortBody",
+            Refusal::Device => "Device",
+            Refusal::Damaged => "Damaged",
+            Refusal::NoMemory => "NoMemory",
+        }
+    }
+}
+
 impl From<AllocError> for Refusal {
     ghost use Rattle.rs_store.specs.declared.refusal.Refusal.{Refusal};
 

@@ -1,6 +1,6 @@
 //! Writing what a plan says.
 
-ghost use Rattle.std.specs.Prelude.{◌≡◌, ◌⊎◌, ◌<◌, ◌≤◌, ◌+◌, ◌++◌, ◌^◌, ℕ, Bool, List, length, vec_len, All, IfOk, OnOk, IsErrOf};
+ghost use Rattle.std.specs.Prelude.{◌≡◌, ◌<◌, ◌+◌, ◌++◌, ◌^◌, ℕ, Bool, length, vec_len, All, IfOk, OnOk, IsErrOf};
 ghost use Rattle.rs_body.specs.Blocks.{part, IsOnDisk, IsSized};
 ghost use Rattle.rs_body.specs.Outside.{IsBeside, AreBeside, WritesOutside};
 ghost use Rattle.rs_page.specs.Items.{record_format, change_format};
@@ -9,7 +9,7 @@ ghost use Rattle.rs_page.specs.Pages.{IsWritten};
 ghost use Rattle.rs_page.specs.Kept.{AreApart, AreOnDisk};
 ghost use Rattle.rs_image.specs.Reach.{AreInside};
 ghost use Rattle.rs_image.specs.Tells.{listing, AreListable};
-ghost use Rattle.rs_store.specs.Refusals.{HasFailed};
+ghost use Rattle.rs_disk.specs.Leaves.{Advances, HasFailed};
 ghost use Rattle.rs_plan.specs.Plans.{once_stored, places, planned_listing, AreWritten};
 ghost use Rattle.rs_store.specs.Writing.{of_store, IsDigestOf, AreLists};
 
@@ -107,10 +107,7 @@ pub(crate) fn write_plan<D: Disk>(
     // Whatever it answers.
     ensures places { (plan.new.body ≡ plan.old.body) × (plan.new.directory ≡ plan.old.directory) }
     ensures outside { (kept : ℕ → Bool) → AreBeside kept (places plan.old) → WritesOutside kept (D.state disk.old) (D.state disk.new) }
-    ensures size { (D.state disk.new).size ≡ (D.state disk.old).size }
-    ensures keeps { (D.state disk.new).honest ≡ (D.state disk.old).honest }
-    ensures calls { (D.state disk.old).calls ≤ (D.state disk.new).calls }
-    ensures faults { (D.state disk.old).faults ≤ (D.state disk.new).faults }
+    ensures advances { Advances (D.state disk.old) (D.state disk.new) }
 {
     write_body(disk, plan.body, bytes)?;
     write_pages(alloc, disk, &mut plan.contents)?;
@@ -133,10 +130,7 @@ fn write_pages<D: Disk>(
     ensures device { IsErrOf result WriteFault.Device → HasFailed (D.state disk.old) (D.state disk.new) }
     ensures outside { (kept : ℕ → Bool) → AreBeside kept (placed_extents contents.old.catalogue ++ placed_extents contents.old.history)
         → WritesOutside kept (D.state disk.old) (D.state disk.new) }
-    ensures size { (D.state disk.new).size ≡ (D.state disk.old).size }
-    ensures keeps { (D.state disk.new).honest ≡ (D.state disk.old).honest }
-    ensures calls { (D.state disk.old).calls ≤ (D.state disk.new).calls }
-    ensures faults { (D.state disk.old).faults ≤ (D.state disk.new).faults }
+    ensures advances { Advances (D.state disk.old) (D.state disk.new) }
 {
     contents.catalogue.store_touched(alloc, disk)?;
     contents.history.store_touched(alloc, disk)?;
@@ -157,10 +151,7 @@ fn write_directory<D: Disk>(
     ensures reads { OnOk result (part extent (length (listing contents.now)) (D.state disk.new).now.seen ≡ listing contents.now) }
     ensures device { IsErrOf result WriteFault.Device → HasFailed (D.state disk.old) (D.state disk.new) }
     ensures outside { (kept : ℕ → Bool) → IsBeside kept extent → WritesOutside kept (D.state disk.old) (D.state disk.new) }
-    ensures size { (D.state disk.new).size ≡ (D.state disk.old).size }
-    ensures keeps { (D.state disk.new).honest ≡ (D.state disk.old).honest }
-    ensures calls { (D.state disk.old).calls ≤ (D.state disk.new).calls }
-    ensures faults { (D.state disk.old).faults ≤ (D.state disk.new).faults }
+    ensures advances { Advances (D.state disk.old) (D.state disk.new) }
 {
     let bytes = directory_of(alloc, contents)?;
     let written = Written {

@@ -43,11 +43,6 @@ pub(super) fn plain(rt: &(impl Abort + AllocGlobal)) -> MediaType {
     MediaType::new(rt.alloc(), b"text/plain").expect(rt, "a media type")
 }
 
-/// The moment 1970-01-01T00:00:00.000Z.
-pub(super) fn first_moment(rt: &impl Abort) -> Moment {
-    Moment::new(0).expect(rt, "a moment")
-}
-
 /// A disk of zeros.
 pub(super) fn disk_of(rt: &(impl Abort + AllocGlobal), size: u64) -> MemoryDisk {
     MemoryDisk::new(rt.alloc(), size).expect(rt, "memory for a disk")
@@ -55,7 +50,7 @@ pub(super) fn disk_of(rt: &(impl Abort + AllocGlobal), size: u64) -> MemoryDisk 
 
 /// A new source on a disk, of the item limit 2, made at the moment 0. Where nothing fails it makes six device calls.
 pub(super) fn made(rt: &(impl Abort + AllocGlobal), disk: MemoryDisk) -> Source<MemoryDisk> {
-    let now = first_moment(rt);
+    let now = Moment::first();
     match Source::format(rt.alloc(), disk, b"http://127.0.0.1:8080", 2, now) {
         Ok(source) => source,
         Err((_, fault)) => panic!(rt; "not formatted: {fault}"),
@@ -76,7 +71,7 @@ pub(super) fn ask(
     source: &mut Source<MemoryDisk>,
     asked: Asked,
 ) -> Answer {
-    let now = first_moment(rt);
+    let now = Moment::first();
     let done = match asked {
         Asked::Put(name, body) => source.put(&named(rt, name), &plain(rt), body, now),
         Asked::Receive(name, body) => {

@@ -1,15 +1,16 @@
 //! Devices of which one call fails while a source is made or opened.
 
-use super::asking::{ask_for_two_puts, disk_of, first_moment, made};
+use super::asking::{ask_for_two_puts, disk_of, made};
 use rs_disk::MemoryDisk;
 use rs_store::{FormatFault, OpenFault, Source};
+use rs_time::Moment;
 use std::process::Abort;
 
 /// What a formatting answers of whose device one call fails, after `k` others.
 fn fault_of_formatting(rt: &(impl Abort + AllocGlobal), k: u64) -> Option<FormatFault> {
     let mut disk = disk_of(rt, 8192);
     disk.fail_once(k);
-    match Source::format(rt.alloc(), disk, b"http://a", 2, first_moment(rt)) {
+    match Source::format(rt.alloc(), disk, b"http://a", 2, Moment::first()) {
         Ok(_) => None,
         Err((_, fault)) => Some(fault),
     }

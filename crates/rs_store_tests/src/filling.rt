@@ -2,10 +2,11 @@
 
 use super::asking::Answer::{Created, Deleted, Refused};
 use super::asking::Asked::{Delete, Put};
-use super::asking::{answer_of, ask, disk_of, first_moment, made, named, plain, told};
+use super::asking::{answer_of, ask, disk_of, made, named, plain, told};
 use rs_disk::MemoryDisk;
 use rs_store::Refusal::Full;
 use rs_store::Source;
+use rs_time::Moment;
 use std::process::Abort;
 
 /// A source of 16 blocks, of which two are free: the slots have two, the body of `a` nine, and the page of the
@@ -13,7 +14,7 @@ use std::process::Abort;
 fn with_two_free_blocks(rt: &(impl Abort + AllocGlobal)) -> Source<MemoryDisk> {
     let mut source = made(rt, disk_of(rt, 8192));
     let body = vec![in rt.alloc(); 7; 4608].expect(rt, "memory for a body");
-    let done = source.put(&named(rt, b"a"), &plain(rt), &body, first_moment(rt));
+    let done = source.put(&named(rt, b"a"), &plain(rt), &body, Moment::first());
     assert_eq!(rt; answer_of(&done), Created(1));
     source
 }

@@ -1,11 +1,12 @@
 //! Puts whose bodies a reader brings.
 
 use super::asking::Answer::{self, Created, Refused, Updated};
-use super::asking::{answer_of, disk_of, first_moment, made, named, plain, told};
+use super::asking::{answer_of, disk_of, made, named, plain, told};
 use rs_disk::{FaultyReader, MemoryDisk};
 use rs_io::Watched;
 use rs_store::Refusal::{Full, ReadFault, ShortBody, TooLong};
 use rs_store::Source;
+use rs_time::Moment;
 use std::process::Abort;
 
 /// What a reader has, how many bytes it gives in a read, the number of the read from which on it fails, the length of
@@ -39,7 +40,7 @@ fn put_from(
     length: u64,
 ) -> Answer {
     let mut reader = Watched::new(reader);
-    let now = first_moment(rt);
+    let now = Moment::first();
     let done = source.put_from(&named(rt, b"a"), &plain(rt), &mut reader, length, now);
     answer_of(&done)
 }

@@ -33,6 +33,13 @@ impl Moment {
     /// The milliseconds of the greatest moment, 9999-12-31T23:59:59.999Z.
     pub const GREATEST: u64 = 253_402_300_799_999;
 
+    /// The first moment, 1970-01-01T00:00:00.000Z.
+    pub fn first() -> Moment
+        ensures { result ≡ 0 }
+    {
+        Moment { ms: 0 }
+    }
+
     /// The moment `ms` milliseconds after 1970-01-01T00:00:00.000Z, or `None` where `ms` is above
     /// [`Moment::GREATEST`].
     pub fn new(ms: u64) -> Option<Moment>

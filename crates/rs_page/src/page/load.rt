@@ -1,5 +1,6 @@
 //! Reading a page.
-ghost use Rattle.std.specs.Prelude.{ℕ, ◌≡◌, ◌⊎◌, ◌<◌, ◌≤◌, ◌+◌, ◌^◌, List, IfOk, IsErrOf, IsTrue};
+ghost use Rattle.rs_disk.specs.Leaves.{HasFailed};
+ghost use Rattle.std.specs.Prelude.{◌≡◌, ◌<◌, ◌≤◌, ◌+◌, List, IfOk, IsErrOf, IsTrue};
 ghost use Rattle.rs_disk.specs.Leaves.{Rests};
 ghost use Rattle.rs_page.specs.Format.{ArePageItems};
 ghost use Rattle.rs_page.specs.Pages.{HasItsBlocks, IsPage};
@@ -74,13 +75,10 @@ impl<T: PageItem> Page<T> {
         ensures found { IfOk result (λ loaded. IsTrue (D.state disk.new).honest → IsPage T.format page.now (D.state disk.new).now.seen loaded.items) }
         ensures damaged { IsErrOf result LoadFault.Damaged → IsTrue (D.state disk.new).honest → (items : List T) → ¬ IsPage T.format page.now (D.state disk.new).now.seen items }
         ensures no_memory { IsErrOf result LoadFault.NoMemory → HasItsBlocks (D.state disk.old).size page.now }
-        ensures device { IsErrOf result LoadFault.Device → ((D.state disk.old).faults < (D.state disk.new).faults) ⊎ (2 ^ 64 ≤ (D.state disk.new).calls + 1) }
+        ensures device { IsErrOf result LoadFault.Device → HasFailed (D.state disk.old) (D.state disk.new) }
 
         ensures rests { Rests (D.state disk.old) (D.state disk.new) }
-        ensures size { (D.state disk.new).size ≡ (D.state disk.old).size }
-        ensures lasts { IsTrue (D.state disk.new).honest → IsTrue (D.state disk.old).honest }
         ensures one_call { (D.state disk.new).calls ≤ (D.state disk.old).calls + 1 }
-        ensures faults { (D.state disk.old).faults ≤ (D.state disk.new).faults }
     {
         if !is_sized(page.extent, page.length) || !is_on_disk(page.extent, disk.size()) {
             return Err(LoadFault::Damaged);

@@ -1,5 +1,6 @@
 //! Writing a page.
-ghost use Rattle.std.specs.Prelude.{ℕ, ◌≡◌, ◌⊎◌, ◌<◌, ◌≤◌, ◌+◌, ◌^◌, Bool, IfSome, IsSome, OnOk, OnErr, IsErrOf};
+ghost use Rattle.rs_disk.specs.Leaves.{Advances, HasFailed};
+ghost use Rattle.std.specs.Prelude.{ℕ, ◌≡◌, ◌<◌, ◌≤◌, ◌+◌, Bool, IfSome, IsSome, OnOk, OnErr, IsErrOf};
 ghost use Rattle.rs_body.specs.Blocks.{IsOnDisk};
 ghost use Rattle.rs_body.specs.Outside.{IsBeside, WritesOutside};
 ghost use Rattle.rs_page.specs.Sheets.{IsTouched, placed_extent, stored_ref, sheet_stored};
@@ -65,17 +66,14 @@ impl<T: PageItem> Page<T> {
         ensures ok { OnOk result (self.new ≡ sheet_stored T.format self.old) }
         ensures reads { OnOk result (IsWritten T.format (D.state disk.new).now.seen self.old) }
         ensures err { OnErr result (self.new ≡ self.old) }
-        ensures device { IsErrOf result StoreFault.Device → ((D.state disk.old).faults < (D.state disk.new).faults) ⊎ (2 ^ 64 ≤ (D.state disk.new).calls + 1) }
+        ensures device { IsErrOf result StoreFault.Device → HasFailed (D.state disk.old) (D.state disk.new) }
         ensures no_memory { IsErrOf result StoreFault.NoMemory → D.state disk.new ≡ D.state disk.old }
         ensures stored { IsSome (stored_ref self.old.place) → (result ≡ Ok tt) × (D.state disk.new ≡ D.state disk.old) }
 
         // Whatever it answers.
         ensures outside { (kept : ℕ → Bool) → IfSome (placed_extent self.old.place) (IsBeside kept) → WritesOutside kept (D.state disk.old) (D.state disk.new) }
-        ensures size { (D.state disk.new).size ≡ (D.state disk.old).size }
-        ensures keeps { (D.state disk.new).honest ≡ (D.state disk.old).honest }
+        ensures advances { Advances (D.state disk.old) (D.state disk.new) }
         ensures one_call { (D.state disk.new).calls ≤ (D.state disk.old).calls + 1 }
-        ensures calls { (D.state disk.old).calls ≤ (D.state disk.new).calls }
-        ensures faults { (D.state disk.old).faults ≤ (D.state disk.new).faults }
     {
         let Place::Placed(extent) = self.place else {
             return Ok(());

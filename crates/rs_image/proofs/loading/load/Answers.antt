@@ -14,7 +14,7 @@ returns-in_err-contents-clause-damaged g c is honest lists s tells =
     let d = c.in_ok-directory.directory in
     let mid = g.D.Disk.state c.load_directory.new.disk in
     let new = g.D.Disk.state c.load_lists.new.disk in
-    let found = still_read root (spelled d) mid new c.load_lists.ensures.rests (c.in_ok-directory.ensures.found (c.load_lists.ensures.lasts honest)) in
+    let found = still_read root (spelled d) mid new c.load_lists.ensures.rests (c.in_ok-directory.ensures.found (c.load_lists.ensures.rests.lasts honest)) in
     let of = told_of root d lists new.now.seen s c.in_ok-directory.ensures.lawful found tells in
     let fault = handed_on c.in_err-contents.field-0.0 c.from_residual-in_err-contents.result c.from_residual-in_err-contents.ensures.1 is in
     c.in_err-contents.ensures.damaged (ap Err fault) honest _ _ _ (told_hold root d lists new.now.seen s of tells)
@@ -25,7 +25,7 @@ returns-in-Ok-true-clause-told g c honest =
     let d = c.in_ok-directory.directory in
     let mid = g.D.Disk.state c.load_directory.new.disk in
     let new = g.D.Disk.state c.load_lists.new.disk in
-    let found = still_read root (spelled d) mid new c.load_lists.ensures.rests (c.in_ok-directory.ensures.found (c.load_lists.ensures.lasts honest)) in
+    let found = still_read root (spelled d) mid new c.load_lists.ensures.rests (c.in_ok-directory.ensures.found (c.load_lists.ensures.rests.lasts honest)) in
     let long : c.size.result ≡ length new.now.seen = c.size.ensures ∙ size_seen new.size new.now (g.met.D.Disk.holds c.load_lists.new.disk) in
     are_told root d c.in_ok-contents.contents new.now.seen c.size.result c.in_ok-directory.ensures.lawful c.in_ok-directory.ensures.digest found
     c.in_ok-contents.ensures.lists (c.in_ok-contents.ensures.found honest) long (c.in-Ok-true.ensures.yes c.in-Ok-true.field-0-test)
@@ -36,7 +36,7 @@ returns-in-Ok-false-clause-damaged g c is honest lists s tells =
     let d = c.in_ok-directory.directory in
     let mid = g.D.Disk.state c.load_directory.new.disk in
     let new = g.D.Disk.state c.load_lists.new.disk in
-    let found = still_read root (spelled d) mid new c.load_lists.ensures.rests (c.in_ok-directory.ensures.found (c.load_lists.ensures.lasts honest)) in
+    let found = still_read root (spelled d) mid new c.load_lists.ensures.rests (c.in_ok-directory.ensures.found (c.load_lists.ensures.rests.lasts honest)) in
     let long : c.size.result ≡ length new.now.seen = c.size.ensures ∙ size_seen new.size new.now (g.met.D.Disk.holds c.load_lists.new.disk) in
     none_told root d c.in_ok-contents.contents new.now.seen c.size.result c.in_ok-directory.ensures.lawful found
     c.in_ok-contents.ensures.lists (c.in_ok-contents.ensures.found honest) long (c.in-Ok-false.ensures.no c.in-Ok-false.field-0-test) lists s tells

@@ -23,4 +23,4 @@ returns-clause-room g c =
     let long : length c.deref.result.now ≡ root.length = search rules in
     let size : 1024 ≤ c.size.result =
     has_slots root.directory root.length c.size.result (omega (arith, some, long)) (search rules) (search rules) in
-    omega (arith, size, c.size.ensures, c.in_ok-read_body.ensures.size)
+    omega (arith, size, c.size.ensures, c.in_ok-read_body.ensures.rests.size)

@@ -16,7 +16,7 @@ loop-init g c =
     let P : ℕ → Type 0 = λ now. Progress g.D.Disk.state g.W.Write.contents start a [] c.new-line.result a (session c.args.source.now now) in (
       [],
       (Consumes-nil (g.R.Read.remaining (watched c.args.reader.now)), refl),
-      subst P (sym c.first_moment-now.ensures) (Progress-none g.D.Disk.state g.W.Write.contents start a c.new-line.result c.new-line.ensures),
+      subst P (sym c.first-now.ensures) (Progress-none g.D.Disk.state g.W.Write.contents start a c.new-line.result c.new-line.ensures),
       omega arith,
       omega arith,
     )

@@ -24,7 +24,7 @@ returns-in_err-store_touched-clause-outside g c kept beside =
 pub store_touched-requires-2-clause-room : goal.store_touched-requires-2-clause-room
 store_touched-requires-2-clause-room g c b is =
     let room = c.requires.room b (some_right (placed_extents c.args.contents.now.catalogue) (placed_extents c.args.contents.now.history) b is) in
-    omega (arith, room, c.store_touched.ensures.size)
+    omega (arith, room, c.store_touched.ensures.advances.size)
 
 pub store_touched-requires-2-clause-apart : goal.store_touched-requires-2-clause-apart
 store_touched-requires-2-clause-apart g c =

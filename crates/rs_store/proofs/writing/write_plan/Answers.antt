@@ -30,7 +30,7 @@ pub write_directory-requires-clause-room : goal.write_directory-requires-clause-
 write_directory-requires-clause-room g c b is =
     let size = (g.D.Disk.state c.args.disk.now).size in
     let fits : 512 * b + 512 ≤ size = (inside_each size c.args.plan.now c.requires.inside).directory b is in
-    omega (arith, fits, c.write_body.ensures.runs.size, c.write_pages.ensures.size)
+    omega (arith, fits, c.write_body.ensures.runs.size, c.write_pages.ensures.advances.size)
 
 pub returns-clause-outside : goal.returns-clause-outside
 returns-clause-outside g c kept beside =

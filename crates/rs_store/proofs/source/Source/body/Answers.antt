@@ -14,7 +14,4 @@ returns g c = record {
   contents = c.read_held.ensures.contents;
   is_closed = c.read_held.ensures.is_closed;
   rests = c.read_held.ensures.rests;
-  size = c.read_held.ensures.size;
-  lasts = c.read_held.ensures.lasts;
-  faults = c.read_held.ensures.faults;
 }

@@ -1,6 +1,6 @@
 use Rattle.std.proofs.Common.{arith, ◌≡◌, inl, inr, ◌≤◌, ℕ, true, List, length, refl, sym, ◌∙◌, ap, subst, Result, Ok, Err, IsErrOf}
 use Rattle.rs_disk.specs.Medium.{DiskState}
-use Rattle.rs_disk.specs.Leaves.{Runs}
+use Rattle.rs_disk.specs.Leaves.{Runs, HasFailed}
 use Rattle.rs_extent.specs.declared.Extent.{Extent}
 use Rattle.rs_commit.specs.declared.root.Root.{Root}
 use Rattle.rs_commit.specs.declared.faults.CommitFault.{CommitFault}
@@ -17,7 +17,6 @@ use Rattle.rs_store.specs.declared.writing.WriteFault.{WriteFault}
 use Rattle.rs_store.specs.declared.writing.Written.{Written}
 use Rattle.rs_store.specs.Source.{Stored}
 use Rattle.rs_store.specs.Inside.{IsKept}
-use Rattle.rs_store.specs.Refusals.{HasFailed}
 use Rattle.rs_plan.specs.Plans.{once_stored, planned_root, planned_listing, IsPlanned}
 use Rattle.rs_plan.specs.declared.plan.Plan.{Plan}
 use Rattle.rs_store.specs.Writing.{IsDigestOf, AreLists}
@@ -54,7 +53,7 @@ invariant_of-self-2 g c =
     let planned : IsPlanned (device o.disk).size o.slots.root o.contents given.command given.moment p =
     subst (λ (s : Stored g.row.D.Denot). IsPlanned (device s.disk).size s.slots.root s.contents given.command given.moment p) (sym c.self.view_is) given.planned in
     kept_next (device o.disk).size (device c.commit-committed.new.disk).size c.commit-committed.new.self o.slots.root o.contents c.write_plan.new.plan.contents given.command given.moment p
-    (c.commit-committed.ensures.runs.size ∙ c.write_plan.ensures.size) c.self.invariant.room
+    (c.commit-committed.ensures.runs.size ∙ c.write_plan.ensures.advances.size) c.self.invariant.room
     (c.in-Ok-committed.ensures.root ∙ same_root o.slots.root p c.write_plan.new.plan.directory c.in-Ok.written c.write_plan.ensures.places.1 c.in-Ok.ensures.written)
     c.in-Ok.ensures.contents planned
 
@@ -67,7 +66,7 @@ returns-in-Err-NoMemory-clause-answers g c =
     (λ command now free body planned replied.
     stopped device g.met.D.Disk.holds o command now c.args.plan c.args.bytes.now c.self.invariant.whole free body planned c.write_plan.new.disk
     (c.write_plan.ensures.outside (is_kept o.slots.root o.contents) planned.free)
-    (record { size = c.write_plan.ensures.size; keeps = c.write_plan.ensures.keeps; calls = c.write_plan.ensures.calls; faults = c.write_plan.ensures.faults }))
+    c.write_plan.ensures.advances)
 
 pub returns-in-Err-Device-clause-answers : goal.returns-in-Err-Device-clause-answers
 returns-in-Err-Device-clause-answers g c =
@@ -79,7 +78,7 @@ returns-in-Err-Device-clause-answers g c =
     broken_off device g.met.D.Disk.holds o command now c.args.plan c.args.bytes.now c.self.invariant.whole free body planned c.write_plan.new.disk
     (c.write_plan.ensures.outside (is_kept o.slots.root o.contents) planned.free) new refl refl
     (c.write_plan.ensures.device (subst (λ (x : WriteFault). c.write_plan.result ≡ Err x) c.in-Err-Device.field-0-is c.in-Err-Device.is))
-    (record { size = c.write_plan.ensures.size; keeps = c.write_plan.ensures.keeps; calls = c.write_plan.ensures.calls; faults = c.write_plan.ensures.faults }))
+    c.write_plan.ensures.advances)
 
 pub returns-clause-answers : goal.returns-clause-answers
 returns-clause-answers g c =
@@ -95,15 +94,15 @@ returns-clause-answers g c =
     (λ command now free body planned replied.
     committed device g.met.D.Disk.holds o command now p c.args.bytes.now c.self.invariant.whole free body planned c.write_plan.new.disk
     (c.write_plan.ensures.outside (is_kept o.slots.root o.contents) planned.free)
-    c.in-Ok.ensures.reads lists c.write_plan.ensures.size root root_is new c.args.reply
+    c.in-Ok.ensures.reads lists c.write_plan.ensures.advances.size root root_is new c.args.reply
     (with_root (device c.write_plan.new.disk).now.seen (other c.self.inside.slots.slot) c.commit-committed.new.self.root)
     c.commit-committed.ensures.any_moment c.in-Ok-committed.ensures.root c.in-Ok.ensures.contents refl
     c.in-Ok-committed.ensures.ready c.commit-committed.ensures.outside c.in-Ok-committed.ensures.written replied
     (record {
-      size = c.commit-committed.ensures.runs.size ∙ c.write_plan.ensures.size;
-      keeps = c.commit-committed.ensures.keeps ∙ c.write_plan.ensures.keeps;
-      calls = omega (arith, c.commit-committed.ensures.runs.calls, c.write_plan.ensures.calls);
-      faults = omega (arith, c.commit-committed.ensures.runs.faults, c.write_plan.ensures.faults);
+      size = c.commit-committed.ensures.runs.size ∙ c.write_plan.ensures.advances.size;
+      keeps = c.commit-committed.ensures.keeps ∙ c.write_plan.ensures.advances.keeps;
+      calls = omega (arith, c.commit-committed.ensures.runs.calls, c.write_plan.ensures.advances.calls);
+      faults = omega (arith, c.commit-committed.ensures.runs.faults, c.write_plan.ensures.advances.faults);
     }))
 
 pub returns-in-Err-clause-answers : goal.returns-in-Err-clause-answers
@@ -122,12 +121,12 @@ returns-in-Err-clause-answers g c =
     (λ command now free body planned replied.
     not_committed device g.met.D.Disk.holds o command now p c.args.bytes.now c.self.invariant.whole free body planned c.write_plan.new.disk
     (c.write_plan.ensures.outside (is_kept o.slots.root o.contents) planned.free)
-    c.in-Ok.ensures.reads lists c.write_plan.ensures.size root root_is new
+    c.in-Ok.ensures.reads lists c.write_plan.ensures.advances.size root root_is new
     c.commit-committed.ensures.any_moment refl
-    (commit_failed (device o.disk) (device c.write_plan.new.disk) (device new.disk) c.commit-committed.result _ c.in-Err.is spare c.write_plan.ensures.faults c.commit-committed.ensures.runs)
+    (commit_failed (device o.disk) (device c.write_plan.new.disk) (device new.disk) c.commit-committed.result _ c.in-Err.is spare c.write_plan.ensures.advances.faults c.commit-committed.ensures.runs)
     (record {
-      size = c.commit-committed.ensures.runs.size ∙ c.write_plan.ensures.size;
-      keeps = c.commit-committed.ensures.keeps ∙ c.write_plan.ensures.keeps;
-      calls = omega (arith, c.commit-committed.ensures.runs.calls, c.write_plan.ensures.calls);
-      faults = omega (arith, c.commit-committed.ensures.runs.faults, c.write_plan.ensures.faults);
+      size = c.commit-committed.ensures.runs.size ∙ c.write_plan.ensures.advances.size;
+      keeps = c.commit-committed.ensures.keeps ∙ c.write_plan.ensures.advances.keeps;
+      calls = omega (arith, c.commit-committed.ensures.runs.calls, c.write_plan.ensures.advances.calls);
+      faults = omega (arith, c.commit-committed.ensures.runs.faults, c.write_plan.ensures.advances.faults);
     }))

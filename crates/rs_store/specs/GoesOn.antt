@@ -1,4 +1,4 @@
--- What one request makes of the state that a source holds.
+-- What commands make of the state that a source holds.
 use Rattle.std.specs.Prelude.{◌≡◌, ◌≤◌, ℕ, false, List, [], length, All, None}
 use Rattle.rs_disk.specs.Medium.{DiskState}
 use Rattle.rs_model.specs.State.{Source}
