@@ -12,7 +12,7 @@ use std::process::Abort;
 fn is_closed<T: Drop>(rt: &impl Abort, answer: Result<T, Refusal>) {
     match answer {
         Ok(_) => panic!(rt; "an open source"),
-        Err(refusal) => assert_eq!(rt; refusal, Closed),
+        Err(refusal) => assert_eq!(rt; (refusal, refusal.word()), (Closed, "Closed")),
     }
 }
 

@@ -9,7 +9,8 @@ use std::test::Fail;
 fn moments_and_faults_are_printed(rt: HostRuntime) -> Result<(), Fail> {
     let moment = Moment::new(951_782_400_000).ok_or("no moment")?;
     let text = format!(in rt.alloc();
-        "at {moment}: {ReadFault}, {WriteFault}, {}, {}, {}, {}, {}",
+        "from {} to {moment}: {ReadFault}, {WriteFault}, {}, {}, {}, {}, {}",
+        Moment::first(),
         NameError::BadName,
         MediaTypeError::BadType,
         BaseError::BadBase,
@@ -18,7 +19,7 @@ fn moments_and_faults_are_printed(rt: HostRuntime) -> Result<(), Fail> {
     )?;
     assert_eq!(rt;
         text.as_str(),
-        "at 2000-02-29T00:00:00.000Z: the reader failed, the writer failed, the name is not lawful, \
+        "from 1970-01-01T00:00:00.000Z to 2000-02-29T00:00:00.000Z: the reader failed, the writer failed, the name is not lawful, \
          the media type is not lawful, the base is not lawful, the bytes are no lawful field, out of memory"
     );
     Ok(())
