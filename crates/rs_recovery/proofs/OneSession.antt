@@ -49,7 +49,7 @@ all_acknowledged {D} device rise old cs acks new turn =
 
 module _ (rise : CallsRise state_of) (base : List ℕ) (limit moment : ℕ) (first last : Stored MemoryDisk) (cs : Commands) (acks : Acks) (image : List ℕ) (disk : MemoryDisk)
     (made : Holds state_of first (start_of base limit moment)) (turn : InTurn state_of first cs acks last)
-    (choice : List ℕ) (chosen : image ≡ image_of choice (state_of last.disk).now) (left : IsImage (state_of last.disk).now image) (bytes : (state_of disk).now ≡ resting image) where
+    (is_image : IsImage (state_of last.disk).now image) (bytes : (state_of disk).now ≡ resting image) where
   -- the one session
   abbrev session : Session MemoryDisk
   session = record { first = first; commands = cs; acks = acks; last = last; stop = (state_of last.disk).calls; image = image }
@@ -59,31 +59,33 @@ module _ (rise : CallsRise state_of) (base : List ℕ) (limit moment : ℕ) (fir
     turn = turn;
     from = rise first cs acks last turn;
     to = omega arith;
-    image = record { past = λ lt. absurd (omega (arith, lt)); now = λ _. left };
+    image = record { past = λ lt. absurd (omega (arith, lt)); now = λ _. is_image };
   }
 
-  by_one : (source : Stored MemoryDisk) (standing : List ℕ) → AreStanding (start_of base limit moment) (session ∷ []) standing
+  by_one : (left : MemoryDisk) → last.disk ≡ left → (choice : List ℕ) → image ≡ image_of choice (state_of left).now → (source : Stored MemoryDisk) (standing : List ℕ) → AreStanding (start_of base limit moment) (session ∷ []) standing
       → Holds state_of source (fold_of (start_of base limit moment) (behind (session ∷ []) standing)) → YieldsHeld (fold_of (start_of base limit moment) (behind (session ∷ []) standing))
-      → Survives (start_of base limit moment) cs acks choice source
-  by_one source [] hold state yields = absurd hold
-  by_one source (j ∷ []) hold state yields =
+      → Survives (start_of base limit moment) cs acks left choice source
+  by_one left is_left choice chosen source [] hold state yields = absurd hold
+  by_one left is_left choice chosen source (j ∷ []) hold state yields =
       record {
         first = first;
         last = last;
         began = made;
         turn = turn;
+        left_by = is_left;
         j = j;
         image = subst (λ (l : List ℕ). StandsFor l (fold_of (start_of base limit moment) (take j (counted cs acks)))) chosen hold.2;
         accepted = omega (arith, hold.0, all_acknowledged state_of rise first cs acks last turn);
         holds = state;
         yields = yields;
       }
-  by_one source (j ∷ k ∷ standing) hold state yields = absurd hold.3
+  by_one left is_left choice chosen source (j ∷ k ∷ standing) hold state yields = absurd hold.3
 
-  pub survives : (source : Stored MemoryDisk) → Headline state_of disk (Ok source) → Survives (start_of base limit moment) cs acks choice source
-  survives source headline =
+  pub survives : (left : MemoryDisk) → last.disk ≡ left → (choice : List ℕ) → image ≡ image_of choice (state_of left).now → (source : Stored MemoryDisk)
+      → Headline state_of disk (Ok source) → Survives (start_of base limit moment) cs acks left choice source
+  survives left is_left choice chosen source headline =
       let is = headline base limit moment (session ∷ []) (stopped, made) (ap (λ (m : Medium). m.seen) bytes) refl in
-      by_one source is.standing is.stand.holds is.state is.yields
+      by_one left is_left choice chosen source is.standing is.stand.holds is.state is.yields
 
   excused : (before after : DiskState) (fault : OpenFault) → IsExcuse before after fault → IsLost (Opening fault) → ⊥
   excused before after openings.NotASource excuse lost = absurd excuse

@@ -1,5 +1,5 @@
 -- What a source on a memory disk is after a stop.
-use Rattle.std.specs.Prelude.{ℕ, ◌≤◌, List, length, take}
+use Rattle.std.specs.Prelude.{◌≡◌, ℕ, ◌≤◌, List, length, take}
 use Rattle.rs_disk.specs.declared.memory.MemoryDisk.{MemoryDisk}
 use Rattle.rs_disk.specs.Medium.{image_of}
 use Rattle.rs_disk.specs.Memory.{state_of}
@@ -16,15 +16,16 @@ use Rattle.rs_recovery.specs.declared.surviving.Halt.{Halt}
 use Rattle.rs_recovery.specs.declared.surviving.Halt.TheVariants.{Formatting, Running, Imaging, Opening}
 use Rattle.rs_recovery.specs.Recovered.{YieldsHeld}
 
--- The commands were answered in their turn, from the start on; and of the disk that the run left, the image of this choice stands
--- for the state after the first j counted commands, for some j: the source holds it, and each accepted command is among them.
-pub record Survives (start : Source) (commands : List (Command × ℕ)) (acks : List Ack) (choice : List ℕ) (source : Stored MemoryDisk) : Type 0 where
+-- The commands were answered in their turn, from the start on, and the run left this disk. Its image of this choice stands for the
+-- state after the first j counted commands, for some j: the source holds it, and each accepted command is among them.
+pub record Survives (start : Source) (commands : List (Command × ℕ)) (acks : List Ack) (left : MemoryDisk) (choice : List ℕ) (source : Stored MemoryDisk) : Type 0 where
   pub first : Stored MemoryDisk
   pub last : Stored MemoryDisk
   pub began : Holds state_of first start
   pub turn : InTurn state_of first commands acks last
+  pub left_by : last.disk ≡ left
   pub j : ℕ
-  pub image : StandsFor (image_of choice (state_of last.disk).now) (fold_of start (take j (counted commands acks)))
+  pub image : StandsFor (image_of choice (state_of left).now) (fold_of start (take j (counted commands acks)))
   pub accepted : length (answered is_accepted commands acks) ≤ j
   pub holds : Holds state_of source (fold_of start (take j (counted commands acks)))
   pub yields : YieldsHeld (fold_of start (take j (counted commands acks)))

@@ -29,6 +29,8 @@ pub enum Halt {
 /// then: that of this choice of bytes. Where the disk is to stop after some calls, the image is one
 /// that a crash in that call may leave.
 ///
+/// It gives the answers, the disk that the run left, and the source that was recovered.
+///
 /// # Errors
 ///
 /// Each step's own. The disk is never told to hold no source, or a damaged one.
@@ -40,8 +42,8 @@ pub fn format_run_recover(
     now: Moment,
     commands: &[(Command, Moment)],
     choice: &[u8],
-) -> Result<(Vec<Ack>, Source<MemoryDisk>), Halt>
-    ensures survives { IfOk result (λ x. Survives (start_of base.now limit now) commands.now x.0.items choice.now x.1) }
+) -> Result<(Vec<Ack>, MemoryDisk, Source<MemoryDisk>), Halt>
+    ensures survives { IfOk result (λ x. Survives (start_of base.now limit now) commands.now x.0.items x.1 choice.now x.2) }
     ensures found { IfErr result (λ halt. ¬ IsLost halt) }
 {
     turns_go_on::<MemoryDisk>();
@@ -61,7 +63,7 @@ pub fn format_run_recover(
         return Err(Halt::Imaging);
     };
     match recover(alloc, disk) {
-        Ok(source) => Ok((acks, source)),
+        Ok(source) => Ok((acks, left, source)),
         Err((_, fault)) => Err(Halt::Opening(fault)),
     }
 }

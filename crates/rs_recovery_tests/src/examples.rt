@@ -2,9 +2,12 @@
 
 use super::asking::Answer::{Created, Deleted, Refused};
 use super::asking::Asked::{self, Delete, Put};
-use super::asking::{Answer, answer_of, commands_of, formatted, ran, told_by};
+use super::asking::{Answer, answer_of, at, commands_of, formatted, ran, told, told_by};
 use rs_disk::{Disk, MemoryDisk};
+use rs_recovery::format_run_recover;
+use rs_store::Ack;
 use rs_store::Refusal::{Closed, Device, NotHeld};
+use std::alloc::Global;
 use std::process::Abort;
 use std::test::Fail;
 
@@ -85,6 +88,44 @@ fn a_sync_that_fails_in_a_delete(rt: HostRuntime) -> Result<(), Fail> {
             &[Refused(Device), Refused(Closed)],
         )?;
         tells(&rt, &left, want)?;
+    }
+    Ok(())
+}
+
+/// Formats a disk that takes so many calls, runs a put and a delete, and recovers from the image of which each unsettled byte
+/// is 9. Gives the answers, and what is told then.
+fn recovered(alloc: Global, calls: u64) -> Result<(Vec<Ack>, String), Fail> {
+    let commands = commands_of(alloc, &[Put(b"a", b"one"), Delete(b"a")], 1000)?;
+    let mut disk = MemoryDisk::new(alloc, 16384)?;
+    disk.stop_after(calls);
+    match format_run_recover(alloc, disk, b"http://a", 2, at(0)?, &commands, &[9]) {
+        Ok((acks, _, source)) => {
+            let mut source = source;
+            Ok((acks, told(alloc, &mut source)?))
+        }
+        Err(_) => Err("not recovered".into()),
+    }
+}
+
+#[test]
+fn a_run_is_recovered_from_an_image(rt: HostRuntime) -> Result<(), Fail> {
+    // The formatting makes six calls, and the put ten.
+    const ROWS: [(u64, Answer, &str); 2] = [
+        (
+            6 + 10,
+            Refused(Device),
+            "held: a=one; published 0:; changes 1; last 1000",
+        ),
+        (
+            NEVER,
+            Deleted(1001),
+            "held:; published 0:; changes 2; last 1001",
+        ),
+    ];
+    for (calls, want, text) in ROWS {
+        let (acks, told) = recovered(rt.alloc(), calls)?;
+        let last = acks.last().map(answer_of);
+        assert_eq!(rt; (acks.len(), last, told.as_str()), (2, Some(want), text));
     }
     Ok(())
 }
