@@ -1,2 +1,2 @@
 pub mod Sets
-pub mod Kept
+pub mod KeptBlocks

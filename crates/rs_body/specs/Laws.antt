@@ -3,8 +3,10 @@ use Rattle.std.specs.Prelude.{◌≡◌, ◌↔◌, ℕ, ◌*◌, ◌≤◌, Boo
 use Rattle.rs_disk.specs.Medium.{DiskState, IsImage, IsImageAt}
 use Rattle.rs_disk.specs.Leaves.{Rests}
 use Rattle.rs_extent.specs.declared.Extent.{Extent}
-use Rattle.rs_body.specs.Blocks.{within, part, blocks_of}
-use Rattle.rs_body.specs.Outside.{IsBeside, AreBeside, Keeps, WritesOutside}
+use Rattle.rs_extent.specs.Blocks.{block_size}
+use Rattle.rs_extent.specs.Extents.{within, IsBeside, AreBeside}
+use Rattle.rs_body.specs.Blocks.{part, blocks_of}
+use Rattle.rs_body.specs.Outside.{Keeps, WritesOutside}
 
 -- Extents are beside a set where each of them is.
 abbrev pub BesideEach : Type 0
@@ -12,7 +14,7 @@ BesideEach = (kept : ℕ → Bool) (e : Extent) (es : List Extent) → AreBeside
 
 -- The fewest blocks that have room for n bytes are those that they need.
 abbrev pub FewestBlocks : Type 0
-FewestBlocks = (n blocks : ℕ) → (n ≤ 512 * blocks) ↔ (blocks_of n ≤ blocks)
+FewestBlocks = (n blocks : ℕ) → (n ≤ block_size * blocks) ↔ (blocks_of n ≤ blocks)
 
 -- A run of no call writes outside every set.
 abbrev pub NoCallOutside : Type 0
@@ -32,11 +34,11 @@ OutsideRests = (kept : ℕ → Bool) (old new : DiskState) → Rests old new →
 
 -- The first n bytes of an extent whose blocks are all in a set stay where the set's blocks hold what they held.
 abbrev pub PartKept : Type 0
-PartKept = (kept : ℕ → Bool) (e : Extent) (n : ℕ) → n ≤ 512 * e.blocks → ((b : ℕ) → within e b ≡ true → kept b ≡ true)
+PartKept = (kept : ℕ → Bool) (e : Extent) (n : ℕ) → n ≤ block_size * e.blocks → ((b : ℕ) → within e b ≡ true → kept b ≡ true)
     → (old new : List ℕ) → Keeps kept old new → part e n new ≡ part e n old
 
 -- Of a run that writes outside this set, each image of a crash holds there what an image of the run's entry holds.
 abbrev pub ImagePartKept : Type 0
-ImagePartKept = (kept : ℕ → Bool) (e : Extent) (n : ℕ) → n ≤ 512 * e.blocks → ((b : ℕ) → within e b ≡ true → kept b ≡ true)
+ImagePartKept = (kept : ℕ → Bool) (e : Extent) (n : ℕ) → n ≤ block_size * e.blocks → ((b : ℕ) → within e b ≡ true → kept b ≡ true)
     → (old new : DiskState) → WritesOutside kept old new → (m : ℕ) (image : List ℕ) → old.calls ≤ m → m ≤ new.calls → IsImageAt new m image
     → (entry : List ℕ) × IsImage old.now entry × (part e n image ≡ part e n entry)

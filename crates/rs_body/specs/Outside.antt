@@ -2,25 +2,16 @@
 use Rattle.std.specs.Prelude.{◌≡◌, ℕ, ◌+◌, ◌*◌, ◌<◌, Bool, true, false, List, length, get_or}
 use Rattle.rs_disk.specs.Medium.{Medium, DiskState, IsImage}
 use Rattle.rs_disk.specs.Leaves.{Leaves}
-use Rattle.rs_extent.specs.declared.Extent.{Extent}
-use Rattle.rs_body.specs.Blocks.{within, in_some}
-
--- no block of the extent is in the set
-abbrev pub IsBeside : (ℕ → Bool) → Extent → Type 0
-IsBeside kept e = (b : ℕ) → within e b ≡ true → kept b ≡ false
-
--- no block of any of the extents is in the set
-abbrev pub AreBeside : (ℕ → Bool) → List Extent → Type 0
-AreBeside kept es = (b : ℕ) → in_some es b ≡ true → kept b ≡ false
+use Rattle.rs_extent.specs.Blocks.{block_size}
 
 -- The blocks of the set hold what they held.
 pub record Keeps (kept : ℕ → Bool) (old new : List ℕ) : Type 0 where
   pub size : length new ≡ length old
-  pub same : (b i : ℕ) → kept b ≡ true → i < 512 → get_or new (512 * b + i) 0 ≡ get_or old (512 * b + i) 0
+  pub same : (b i : ℕ) → kept b ≡ true → i < block_size → get_or new (block_size * b + i) 0 ≡ get_or old (block_size * b + i) 0
 
 -- The places in the blocks of the set are unsettled where they were.
 pub record KeepsMarks (kept : ℕ → Bool) (old new : List Bool) : Type 0 where
-  pub same : (b i : ℕ) → kept b ≡ true → i < 512 → get_or new (512 * b + i) false ≡ get_or old (512 * b + i) false
+  pub same : (b i : ℕ) → kept b ≡ true → i < block_size → get_or new (block_size * b + i) false ≡ get_or old (block_size * b + i) false
 
 -- an image of what was held, but for the blocks outside the set
 abbrev pub KeptFrom : (ℕ → Bool) → Medium → List ℕ → Type 0

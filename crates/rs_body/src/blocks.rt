@@ -1,17 +1,16 @@
 //! How many blocks a body needs, and whether an extent has them.
 ghost use Rattle.std.specs.Prelude.{◌≡◌, ◌↔◌, ◌*◌, IsTrue};
-ghost use Rattle.rs_body.specs.Blocks.{IsOnDisk, blocks_of, IsSized};
+ghost use Rattle.rs_extent.specs.Blocks.{block_size};
+ghost use Rattle.rs_extent.specs.Extents.{IsOnDisk};
+ghost use Rattle.rs_body.specs.Blocks.{blocks_of, IsSized};
 
-use rs_extent::Extent;
+use rs_extent::{BLOCK_SIZE, Extent};
 
-// The bytes of a block.
-const BLOCK: u32 = 512;
-
-/// How many blocks of 512 bytes a body of `length` bytes needs: at most 8,388,608.
+/// How many blocks of [`BLOCK_SIZE`] bytes a body of `length` bytes needs: at most 8,388,608.
 pub fn blocks_for(length: u32) -> u32
     ensures { result ≡ blocks_of length }
 {
-    length.div_ceil(BLOCK)
+    length.div_ceil(BLOCK_SIZE as u32)
 }
 
 /// Whether `extent` has the size for a body of `length` bytes: exactly the blocks that it needs,
@@ -28,12 +27,12 @@ pub fn is_sized(extent: Extent, length: u32) -> bool
 pub fn is_on_disk(extent: Extent, size: u64) -> bool
     ensures { IsTrue result ↔ IsOnDisk extent size }
 {
-    extent.blocks == 0 || offset_of(extent) + extent.blocks as u64 * BLOCK as u64 <= size
+    extent.blocks == 0 || offset_of(extent) + extent.blocks as u64 * BLOCK_SIZE as u64 <= size
 }
 
 /// The offset in bytes at which an extent begins.
 pub(crate) fn offset_of(extent: Extent) -> u64
-    ensures { result ≡ 512 * extent.first }
+    ensures { result ≡ block_size * extent.first }
 {
-    extent.first as u64 * BLOCK as u64
+    extent.first as u64 * BLOCK_SIZE as u64
 }

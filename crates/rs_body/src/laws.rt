@@ -1,7 +1,7 @@
 //! Laws of blocks and of runs that write outside them, over their definitions alone.
 //!
 //! Each function here does nothing: its contract is the law, which the check proves. Proofs cite
-//! the lemmas behind them, in `proofs/Kept.antt` and `proofs/Sets.antt`.
+//! the lemmas behind them, in `proofs/KeptBlocks.antt` and in rs_extent.
 ghost use Rattle.rs_body.specs.Laws.{BesideEach, FewestBlocks, NoCallOutside, OutsideGoesOn, OutsideLess, OutsideRests, PartKept, ImagePartKept};
 
 /// Extents are beside a set of blocks where each of them is.

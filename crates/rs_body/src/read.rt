@@ -2,7 +2,9 @@
 ghost use Rattle.std.specs.Prelude.{◌≡◌, ◌+◌, ◌*◌, ◌≤◌, ◌<◌, [], length, vec_len, vec_capacity, OnOk, OnErr, IsErrOf, IsTrue};
 ghost use Rattle.rs_disk.specs.Leaves.{Rests, Runs, HasFailed};
 ghost use Rattle.rs_fixity.specs.Digests.{digests};
-ghost use Rattle.rs_body.specs.Blocks.{IsOnDisk, part};
+ghost use Rattle.rs_extent.specs.Blocks.{block_size};
+ghost use Rattle.rs_extent.specs.Extents.{IsOnDisk};
+ghost use Rattle.rs_body.specs.Blocks.{part};
 
 use crate::blocks::offset_of;
 use rs_disk::{Disk, Fault};
@@ -56,17 +58,21 @@ pub fn read_body<D: Disk>(
     into: &mut Vec<u8>,
 ) -> Result<(), BodyFault>
     requires room { IsOnDisk extent (D.state disk.old).size }
-    requires fits { length ≤ 512 * extent.blocks }
+    requires fits { length ≤ block_size * extent.blocks }
 
     // What the bytes are, and of a damaged body were, is said of a device that has followed the
     // model; that they have this length and SHA-256, of every device.
-    ensures reads { OnOk result (IsTrue (D.state disk.new).honest → into.new.items ≡ part extent length (D.state disk.old).now.seen) }
+    ensures reads { OnOk result (IsTrue (D.state disk.new).honest
+        → into.new.items ≡ part extent length (D.state disk.old).now.seen) }
     ensures long { OnOk result (vec_len into.new ≡ length) }
     ensures digest { OnOk result ((digests into.new.items).sha256 ≡ sha256.now) }
     ensures empty { OnErr result (into.new.items ≡ []) }
-    ensures damaged { IsErrOf result BodyFault.Damaged → IsTrue (D.state disk.new).honest → (digests (part extent length (D.state disk.old).now.seen)).sha256 ≡ sha256.now → ⊥ }
-    ensures device { IsErrOf result BodyFault.Device → HasFailed (D.state disk.old) (D.state disk.new) }
-    ensures no_memory { IsErrOf result BodyFault.NoMemory → (vec_capacity into.old < length) × (D.state disk.new ≡ D.state disk.old) }
+    ensures damaged { IsErrOf result BodyFault.Damaged → IsTrue (D.state disk.new).honest
+        → (digests (part extent length (D.state disk.old).now.seen)).sha256 ≡ sha256.now → ⊥ }
+    ensures device { IsErrOf result BodyFault.Device
+        → HasFailed (D.state disk.old) (D.state disk.new) }
+    ensures no_memory { IsErrOf result BodyFault.NoMemory → (vec_capacity into.old < length)
+        × (D.state disk.new ≡ D.state disk.old) }
 
     ensures rests { Rests (D.state disk.old) (D.state disk.new) }
     ensures one_call { (D.state disk.new).calls ≤ (D.state disk.old).calls + 1 }
@@ -91,8 +97,9 @@ pub fn read_body<D: Disk>(
 // room.
 fn read_front<D: Disk>(disk: &mut D, extent: Extent, into: &mut [u8]) -> Result<(), Fault>
     requires room { IsOnDisk extent (D.state disk.old).size }
-    requires fits { length into.old ≤ 512 * extent.blocks }
-    ensures gives { OnOk result (IsTrue (D.state disk.new).honest → into.new ≡ part extent (length into.old) (D.state disk.old).now.seen) }
+    requires fits { length into.old ≤ block_size * extent.blocks }
+    ensures gives { OnOk result (IsTrue (D.state disk.new).honest
+        → into.new ≡ part extent (length into.old) (D.state disk.old).now.seen) }
     ensures runs { Runs (D.state disk.old) (D.state disk.new) result }
     ensures rests { Rests (D.state disk.old) (D.state disk.new) }
     ensures one_call { (D.state disk.new).calls ≤ (D.state disk.old).calls + 1 }

@@ -1,8 +1,10 @@
 //! Writing a body.
 ghost use Rattle.std.specs.Prelude.{◌≡◌, ◌+◌, ◌*◌, ◌≤◌, ℕ, Bool, length, OnOk};
 ghost use Rattle.rs_disk.specs.Leaves.{Runs};
-ghost use Rattle.rs_body.specs.Blocks.{IsOnDisk, part};
-ghost use Rattle.rs_body.specs.Outside.{IsBeside, WritesOutside};
+ghost use Rattle.rs_extent.specs.Blocks.{block_size};
+ghost use Rattle.rs_extent.specs.Extents.{IsOnDisk, IsBeside};
+ghost use Rattle.rs_body.specs.Blocks.{part};
+ghost use Rattle.rs_body.specs.Outside.{WritesOutside};
 
 use crate::blocks::offset_of;
 use rs_disk::{Disk, Fault};
@@ -19,15 +21,17 @@ use rs_extent::Extent;
 /// [`Fault`] where the device fails. The place of the bytes may then hold anything.
 pub fn write_body<D: Disk>(disk: &mut D, extent: Extent, bytes: &[u8]) -> Result<(), Fault>
     requires room { IsOnDisk extent (D.state disk.old).size }
-    requires fits { length bytes.now ≤ 512 * extent.blocks }
+    requires fits { length bytes.now ≤ block_size * extent.blocks }
     ensures runs { Runs (D.state disk.old) (D.state disk.new) result }
     ensures keeps { (D.state disk.new).honest ≡ (D.state disk.old).honest }
     ensures one_call { (D.state disk.new).calls ≤ (D.state disk.old).calls + 1 }
     ensures no_call { length bytes.now ≡ 0 → D.state disk.new ≡ D.state disk.old }
-    ensures reads { OnOk result (part extent (length bytes.now) (D.state disk.new).now.seen ≡ bytes.now) }
+    ensures reads { OnOk result (part extent (length bytes.now) (D.state disk.new).now.seen
+        ≡ bytes.now) }
 
     // Also where the device failed.
-    ensures outside { (kept : ℕ → Bool) → IsBeside kept extent → WritesOutside kept (D.state disk.old) (D.state disk.new) }
+    ensures outside { (kept : ℕ → Bool) → IsBeside kept extent
+        → WritesOutside kept (D.state disk.old) (D.state disk.new) }
 {
     if bytes.is_empty() {
         return Ok(());

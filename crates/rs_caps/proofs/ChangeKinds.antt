@@ -1,7 +1,7 @@
 -- A change has facts and bound a name, or it has none and unbound one.
 use Rattle.std.proofs.Common.{◌≡◌, ℕ, List, refl, sym, subst, Option, Some, None, Bool, true, false, ◌⊎◌, inl, inr}
 use Rattle.std.specs.Prelude.{IsTrue}
-use Rattle.rs_record.specs.What.{agree}
+use Rattle.rs_record.specs.ChangeKind.{agree}
 use Rattle.rs_record.specs.Changes.{binding, bound, deleted}
 use Rattle.rs_record.specs.declared.facts.Facts.{Facts}
 use Rattle.rs_record.specs.declared.change.Change.{Change}

@@ -16,11 +16,11 @@ use Rattle.rs_fixity.proofs.HashTexts.{hash_text-passes}
 use Rattle.rs_record.specs.Name.{is_name}
 use Rattle.rs_record.specs.MediaType.{is_media_type}
 use Rattle.rs_record.specs.Base.{is_base, uri}
-use Rattle.rs_record.specs.Lacks.{lacks as lacks_in_record, is_clean}
+use Rattle.rs_record.specs.CleanBytes.{is_clean}
 use Rattle.rs_record.proofs.Clean.{name_clean, base_clean, media_type_lacks}
 use Rattle.rs_lists.specs.Escape.{escaped, escape}
 use Rattle.rs_lists.specs.Text.{resource_part_path, change_part_path}
-use Rattle.rs_caps.specs.Cut.{is_digit}
+use Rattle.rs_record.specs.Bytes.{is_digit}
 use Rattle.rs_caps.proofs.Numbers.{decimal-digits}
 use Rattle.rs_caps.proofs.Steps.{all_pass}
 
@@ -84,13 +84,8 @@ escape_clean (c ∷ text) h =
     (escaped_clean c (c == 38) (c == 39) (c == 34) (c == 62) (c == 60) (first_so (not (c == 10)) (lacks 10 text) h) refl refl)
     (escape_clean text (second_so (not (c == 10)) (lacks 10 text) h))
 
-feed_lacks : (text : List ℕ) → IsTrue (lacks_in_record 10 text) → IsTrue (lacks 10 text)
-feed_lacks [] h = refl
-feed_lacks (c ∷ text) h =
-    λ i. first_so (not (c == 10)) (lacks_in_record 10 text) h i && feed_lacks text (second_so (not (c == 10)) (lacks_in_record 10 text) h) i
-
 pub kind_clean : (kind : List ℕ) → IsTrue (is_media_type kind) → IsClean (escape kind)
-kind_clean kind h = escape_clean kind (feed_lacks kind (media_type_lacks kind h))
+kind_clean kind h = escape_clean kind (media_type_lacks kind h)
 
 pub uri_clean : (base name : List ℕ) → IsTrue (is_base base) → IsTrue (is_name name) → IsClean (escape (uri base name))
 uri_clean base name h k =

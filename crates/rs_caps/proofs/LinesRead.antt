@@ -15,16 +15,17 @@ use Rattle.rs_fixity.specs.ReadHash.{read_hash}
 use Rattle.rs_record.specs.Base.{is_base, uri}
 use Rattle.rs_record.specs.Name.{is_name}
 use Rattle.rs_record.specs.Changes.{binding, bound, deleted}
+use Rattle.rs_record.specs.Format.{facts_in}
 use Rattle.rs_record.specs.declared.facts.Facts.{Facts}
 use Rattle.rs_record.specs.declared.record.Record.{Record}
 use Rattle.rs_record.specs.declared.change.Change.{Change}
-use Rattle.rs_record.specs.Lacks.{is_clean}
+use Rattle.rs_record.specs.CleanBytes.{is_clean}
 use Rattle.rs_record.proofs.Clean.{base_clean}
 use Rattle.rs_lists.specs.declared.doc.Doc.{Doc}
 use Rattle.rs_lists.specs.declared.doc.Doc.TheVariants.{ResourcePart, ChangePart}
 use Rattle.rs_lists.specs.Escape.{escape}
 use Rattle.rs_lists.specs.Shown.{Shown}
-use Rattle.rs_lists.specs.Text.{up_line, what_text, resource_line, change_line, facts_of_record, resource_md, change_md, resource_entry, change_entry, from_of, until_of, until_parts}
+use Rattle.rs_lists.specs.Text.{up_line, what_text, resource_line, change_line, resource_md, change_md, resource_entry, change_entry, from_of, until_of, until_parts}
 use Rattle.rs_caps.specs.Cut.{◌>>=◌, ◌or_else◌, whole, strip, unescape, value_to, read_number}
 use Rattle.rs_caps.specs.Paths.{doc_of, path_of, HasCounts}
 use Rattle.rs_caps.specs.ReadLines.{read_name, read_facts, read_resource, change_word, read_bound, read_deleted, read_change, read_path, if_known, read_resource_entry, read_change_entry, read_end, read_until, before_end, read_base, read_up, read_resource_md, read_change_md}
@@ -70,13 +71,13 @@ facts_read f rest h =
 
 -- a resource
 pub resource_line_read : (base : List ℕ) (r : Record) → IsTrue (is_base base) → IsTrue (is_name r.name)
-    → AreFacts (facts_of_record r) → IsMoment r.moment
+    → AreFacts (facts_in r) → IsMoment r.moment
     → read_resource base (resource_line base r) ≡ Some (listed_of r)
 unfolding read_resource strip
 resource_line_read base r b n f m =
     then_some _ _ _ _ (name_own base r.name _ b n)
     (then_some _ _ _ _ (moment_own 60 refl r.moment _ m)
-    (then_some _ _ _ _ (facts_read (facts_of_record r) (codes "/></url>") f) refl))
+    (then_some _ _ _ _ (facts_read (facts_in r) (codes "/></url>") f) refl))
 
 -- a change that binds a name
 word_read : (again : Bool) (rest : List ℕ)
@@ -96,10 +97,9 @@ unfolding read_bound strip
 bound_read base name again moment f b n k m =
     then_some _ _ _ _ (name_own base name _ b n)
     (then_some _ _ _ _ (moment_own 60 refl moment _ m)
-    (then_some _ _ _ _ (word_read again _)
-    (then_some _ _ _ _ (moment_own 34 refl moment _ m)
+    (then_some _ _ _ _ (then_some _ _ _ _ (word_read again _) (moment_own 34 refl moment _ m))
     (then_some _ _ _ _ (facts_read f (codes "/></url>") k)
-    (ap (λ x. cond x (Some (bound name again moment f)) None) (same_moment moment))))))
+    (ap (λ x. cond x (Some (bound name again moment f)) None) (same_moment moment)))))
 
 -- under the other word it does not read
 not_created : (base name : List ℕ) (moment : ℕ) (f : Facts) → IsTrue (is_base base) → IsTrue (is_name name) → IsMoment moment

@@ -5,6 +5,7 @@ use Rattle.std.proofs.lemmas.Bool.Decides.{nat_tests}
 use Rattle.std.proofs.lemmas.List.{map-id}
 use Rattle.std.proofs.lemmas.Simd.{map-map}
 use Rattle.rs_fixity.proofs.CutLemmas.{then_some}
+use Rattle.rs_record.specs.declared.record.Record.{Record}
 use Rattle.rs_record.specs.declared.change.Change.{Change}
 use Rattle.rs_model.specs.declared.value.Entry.{Entry}
 use Rattle.rs_model.specs.Names.{Names}
@@ -14,6 +15,7 @@ use Rattle.rs_model.specs.Regular.{IsRegular}
 use Rattle.rs_lists.specs.declared.doc.Doc.{Doc}
 use Rattle.rs_lists.specs.declared.doc.Doc.TheVariants.{Description, Capabilities, ResourceHead, ResourcePart, ChangeHead, ChangePart}
 use Rattle.rs_lists.specs.Chunks.{part_at}
+use Rattle.rs_lists.specs.Laws.{PartsAreChunks}
 use Rattle.rs_lists.specs.Shown.{Shown, resource_parts_of, change_parts_of}
 use Rattle.rs_lists.specs.Text.{list_text, numbers_from, resource_list, change_part_text, part_links, resource_part_path, change_part_path}
 use Rattle.rs_caps.specs.Cut.{◌>>=◌}
@@ -24,12 +26,12 @@ use Rattle.rs_caps.specs.DocumentTexts.{document_text}
 use Rattle.rs_caps.specs.Readings.{Listed}
 use Rattle.rs_caps.specs.Readings.Document.{ResourceList, ChangeList, ResourceListIndex, ChangeListIndex}
 use Rattle.rs_caps.specs.Reads.{reads}
-use Rattle.rs_caps.specs.Answer.{answer, answer_to, listed_of, resource_entry_of, change_entry_of, change_part_of, reading_of}
-use Rattle.rs_caps.specs.Gather.{resources_in, changes_in, parts_at, resources_of, changes_of, gather_resources, gather_changes, entry_of}
+use Rattle.rs_caps.specs.Answer.{answer, document_or_body, listed_of, resource_entry_of, change_entry_of, change_part_of, reading_of}
+use Rattle.rs_caps.specs.Gather.{resources_in, changes_in, parts_at, gathered_resources, gathered_changes, gather_resources, gather_changes, listed_entry}
 use Rattle.rs_model.specs.Lawful.{IsLawful}
 use Rattle.rs_caps.proofs.Elements.{all_so, numbers_below}
 use Rattle.rs_caps.proofs.PathsRead.{doc_of-path_of}
-use Rattle.rs_caps.proofs.TextsRead.{IsLawfulShown, shown_lawful, text_reads, parts_few}
+use Rattle.rs_caps.proofs.TextsRead.{IsReadable, shown_lawful, text_reads, parts_few}
 use Rattle.rs_caps.proofs.Gathering.{IsPartAt, all_gathered}
 
 -- a list, a part or an index
@@ -60,7 +62,7 @@ is_list s ChangeHead text h = tt
 is_list s (ChangePart k) text h = tt
 
 pub answer_at : (s : Source) (path : List ℕ) (doc : Doc) → IsList doc → doc_of path ≡ Some doc → answer s path ≡ list_text (shown_of s) doc
-answer_at s path doc list h = ap (answer_to s path) h ∙ list_is_text (shown_of s) doc list
+answer_at s path doc list h = ap (document_or_body s path) h ∙ list_is_text (shown_of s) doc list
 
 pub texts_answered : (s : Source) (path text : List ℕ) (doc : Doc) → doc_of path ≡ Some doc → list_text (shown_of s) doc ≡ Some text
     → answer s path ≡ Some text
@@ -99,14 +101,14 @@ resource_part s k l a b few =
       gives = refl;
     }
 
-resources_by : (s : Source) (b : Bool) → nat_le (resource_parts_of (shown_of s)) 1 ≡ b → IsLawful s
-    → resources_of (answer s) (cond b (ResourceList s.at (map listed_of (map record_of s.listed)))
+resources_by : PartsAreChunks Record → (s : Source) (b : Bool) → nat_le (resource_parts_of (shown_of s)) 1 ≡ b → IsLawful s
+    → gathered_resources (answer s) (cond b (ResourceList s.at (map listed_of (map record_of s.listed)))
     (ResourceListIndex s.at (map (resource_entry_of (shown_of s)) (numbers_from 0 (resource_parts_of (shown_of s))))))
     ≡ Some (s.at, map listed_of (map record_of s.listed))
-resources_by s true e l = refl
-resources_by s false e l =
+resources_by chunks s true e l = refl
+resources_by chunks s false e l =
     let v : Shown = shown_of s in
-    let shown : IsLawfulShown v = shown_lawful s l in
+    let shown : IsReadable v = shown_lawful s l in
     let count : ℕ = resource_parts_of v in
     let low : 2 ≤ v.limit = shown.low in
     let few : count < 60000 = parts_few (length v.published) v.limit shown.published_room shown.low shown.high in
@@ -114,7 +116,7 @@ resources_by s false e l =
     (map listed_of (part_at k v.limit v.published)) in
     ap (λ paths. parts_at resources_in (answer s) paths >>= λ children. Some (s.at, children)) (map-map (λ p. p.path) (resource_entry_of v) (numbers_from 0 count))
     ∙ ap (λ (o : Option (List Listed)). o >>= λ children. Some (s.at, children))
-    (all_gathered listed_of resources_in (answer s) (resource_part_path s.number) v.limit v.published (omega arith)
+    (all_gathered listed_of resources_in (answer s) (resource_part_path s.number) v.limit v.published (chunks v.limit v.published (omega arith))
     (all_so (λ k. k < count) Part (λ k h. resource_part s k l (more_than_one count e) h (omega arith)) (numbers_from 0 count)
     (numbers_below 0 count count (omega arith))))
 
@@ -122,12 +124,12 @@ head_text : (s : Shown) → (text : List ℕ) × (list_text s ResourceHead ≡ S
 unfolding list_text
 head_text s = (_, refl)
 
-pub resources_gathered : (s : Source) → IsLawful s → gather_resources (answer s) ≡ Some (s.at, map listed_of (map record_of s.listed))
-resources_gathered s l =
+pub resources_gathered : PartsAreChunks Record → (s : Source) → IsLawful s → gather_resources (answer s) ≡ Some (s.at, map listed_of (map record_of s.listed))
+resources_gathered chunks s l =
     let head = head_text (shown_of s) in
     then_some (answer s (codes "/resourcelist.xml")) _ head.0 _
     (answer_at s (codes "/resourcelist.xml") ResourceHead tt (doc_of-path_of ResourceHead tt) ∙ head.1)
-    (then_some (reads head.0) _ _ _ (text_reads (shown_of s) ResourceHead head.0 (shown_lawful s l) head.1) (resources_by s _ refl l))
+    (then_some (reads head.0) _ _ _ (text_reads (shown_of s) ResourceHead head.0 (shown_lawful s l) head.1) (resources_by chunks s _ refl l))
 
 -- parts of the Change List
 changed_test : (p k : ℕ) → 1 < p → k < p → (nat_lt 1 p && nat_le 0 (0 + k) && nat_lt (0 + k) (0 + p)) ≡ true
@@ -154,12 +156,12 @@ change_part s k l a b few =
       gives = ap (λ n. Some (part_at n s.limit s.changes)) number ∙ ap Some (sym (map-id (part_at k s.limit s.changes)));
     }
 
-changes_by : (s : Source) (b : Bool) → nat_le (change_parts_of (shown_of s)) 1 ≡ b → IsLawful s
-    → changes_of (answer s) (cond b (ChangeList s.start None s.changes)
+changes_by : PartsAreChunks Change → (s : Source) (b : Bool) → nat_le (change_parts_of (shown_of s)) 1 ≡ b → IsLawful s
+    → gathered_changes (answer s) (cond b (ChangeList s.start None s.changes)
     (ChangeListIndex s.start None (map (change_entry_of (shown_of s)) (numbers_from 0 (change_parts_of (shown_of s))))))
     ≡ Some (s.start, s.changes)
-changes_by s true e l = refl
-changes_by s false e l =
+changes_by chunks s true e l = refl
+changes_by chunks s false e l =
     let v : Shown = shown_of s in
     let count : ℕ = change_parts_of v in
     let low : 2 ≤ v.limit = l.low in
@@ -167,7 +169,7 @@ changes_by s false e l =
     let Part : ℕ → Type 0 = λ k. IsPartAt changes_in (answer s) (change_part_path (0 + k)) (map (λ c. c) (part_at k v.limit v.changes)) in
     ap (λ paths. parts_at changes_in (answer s) paths >>= λ children. Some (s.start, children)) (map-map (λ p. p.path) (change_entry_of v) (numbers_from 0 count))
     ∙ ap (λ (o : Option (List Change)). o >>= λ children. Some (s.start, children))
-    (all_gathered (λ c. c) changes_in (answer s) (λ k. change_part_path (0 + k)) v.limit v.changes (omega arith)
+    (all_gathered (λ c. c) changes_in (answer s) (λ k. change_part_path (0 + k)) v.limit v.changes (chunks v.limit v.changes (omega arith))
     (all_so (λ k. k < count) Part (λ k h. change_part s k l (more_than_one count e) h (omega arith)) (numbers_from 0 count)
     (numbers_below 0 count count (omega arith))))
     ∙ ap (λ cs. Some (s.start, cs)) (map-id s.changes)
@@ -176,26 +178,26 @@ change_head_text : (s : Shown) → (text : List ℕ) × (list_text s ChangeHead 
 unfolding list_text
 change_head_text s = (_, refl)
 
-pub changes_gathered : (s : Source) → IsLawful s → gather_changes (answer s) ≡ Some (s.start, s.changes)
-changes_gathered s l =
+pub changes_gathered : PartsAreChunks Change → (s : Source) → IsLawful s → gather_changes (answer s) ≡ Some (s.start, s.changes)
+changes_gathered chunks s l =
     let head = change_head_text (shown_of s) in
     then_some (answer s (codes "/changelist.xml")) _ head.0 _
     (answer_at s (codes "/changelist.xml") ChangeHead tt (doc_of-path_of ChangeHead tt) ∙ head.1)
-    (then_some (reads head.0) _ _ _ (text_reads (shown_of s) ChangeHead head.0 (shown_lawful s l) head.1) (changes_by s _ refl l))
+    (then_some (reads head.0) _ _ _ (text_reads (shown_of s) ChangeHead head.0 (shown_lawful s l) head.1) (changes_by chunks s _ refl l))
 
 -- what is listed is what was published
-same_entries : (m : Names Entry) → map entry_of (map listed_of (map record_of m)) ≡ m
+same_entries : (m : Names Entry) → map listed_entry (map listed_of (map record_of m)) ≡ m
 same_entries [] = refl
 same_entries (e ∷ m) = ap (λ l. e ∷ l) (same_entries m)
 
 same_pair : {A : Type 0} (a b : ℕ × A) → Some a ≡ Some b → (a.0 ≡ b.0) × (a.1 ≡ b.1)
 same_pair a b h = let same : a ≡ b = cc in (ap (λ p. p.0) same, ap (λ p. p.1) same)
 
-pub lists_mirror : (s : Source) → IsRegular s → IsLawful s → (at start : ℕ) (listed : List Listed) (changes : List Change)
+pub lists_mirror : PartsAreChunks Record → PartsAreChunks Change → (s : Source) → IsRegular s → IsLawful s → (at start : ℕ) (listed : List Listed) (changes : List Change)
     → gather_resources (answer s) ≡ Some (at, listed) → gather_changes (answer s) ≡ Some (start, changes)
-    → mirror_of (map entry_of listed) at changes ≡ entries s.held
-lists_mirror s r l at start listed changes h g =
-    let resources = same_pair (s.at, map listed_of (map record_of s.listed)) (at, listed) (sym (resources_gathered s l) ∙ h) in
-    let same_changes = same_pair (s.start, s.changes) (start, changes) (sym (changes_gathered s l) ∙ g) in
-    (λ i. mirror_of (map entry_of (sym resources.1 i)) (sym resources.0 i) (sym same_changes.1 i))
+    → mirror_of (map listed_entry listed) at changes ≡ entries s.held
+lists_mirror listed_chunks change_chunks s r l at start listed changes h g =
+    let resources = same_pair (s.at, map listed_of (map record_of s.listed)) (at, listed) (sym (resources_gathered listed_chunks s l) ∙ h) in
+    let same_changes = same_pair (s.start, s.changes) (start, changes) (sym (changes_gathered change_chunks s l) ∙ g) in
+    (λ i. mirror_of (map listed_entry (sym resources.1 i)) (sym resources.0 i) (sym same_changes.1 i))
     ∙ ap (λ m. mirror_of m s.at s.changes) (same_entries s.listed) ∙ r.mirrored

@@ -8,7 +8,8 @@ use Rattle.std.proofs.lemmas.Bool.Decides.{nat_tests}
 use Rattle.std.proofs.lemmas.Fmt.{decimal_digit, decimal_nonempty, first_decimal, digits_decimal, digits_value-decimal, decimal-digits_value}
 use Rattle.std.proofs.lemmas.Str.Parse.{IsNumeralModel, numerals_by_fold}
 use Rattle.rs_time.specs.ReadMoment.{number_after}
-use Rattle.rs_caps.specs.Cut.{is_empty, is_digit, is_number, read_number}
+use Rattle.rs_record.specs.Bytes.{is_digit}
+use Rattle.rs_caps.specs.Cut.{is_empty, is_number, read_number}
 use Rattle.rs_caps.proofs.Steps.{let_through}
 
 numerals : IsNumeralModel (λ text. list_all is_digit text ≡ true) (number_after 0)

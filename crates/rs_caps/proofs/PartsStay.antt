@@ -12,7 +12,7 @@ use Rattle.rs_model.specs.Lawful.{IsLawful, IsLawfulTimed}
 use Rattle.rs_model.specs.Names.{Names}
 use Rattle.rs_model.specs.State.{Source}
 use Rattle.rs_model.specs.Step.{fold_of}
-use Rattle.rs_model.proofs.LawfulLemmas.{fold_lawful}
+use Rattle.rs_model.specs.Laws.{FoldIsLawful}
 use Rattle.rs_lists.specs.declared.doc.Doc.TheVariants.{ResourcePart, ChangePart}
 use Rattle.rs_lists.specs.Chunks.{part_at}
 use Rattle.rs_lists.specs.Shown.{Shown, resource_parts_of, change_parts_of}
@@ -122,15 +122,15 @@ full s k start until x children l h r =
     by_test : nat_le ((k - 0 + 1) * s.limit) (length s.changes) ≡ true → (k - 0 + 1) * s.limit ≤ length s.changes
     by_test e = grind (arith, nat_tests)
 
-pub closed_parts_stay : (s : Source) (earlier more : List (Command × ℕ)) (path x y : List ℕ) (k start until : ℕ)
+pub closed_parts_stay : FoldIsLawful → (s : Source) (earlier more : List (Command × ℕ)) (path x y : List ℕ) (k start until : ℕ)
     (children : List Change) → IsLawful s → AllByRecursion IsLawfulTimed earlier
     → doc_of path ≡ Some (ChangePart k) → reads x ≡ Some (ChangeList start (Some until) children)
     → answer (fold_of s earlier) path ≡ Some x → answer (fold_of s (earlier ++ more)) path ≡ Some y → x ≡ y
-closed_parts_stay s earlier more path x y k start until children l all d r h g =
+closed_parts_stay lawful s earlier more path x y k start until children l all d r h g =
     let t : Source = fold_of s earlier in
     let u = later s earlier more in
     let first : list_text (shown_of t) (ChangePart k) ≡ Some x = sym (answer_at t path (ChangePart k) tt d) ∙ h in
     let second : list_text (shown_of u.0) (ChangePart k) ≡ Some y = sym (answer_at u.0 path (ChangePart k) tt d)
     ∙ ap (λ v. answer v path) (sym u.1) ∙ g in
-    closed_same t u.0 (k - 0) x y u.2 (full t k start until x children (fold_lawful s earlier l all) first r)
+    closed_same t u.0 (k - 0) x y u.2 (full t k start until x children (lawful s earlier l all) first r)
     (change_there t k x first) (change_there u.0 k y second)

@@ -7,6 +7,7 @@ use Rattle.std.specs.List.{AllByRecursion}
 use Rattle.rs_time.specs.Moment.{IsMoment}
 use Rattle.rs_record.specs.Base.{is_base}
 use Rattle.rs_record.specs.Name.{is_name}
+use Rattle.rs_record.specs.Format.{facts_in}
 use Rattle.rs_record.specs.declared.record.Record.{Record}
 use Rattle.rs_record.specs.declared.change.Change.{Change}
 use Rattle.rs_model.specs.State.{Source}
@@ -14,7 +15,7 @@ use Rattle.rs_lists.specs.declared.doc.Doc.{Doc}
 use Rattle.rs_lists.specs.declared.doc.Doc.TheVariants.{Description, Capabilities, ResourceHead, ResourcePart, ChangeHead, ChangePart}
 use Rattle.rs_lists.specs.Chunks.{parts_of, part_at}
 use Rattle.rs_lists.specs.Shown.{Shown, resource_parts_of, change_parts_of}
-use Rattle.rs_lists.specs.Text.{list_text, close_line, up_line, link_line, resource_line, change_line, facts_of_record, resource_md, change_md, resource_entry, change_entry, numbers_from, last_moment, from_of, until_of, is_part, resource_list, resource_index, change_list, change_index, part_links, change_part_text}
+use Rattle.rs_lists.specs.Text.{list_text, close_line, up_line, link_line, resource_line, change_line, resource_md, change_md, resource_entry, change_entry, numbers_from, last_moment, from_of, until_of, is_part, resource_list, resource_index, change_list, change_index, part_links, change_part_text}
 use Rattle.rs_caps.specs.Cut.{◌>>=◌, ◌or_else◌, strip}
 use Rattle.rs_model.specs.Listed.{record_of}
 use Rattle.rs_caps.specs.Shows.{shown_of}
@@ -30,13 +31,13 @@ use Rattle.rs_caps.proofs.LinesRead.{IsEnd, resource_line_read, change_line_read
 use Rattle.rs_caps.proofs.WrittenLines.{resource_is_line, change_is_line, resource_md_is_line, change_md_is_line, resource_entry_is_line, change_entry_is_line, link_is_line}
 use Rattle.rs_caps.proofs.DocumentsRead.{paired, list_reads, index_reads, after_own_index, after_other_index, resources_read, changes_read}
 
--- what is shown of a lawful source
+-- what the reading of a text asks of what is shown: each lawful source shows so
 pub record IsRecord (r : Record) : Type 0 where
   pub name : IsTrue (is_name r.name)
-  pub facts : AreFacts (facts_of_record r)
+  pub facts : AreFacts (facts_in r)
   pub moment : IsMoment r.moment
 
-pub record IsLawfulShown (s : Shown) : Type 0 where
+pub record IsReadable (s : Shown) : Type 0 where
   pub base : IsTrue (is_base s.base)
   pub low : 2 ≤ s.limit
   pub high : s.limit ≤ 4000
@@ -49,7 +50,7 @@ pub record IsLawfulShown (s : Shown) : Type 0 where
   pub published_room : length s.published ≤ 50000
   pub changes_room : length s.changes ≤ 50000
 
-pub shown_lawful : (s : Source) → IsLawful s → IsLawfulShown (shown_of s)
+pub shown_lawful : (s : Source) → IsLawful s → IsReadable (shown_of s)
 shown_lawful s h =
     record {
       base = h.base;
@@ -67,21 +68,21 @@ shown_lawful s h =
     }
 
 -- the lines of resources and of changes
-resource_lines : (s : Shown) (records : List Record) → IsLawfulShown s → AllByRecursion IsRecord records
+resource_lines : (s : Shown) (records : List Record) → IsReadable s → AllByRecursion IsRecord records
     → AreLines (resource_md s.at ∷ map (resource_line s.base) records ++ close_line (codes "urlset") ∷ [])
 resource_lines s records l h =
     onto (resource_md s.at) _ (resource_md_is_line s.at)
     (children_lines (resource_line s.base) (close_line (codes "urlset")) records
     (all_so IsRecord (λ r. IsLine (resource_line s.base r)) (λ r k. resource_is_line s.base r l.base k.name k.facts) records h) refl)
 
-change_lines : (s : Shown) (start : ℕ) (until : Option ℕ) (changes : List Change) → IsLawfulShown s → AllByRecursion IsChange changes
+change_lines : (s : Shown) (start : ℕ) (until : Option ℕ) (changes : List Change) → IsReadable s → AllByRecursion IsChange changes
     → AreLines (change_md start until ∷ map (change_line s.base) changes ++ close_line (codes "urlset") ∷ [])
 change_lines s start until changes l h =
     onto (change_md start until) _ (change_md_is_line start until)
     (children_lines (change_line s.base) (close_line (codes "urlset")) changes
     (all_so IsChange (λ c. IsLine (change_line s.base c)) (λ c k. change_is_line s.base c l.base k) changes h) refl)
 
-resources_from : (s : Shown) (records : List Record) → IsLawfulShown s → AllByRecursion IsRecord records
+resources_from : (s : Shown) (records : List Record) → IsReadable s → AllByRecursion IsRecord records
     → (next_line read_resource_md (resource_md s.at ∷ map (resource_line s.base) records ++ close_line (codes "urlset") ∷ [])
     >>= λ at. read_children (read_resource s.base) (codes "</urlset>") at.1 >>= λ children. Some (ResourceList at.0 children))
     ≡ Some (ResourceList s.at (map listed_of records))
@@ -90,7 +91,7 @@ resources_from s records l h =
     (all_so IsRecord (λ r. read_resource s.base (resource_line s.base r) ≡ Some (listed_of r))
     (λ r k. resource_line_read s.base r l.base k.name k.facts k.moment) records h)
 
-changes_from : (s : Shown) (start : ℕ) (until : Option ℕ) (changes : List Change) → IsLawfulShown s → IsMoment start → IsEnd until
+changes_from : (s : Shown) (start : ℕ) (until : Option ℕ) (changes : List Change) → IsReadable s → IsMoment start → IsEnd until
     → AllByRecursion IsChange changes
     → (next_line read_change_md (change_md start until ∷ map (change_line s.base) changes ++ close_line (codes "urlset") ∷ [])
     >>= λ bounds. read_children (read_change s.base) (codes "</urlset>") bounds.1
@@ -101,7 +102,7 @@ changes_from s start until changes l m u h =
     (all_so IsChange (λ c. read_change s.base (change_line s.base c) ≡ Some c) (λ c k. change_line_read s.base c l.base k) changes h)
 
 -- lists, whole and in parts
-resource_list_reads : (s : Shown) (records : List Record) → IsLawfulShown s → AllByRecursion IsRecord records
+resource_list_reads : (s : Shown) (records : List Record) → IsReadable s → AllByRecursion IsRecord records
     → reads (resource_list s (up_line s.base ∷ []) records) ≡ Some (ResourceList s.at (map listed_of records))
 unfolding read_resource_list
 resource_list_reads s records l h =
@@ -109,7 +110,7 @@ resource_list_reads s records l h =
     list_reads s.base rest (ResourceList s.at (map listed_of records)) l.base (resource_lines s records l h)
     (ap (λ (o : Option Document). o or_else read_change_list s.base rest) (resources_from s records l h))
 
-resource_part_reads : (s : Shown) (records : List Record) → IsLawfulShown s → AllByRecursion IsRecord records
+resource_part_reads : (s : Shown) (records : List Record) → IsReadable s → AllByRecursion IsRecord records
     → reads (resource_list s (part_links s (codes "/resourcelist.xml")) records) ≡ Some (ResourceList s.at (map listed_of records))
 unfolding read_resource_list
 resource_part_reads s records l h =
@@ -122,7 +123,7 @@ resource_part_reads s records l h =
     >>= λ children. Some (ResourceList at.0 children)) (after_own_index s.base (codes "/resourcelist.xml") rest)
     ∙ resources_from s records l h))
 
-change_list_reads : (s : Shown) (start : ℕ) (until : Option ℕ) (changes : List Change) → IsLawfulShown s → IsMoment start
+change_list_reads : (s : Shown) (start : ℕ) (until : Option ℕ) (changes : List Change) → IsReadable s → IsMoment start
     → IsEnd until → AllByRecursion IsChange changes
     → reads (change_list s (up_line s.base ∷ []) start until changes) ≡ Some (ChangeList start until changes)
 unfolding read_resource_list read_resource_md strip read_change_list
@@ -138,7 +139,7 @@ not_resources base lines =
     ap (λ lines. next_line read_resource_md lines >>= λ at. read_children (read_resource base) (codes "</urlset>") at.1
     >>= λ children. Some (ResourceList at.0 children)) (after_other_index base lines)
 
-change_part_reads : (s : Shown) (start : ℕ) (until : Option ℕ) (changes : List Change) → IsLawfulShown s → IsMoment start
+change_part_reads : (s : Shown) (start : ℕ) (until : Option ℕ) (changes : List Change) → IsReadable s → IsMoment start
     → IsEnd until → AllByRecursion IsChange changes
     → reads (change_list s (part_links s (codes "/changelist.xml")) start until changes) ≡ Some (ChangeList start until changes)
 unfolding read_change_list
@@ -160,17 +161,17 @@ last_bound : (t : ℕ) (changes : List Change) → IsMoment t → AllByRecursion
 last_bound t [] h k = h
 last_bound t (c ∷ changes) h k = last_bound c.moment changes k.0.moment k.1
 
-from_bound : (s : Shown) (k : ℕ) → IsLawfulShown s → IsMoment (from_of s k)
+from_bound : (s : Shown) (k : ℕ) → IsReadable s → IsMoment (from_of s k)
 from_bound s k l = last_bound s.start (take (k * s.limit) s.changes) l.start (all_taken IsChange (k * s.limit) s.changes l.changes)
 
 end_if : (b : Bool) (t : ℕ) → IsMoment t → IsEnd (cond b (Some t) None)
 end_if true t h = h
 end_if false t h = tt
 
-until_bound : (s : Shown) (k : ℕ) → IsLawfulShown s → IsEnd (until_of s k)
+until_bound : (s : Shown) (k : ℕ) → IsReadable s → IsEnd (until_of s k)
 until_bound s k l = end_if (nat_le ((k + 1) * s.limit) (length s.changes)) (from_of s (k + 1)) (from_bound s (k + 1) l)
 
-resource_entries_read : (s : Shown) (numbers : List ℕ) → IsLawfulShown s → AllByRecursion (λ k. k < 60000) numbers
+resource_entries_read : (s : Shown) (numbers : List ℕ) → IsReadable s → AllByRecursion (λ k. k < 60000) numbers
     → read_resource_index s.base (resource_md s.at ∷ map (resource_entry s) numbers ++ close_line (codes "sitemapindex") ∷ [])
     ≡ Some (ResourceListIndex s.at (map (resource_entry_of s) numbers))
 unfolding read_resource_index
@@ -183,7 +184,7 @@ resource_entries_read s numbers l h =
     (all_so (λ k. k < 60000) (λ k. read_resource_entry s.base (resource_entry s k) ≡ Some (resource_entry_of s k))
     (λ k few. resource_entry_read s k l.base l.number (omega arith) l.at) numbers h))
 
-change_entries_read : (s : Shown) (numbers : List ℕ) → IsLawfulShown s → AllByRecursion (λ k. k < 60000) numbers
+change_entries_read : (s : Shown) (numbers : List ℕ) → IsReadable s → AllByRecursion (λ k. k < 60000) numbers
     → read_change_index s.base (change_md s.start None ∷ map (change_entry s) numbers ++ close_line (codes "sitemapindex") ∷ [])
     ≡ Some (ChangeListIndex s.start None (map (change_entry_of s) numbers))
 unfolding read_change_index
@@ -197,7 +198,7 @@ change_entries_read s numbers l h =
     (λ k few. let room : s.first + 60000 ≤ 2 ^ 64 = l.first in change_entry_read s k l.base (omega arith) (from_bound s k l)
     (until_bound s k l)) numbers h))
 
-resource_index_reads : (s : Shown) → IsLawfulShown s
+resource_index_reads : (s : Shown) → IsReadable s
     → reads (resource_index s) ≡ Some (ResourceListIndex s.at (map (resource_entry_of s) (numbers_from 0 (resource_parts_of s))))
 resource_index_reads s l =
     let numbers : List ℕ = numbers_from 0 (resource_parts_of s) in
@@ -214,7 +215,7 @@ not_resource_index : (base : List ℕ) (start : ℕ) (lines : List (List ℕ)) �
 unfolding read_resource_index read_resource_md strip
 not_resource_index base start lines = refl
 
-change_index_reads : (s : Shown) → IsLawfulShown s
+change_index_reads : (s : Shown) → IsReadable s
     → reads (change_index s) ≡ Some (ChangeListIndex s.start None (map (change_entry_of s) (numbers_from 0 (change_parts_of s))))
 change_index_reads s l =
     let numbers : List ℕ = numbers_from 0 (change_parts_of s) in
@@ -240,7 +241,7 @@ where_there : (b : Bool) (x text : List ℕ) (d : Document) → reads x ≡ Some
 where_there true x text d p h = let same : x ≡ text = cc in ap reads (sym same) ∙ p
 where_there false x text d p h = cc
 
-pub text_reads : (s : Shown) (doc : Doc) (text : List ℕ) → IsLawfulShown s → list_text s doc ≡ Some text → reads text ≡ reading_of s doc
+pub text_reads : (s : Shown) (doc : Doc) (text : List ℕ) → IsReadable s → list_text s doc ≡ Some text → reads text ≡ reading_of s doc
 unfolding list_text
 text_reads s ResourceHead text l h =
     one_of_two (nat_le (resource_parts_of s) 1) (resource_list s (up_line s.base ∷ []) s.published) (resource_index s) text

@@ -9,13 +9,14 @@ use Rattle.rs_fixity.specs.HashText.{hash_text_of}
 use Rattle.rs_record.specs.Base.{is_base, uri}
 use Rattle.rs_record.specs.Name.{is_name}
 use Rattle.rs_record.specs.Changes.{binding, bound, deleted}
+use Rattle.rs_record.specs.Format.{facts_in}
 use Rattle.rs_record.specs.declared.facts.Facts.{Facts}
 use Rattle.rs_record.specs.declared.record.Record.{Record}
 use Rattle.rs_record.specs.declared.change.Change.{Change}
 use Rattle.rs_record.proofs.Clean.{base_clean}
 use Rattle.rs_lists.specs.Escape.{escape}
 use Rattle.rs_lists.specs.Shown.{Shown}
-use Rattle.rs_lists.specs.Text.{resource_line, change_line, facts_of_record, resource_md, change_md, resource_entry, change_entry, resource_part_path, change_part_path, link_line, from_of, until_of, until_parts, what_text, location_parts, facts_parts, lastmod_parts, some_facts_parts}
+use Rattle.rs_lists.specs.Text.{resource_line, change_line, resource_md, change_md, resource_entry, change_entry, resource_part_path, change_part_path, link_line, from_of, until_of, until_parts, what_text, location_parts, facts_parts, lastmod_parts, some_facts_parts}
 use Rattle.rs_model.specs.Lawful.{AreFacts, IsChange}
 use Rattle.rs_caps.proofs.Lines.{IsLine, onto}
 use Rattle.rs_caps.proofs.Clean.{IsClean, lacks_mark, joined_pass, concat_passes, number_clean, moment_clean, hash_clean, uri_clean, kind_clean, resource_part_path_clean, change_part_path_clean}
@@ -38,12 +39,12 @@ facts_pieces f h =
     (clean (decimal f.length) _ (number_clean f.length (omega arith)) (clean (escape f.kind) _ (kind_clean f.kind h.kind) refl))
 
 pub resource_is_line : (base : List ℕ) (r : Record) → IsTrue (is_base base) → IsTrue (is_name r.name)
-    → AreFacts (facts_of_record r) → IsLine (resource_line base r)
+    → AreFacts (facts_in r) → IsLine (resource_line base r)
 resource_is_line base r b n f =
     pieces_line
     (location_parts base r.name ++ (codes "<lastmod>" ∷ moment_text r.moment ∷ codes "</lastmod><rs:md" ∷ []) ++ facts_parts
-    (facts_of_record r) ++ codes "/></url>" ∷ [])
-    (clean (escape (uri base r.name)) _ (uri_clean base r.name b n) (moment r.moment _ (facts_pieces (facts_of_record r) f)))
+    (facts_in r) ++ codes "/></url>" ∷ [])
+    (clean (escape (uri base r.name)) _ (uri_clean base r.name b n) (moment r.moment _ (facts_pieces (facts_in r) f)))
 
 word_pieces : (again : Bool) (rest : Bool) → IsTrue rest → IsTrue (lacks 10 (what_text (binding again)) && rest)
 word_pieces true rest k = k

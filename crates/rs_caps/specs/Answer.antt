@@ -1,12 +1,13 @@
 -- What a source answers at a path, and what its lists are to read as.
 use Rattle.std.specs.Prelude.{ℕ, ◌+◌, ◌-◌, nat_le, if◌then◌else◌, List, map, codes, Option, Some, None}
+use Rattle.rs_record.specs.Format.{facts_in}
 use Rattle.rs_record.specs.declared.record.Record.{Record}
 use Rattle.rs_model.specs.State.{Source, body_of}
 use Rattle.rs_lists.specs.declared.doc.Doc.{Doc}
 use Rattle.rs_lists.specs.declared.doc.Doc.TheVariants.{Description, Capabilities, ResourceHead, ResourcePart, ChangeHead, ChangePart}
 use Rattle.rs_lists.specs.Chunks.{part_at}
 use Rattle.rs_lists.specs.Shown.{Shown, resource_parts_of, change_parts_of}
-use Rattle.rs_lists.specs.Text.{numbers_from, from_of, until_of, facts_of_record, resource_part_path, change_part_path}
+use Rattle.rs_lists.specs.Text.{numbers_from, from_of, until_of, resource_part_path, change_part_path}
 use Rattle.rs_caps.specs.Cut.{◌>>=◌, strip}
 use Rattle.rs_caps.specs.Paths.{doc_of}
 use Rattle.rs_caps.specs.Shows.{shown_of}
@@ -19,17 +20,17 @@ abbrev pub body_at : Source → List ℕ → Option (List ℕ)
 body_at s path = strip (codes "/resource/") path >>= λ name. body_of name s
 
 -- the bytes at a path that is this document's, or none's
-abbrev pub answer_to : Source → List ℕ → Option Doc → Option (List ℕ)
-answer_to s path None = body_at s path
-answer_to s path (Some doc) = document_text (shown_of s) doc
+abbrev pub document_or_body : Source → List ℕ → Option Doc → Option (List ℕ)
+document_or_body s path None = body_at s path
+document_or_body s path (Some doc) = document_text (shown_of s) doc
 
 -- the bytes at a path: of a document or of a resource
 abbrev pub answer : Source → List ℕ → Option (List ℕ)
-answer s path = answer_to s path (doc_of path)
+answer s path = document_or_body s path (doc_of path)
 
 -- a record of a publication, as a list has it
 abbrev pub listed_of : Record → Listed
-listed_of r = record { name = r.name; facts = facts_of_record r; moment = r.moment }
+listed_of r = record { name = r.name; facts = facts_in r; moment = r.moment }
 
 -- part k of the Resource List, as its index has it
 abbrev pub resource_entry_of : Shown → ℕ → ResourceEntry

@@ -1,8 +1,9 @@
 -- Cutting a text into its values: what stands before a mark, what follows some bytes, the lines of a text, the five
 -- references of XML undone, and decimal numbers.
-use Rattle.std.specs.Prelude.{ℕ, zero, suc, Bool, true, false, ◌&&◌, ◌||◌, not, ◌==◌, nat_le, if◌then◌else◌, List, [], ◌∷◌, length, codes, Option, Some, None}
+use Rattle.std.specs.Prelude.{ℕ, zero, suc, Bool, true, false, ◌&&◌, ◌||◌, not, ◌==◌, if◌then◌else◌, List, [], ◌∷◌, length, codes, Option, Some, None}
 use Rattle.std.specs.List.{list_all}
 use Rattle.rs_time.specs.ReadMoment.{number_after}
+use Rattle.rs_record.specs.Bytes.{is_digit}
 -- the next step of a reading, what follows some bytes, and what stands before a mark
 pub use Rattle.rs_fixity.specs.Cut.{◌>>=◌, with_first}
 unfoldable pub use Rattle.rs_fixity.specs.Cut.{strip, cut}
@@ -25,6 +26,14 @@ whole x rest = if is_empty rest then Some x else None
 -- a value up to a mark, and the rest from the mark on
 abbrev pub value_to : {A : Type 0} → ℕ → (List ℕ → Option A) → List ℕ → Option (A × List ℕ)
 value_to mark read text = read (cut mark text).0 >>= λ x. Some (x, (cut mark text).1)
+
+-- a value that stands between these bytes and a mark, and the rest from the mark on
+abbrev pub value_after : {A : Type 0} → List ℕ → ℕ → (List ℕ → Option A) → List ℕ → Option (A × List ℕ)
+value_after before mark read text = strip before text >>= λ rest. value_to mark read rest
+
+-- a value, where these bytes are all that is left after it
+abbrev pub ending : {A : Type 0} → List ℕ → A → List ℕ → Option A
+ending last x text = strip last text >>= λ rest. whole x rest
 
 -- one more byte before these lines: a line feed ends a line, and any other byte stands in the first of them
 abbrev pub onto_lines : Bool → ℕ → Option (List (List ℕ)) → Option (List (List ℕ))
@@ -63,10 +72,6 @@ characters (suc turns) (c ∷ text) = character c text >>= λ one. characters tu
 -- a text with its references undone
 abbrev pub unescape : List ℕ → Option (List ℕ)
 unescape text = characters (length text) text
-
--- `0` to `9`
-abbrev pub is_digit : ℕ → Bool
-is_digit c = nat_le 48 c && nat_le c 57
 
 -- decimal digits, at least one, and no `0` before another
 abbrev pub is_number : List ℕ → Bool

@@ -32,29 +32,29 @@ parts_at children_in fetched (path ∷ paths) = do
   Some (children ++ rest)
 
 -- the moment of a Resource List, and its children, or those of the parts that its index names
-abbrev pub resources_of : (List ℕ → Option (List ℕ)) → Document → Option (ℕ × List Listed)
-resources_of fetched (ResourceList at children) = Some (at, children)
-resources_of fetched (ResourceListIndex at parts) = parts_at resources_in fetched (map (λ p. p.path) parts)
+abbrev pub gathered_resources : (List ℕ → Option (List ℕ)) → Document → Option (ℕ × List Listed)
+gathered_resources fetched (ResourceList at children) = Some (at, children)
+gathered_resources fetched (ResourceListIndex at parts) = parts_at resources_in fetched (map (λ p. p.path) parts)
     >>= λ children. Some (at, children)
-resources_of fetched (ChangeList start until children) = None
-resources_of fetched (ChangeListIndex start until parts) = None
+gathered_resources fetched (ChangeList start until children) = None
+gathered_resources fetched (ChangeListIndex start until parts) = None
 
 -- the start of a Change List, and its children, or those of the parts that its index names
-abbrev pub changes_of : (List ℕ → Option (List ℕ)) → Document → Option (ℕ × List Change)
-changes_of fetched (ChangeList start until children) = Some (start, children)
-changes_of fetched (ChangeListIndex start until parts) = parts_at changes_in fetched (map (λ p. p.path) parts)
+abbrev pub gathered_changes : (List ℕ → Option (List ℕ)) → Document → Option (ℕ × List Change)
+gathered_changes fetched (ChangeList start until children) = Some (start, children)
+gathered_changes fetched (ChangeListIndex start until parts) = parts_at changes_in fetched (map (λ p. p.path) parts)
     >>= λ children. Some (start, children)
-changes_of fetched (ResourceList at children) = None
-changes_of fetched (ResourceListIndex at parts) = None
+gathered_changes fetched (ResourceList at children) = None
+gathered_changes fetched (ResourceListIndex at parts) = None
 
 -- the moment of the Resource List and its resources, from the texts fetched at each path
 abbrev pub gather_resources : (List ℕ → Option (List ℕ)) → Option (ℕ × List Listed)
-gather_resources fetched = fetched (codes "/resourcelist.xml") >>= λ text. reads text >>= λ d. resources_of fetched d
+gather_resources fetched = fetched (codes "/resourcelist.xml") >>= λ text. reads text >>= λ d. gathered_resources fetched d
 
 -- the start of the Change List and its changes, from the texts fetched at each path
 abbrev pub gather_changes : (List ℕ → Option (List ℕ)) → Option (ℕ × List Change)
-gather_changes fetched = fetched (codes "/changelist.xml") >>= λ text. reads text >>= λ d. changes_of fetched d
+gather_changes fetched = fetched (codes "/changelist.xml") >>= λ text. reads text >>= λ d. gathered_changes fetched d
 
 -- a resource of a list, as the map that is mirrored has it
-abbrev pub entry_of : Listed → List ℕ × Entry
-entry_of l = (l.name, record { facts = l.facts; moment = l.moment })
+abbrev pub listed_entry : Listed → List ℕ × Entry
+listed_entry l = (l.name, record { facts = l.facts; moment = l.moment })

@@ -7,7 +7,7 @@ use Rattle.rs_record.specs.declared.facts.Facts.{Facts}
 use Rattle.rs_record.specs.declared.change.Change.{Change}
 use Rattle.rs_record.specs.Changes.{bound, deleted}
 use Rattle.rs_lists.specs.declared.doc.Doc.{Doc}
-use Rattle.rs_caps.specs.Cut.{◌>>=◌, ◌or_else◌, whole, strip, value_to, unescape, read_number}
+use Rattle.rs_caps.specs.Cut.{◌>>=◌, ◌or_else◌, whole, strip, value_after, ending, unescape, read_number}
 use Rattle.rs_caps.specs.Paths.{doc_of}
 use Rattle.rs_caps.specs.Readings.{Listed, ResourceEntry, ChangeEntry}
 
@@ -18,26 +18,20 @@ read_name base text = unescape text >>= λ uri. strip (base ++ codes "/resource/
 -- the attributes of a body, and what follows
 unfoldable pub read_facts : List ℕ → Option (Facts × List ℕ)
 read_facts text = do
-  a ← strip (codes " hash=\"") text
-  digests ← value_to 34 read_hash a
-  b ← strip (codes "\" length=\"") digests.1
-  length ← value_to 34 read_number b
-  d ← strip (codes "\" type=\"") length.1
-  kind ← value_to 34 unescape d
-  e ← strip (codes "\"") kind.1
-  Some (record { kind = kind.0; length = length.0; digests = digests.0 }, e)
+  digests ← value_after (codes " hash=\"") 34 read_hash text
+  length ← value_after (codes "\" length=\"") 34 read_number digests.1
+  kind ← value_after (codes "\" type=\"") 34 unescape length.1
+  rest ← strip (codes "\"") kind.1
+  Some (record { kind = kind.0; length = length.0; digests = digests.0 }, rest)
 
 -- a resource of a Resource List
 unfoldable pub read_resource : List ℕ → List ℕ → Option Listed
 read_resource base text = do
-  a ← strip (codes "<url><loc>") text
-  name ← value_to 60 (read_name base) a
-  b ← strip (codes "</loc><lastmod>") name.1
-  moment ← value_to 60 read_moment b
-  d ← strip (codes "</lastmod><rs:md") moment.1
-  facts ← read_facts d
-  e ← strip (codes "/></url>") facts.1
-  whole (record { name = name.0; facts = facts.0; moment = moment.0 }) e
+  name ← value_after (codes "<url><loc>") 60 (read_name base) text
+  moment ← value_after (codes "</loc><lastmod>") 60 read_moment name.1
+  rest ← strip (codes "</lastmod><rs:md") moment.1
+  facts ← read_facts rest
+  ending (codes "/></url>") (record { name = name.0; facts = facts.0; moment = moment.0 }) facts.1
 
 -- the word of a change that binds a name: was it bound before?
 abbrev pub change_word : Bool → List ℕ
@@ -46,26 +40,20 @@ change_word again = if again then codes "updated" else codes "created"
 -- a change with facts, under its word: its two moments are the same
 unfoldable pub read_bound : List ℕ → Bool → List ℕ → Option Change
 read_bound base again text = do
-  a ← strip (codes "<url><loc>") text
-  name ← value_to 60 (read_name base) a
-  b ← strip (codes "</loc><lastmod>") name.1
-  first ← value_to 60 read_moment b
-  d ← strip (codes "</lastmod><rs:md change=\"" ++ change_word again ++ codes "\" datetime=\"") first.1
-  moment ← value_to 34 read_moment d
-  e ← strip (codes "\"") moment.1
-  facts ← read_facts e
-  f ← strip (codes "/></url>") facts.1
-  if first.0 == moment.0 then whole (bound name.0 again moment.0 facts.0) f else None
+  name ← value_after (codes "<url><loc>") 60 (read_name base) text
+  first ← value_after (codes "</loc><lastmod>") 60 read_moment name.1
+  moment ← value_after (codes "</lastmod><rs:md change=\"" ++ change_word again ++ codes "\" datetime=\"") 34 read_moment first.1
+  rest ← strip (codes "\"") moment.1
+  facts ← read_facts rest
+  end ← strip (codes "/></url>") facts.1
+  if first.0 == moment.0 then whole (bound name.0 again moment.0 facts.0) end else None
 
 -- a deletion, which has no facts
 unfoldable pub read_deleted : List ℕ → List ℕ → Option Change
 read_deleted base text = do
-  a ← strip (codes "<url><loc>") text
-  name ← value_to 60 (read_name base) a
-  b ← strip (codes "</loc><rs:md change=\"deleted\" datetime=\"") name.1
-  moment ← value_to 34 read_moment b
-  d ← strip (codes "\"/></url>") moment.1
-  whole (deleted name.0 moment.0) d
+  name ← value_after (codes "<url><loc>") 60 (read_name base) text
+  moment ← value_after (codes "</loc><rs:md change=\"deleted\" datetime=\"") 34 read_moment name.1
+  ending (codes "\"/></url>") (deleted name.0 moment.0) moment.1
 
 -- a change of a Change List
 abbrev pub read_change : List ℕ → List ℕ → Option Change
@@ -74,10 +62,9 @@ read_change base text = read_bound base false text or_else read_bound base true 
 -- the `until` of a closed part, and what follows
 unfoldable pub read_end : List ℕ → Option (Option ℕ × List ℕ)
 read_end text = do
-  a ← strip (codes " until=\"") text
-  until ← value_to 34 read_moment a
-  b ← strip (codes "\"") until.1
-  Some (Some until.0, b)
+  until ← value_after (codes " until=\"") 34 read_moment text
+  rest ← strip (codes "\"") until.1
+  Some (Some until.0, rest)
 
 -- the `until`, if there is one, and what follows
 abbrev pub read_until : List ℕ → Option (Option ℕ × List ℕ)
@@ -95,24 +82,18 @@ read_path base text = strip base text >>= λ path. if_known path (doc_of path)
 -- a part that a Resource List Index names
 unfoldable pub read_resource_entry : List ℕ → List ℕ → Option ResourceEntry
 read_resource_entry base text = do
-  a ← strip (codes "<sitemap><loc>") text
-  path ← value_to 60 (read_path base) a
-  b ← strip (codes "</loc><rs:md at=\"") path.1
-  at ← value_to 34 read_moment b
-  d ← strip (codes "\"/></sitemap>") at.1
-  whole (record { path = path.0; at = at.0 }) d
+  path ← value_after (codes "<sitemap><loc>") 60 (read_path base) text
+  at ← value_after (codes "</loc><rs:md at=\"") 34 read_moment path.1
+  ending (codes "\"/></sitemap>") (record { path = path.0; at = at.0 }) at.1
 
 -- a part that a Change List Index names
 unfoldable pub read_change_entry : List ℕ → List ℕ → Option ChangeEntry
 read_change_entry base text = do
-  a ← strip (codes "<sitemap><loc>") text
-  path ← value_to 60 (read_path base) a
-  b ← strip (codes "</loc><rs:md from=\"") path.1
-  start ← value_to 34 read_moment b
-  d ← strip (codes "\"") start.1
-  until ← read_until d
-  e ← strip (codes "/></sitemap>") until.1
-  whole (record { path = path.0; start = start.0; until = until.0 }) e
+  path ← value_after (codes "<sitemap><loc>") 60 (read_path base) text
+  start ← value_after (codes "</loc><rs:md from=\"") 34 read_moment path.1
+  rest ← strip (codes "\"") start.1
+  until ← read_until rest
+  ending (codes "/></sitemap>") (record { path = path.0; start = start.0; until = until.0 }) until.1
 
 -- what stands before these bytes, where the text ends with them
 unfoldable pub before_end : List ℕ → List ℕ → Option (List ℕ)
@@ -126,25 +107,19 @@ read_base text = before_end (codes "/capabilitylist.xml") text >>= λ base. if i
 -- the base, by the link up to the Capability List
 unfoldable pub read_up : List ℕ → Option (List ℕ)
 read_up text = do
-  a ← strip (codes "<rs:ln rel=\"up\" href=\"") text
-  base ← value_to 34 read_base a
-  b ← strip (codes "\"/>") base.1
-  whole base.0 b
+  base ← value_after (codes "<rs:ln rel=\"up\" href=\"") 34 read_base text
+  ending (codes "\"/>") base.0 base.1
 
 -- the `at` of a Resource List or its index
 unfoldable pub read_resource_md : List ℕ → Option ℕ
 read_resource_md text = do
-  a ← strip (codes "<rs:md capability=\"resourcelist\" at=\"") text
-  at ← value_to 34 read_moment a
-  b ← strip (codes "\"/>") at.1
-  whole at.0 b
+  at ← value_after (codes "<rs:md capability=\"resourcelist\" at=\"") 34 read_moment text
+  ending (codes "\"/>") at.0 at.1
 
 -- the `from` and the `until`, if there is one, of a Change List or its index
 unfoldable pub read_change_md : List ℕ → Option (ℕ × Option ℕ)
 read_change_md text = do
-  a ← strip (codes "<rs:md capability=\"changelist\" from=\"") text
-  start ← value_to 34 read_moment a
-  b ← strip (codes "\"") start.1
-  until ← read_until b
-  d ← strip (codes "/>") until.1
-  whole (start.0, until.0) d
+  start ← value_after (codes "<rs:md capability=\"changelist\" from=\"") 34 read_moment text
+  rest ← strip (codes "\"") start.1
+  until ← read_until rest
+  ending (codes "/>") (start.0, until.0) until.1

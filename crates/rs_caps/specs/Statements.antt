@@ -18,7 +18,7 @@ use Rattle.rs_caps.specs.Readings.{Listed}
 use Rattle.rs_caps.specs.Readings.Document.{ChangeList}
 use Rattle.rs_caps.specs.Reads.{reads}
 use Rattle.rs_caps.specs.Answer.{answer, listed_of, reading_of}
-use Rattle.rs_caps.specs.Gather.{gather_resources, gather_changes, entry_of}
+use Rattle.rs_caps.specs.Gather.{gather_resources, gather_changes, listed_entry}
 use Rattle.rs_caps.specs.DocumentTexts.{document_text}
 use Rattle.rs_model.specs.Lawful.{IsLawful, IsLawfulTimed}
 
@@ -46,7 +46,7 @@ abbrev pub ListsMirror : Source → Type 0
 ListsMirror s =
     (at start : ℕ) (listed : List Listed) (changes : List Change)
     → gather_resources (answer s) ≡ Some (at, listed) → gather_changes (answer s) ≡ Some (start, changes)
-    → mirror_of (map entry_of listed) at changes ≡ entries s.held
+    → mirror_of (map listed_entry listed) at changes ≡ entries s.held
 
 -- Whatever commands come between, two answers at the path of one part of the Resource List are equal.
 abbrev pub ListedPartsStay : Type 0
@@ -64,15 +64,15 @@ ClosedPartsStay =
     → answer (fold_of s earlier) path ≡ Some x → answer (fold_of s (earlier ++ later)) path ≡ Some y → x ≡ y
 
 -- a change after the first moment and not after the second
-abbrev pub IsWithin : ℕ → ℕ → Change → Type 0
-IsWithin low high c = (low < c.moment) × (c.moment ≤ high)
+abbrev pub IsChangeBetween : ℕ → ℕ → Change → Type 0
+IsChangeBetween low high c = (low < c.moment) × (c.moment ≤ high)
 
 -- In a regular state that formatting began the changes of a part of the Change List are after its `from`, and not after the
 -- next part's.
 abbrev pub PartsAreBounded : Type 0
 PartsAreBounded =
     (s : Source) (k : ℕ) → IsRegular s → IsTimely s
-    → AllByRecursion (IsWithin (from_of (shown_of s) k) (from_of (shown_of s) (k + 1))) (part_at k s.limit s.changes)
+    → AllByRecursion (IsChangeBetween (from_of (shown_of s) k) (from_of (shown_of s) (k + 1))) (part_at k s.limit s.changes)
 
 -- No document says where the blocks of a body are: each is the text of the same view with empty extents.
 abbrev pub BlocksAreNotShown : Type 0

@@ -3,5 +3,5 @@ use Rattle.rs_lists.specs.Shown.{Shown}
 use Rattle.rs_caps.specs.Shows.{shown_of}
 use Rattle.rs_caps.specs.declared.state_view.StateView.{StateView}
 
-abbrev pub shown_by : StateView → Shown
-shown_by v = shown_of v.state.now
+abbrev pub shown_by_state : StateView → Shown
+shown_by_state v = shown_of v.state.now

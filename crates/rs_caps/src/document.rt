@@ -25,8 +25,10 @@ pub fn write_document<V: View, W: Write>(
     doc: Doc,
     out: &mut Watched<W>,
 ) -> Result<(), ListError>
-    ensures written { OnOk result (IfSome (document_text (V.shown view.now) doc) (Wrote W.contents out.old out.new)) }
-    ensures missing { IsErrOf result ListError.NoSuchDocument ↔ (document_text (V.shown view.now) doc ≡ None) }
+    ensures written { OnOk result
+        (IfSome (document_text (V.shown view.now) doc) (Wrote W.contents out.old out.new)) }
+    ensures missing { IsErrOf result ListError.NoSuchDocument
+        ↔ (document_text (V.shown view.now) doc ≡ None) }
     ensures untouched { IsErrOf result ListError.NoSuchDocument → out.new ≡ out.old }
     ensures fault { IsErrOf result ListError.WriteFault → EndFailed out.old out.new }
 {
@@ -60,14 +62,15 @@ fn write_pieces<W: Write>(pieces: &[Piece<'_>], out: &mut Watched<W>) -> Result<
 }
 
 // The Source Description, in pieces.
-fn description(base: &Base) -> [Piece<'_>; 3]
+fn description(base: &Base) -> [Piece<'_>; 6]
     ensures text { pieces_text result ≡ description_text base.now }
     ensures lawful { IsTrue (is_base base.now) }
 {
     [
-        Piece::Plain(
-            b"<?xml version=\"1.0\" encoding=\"UTF-8\"?>\n<urlset xmlns=\"http://www.sitemaps.org/schemas/sitemap/0.9\" xmlns:rs=\"http://www.openarchives.org/rs/terms/\">\n<rs:md capability=\"description\"/>\n<url><loc>",
-        ),
+        Piece::Plain(b"<?xml version=\"1.0\" encoding=\"UTF-8\"?>\n"),
+        Piece::Plain(b"<urlset xmlns=\"http://www.sitemaps.org/schemas/sitemap/0.9\""),
+        Piece::Plain(b" xmlns:rs=\"http://www.openarchives.org/rs/terms/\">\n"),
+        Piece::Plain(b"<rs:md capability=\"description\"/>\n<url><loc>"),
         Piece::Plain(base.bytes()),
         Piece::Plain(
             b"/capabilitylist.xml</loc><rs:md capability=\"capabilitylist\"/></url>\n</urlset>\n",
@@ -76,14 +79,15 @@ fn description(base: &Base) -> [Piece<'_>; 3]
 }
 
 // The Capability List, in pieces.
-fn capabilities(base: &Base) -> [Piece<'_>; 7]
+fn capabilities(base: &Base) -> [Piece<'_>; 10]
     ensures text { pieces_text result ≡ capabilities_text base.now }
     ensures lawful { IsTrue (is_base base.now) }
 {
     [
-        Piece::Plain(
-            b"<?xml version=\"1.0\" encoding=\"UTF-8\"?>\n<urlset xmlns=\"http://www.sitemaps.org/schemas/sitemap/0.9\" xmlns:rs=\"http://www.openarchives.org/rs/terms/\">\n<rs:ln rel=\"up\" href=\"",
-        ),
+        Piece::Plain(b"<?xml version=\"1.0\" encoding=\"UTF-8\"?>\n"),
+        Piece::Plain(b"<urlset xmlns=\"http://www.sitemaps.org/schemas/sitemap/0.9\""),
+        Piece::Plain(b" xmlns:rs=\"http://www.openarchives.org/rs/terms/\">\n"),
+        Piece::Plain(b"<rs:ln rel=\"up\" href=\""),
         Piece::Plain(base.bytes()),
         Piece::Plain(
             b"/.well-known/resourcesync\"/>\n<rs:md capability=\"capabilitylist\"/>\n<url><loc>",

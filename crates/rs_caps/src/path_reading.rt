@@ -4,7 +4,8 @@ ghost use Rattle.std.specs.Prelude.{◌≡◌, ◌==◌, ◌^◌, ℕ, nat_lt, i
 ghost use Rattle.std.specs.List.{position, list_all};
 ghost use Rattle.rs_time.specs.ReadMoment.{number_after};
 ghost use Rattle.rs_lists.specs.declared.doc.Doc.{Doc};
-ghost use Rattle.rs_caps.specs.Cut.{strip as what_follows, cut as cut_at, is_number as is_number_text, is_digit as is_digit_byte};
+ghost use Rattle.rs_caps.specs.Cut.{strip as what_follows, cut as cut_at, is_number as is_number_text};
+ghost use Rattle.rs_record.specs.Bytes.{is_digit as is_digit_byte};
 ghost use Rattle.rs_caps.specs.Paths.{path_of, HasCounts, if_path_of, read_count as count_of, last_part, resource_part as resource_part_of, change_part as change_part_of, doc_of as document_of};
 
 use rs_lists::Doc;
@@ -129,7 +130,8 @@ fn are_digits(text: &[u8]) -> bool
 // The number that digits write, where it has 64 bits.
 fn read_digits(digits: &[u8]) -> Option<u64>
     requires { IsTrue (list_all is_digit_byte digits.now) }
-    ensures { result ≡ (if nat_lt (number_after 0 digits.now) (2 ^ 64) then Some (number_after 0 digits.now) else None) }
+    ensures { result ≡ (if nat_lt (number_after 0 digits.now) (2 ^ 64)
+        then Some (number_after 0 digits.now) else None) }
 {
     let mut count = 0u64;
     for digit in digits {

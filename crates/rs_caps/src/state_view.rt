@@ -20,7 +20,7 @@ pub struct StateView<'a> {
 }
 
 impl<'a> StateView<'a> {
-    ghost use Rattle.rs_caps.specs.Views.{shown_by};
+    ghost use Rattle.rs_caps.specs.Views.{shown_by_state};
 
     /// The view of a state.
     ///
@@ -28,16 +28,16 @@ impl<'a> StateView<'a> {
     ///
     /// None: no memory is taken, whatever the allocator is.
     pub fn new(_alloc: Global, state: &'a State) -> Result<StateView<'a>, AllocError>
-        ensures { IsOkAnd result (λ view. shown_by view ≡ shown_of state.now) }
+        ensures { IsOkAnd result (λ view. shown_by_state view ≡ shown_of state.now) }
     {
         Ok(StateView { state })
     }
 }
 
 impl View for StateView<'_> {
-    ghost use Rattle.rs_caps.specs.Views.{shown_by};
+    ghost use Rattle.rs_caps.specs.Views.{shown_by_state};
 
-    ghost shown = { shown_by };
+    ghost shown = { shown_by_state };
 
     fn base(&self) -> &Base {
         self.state.base()

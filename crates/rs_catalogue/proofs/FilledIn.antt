@@ -10,7 +10,7 @@ use Rattle.rs_page.specs.Items.{record_filled}
 use Rattle.rs_catalogue.specs.Named.{named}
 use Rattle.rs_catalogue.specs.Filled.{fill_in}
 use Rattle.rs_catalogue.proofs.Places.{entry}
-use Rattle.rs_catalogue.proofs.Held.{filled-bind, same_name}
+use Rattle.rs_catalogue.proofs.HeldRecords.{filled-bind, same_name}
 
 -- records are told by their entries
 unnamed : (records : List Record) → map (λ e. e.1) (named records) ≡ records

@@ -1,5 +1,5 @@
 pub mod Places
-pub mod Held
+pub mod HeldRecords
 pub mod FilledIn
 pub mod Ascending
 pub mod Beside

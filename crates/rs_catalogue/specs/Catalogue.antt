@@ -5,13 +5,13 @@ use Rattle.rs_model.specs.Names.{is_ordered}
 use Rattle.rs_model.specs.State.{most_resources}
 use Rattle.rs_page.specs.declared.place.PageRef.{PageRef}
 use Rattle.rs_page.specs.Items.{record_format}
-use Rattle.rs_page.specs.Sheets.{Sheet, items_of, stored_ref}
-use Rattle.rs_page.specs.Pages.{ArePages}
+use Rattle.rs_page.specs.Pages.{Page, items_of, stored_ref}
+use Rattle.rs_page.specs.DiskPages.{ArePages}
 use Rattle.rs_catalogue.specs.Named.{named, HasName}
 
 -- the records of a list of pages, in their order
-abbrev pub records_of : List (Sheet Record) → List Record
-records_of sheets = items_of sheets
+abbrev pub records_of : List (Page Record) → List Record
+records_of pages = items_of pages
 
 -- Names strictly rise, and there are at most as many records as a source holds.
 pub record AreHeld (records : List Record) : Type 0 where
@@ -19,14 +19,14 @@ pub record AreHeld (records : List Record) : Type 0 where
   pub room : length records ≤ most_resources
 
 -- What each catalogue keeps: each page has records, and the names strictly rise through all pages.
-pub record IsCatalogue (sheets : List (Sheet Record)) : Type 0 where
-  pub some : All (λ sheet. 1 ≤ length sheet.items) sheets
-  pub held : AreHeld (records_of sheets)
+pub record IsCatalogue (pages : List (Page Record)) : Type 0 where
+  pub some : All (λ page. 1 ≤ length page.items) pages
+  pub held : AreHeld (records_of pages)
 
 -- the name stands in a page that is not on the disk
-abbrev pub StandsUnstored : List ℕ → List (Sheet Record) → Type 0
+abbrev pub StandsUnstored : List ℕ → List (Page Record) → Type 0
 StandsUnstored name [] = ⊥
-StandsUnstored name (sheet ∷ sheets) = (HasName name sheet.items × (is_some (stored_ref sheet.place) ≡ false)) ⊎ StandsUnstored name sheets
+StandsUnstored name (page ∷ pages) = (HasName name page.items × (is_some (stored_ref page.place) ≡ false)) ⊎ StandsUnstored name pages
 
 -- What pages on the disk have to be: pages of records, one for one, through which the names strictly rise. A catalogue has one page, or none where it is empty.
 pub record HoldsCatalogue (refs : List PageRef) (image : List ℕ) (pages : List (List Record)) : Type 0 where

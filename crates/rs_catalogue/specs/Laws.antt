@@ -1,14 +1,14 @@
 -- What follows from the definitions of catalogues alone.
 use Rattle.std.specs.Prelude.{◌≡◌, ◌≤◌, ℕ, Bool, true, List, length, map, option_map, All}
-use Rattle.rs_body.specs.Blocks.{in_some}
+use Rattle.rs_extent.specs.Extents.{in_some}
 use Rattle.rs_body.specs.Outside.{Keeps}
 use Rattle.rs_record.specs.declared.record.Record.{Record}
 use Rattle.rs_model.specs.declared.value.Entry.{Entry}
 use Rattle.rs_model.specs.Names.{Names, value_of, bind, unbind, map_values}
 use Rattle.rs_page.specs.declared.place.PageRef.{PageRef}
 use Rattle.rs_page.specs.Items.{record_format}
-use Rattle.rs_page.specs.Sheets.{Sheet, IsStored, extents_of, stored_refs}
-use Rattle.rs_page.specs.Pages.{Stands}
+use Rattle.rs_page.specs.Pages.{Page, IsStored, extents_of, stored_refs}
+use Rattle.rs_page.specs.DiskPages.{Stands}
 use Rattle.rs_catalogue.specs.Catalogue.{IsCatalogue, HoldsCatalogue}
 
 -- Pages hold at most one catalogue.
@@ -22,8 +22,8 @@ CatalogueStays = (kept : ℕ → Bool) (refs : List PageRef) (old new : List ℕ
 
 -- Where each page of a catalogue stands on the disk, the references to them hold its records: so they load as this catalogue.
 abbrev pub StoredCatalogueIsHeld : Type 0
-StoredCatalogueIsHeld = (sheets : List (Sheet Record)) (image : List ℕ) → IsCatalogue sheets → length sheets ≤ 1 → All IsStored sheets
-    → All (Stands record_format image) sheets → HoldsCatalogue (stored_refs sheets) image (map (λ sheet. sheet.items) sheets)
+StoredCatalogueIsHeld = (pages : List (Page Record)) (image : List ℕ) → IsCatalogue pages → length pages ≤ 1 → All IsStored pages
+    → All (Stands record_format image) pages → HoldsCatalogue (stored_refs pages) image (map (λ page. page.items) pages)
 
 -- What is shown of each record is bound as the record is, ..
 abbrev pub ShownIsBound : Type 0

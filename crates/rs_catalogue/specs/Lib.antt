@@ -1,5 +1,5 @@
 pub mod Named
 pub mod Filled
 pub mod Catalogue
-pub mod Inside
+pub mod OnePage
 pub mod Laws

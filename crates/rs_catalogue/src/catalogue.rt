@@ -5,10 +5,10 @@ ghost use Rattle.std.specs.Option.{option_copied};
 ghost use Rattle.rs_model.specs.Names.{value_of, bind, unbind, is_ordered};
 ghost use Rattle.rs_model.specs.State.{most_resources};
 ghost use Rattle.rs_page.specs.Items.{record_filled};
-ghost use Rattle.rs_catalogue.specs.Filled.{fill_in, sheets_filled};
-ghost use Rattle.rs_page.specs.Sheets.{placed_extents, stored_ref, stored_refs};
+ghost use Rattle.rs_catalogue.specs.Filled.{fill_in, pages_filled};
+ghost use Rattle.rs_page.specs.Pages.{placed_extents, stored_ref, stored_refs};
 ghost use Rattle.rs_catalogue.specs.Named.{named, HasName};
-ghost use Rattle.rs_page.specs.Kept.{KeepsPages, stored_sheets};
+ghost use Rattle.rs_page.specs.SharedPages.{KeepsPages, stored_pages};
 ghost use Rattle.rs_catalogue.specs.Catalogue.{records_of, AreHeld, IsCatalogue, StandsUnstored};
 
 use crate::records::{place_of, with_record, without_place};
@@ -28,16 +28,16 @@ pub struct Catalogue {
 impl Model for Catalogue {
     ghost use Rattle.std.specs.Prelude.{List};
     ghost use Rattle.rs_record.specs.declared.record.Record.{Record};
-    ghost use Rattle.rs_page.specs.Sheets.{Sheet};
+    ghost use Rattle.rs_page.specs.Pages.{Page};
 
-    ghost Value = { List (Sheet Record) };
+    ghost Value = { List (Page Record) };
 
-    ghost use Rattle.rs_catalogue.specs.Inside.{sheets_of};
+    ghost use Rattle.rs_catalogue.specs.OnePage.{page_or_none};
     ghost use Rattle.rs_catalogue.specs.Catalogue.{IsCatalogue};
 
-    ghost view = { λ c. sheets_of c.page };
+    ghost view = { λ c. page_or_none c.page };
 
-    ghost invariant = { λ c. IsCatalogue (sheets_of c.page) };
+    ghost invariant = { λ c. IsCatalogue (page_or_none c.page) };
 }
 
 impl Catalogue {
@@ -96,8 +96,10 @@ impl Catalogue {
     ///
     /// [`AllocError`] where the memory is refused.
     pub fn with(&self, alloc: Global, record: Record) -> Result<Catalogue, AllocError>
-        requires { IsNone (value_of «record».name (named (records_of self.now))) → length (records_of self.now) < most_resources }
-        ensures bound { IfOk result (λ next. named (records_of next) ≡ bind «record».name «record» (named (records_of self.now))) }
+        requires { IsNone (value_of «record».name (named (records_of self.now)))
+            → length (records_of self.now) < most_resources }
+        ensures bound { IfOk result (λ next. named (records_of next)
+            ≡ bind «record».name «record» (named (records_of self.now))) }
         ensures kept { IfOk result (KeepsPages self.now) }
         ensures unstored { IfOk result (StandsUnstored «record».name) }
         ensures unplaced { IfOk result (λ next. placed_extents next ≡ []) }
@@ -114,10 +116,13 @@ impl Catalogue {
     ///
     /// [`AllocError`] where the memory is refused.
     pub fn without(&self, alloc: Global, name: &Name) -> Result<Catalogue, AllocError>
-        ensures unbound { IfOk result (λ next. named (records_of next) ≡ unbind name.now (named (records_of self.now))) }
+        ensures unbound { IfOk result (λ next. named (records_of next)
+            ≡ unbind name.now (named (records_of self.now))) }
         ensures kept { IfOk result (KeepsPages self.now) }
-        ensures unplaced { HasName name.now (records_of self.now) → IfOk result (λ next. placed_extents next ≡ []) }
-        ensures absent { IsNone (value_of name.now (named (records_of self.now))) → IfOk result (λ next. next ≡ self.now) }
+        ensures unplaced { HasName name.now (records_of self.now)
+            → IfOk result (λ next. placed_extents next ≡ []) }
+        ensures absent { IsNone (value_of name.now (named (records_of self.now)))
+            → IfOk result (λ next. next ≡ self.now) }
     {
         let records = self.records();
         match place_of(records, name) {
@@ -148,10 +153,13 @@ impl Catalogue {
     /// does after [`Catalogue::with`] bound it. It takes no memory.
     pub fn fill(&mut self, name: &Name, digests: Digests)
         requires { StandsUnstored name.now self.old }
-        ensures filled { IfSome (value_of name.now (named (records_of self.old))) (λ r. named (records_of self.new) ≡ bind name.now (record_filled digests r) (named (records_of self.old))) }
-        ensures places { map (λ sheet. sheet.place) self.new ≡ map (λ sheet. sheet.place) self.old }
-        ensures lengths { map (λ sheet. length sheet.items) self.new ≡ map (λ sheet. length sheet.items) self.old }
-        ensures pages { self.new ≡ sheets_filled name.now digests self.old }
+        ensures filled { IfSome (value_of name.now (named (records_of self.old)))
+            (λ r. named (records_of self.new)
+            ≡ bind name.now (record_filled digests r) (named (records_of self.old))) }
+        ensures places { map (λ page. page.place) self.new ≡ map (λ page. page.place) self.old }
+        ensures lengths { map (λ page. length page.items) self.new
+            ≡ map (λ page. length page.items) self.old }
+        ensures pages { self.new ≡ pages_filled name.now digests self.old }
     {
         let Some(page) = &mut self.page else {
             return;
@@ -180,9 +188,11 @@ impl Catalogue {
     fn of_records(records: Vec<Record>) -> Catalogue
         requires { AreHeld records.items }
         ensures records { records_of result ≡ records.items }
-        ensures stored { stored_sheets result ≡ [] }
+        ensures stored { stored_pages result ≡ [] }
         ensures placed { placed_extents result ≡ [] }
-        ensures unstored { (name : List ℕ) → HasName name records.items → StandsUnstored name result }
+        ensures unstored { (name : List ℕ)
+            → HasName name records.items
+            → StandsUnstored name result }
     {
         let page = if records.is_empty() {
             None
@@ -197,7 +207,9 @@ impl Catalogue {
 fn fill_page(page: &mut Page<Record>, name: &Name, digests: Digests)
     requires ordered { IsTrue (is_ordered (named page.old.items)) }
     requires not_stored { HasName name.now page.old.items → stored_ref page.old.place ≡ None }
-    ensures filled { IfSome (value_of name.now (named page.old.items)) (λ r. named page.new.items ≡ bind name.now (record_filled digests r) (named page.old.items)) }
+    ensures filled { IfSome (value_of name.now (named page.old.items))
+        (λ r. named page.new.items ≡ bind name.now (record_filled digests r)
+        (named page.old.items)) }
     ensures place { page.new.place ≡ page.old.place }
     ensures lengths { length page.new.items ≡ length page.old.items }
     ensures items { page.new.items ≡ fill_in name.now digests page.old.items }

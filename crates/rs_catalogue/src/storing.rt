@@ -3,13 +3,13 @@
 ghost use Rattle.std.specs.Prelude.{◌≡◌, ◌⊎◌, ◌<◌, ◌≤◌, ◌+◌, ℕ, Bool, List, [], ◌∷◌, length, map, All, IfOk, OnOk, OnErr, IsErrOf, IsTrue};
 ghost use Rattle.std.specs.List.{AllZip};
 ghost use Rattle.rs_disk.specs.Leaves.{Advances, Rests, HasFailed};
-ghost use Rattle.rs_body.specs.Outside.{AreBeside, WritesOutside};
+ghost use Rattle.rs_extent.specs.Extents.{AreBeside, AreApart, AreOnDisk, AreTaken};
+ghost use Rattle.rs_body.specs.Outside.{WritesOutside};
 ghost use Rattle.rs_record.specs.declared.record.Record.{Record};
 ghost use Rattle.rs_page.specs.Items.{record_format};
 ghost use Rattle.rs_page.specs.Placing.{Places, HasNoPlace};
-ghost use Rattle.rs_page.specs.Pages.{IsWritten};
-ghost use Rattle.rs_page.specs.Sheets.{IsStored, IsTouched, placed_extents, sheet_stored, stored, stored_refs};
-ghost use Rattle.rs_page.specs.Kept.{AreApart, AreOnDisk, AreTaken};
+ghost use Rattle.rs_page.specs.DiskPages.{IsWritten};
+ghost use Rattle.rs_page.specs.Pages.{IsStored, IsTouched, placed_extents, page_stored, stored, stored_refs};
 ghost use Rattle.rs_catalogue.specs.Catalogue.{records_of, StandsUnstored, HoldsCatalogue};
 
 use crate::Catalogue;
@@ -31,9 +31,12 @@ impl Catalogue {
     /// [`Full`] where a page has no such run; nothing has changed then.
     pub fn place_touched(&mut self, used: &mut Used) -> Result<(), Full>
         ensures places { OnOk result (Places record_format used.old self.old used.new self.new) }
-        ensures placed { OnOk result (All (λ sheet. ¬ IsTouched sheet.place) self.new) }
-        ensures taken { placed_extents self.old ≡ [] → OnOk result (AreTaken used.old used.new (placed_extents self.new)) }
-        ensures unstored { (name : List ℕ) → StandsUnstored name self.old → StandsUnstored name self.new }
+        ensures placed { OnOk result (All (λ page. ¬ IsTouched page.place) self.new) }
+        ensures taken { placed_extents self.old ≡ []
+            → OnOk result (AreTaken used.old used.new (placed_extents self.new)) }
+        ensures unstored { (name : List ℕ)
+            → StandsUnstored name self.old
+            → StandsUnstored name self.new }
         ensures full { OnErr result (HasNoPlace record_format used.old self.old) }
         ensures used { OnErr result (used.new ≡ used.old) }
         ensures unchanged { OnErr result (self.new ≡ self.old) }
@@ -61,20 +64,28 @@ impl Catalogue {
     /// After each of them the records are as they were, and each page is as it was, or is written and
     /// stored.
     pub fn store_touched<D: Disk>(&mut self, alloc: Global, disk: &mut D) -> Result<(), StoreFault>
-        requires placed { All (λ sheet. ¬ IsTouched sheet.place) self.old }
+        requires placed { All (λ page. ¬ IsTouched page.place) self.old }
         requires room { AreOnDisk (placed_extents self.old) (D.state disk.old).size }
         requires apart { AreApart (placed_extents self.old) }
         ensures ok { OnOk result (self.new ≡ stored record_format self.old) }
-        ensures reads { OnOk result (All (IsWritten record_format (D.state disk.new).now.seen) self.old) }
+        ensures reads { OnOk result
+            (All (IsWritten record_format (D.state disk.new).now.seen) self.old) }
         ensures records { OnErr result (records_of self.new ≡ records_of self.old) }
-        ensures places { OnErr result (AllZip (λ old new. (new ≡ old) ⊎ ((new ≡ sheet_stored record_format old) × IsWritten record_format (D.state disk.new).now.seen old)) self.old self.new) }
-        ensures device { IsErrOf result StoreFault.Device → HasFailed (D.state disk.old) (D.state disk.new) }
-        ensures no_memory { IsErrOf result StoreFault.NoMemory → D.state disk.new ≡ D.state disk.old }
+        ensures places { OnErr result (AllZip (λ old new. (new ≡ old)
+            ⊎ ((new ≡ page_stored record_format old)
+            × IsWritten record_format (D.state disk.new).now.seen old)) self.old self.new) }
+        ensures device { IsErrOf result StoreFault.Device
+            → HasFailed (D.state disk.old) (D.state disk.new) }
+        ensures no_memory { IsErrOf result StoreFault.NoMemory
+            → D.state disk.new ≡ D.state disk.old }
 
         // Whatever it answers.
-        ensures outside { (kept : ℕ → Bool) → AreBeside kept (placed_extents self.old) → WritesOutside kept (D.state disk.old) (D.state disk.new) }
+        ensures outside { (kept : ℕ → Bool)
+            → AreBeside kept (placed_extents self.old)
+            → WritesOutside kept (D.state disk.old) (D.state disk.new) }
         ensures advances { Advances (D.state disk.old) (D.state disk.new) }
-        ensures one_each { (D.state disk.new).calls ≤ (D.state disk.old).calls + length (placed_extents self.old) }
+        ensures one_each { (D.state disk.new).calls ≤ (D.state disk.old).calls
+            + length (placed_extents self.old) }
     {
         let Some(page) = &mut self.page else {
             outside_none();
@@ -104,9 +115,15 @@ impl Catalogue {
         ensures stored { IfOk result (All IsStored) }
 
         // What the disk holds is said of a device that has followed the model.
-        ensures found { IfOk result (λ loaded. IsTrue (D.state disk.new).honest → HoldsCatalogue pages.now (D.state disk.new).now.seen (map (λ sheet. sheet.items) loaded)) }
-        ensures damaged { IsErrOf result LoadFault.Damaged → IsTrue (D.state disk.new).honest → (records : List (List Record)) → ¬ HoldsCatalogue pages.now (D.state disk.new).now.seen records }
-        ensures device { IsErrOf result LoadFault.Device → HasFailed (D.state disk.old) (D.state disk.new) }
+        ensures found { IfOk result (λ loaded. IsTrue (D.state disk.new).honest
+            → HoldsCatalogue pages.now (D.state disk.new).now.seen
+            (map (λ page. page.items) loaded)) }
+        ensures damaged { IsErrOf result LoadFault.Damaged
+            → IsTrue (D.state disk.new).honest
+            → (records : List (List Record))
+            → ¬ HoldsCatalogue pages.now (D.state disk.new).now.seen records }
+        ensures device { IsErrOf result LoadFault.Device
+            → HasFailed (D.state disk.old) (D.state disk.new) }
 
         ensures rests { Rests (D.state disk.old) (D.state disk.new) }
         ensures one_each { (D.state disk.new).calls ≤ (D.state disk.old).calls + length pages.now }
@@ -126,9 +143,15 @@ impl Catalogue {
     ) -> Result<Catalogue, LoadFault>
         ensures pages { IfOk result (λ loaded. stored_refs loaded ≡ page.now ∷ []) }
         ensures stored { IfOk result (All IsStored) }
-        ensures found { IfOk result (λ loaded. IsTrue (D.state disk.new).honest → HoldsCatalogue (page.now ∷ []) (D.state disk.new).now.seen (map (λ sheet. sheet.items) loaded)) }
-        ensures damaged { IsErrOf result LoadFault.Damaged → IsTrue (D.state disk.new).honest → (records : List (List Record)) → ¬ HoldsCatalogue (page.now ∷ []) (D.state disk.new).now.seen records }
-        ensures device { IsErrOf result LoadFault.Device → HasFailed (D.state disk.old) (D.state disk.new) }
+        ensures found { IfOk result (λ loaded. IsTrue (D.state disk.new).honest
+            → HoldsCatalogue (page.now ∷ []) (D.state disk.new).now.seen
+            (map (λ page. page.items) loaded)) }
+        ensures damaged { IsErrOf result LoadFault.Damaged
+            → IsTrue (D.state disk.new).honest
+            → (records : List (List Record))
+            → ¬ HoldsCatalogue (page.now ∷ []) (D.state disk.new).now.seen records }
+        ensures device { IsErrOf result LoadFault.Device
+            → HasFailed (D.state disk.old) (D.state disk.new) }
         ensures rests { Rests (D.state disk.old) (D.state disk.new) }
         ensures one_call { (D.state disk.new).calls ≤ (D.state disk.old).calls + 1 }
     {

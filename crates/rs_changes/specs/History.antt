@@ -5,12 +5,12 @@ use Rattle.rs_model.specs.State.{most_changes}
 use Rattle.rs_model.specs.Regular.{is_rising}
 use Rattle.rs_page.specs.declared.place.PageRef.{PageRef}
 use Rattle.rs_page.specs.Items.{change_format}
-use Rattle.rs_page.specs.Sheets.{Sheet, items_of, stored_ref}
-use Rattle.rs_page.specs.Pages.{ArePages}
+use Rattle.rs_page.specs.Pages.{Page, items_of, stored_ref}
+use Rattle.rs_page.specs.DiskPages.{ArePages}
 
 -- the changes of a list of pages, the earliest first
-abbrev pub changes_of : List (Sheet Change) → List Change
-changes_of sheets = items_of sheets
+abbrev pub changes_of : List (Page Change) → List Change
+changes_of pages = items_of pages
 
 -- the last change, if there is one
 abbrev pub last_of : List Change → Option Change
@@ -22,15 +22,15 @@ pub record AreKept (changes : List Change) : Type 0 where
   pub room : length changes ≤ most_changes
 
 -- What each history keeps: each page has changes, and the moments strictly rise through all pages.
-pub record IsHistory (sheets : List (Sheet Change)) : Type 0 where
-  pub some : All (λ sheet. 1 ≤ length sheet.items) sheets
-  pub kept : AreKept (changes_of sheets)
+pub record IsHistory (pages : List (Page Change)) : Type 0 where
+  pub some : All (λ page. 1 ≤ length page.items) pages
+  pub kept : AreKept (changes_of pages)
 
 -- the last change stands in a page that is not on the disk
-abbrev pub EndsUnstored : List (Sheet Change) → Type 0
+abbrev pub EndsUnstored : List (Page Change) → Type 0
 EndsUnstored [] = ⊥
-EndsUnstored (sheet ∷ []) = is_some (stored_ref sheet.place) ≡ false
-EndsUnstored (sheet ∷ next ∷ sheets) = EndsUnstored (next ∷ sheets)
+EndsUnstored (page ∷ []) = is_some (stored_ref page.place) ≡ false
+EndsUnstored (page ∷ next ∷ pages) = EndsUnstored (next ∷ pages)
 
 -- What pages on the disk have to be: pages of changes, one for one, through which the moments strictly rise. A history has one page, or none where it is empty.
 pub record HoldsHistory (refs : List PageRef) (image : List ℕ) (pages : List (List Change)) : Type 0 where

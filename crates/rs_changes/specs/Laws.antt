@@ -1,12 +1,12 @@
 -- What follows from the definitions of histories alone.
 use Rattle.std.specs.Prelude.{◌≡◌, ◌≤◌, ℕ, Bool, true, List, length, map, All}
-use Rattle.rs_body.specs.Blocks.{in_some}
+use Rattle.rs_extent.specs.Extents.{in_some}
 use Rattle.rs_body.specs.Outside.{Keeps}
 use Rattle.rs_record.specs.declared.change.Change.{Change}
 use Rattle.rs_page.specs.declared.place.PageRef.{PageRef}
 use Rattle.rs_page.specs.Items.{change_format}
-use Rattle.rs_page.specs.Sheets.{Sheet, IsStored, extents_of, stored_refs}
-use Rattle.rs_page.specs.Pages.{Stands}
+use Rattle.rs_page.specs.Pages.{Page, IsStored, extents_of, stored_refs}
+use Rattle.rs_page.specs.DiskPages.{Stands}
 use Rattle.rs_changes.specs.History.{IsHistory, HoldsHistory}
 
 -- Pages hold at most one history.
@@ -20,5 +20,5 @@ HistoryStays = (kept : ℕ → Bool) (refs : List PageRef) (old new : List ℕ) 
 
 -- Where each page of a history stands on the disk, the references to them hold its changes: so they load as this history.
 abbrev pub StoredHistoryIsHeld : Type 0
-StoredHistoryIsHeld = (sheets : List (Sheet Change)) (image : List ℕ) → IsHistory sheets → length sheets ≤ 1 → All IsStored sheets
-    → All (Stands change_format image) sheets → HoldsHistory (stored_refs sheets) image (map (λ sheet. sheet.items) sheets)
+StoredHistoryIsHeld = (pages : List (Page Change)) (image : List ℕ) → IsHistory pages → length pages ≤ 1 → All IsStored pages
+    → All (Stands change_format image) pages → HoldsHistory (stored_refs pages) image (map (λ page. page.items) pages)

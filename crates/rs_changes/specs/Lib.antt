@@ -1,4 +1,4 @@
 pub mod History
 pub mod Filled
-pub mod Inside
+pub mod OnePage
 pub mod Laws

@@ -5,8 +5,8 @@ ghost use Rattle.rs_record.specs.declared.change.Change.{Change};
 ghost use Rattle.rs_model.specs.State.{most_changes};
 ghost use Rattle.rs_page.specs.Items.{change_filled};
 ghost use Rattle.rs_changes.specs.Filled.{fill_end, history_filled};
-ghost use Rattle.rs_page.specs.Kept.{KeepsPages, stored_sheets};
-ghost use Rattle.rs_page.specs.Sheets.{placed_extents, stored_ref, stored_refs};
+ghost use Rattle.rs_page.specs.SharedPages.{KeepsPages, stored_pages};
+ghost use Rattle.rs_page.specs.Pages.{placed_extents, stored_ref, stored_refs};
 ghost use Rattle.rs_changes.specs.History.{changes_of, last_of, AreKept, IsHistory, EndsUnstored, part_start, part_end};
 
 use crate::changes::with_change;
@@ -30,16 +30,16 @@ pub struct History {
 impl Model for History {
     ghost use Rattle.std.specs.Prelude.{List};
     ghost use Rattle.rs_record.specs.declared.change.Change.{Change};
-    ghost use Rattle.rs_page.specs.Sheets.{Sheet};
+    ghost use Rattle.rs_page.specs.Pages.{Page};
 
-    ghost Value = { List (Sheet Change) };
+    ghost Value = { List (Page Change) };
 
-    ghost use Rattle.rs_changes.specs.Inside.{sheets_of};
+    ghost use Rattle.rs_changes.specs.OnePage.{page_or_none};
     ghost use Rattle.rs_changes.specs.History.{IsHistory};
 
-    ghost view = { λ h. sheets_of h.page };
+    ghost view = { λ h. page_or_none h.page };
 
-    ghost invariant = { λ h. IsHistory (sheets_of h.page) };
+    ghost invariant = { λ h. IsHistory (page_or_none h.page) };
 }
 
 impl History {
@@ -108,9 +108,11 @@ impl History {
     ///
     /// [`AllocError`] where the memory is refused.
     pub fn with(&self, alloc: Global, change: Change) -> Result<History, AllocError>
-        requires rises { IfSome (last_of (changes_of self.now)) (λ last. last.moment < «change».moment) }
+        requires rises { IfSome (last_of (changes_of self.now))
+            (λ last. last.moment < «change».moment) }
         requires room { length (changes_of self.now) < most_changes }
-        ensures appended { IfOk result (λ next. changes_of next ≡ changes_of self.now ++ «change» ∷ []) }
+        ensures appended { IfOk result (λ next. changes_of next ≡ changes_of self.now
+            ++ «change» ∷ []) }
         ensures kept { IfOk result (KeepsPages self.now) }
         ensures unstored { IfOk result EndsUnstored }
         ensures unplaced { IfOk result (λ next. placed_extents next ≡ []) }
@@ -143,9 +145,12 @@ impl History {
     /// put it there. It takes no memory.
     pub fn fill_last(&mut self, digests: Digests)
         requires { EndsUnstored self.old }
-        ensures filled { (before : List Change) (last : Change) → changes_of self.old ≡ before ++ last ∷ [] → changes_of self.new ≡ before ++ change_filled digests last ∷ [] }
-        ensures places { map (λ sheet. sheet.place) self.new ≡ map (λ sheet. sheet.place) self.old }
-        ensures lengths { map (λ sheet. length sheet.items) self.new ≡ map (λ sheet. length sheet.items) self.old }
+        ensures filled { (before : List Change) (last : Change)
+            → changes_of self.old ≡ before ++ last ∷ []
+            → changes_of self.new ≡ before ++ change_filled digests last ∷ [] }
+        ensures places { map (λ page. page.place) self.new ≡ map (λ page. page.place) self.old }
+        ensures lengths { map (λ page. length page.items) self.new
+            ≡ map (λ page. length page.items) self.old }
         ensures pages { self.new ≡ history_filled digests self.old }
     {
         let Some(page) = &mut self.page else {
@@ -176,7 +181,9 @@ impl History {
 fn fill_last_of(page: &mut Page<Change>, digests: Digests)
     requires some { 1 ≤ length page.old.items }
     requires not_stored { stored_ref page.old.place ≡ None }
-    ensures filled { (before : List Change) (last : Change) → page.old.items ≡ before ++ last ∷ [] → page.new.items ≡ before ++ change_filled digests last ∷ [] }
+    ensures filled { (before : List Change) (last : Change)
+        → page.old.items ≡ before ++ last ∷ []
+        → page.new.items ≡ before ++ change_filled digests last ∷ [] }
     ensures place { page.new.place ≡ page.old.place }
     ensures lengths { length page.new.items ≡ length page.old.items }
     ensures items { page.new.items ≡ fill_end digests page.old.items }

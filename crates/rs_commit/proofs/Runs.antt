@@ -2,7 +2,7 @@
 use Rattle.std.proofs.Common.{◌≡◌, inl, inr, ℕ, ◌+◌, ◌<◌, ◌≤◌, Bool, true, false, List, [], ◌∷◌, length, refl, sym, ◌∙◌, ap, subst, arith, Result, Ok, Err, OnOk, OnErr}
 use Rattle.std.specs.Bool.{OnTrue, OnFalse}
 use Rattle.rs_disk.specs.Medium.{Medium, DiskState, IsMedium, over, resting}
-use Rattle.rs_disk.specs.Calls.{Counts, Writes, Tears, Settles, Stays}
+use Rattle.rs_disk.specs.Calls.{CountsCall, Writes, Tears, Settles, Stays}
 use Rattle.rs_disk.specs.Leaves.{Leaves, Torn, TornFrom}
 use Rattle.rs_disk.proofs.Images.{over_torn, back_part}
 use Rattle.rs_disk.proofs.Steps.{started, goes_on, weaker, exit_images, write_leaves}
@@ -42,7 +42,7 @@ outside_torn old new at n fits left =
     weaker old new (λ _. TornFrom old.now at n) (λ _. OutsideOf old.now) (λ m image torn. (torn.0, torn.1, torn_behind at n torn.0 image fits torn.2)) left
 
 -- so a write at the slots, whatever it answers,
-pub outside_write : {E : Type 0} (old new : DiskState) (at : ℕ) (bytes : List ℕ) (result : Result (Unit {0}) E) → Counts old new result → IsMedium old.size old.now → 1024 ≤ old.size → at + length bytes ≤ 1024
+pub outside_write : {E : Type 0} (old new : DiskState) (at : ℕ) (bytes : List ℕ) (result : Result (Unit {0}) E) → CountsCall old new result → IsMedium old.size old.now → 1024 ≤ old.size → at + length bytes ≤ 1024
     → OnOk result (Writes at bytes old new) → OnErr result (Tears at (length bytes) old new) → SameBehind new.now.seen old.now.seen × Leaves old new (λ _. OutsideOf old.now)
 outside_write old new at bytes result counts is room low ok err =
     let fits : at + length bytes ≤ length old.now.seen = omega (arith, room, low, is.image.size, is.settled) in

@@ -10,14 +10,14 @@ use Rattle.rs_commit.specs.declared.faults.CommitFault.{CommitFault}
 use Rattle.rs_commit.specs.declared.faults.CommitFault.TheVariants.{Device as DeviceFailed}
 use Rattle.rs_commit.specs.Slots.{Standing, offset, current, OpensTo, payload_of}
 
--- the bytes behind the slots
-abbrev pub behind : List ℕ → List ℕ
-behind image = drop 1024 image
+-- the bytes behind_slots the slots
+abbrev pub behind_slots : List ℕ → List ℕ
+behind_slots image = drop 1024 image
 
--- two lists of one size, the same behind the slots
+-- two lists of one size, the same behind_slots the slots
 pub record SameBehind (one two : List ℕ) : Type 0 where
   pub size : length one ≡ length two
-  pub bytes : behind one ≡ behind two
+  pub bytes : behind_slots one ≡ behind_slots two
 
 -- blocks 0 and 1 are settled
 abbrev pub AreSettled : Medium → Type 0
@@ -33,11 +33,11 @@ pub record IsReady (slots : Standing) (m : Medium) : Type 0 where
 abbrev pub next : Root → Extent → ℕ → List ℕ → Root
 next old directory length sha256 = record { generation = old.generation + 1; directory = directory; length = length; sha256 = sha256 }
 
--- behind the slots an image is as some image at entry
+-- behind_slots the slots an image is as some image at entry
 abbrev pub OutsideOf : Medium → List ℕ → Type 0
 OutsideOf entry image = (e : List ℕ) × IsImage entry e × SameBehind image e
 
--- An image opens to the old root, and behind the slots it is as an image at entry; or it opens to the new one, and there it
+-- An image opens to the old root, and behind_slots the slots it is as an image at entry; or it opens to the new one, and there it
 -- is what a read gave at entry.
 abbrev pub OldOrNew : Medium → Root → Root → List ℕ → Type 0
 OldOrNew entry old new image = (OpensTo old image × OutsideOf entry image) ⊎ (OpensTo new image × SameBehind image entry.seen)

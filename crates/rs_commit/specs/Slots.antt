@@ -1,7 +1,8 @@
--- The root slots of a disk, and which of them holds the root. A slot is a block of 512 bytes.
+-- The root slots of a disk, and which of them holds the root. A slot is a block.
 use Rattle.std.specs.Prelude.{◌≡◌, ◌<◌, ◌^◌, ℕ, Bool, true, false, ◌&&◌, nat_lt, nat_eq, if◌then◌else◌, List, [], ◌∷◌, length, take, drop, get_or, Option, Some, None}
 use Rattle.std.specs.Int.{from_be_bytes, to_be_bytes, w32, w64}
 use Rattle.std.specs.List.{concat}
+use Rattle.rs_extent.specs.Blocks.{block_size}
 use Rattle.rs_commit.specs.declared.root.Root.{Root}
 use Rattle.rs_commit.specs.declared.slot.Slot.{Slot}
 use Rattle.rs_commit.specs.declared.slot.Slot.TheVariants.{First, Second}
@@ -11,7 +12,7 @@ use Rattle.rs_commit.specs.declared.slot.Content.TheVariants.{Closed, Unknown, O
 -- where a slot begins on the disk
 abbrev pub offset : Slot → ℕ
 offset First = 0
-offset Second = 512
+offset Second = block_size
 
 abbrev pub other : Slot → Slot
 other First = Second
@@ -19,7 +20,7 @@ other Second = First
 
 -- the block of a slot; it is short where the disk ends in it
 abbrev pub block : List ℕ → Slot → List ℕ
-block image slot = take 512 (drop (offset slot) image)
+block image slot = take block_size (drop (offset slot) image)
 
 -- n bytes of a block, from one on
 abbrev pub field : List ℕ → ℕ → ℕ → List ℕ
@@ -43,7 +44,7 @@ root_in bytes = record {
 
 -- a slot is open where its block is whole and its gate is 1
 abbrev pub is_open : List ℕ → Bool
-is_open bytes = nat_eq (length bytes) 512 && nat_eq (gate bytes) 1
+is_open bytes = nat_eq (length bytes) block_size && nat_eq (gate bytes) 1
 
 -- what a slot says: nothing where it isn't open, and only version 1 is known
 unfoldable pub content : List ℕ → Content

@@ -2,7 +2,7 @@
 ghost use Rattle.std.specs.Prelude.{◌≡◌, ◌≤◌, ◌++◌, length, IfOk, OnOk};
 ghost use Rattle.rs_disk.specs.Medium.{resting};
 ghost use Rattle.rs_disk.specs.Leaves.{Leaves, Runs};
-ghost use Rattle.rs_commit.specs.Commit.{SameBehind, OutsideOf, IsReady, behind};
+ghost use Rattle.rs_commit.specs.Commit.{SameBehind, OutsideOf, IsReady, behind_slots};
 ghost use Rattle.rs_commit.specs.Format.{slot_bytes, formatted, fresh};
 
 use crate::root::{VERSION, payload, put};
@@ -10,6 +10,7 @@ use crate::settled::write_settled;
 use crate::slot::{OPEN, Slot};
 use crate::{Root, Slots};
 use rs_disk::{Disk, Fault};
+use rs_extent::BLOCK_SIZE;
 
 /// Makes the slots of a disk, so that it opens to `root`, which its first slot tells, and gives them
 /// as they stand then.
@@ -27,10 +28,12 @@ pub fn format_slots<D: Disk>(disk: &mut D, root: &Root) -> Result<Slots, Fault>
 
     // Behind the slots a read gives what it gave, and at each moment each image is one at entry.
     ensures outside { SameBehind (D.state disk.new).now.seen (D.state disk.old).now.seen }
-    ensures any_moment { Leaves (D.state disk.old) (D.state disk.new) (λ _. OutsideOf (D.state disk.old).now) }
+    ensures any_moment { Leaves (D.state disk.old) (D.state disk.new)
+        (λ _. OutsideOf (D.state disk.old).now) }
 
     // After it the first slot holds the root, and nothing is unsettled.
-    ensures made { OnOk result ((D.state disk.new).now ≡ resting (formatted root.now ++ behind (D.state disk.old).now.seen)) }
+    ensures made { OnOk result ((D.state disk.new).now
+        ≡ resting (formatted root.now ++ behind_slots (D.state disk.old).now.seen)) }
     ensures ready { OnOk result (IsReady (fresh root.now) (D.state disk.new).now) }
 {
     write_slots(disk, root)?;
@@ -42,8 +45,10 @@ fn write_slots<D: Disk>(disk: &mut D, root: &Root) -> Result<(), Fault>
     requires { 1024 ≤ (D.state disk.old).size }
     ensures runs { Runs (D.state disk.old) (D.state disk.new) result }
     ensures outside { SameBehind (D.state disk.new).now.seen (D.state disk.old).now.seen }
-    ensures any_moment { Leaves (D.state disk.old) (D.state disk.new) (λ _. OutsideOf (D.state disk.old).now) }
-    ensures made { OnOk result ((D.state disk.new).now ≡ resting (formatted root.now ++ behind (D.state disk.old).now.seen)) }
+    ensures any_moment { Leaves (D.state disk.old) (D.state disk.new)
+        (λ _. OutsideOf (D.state disk.old).now) }
+    ensures made { OnOk result ((D.state disk.new).now
+        ≡ resting (formatted root.now ++ behind_slots (D.state disk.old).now.seen)) }
     ensures ready { OnOk result (IsReady (fresh root.now) (D.state disk.new).now) }
 {
     disk.write(Slot::First.offset(), &closed_slot(&payload(*root)))?;
@@ -52,11 +57,11 @@ fn write_slots<D: Disk>(disk: &mut D, root: &Root) -> Result<(), Fault>
 }
 
 // The block of a slot with a closed gate, these bytes behind it, and zeros.
-fn closed_slot(payload: &[u8]) -> [u8; 512]
+fn closed_slot(payload: &[u8]) -> [u8; BLOCK_SIZE]
     requires { length payload.now ≤ 511 }
     ensures { result ≡ slot_bytes 0 payload.now }
 {
-    let mut bytes = [0; 512];
+    let mut bytes = [0; BLOCK_SIZE];
     put(&mut bytes, 1, payload);
     bytes
 }

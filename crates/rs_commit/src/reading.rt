@@ -1,13 +1,15 @@
 //! How the slots are read.
 ghost use Rattle.std.specs.Prelude.{◌≡◌, ◌≤◌, List, ℕ, length, take, None, Some, IfOk, IsErrOf, IsTrue};
 ghost use Rattle.rs_disk.specs.Leaves.{Runs, Rests};
+ghost use Rattle.rs_extent.specs.Blocks.{block_size};
 ghost use Rattle.rs_commit.specs.Slots.{block, content as content_of, current, pick, OpensTo};
 ghost use Rattle.rs_commit.specs.Commit.{IsReady, AreSettled, device_in_open};
 
 use crate::root::{VERSION, root_in};
-use crate::slot::{BLOCK, Content, OPEN, Slot};
+use crate::slot::{Content, OPEN, Slot};
 use crate::{Root, SlotFault, Slots};
 use rs_disk::{Disk, Fault};
+use rs_extent::BLOCK_SIZE;
 
 /// Reads the slots of a disk, and the root that they tell.
 ///
@@ -23,11 +25,14 @@ pub fn open_slots<D: Disk>(disk: &mut D) -> Result<(Slots, Root), SlotFault>
     ensures root { IfOk result (λ opened. opened.0.root ≡ opened.1) }
 
     // Of a device that has followed the model so far:
-    ensures found { IfOk result (λ opened. IsTrue (D.state disk.new).honest → current (D.state disk.old).now.seen ≡ Some opened.0) }
-    ensures none { IsErrOf result SlotFault.NotASource → IsTrue (D.state disk.new).honest → current (D.state disk.old).now.seen ≡ None }
+    ensures found { IfOk result (λ opened. IsTrue (D.state disk.new).honest
+        → current (D.state disk.old).now.seen ≡ Some opened.0) }
+    ensures none { IsErrOf result SlotFault.NotASource → IsTrue (D.state disk.new).honest
+        → current (D.state disk.old).now.seen ≡ None }
 
     // Where blocks 0 and 1 are there and settled, a commit may follow.
-    ensures ready { IfOk result (λ opened. IsTrue (D.state disk.new).honest → 1024 ≤ (D.state disk.old).size → AreSettled (D.state disk.old).now
+    ensures ready { IfOk result (λ opened. IsTrue (D.state disk.new).honest
+        → 1024 ≤ (D.state disk.old).size → AreSettled (D.state disk.old).now
         → IsReady opened.0 (D.state disk.new).now) }
 {
     let first = read_slot(disk, Slot::First)?;
@@ -45,10 +50,11 @@ pub fn open_slots<D: Disk>(disk: &mut D) -> Result<(Slots, Root), SlotFault>
 fn read_slot<D: Disk>(disk: &mut D, slot: Slot) -> Result<Content, Fault>
     ensures runs { Runs (D.state disk.old) (D.state disk.new) result }
     ensures rests { Rests (D.state disk.old) (D.state disk.new) }
-    ensures content { IfOk result (λ content. IsTrue (D.state disk.new).honest → content ≡ content_of (block (D.state disk.old).now.seen slot)) }
+    ensures content { IfOk result (λ content. IsTrue (D.state disk.new).honest
+        → content ≡ content_of (block (D.state disk.old).now.seen slot)) }
 {
     let from = slot.offset();
-    if disk.size() < from + BLOCK {
+    if disk.size() < from + BLOCK_SIZE as u64 {
         return Ok(Content::Closed);
     }
     let mut bytes = [0; 54];
@@ -58,7 +64,8 @@ fn read_slot<D: Disk>(disk: &mut D, slot: Slot) -> Result<Content, Fault>
 
 // What the first 54 bytes of a slot say; the others are never read.
 fn content(bytes: &[u8; 54]) -> Content
-    ensures { (block : List ℕ) → length block ≡ 512 → bytes.now ≡ take 54 block → result ≡ content_of block }
+    ensures { (block : List ℕ) → length block ≡ block_size → bytes.now ≡ take 54 block
+        → result ≡ content_of block }
 {
     if bytes[0] != OPEN {
         Content::Closed

@@ -10,9 +10,12 @@ pub(crate) fn write_settled<D: Disk>(disk: &mut D, at: u64, bytes: &[u8]) -> Res
     requires { at + length bytes.now ≤ (D.state disk.old).size }
     ensures runs { Runs (D.state disk.old) (D.state disk.new) result }
     ensures keeps { (D.state disk.new).honest ≡ (D.state disk.old).honest }
-    ensures any_moment { Leaves (D.state disk.old) (D.state disk.new) (λ _. TornFrom (D.state disk.old).now at (length bytes.now)) }
-    ensures torn { Torn at (length bytes.now) (D.state disk.old).now.seen (D.state disk.new).now.seen }
-    ensures settled { OnOk result ((D.state disk.new).now ≡ resting (over (D.state disk.old).now.seen at bytes.now)) }
+    ensures any_moment { Leaves (D.state disk.old) (D.state disk.new)
+        (λ _. TornFrom (D.state disk.old).now at (length bytes.now)) }
+    ensures torn { Torn at (length bytes.now) (D.state disk.old).now.seen
+        (D.state disk.new).now.seen }
+    ensures settled { OnOk result ((D.state disk.new).now
+        ≡ resting (over (D.state disk.old).now.seen at bytes.now)) }
 {
     disk.write(at, bytes)?;
     disk.sync()

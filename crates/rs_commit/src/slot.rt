@@ -3,15 +3,13 @@ ghost use Rattle.std.specs.Prelude.{◌≡◌};
 ghost use Rattle.rs_commit.specs.Slots.{offset as offset_of, other as other_of};
 
 use crate::Root;
+use rs_extent::BLOCK_SIZE;
 
 /// The gate of a slot that is open; every other value is a closed gate.
 pub(crate) const OPEN: u8 = 1;
 
 /// The gate of a slot that is closed by a commit or by formatting.
 pub(crate) const CLOSED: u8 = 0;
-
-/// How many bytes a block has.
-pub(crate) const BLOCK: u64 = 512;
 
 /// One of the two slots: block 0 or block 1 of the disk.
 #[derive(Clone, Copy, Debug, PartialEq, Eq)]
@@ -37,7 +35,7 @@ impl Slot {
     {
         match self {
             Slot::First => 0,
-            Slot::Second => BLOCK,
+            Slot::Second => BLOCK_SIZE as u64,
         }
     }
 }

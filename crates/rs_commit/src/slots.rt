@@ -116,18 +116,25 @@ impl Slots {
         ensures outside { SameBehind (D.state disk.new).now.seen (D.state disk.old).now.seen }
 
         // Stopped at any moment, the disk opens to the old root or to the new one.
-        ensures any_moment { IsReady self.old (D.state disk.old).now → Leaves (D.state disk.old) (D.state disk.new)
-            (λ _. OldOrNew (D.state disk.old).now self.old.root (next self.old.root directory length sha256.now)) }
+        ensures any_moment { IsReady self.old (D.state disk.old).now
+            → Leaves (D.state disk.old) (D.state disk.new) (λ _. OldOrNew (D.state disk.old).now
+            self.old.root (next self.old.root directory length sha256.now)) }
 
         // After it, to the new one, nothing is unsettled, and the slots can be changed again.
-        ensures root { OnOk result (self.new.root ≡ next self.old.root directory length sha256.now) }
-        ensures opens { OnOk result (IsReady self.old (D.state disk.old).now → (image : List ℕ) → IsImage (D.state disk.new).now image → OpensTo self.new.root image) }
-        ensures ready { OnOk result (IsReady self.old (D.state disk.old).now → IsReady self.new (D.state disk.new).now) }
-        ensures written { OnOk result ((D.state disk.new).now ≡ resting (with_root (D.state disk.old).now.seen (other self.old.slot) self.new.root)) }
+        ensures root { OnOk result (self.new.root
+            ≡ next self.old.root directory length sha256.now) }
+        ensures opens { OnOk result (IsReady self.old (D.state disk.old).now → (image : List ℕ)
+            → IsImage (D.state disk.new).now image → OpensTo self.new.root image) }
+        ensures ready { OnOk result (IsReady self.old (D.state disk.old).now
+            → IsReady self.new (D.state disk.new).now) }
+        ensures written { OnOk result ((D.state disk.new).now
+            ≡ resting (with_root (D.state disk.old).now.seen (other self.old.slot) self.new.root)) }
 
         // Without a generation to give it, nothing changes.
-        ensures exhausted { IsErrOf result CommitFault.Exhausted ↔ (2 ^ 64 ≤ self.old.root.generation + 1) }
-        ensures untouched { IsErrOf result CommitFault.Exhausted → D.state disk.new ≡ D.state disk.old }
+        ensures exhausted { IsErrOf result CommitFault.Exhausted
+            ↔ (2 ^ 64 ≤ self.old.root.generation + 1) }
+        ensures untouched { IsErrOf result CommitFault.Exhausted
+            → D.state disk.new ≡ D.state disk.old }
         ensures kept { OnErr result (self.new ≡ self.old) }
     {
         if self.root.generation == u64::MAX {
@@ -155,9 +162,12 @@ impl Slots {
         ensures runs { Runs (D.state disk.old) (D.state disk.new) result }
         ensures keeps { (D.state disk.new).honest ≡ (D.state disk.old).honest }
         ensures outside { SameBehind (D.state disk.new).now.seen (D.state disk.old).now.seen }
-        ensures any_moment { self.now.root.generation < root.generation → IsReady self.now (D.state disk.old).now
-            → Leaves (D.state disk.old) (D.state disk.new) (λ _. OldOrNew (D.state disk.old).now self.now.root root) }
-        ensures written { OnOk result ((D.state disk.new).now ≡ resting (with_root (D.state disk.old).now.seen (other self.now.slot) root)) }
+        ensures any_moment { self.now.root.generation < root.generation
+            → IsReady self.now (D.state disk.old).now
+            → Leaves (D.state disk.old) (D.state disk.new)
+            (λ _. OldOrNew (D.state disk.old).now self.now.root root) }
+        ensures written { OnOk result ((D.state disk.new).now
+            ≡ resting (with_root (D.state disk.old).now.seen (other self.now.slot) root)) }
         ensures lawful { IsLawfulRoot root }
     {
         let spare = self.slot.other();
@@ -174,8 +184,10 @@ fn close_gate<D: Disk>(disk: &mut D, slot: Slot, is_open: bool) -> Result<(), Fa
     ensures runs { Runs (D.state disk.old) (D.state disk.new) result }
     ensures keeps { (D.state disk.new).honest ≡ (D.state disk.old).honest }
     ensures torn { Torn (offset slot) 1 (D.state disk.old).now.seen (D.state disk.new).now.seen }
-    ensures any_moment { OnTrue is_open (Leaves (D.state disk.old) (D.state disk.new) (λ _. TornFrom (D.state disk.old).now (offset slot) 1)) }
-    ensures closed { OnTrue is_open (OnOk result ((D.state disk.new).now ≡ resting (over (D.state disk.old).now.seen (offset slot) (0 ∷ [])))) }
+    ensures any_moment { OnTrue is_open (Leaves (D.state disk.old) (D.state disk.new)
+        (λ _. TornFrom (D.state disk.old).now (offset slot) 1)) }
+    ensures closed { OnTrue is_open (OnOk result ((D.state disk.new).now
+        ≡ resting (over (D.state disk.old).now.seen (offset slot) (0 ∷ [])))) }
     ensures nothing { OnFalse is_open (D.state disk.new ≡ D.state disk.old) }
 {
     if is_open {
@@ -189,9 +201,12 @@ fn write_behind<D: Disk>(disk: &mut D, slot: Slot, root: Root) -> Result<(), Fau
     requires { 1024 ≤ (D.state disk.old).size }
     ensures runs { Runs (D.state disk.old) (D.state disk.new) result }
     ensures keeps { (D.state disk.new).honest ≡ (D.state disk.old).honest }
-    ensures torn { Torn (offset slot + 1) 53 (D.state disk.old).now.seen (D.state disk.new).now.seen }
-    ensures any_moment { Leaves (D.state disk.old) (D.state disk.new) (λ _. TornFrom (D.state disk.old).now (offset slot + 1) 53) }
-    ensures written { OnOk result ((D.state disk.new).now ≡ resting (over (D.state disk.old).now.seen (offset slot + 1) (payload_of root))) }
+    ensures torn { Torn (offset slot + 1) 53 (D.state disk.old).now.seen
+        (D.state disk.new).now.seen }
+    ensures any_moment { Leaves (D.state disk.old) (D.state disk.new)
+        (λ _. TornFrom (D.state disk.old).now (offset slot + 1) 53) }
+    ensures written { OnOk result ((D.state disk.new).now
+        ≡ resting (over (D.state disk.old).now.seen (offset slot + 1) (payload_of root))) }
     ensures lawful { IsLawfulRoot root }
 {
     write_settled(disk, slot.offset() + 1, &payload(root))
@@ -203,8 +218,10 @@ fn open_gate<D: Disk>(disk: &mut D, slot: Slot) -> Result<(), Fault>
     ensures runs { Runs (D.state disk.old) (D.state disk.new) result }
     ensures keeps { (D.state disk.new).honest ≡ (D.state disk.old).honest }
     ensures torn { Torn (offset slot) 1 (D.state disk.old).now.seen (D.state disk.new).now.seen }
-    ensures any_moment { Leaves (D.state disk.old) (D.state disk.new) (λ _. TornFrom (D.state disk.old).now (offset slot) 1) }
-    ensures opened { OnOk result ((D.state disk.new).now ≡ resting (over (D.state disk.old).now.seen (offset slot) (1 ∷ []))) }
+    ensures any_moment { Leaves (D.state disk.old) (D.state disk.new)
+        (λ _. TornFrom (D.state disk.old).now (offset slot) 1) }
+    ensures opened { OnOk result ((D.state disk.new).now
+        ≡ resting (over (D.state disk.old).now.seen (offset slot) (1 ∷ []))) }
 {
     write_settled(disk, slot.offset(), &[OPEN])
 }

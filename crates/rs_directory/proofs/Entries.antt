@@ -8,7 +8,7 @@ use Rattle.rs_record.proofs.FieldLaws.{AreBytes}
 use Rattle.rs_record.proofs.Answered.{alone}
 use Rattle.rs_page.specs.declared.place.PageRef.{PageRef}
 use Rattle.rs_directory.specs.Directory.{ref_bytes, IsLawfulRef}
-use Rattle.rs_directory.specs.Reading.{ref_at}
+use Rattle.rs_directory.specs.Reading.{page_entry_at}
 use Rattle.rs_directory.proofs.Pieces.{length-ref_bytes, length-entries}
 use Rattle.rs_directory.proofs.PartLaws.{ref, ref_none}
 
@@ -87,9 +87,9 @@ one_before r refs bytes after rest first more =
 pub some_entries : (n : ℕ) (bytes : List ℕ) → AreBytes bytes → 44 * n ≤ length bytes → BeginsWithEntries n bytes
 some_entries zero bytes fits size =
     record { refs = []; count = refl; lawful = All-nil IsLawfulRef; rest = bytes; parts = refl; rest_bytes = fits }
-some_entries (suc n) bytes fits size = next (λ rest. some_entries n rest) (ref_at bytes) refl
+some_entries (suc n) bytes fits size = next (λ rest. some_entries n rest) (page_entry_at bytes) refl
   where
-    next : ((rest : List ℕ) → AreBytes rest → 44 * n ≤ length rest → BeginsWithEntries n rest) → (o : Option (PageRef × List ℕ)) → ref_at bytes ≡ o
+    next : ((rest : List ℕ) → AreBytes rest → 44 * n ≤ length rest → BeginsWithEntries n rest) → (o : Option (PageRef × List ℕ)) → page_entry_at bytes ≡ o
         → BeginsWithEntries (suc n) bytes
     next all None e = absurd (omega (arith, ref_none bytes fits e))
     next all (Some x) e =
@@ -111,7 +111,7 @@ same_refs [] [] x y a_lawful b_lawful long same = (refl, same)
 same_refs [] (s ∷ b) x y a_lawful b_lawful long same = absurd (omega arith)
 same_refs (r ∷ a) [] x y a_lawful b_lawful long same = absurd (omega arith)
 same_refs (r ∷ a) (s ∷ b) x y a_lawful b_lawful long same =
-    let first = alone ref_at ref_bytes IsLawfulRef ref r s (flat_map ref_bytes a ++ x) (flat_map ref_bytes b ++ y)
+    let first = alone page_entry_at ref_bytes IsLawfulRef ref r s (flat_map ref_bytes a ++ x) (flat_map ref_bytes b ++ y)
     (All-head IsLawfulRef r a a_lawful) (All-head IsLawfulRef s b b_lawful)
     (sym (append_assoc (ref_bytes r) (flat_map ref_bytes a) x) ∙ same ∙ append_assoc (ref_bytes s) (flat_map ref_bytes b) y) in
     let more = same_refs a b x y (All-tail IsLawfulRef r a a_lawful) (All-tail IsLawfulRef s b b_lawful) (omega arith) first.1 in

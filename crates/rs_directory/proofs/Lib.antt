@@ -1,5 +1,5 @@
 pub mod Pieces
-pub mod FieldLaws
+pub mod Limits
 pub mod PartLaws
 pub mod Entries
 pub mod OneDirectory

@@ -3,16 +3,16 @@ use Rattle.std.proofs.Common.{◌≡◌, ℕ, ◌^◌, ◌<◌, List, [], ◌∷
 use Rattle.std.specs.List.{concat}
 use Rattle.std.specs.Int.{w16, w32, w64, to_be_bytes}
 use Rattle.rs_time.specs.Moment.{IsMoment}
-use Rattle.rs_record.specs.Format.{counted}
-use Rattle.rs_record.specs.Reading.{◌>>=◌, piece_at, number_at, counted_at, moment_at}
-use Rattle.rs_record.proofs.FieldLaws.{AreBytes, Takes, IsFormat, bind_some, takes_as, one_more, concat-onto, piece, piece_read, number_4, number_8, moment}
+use Rattle.rs_record.specs.Format.{counted_text}
+use Rattle.rs_record.specs.Reading.{◌>>=◌, piece_at, number_in, counted_at, moment_in}
+use Rattle.rs_record.proofs.FieldLaws.{AreBytes, Takes, IsFormat, bind_some, takes_as, one_more, concat-onto, piece, piece_read, number_4, number_8, counted, moment, number_none, piece_none_of}
 use Rattle.rs_page.specs.declared.place.PageRef.{PageRef}
 use Rattle.rs_directory.specs.declared.header.Header.{Header}
 use Rattle.rs_directory.specs.declared.parts.Counts.{Counts}
 use Rattle.rs_directory.specs.Limit.{IsLimit}
 use Rattle.rs_directory.specs.Directory.{header_bytes, ref_bytes, IsLawfulRef}
-use Rattle.rs_directory.specs.Reading.{limit_at, header_at, counts_at, ref_at}
-use Rattle.rs_directory.proofs.FieldLaws.{limit, text, number_none, piece_none_of}
+use Rattle.rs_directory.specs.Reading.{limit_at, header_at, counts_at, page_entry_at}
+use Rattle.rs_directory.proofs.Limits.{limit}
 
 -- ---- headers
 
@@ -29,24 +29,24 @@ unfolding header_at
 header_takes bytes x fits e =
     let made : ℕ → List ℕ → ℕ → ℕ → ℕ → ℕ → Header =
     λ items base start last number at. record { base = base; limit = items; start = start; last = last; number = number; at = at } in
-    let a = bind_some (limit_at bytes) (λ items. counted_at items.1 >>= λ base. moment_at base.1 >>= λ start. moment_at start.1
-    >>= λ last. number_at w64 last.1 >>= λ number. moment_at number.1 >>= λ at. Some (made items.0 base.0 start.0 last.0 number.0 at.0, at.1)) x e in
-    let b = bind_some (counted_at a.0.1) (λ base. moment_at base.1 >>= λ start. moment_at start.1 >>= λ last. number_at w64 last.1
-    >>= λ number. moment_at number.1 >>= λ at. Some (made a.0.0 base.0 start.0 last.0 number.0 at.0, at.1)) x a.2 in
-    let d = bind_some (moment_at b.0.1) (λ start. moment_at start.1 >>= λ last. number_at w64 last.1 >>= λ number. moment_at number.1
+    let a = bind_some (limit_at bytes) (λ items. counted_at items.1 >>= λ base. moment_in base.1 >>= λ start. moment_in start.1
+    >>= λ last. number_in w64 last.1 >>= λ number. moment_in number.1 >>= λ at. Some (made items.0 base.0 start.0 last.0 number.0 at.0, at.1)) x e in
+    let b = bind_some (counted_at a.0.1) (λ base. moment_in base.1 >>= λ start. moment_in start.1 >>= λ last. number_in w64 last.1
+    >>= λ number. moment_in number.1 >>= λ at. Some (made a.0.0 base.0 start.0 last.0 number.0 at.0, at.1)) x a.2 in
+    let d = bind_some (moment_in b.0.1) (λ start. moment_in start.1 >>= λ last. number_in w64 last.1 >>= λ number. moment_in number.1
     >>= λ at. Some (made a.0.0 b.0.0 start.0 last.0 number.0 at.0, at.1)) x b.2 in
-    let f = bind_some (moment_at d.0.1) (λ last. number_at w64 last.1 >>= λ number. moment_at number.1
+    let f = bind_some (moment_in d.0.1) (λ last. number_in w64 last.1 >>= λ number. moment_in number.1
     >>= λ at. Some (made a.0.0 b.0.0 d.0.0 last.0 number.0 at.0, at.1)) x d.2 in
-    let g = bind_some (number_at w64 f.0.1) (λ number. moment_at number.1 >>= λ at. Some (made a.0.0 b.0.0 d.0.0 f.0.0 number.0 at.0, at.1)) x f.2 in
-    let h = bind_some (moment_at g.0.1) (λ at. Some (made a.0.0 b.0.0 d.0.0 f.0.0 g.0.0 at.0, at.1)) x g.2 in
+    let g = bind_some (number_in w64 f.0.1) (λ number. moment_in number.1 >>= λ at. Some (made a.0.0 b.0.0 d.0.0 f.0.0 number.0 at.0, at.1)) x f.2 in
+    let h = bind_some (moment_in g.0.1) (λ at. Some (made a.0.0 b.0.0 d.0.0 f.0.0 g.0.0 at.0, at.1)) x g.2 in
     let ta = limit.takes bytes a.0 fits a.1 in
-    let tb = text.takes a.0.1 b.0 ta.rest b.1 in
+    let tb = counted.takes a.0.1 b.0 ta.rest b.1 in
     let td = moment.takes b.0.1 d.0 tb.rest d.1 in
     let tf = moment.takes d.0.1 f.0 td.rest f.1 in
     let tg = number_8.takes f.0.1 g.0 tf.rest g.1 in
     let th = moment.takes g.0.1 h.0 tg.rest h.1 in
     let L = to_be_bytes w16 a.0.0 in
-    let B = counted b.0.0 in
+    let B = counted_text b.0.0 in
     let S = to_be_bytes w64 d.0.0 in
     let T = to_be_bytes w64 f.0.0 in
     let N = to_be_bytes w64 g.0.0 in
@@ -66,11 +66,11 @@ header_again h rest lawful =
     let number = to_be_bytes w64 h.number ++ at in
     let last = to_be_bytes w64 h.last ++ number in
     let start = to_be_bytes w64 h.start ++ last in
-    ap header_at (concat-onto (to_be_bytes w16 h.limit ∷ counted h.base ∷ to_be_bytes w64 h.start ∷ to_be_bytes w64 h.last ∷ to_be_bytes w64 h.number ∷
+    ap header_at (concat-onto (to_be_bytes w16 h.limit ∷ counted_text h.base ∷ to_be_bytes w64 h.start ∷ to_be_bytes w64 h.last ∷ to_be_bytes w64 h.number ∷
     to_be_bytes w64 h.at ∷ []) rest)
     ∙ rw (
-      limit.again h.limit (counted h.base ++ start) lawful.limit,
-      text.again h.base start tt,
+      limit.again h.limit (counted_text h.base ++ start) lawful.limit,
+      counted.again h.base start tt,
       moment.again h.start last lawful.start,
       moment.again h.last number lawful.last,
       number_8.again h.number at lawful.number,
@@ -96,10 +96,10 @@ counts_takes : (bytes : List ℕ) (x : Counts × List ℕ) → AreBytes bytes �
 unfolding counts_at
 counts_takes bytes x fits e =
     let made : ℕ → ℕ → ℕ → Counts = λ catalogue changes published. record { catalogue = catalogue; changes = changes; published = published } in
-    let a = bind_some (number_at w32 bytes) (λ catalogue. number_at w32 catalogue.1 >>= λ changes. number_at w32 changes.1
+    let a = bind_some (number_in w32 bytes) (λ catalogue. number_in w32 catalogue.1 >>= λ changes. number_in w32 changes.1
     >>= λ published. Some (made catalogue.0 changes.0 published.0, published.1)) x e in
-    let b = bind_some (number_at w32 a.0.1) (λ changes. number_at w32 changes.1 >>= λ published. Some (made a.0.0 changes.0 published.0, published.1)) x a.2 in
-    let d = bind_some (number_at w32 b.0.1) (λ published. Some (made a.0.0 b.0.0 published.0, published.1)) x b.2 in
+    let b = bind_some (number_in w32 a.0.1) (λ changes. number_in w32 changes.1 >>= λ published. Some (made a.0.0 changes.0 published.0, published.1)) x a.2 in
+    let d = bind_some (number_in w32 b.0.1) (λ published. Some (made a.0.0 b.0.0 published.0, published.1)) x b.2 in
     let ta = number_4.takes bytes a.0 fits a.1 in
     let tb = number_4.takes a.0.1 b.0 ta.rest b.1 in
     let td = number_4.takes b.0.1 d.0 tb.rest d.1 in
@@ -128,16 +128,16 @@ counts = record { takes = counts_takes; again = counts_again }
 
 -- ---- entries
 
-ref_takes : (bytes : List ℕ) (x : PageRef × List ℕ) → AreBytes bytes → ref_at bytes ≡ Some x → Takes ref_bytes IsLawfulRef bytes x
-unfolding ref_at
+ref_takes : (bytes : List ℕ) (x : PageRef × List ℕ) → AreBytes bytes → page_entry_at bytes ≡ Some x → Takes ref_bytes IsLawfulRef bytes x
+unfolding page_entry_at
 ref_takes bytes x fits e =
     let made : ℕ → ℕ → ℕ → List ℕ → PageRef =
     λ first blocks len sha256. record { extent = record { first = first; blocks = blocks }; length = len; sha256 = sha256 } in
-    let a = bind_some (number_at w32 bytes) (λ first. number_at w32 first.1 >>= λ blocks. number_at w32 blocks.1 >>= λ len. piece_at 32 len.1
+    let a = bind_some (number_in w32 bytes) (λ first. number_in w32 first.1 >>= λ blocks. number_in w32 blocks.1 >>= λ len. piece_at 32 len.1
     >>= λ sha256. Some (made first.0 blocks.0 len.0 sha256.0, sha256.1)) x e in
-    let b = bind_some (number_at w32 a.0.1) (λ blocks. number_at w32 blocks.1 >>= λ len. piece_at 32 len.1
+    let b = bind_some (number_in w32 a.0.1) (λ blocks. number_in w32 blocks.1 >>= λ len. piece_at 32 len.1
     >>= λ sha256. Some (made a.0.0 blocks.0 len.0 sha256.0, sha256.1)) x a.2 in
-    let d = bind_some (number_at w32 b.0.1) (λ len. piece_at 32 len.1 >>= λ sha256. Some (made a.0.0 b.0.0 len.0 sha256.0, sha256.1)) x b.2 in
+    let d = bind_some (number_in w32 b.0.1) (λ len. piece_at 32 len.1 >>= λ sha256. Some (made a.0.0 b.0.0 len.0 sha256.0, sha256.1)) x b.2 in
     let f = bind_some (piece_at 32 d.0.1) (λ sha256. Some (made a.0.0 b.0.0 d.0.0 sha256.0, sha256.1)) x d.2 in
     let ta = number_4.takes bytes a.0 fits a.1 in
     let tb = number_4.takes a.0.1 b.0 ta.rest b.1 in
@@ -153,13 +153,13 @@ ref_takes bytes x fits e =
     takes_as (made a.0.0 b.0.0 d.0.0 f.0.0, f.0.1) x f.2
     (record { parts = four; rest = tf.rest; lawful = record { first = ta.lawful; blocks = tb.lawful; len = td.lawful; sha256 = tf.lawful.length } })
 
-ref_again : (r : PageRef) (rest : List ℕ) → IsLawfulRef r → ref_at (ref_bytes r ++ rest) ≡ Some (r, rest)
-unfolding ref_at
+ref_again : (r : PageRef) (rest : List ℕ) → IsLawfulRef r → page_entry_at (ref_bytes r ++ rest) ≡ Some (r, rest)
+unfolding page_entry_at
 ref_again r rest lawful =
     let sha256 = r.sha256 ++ rest in
     let len = to_be_bytes w32 r.length ++ sha256 in
     let blocks = to_be_bytes w32 r.extent.blocks ++ len in
-    ap ref_at (concat-onto (to_be_bytes w32 r.extent.first ∷ to_be_bytes w32 r.extent.blocks ∷ to_be_bytes w32 r.length ∷ r.sha256 ∷ []) rest)
+    ap page_entry_at (concat-onto (to_be_bytes w32 r.extent.first ∷ to_be_bytes w32 r.extent.blocks ∷ to_be_bytes w32 r.length ∷ r.sha256 ∷ []) rest)
     ∙ rw (
       number_4.again r.extent.first blocks lawful.first,
       number_4.again r.extent.blocks len lawful.blocks,
@@ -167,18 +167,18 @@ ref_again r rest lawful =
       piece_read 32 r.sha256 rest lawful.sha256,
     ) refl
 
-pub ref : IsFormat ref_at ref_bytes IsLawfulRef
+pub ref : IsFormat page_entry_at ref_bytes IsLawfulRef
 ref = record { takes = ref_takes; again = ref_again }
 
 -- where no entry stands in front, there are too few bytes for one
-pub ref_none : (bytes : List ℕ) → AreBytes bytes → ref_at bytes ≡ None → length bytes < 44
-unfolding ref_at
+pub ref_none : (bytes : List ℕ) → AreBytes bytes → page_entry_at bytes ≡ None → length bytes < 44
+unfolding page_entry_at
 ref_none bytes fits e =
     let made : ℕ → ℕ → ℕ → List ℕ → PageRef =
     λ first blocks len sha256. record { extent = record { first = first; blocks = blocks }; length = len; sha256 = sha256 } in
-    number_none 40 bytes (λ first. number_at w32 first.1 >>= λ blocks. number_at w32 blocks.1 >>= λ len. piece_at 32 len.1
+    number_none 40 bytes (λ first. number_in w32 first.1 >>= λ blocks. number_in w32 blocks.1 >>= λ len. piece_at 32 len.1
     >>= λ sha256. Some (made first.0 blocks.0 len.0 sha256.0, sha256.1)) fits e
-    (λ first fits₁ e₁. number_none 36 first.1 (λ blocks. number_at w32 blocks.1 >>= λ len. piece_at 32 len.1
+    (λ first fits₁ e₁. number_none 36 first.1 (λ blocks. number_in w32 blocks.1 >>= λ len. piece_at 32 len.1
     >>= λ sha256. Some (made first.0 blocks.0 len.0 sha256.0, sha256.1)) fits₁ e₁
     (λ blocks fits₂ e₂. number_none 32 blocks.1 (λ len. piece_at 32 len.1 >>= λ sha256. Some (made first.0 blocks.0 len.0 sha256.0, sha256.1)) fits₂ e₂
     (λ len fits₃ e₃. piece_none_of 32 len.1 (λ sha256. (made first.0 blocks.0 len.0 sha256.0, sha256.1)) e₃)))

@@ -4,7 +4,7 @@ use Rattle.std.specs.List.{concat}
 use Rattle.std.specs.Int.{w16, w32, w64, to_be_bytes}
 use Rattle.rs_time.specs.Moment.{IsMoment}
 use Rattle.rs_record.specs.Base.{is_base}
-use Rattle.rs_record.specs.Format.{counted}
+use Rattle.rs_record.specs.Format.{counted_text}
 use Rattle.rs_page.specs.declared.place.PageRef.{PageRef}
 use Rattle.rs_directory.specs.declared.header.Header.{Header}
 
@@ -13,7 +13,7 @@ use Rattle.rs_directory.specs.declared.header.Header.{Header}
 abbrev pub header_bytes : Header → List ℕ
 header_bytes h =
     concat
-    (to_be_bytes w16 h.limit ∷ counted h.base ∷ to_be_bytes w64 h.start ∷ to_be_bytes w64 h.last
+    (to_be_bytes w16 h.limit ∷ counted_text h.base ∷ to_be_bytes w64 h.start ∷ to_be_bytes w64 h.last
     ∷ to_be_bytes w64 h.number ∷ to_be_bytes w64 h.at ∷ [])
 
 -- an entry of a page: first block, number of blocks and length in 4 bytes each, SHA-256

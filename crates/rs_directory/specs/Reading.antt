@@ -2,7 +2,7 @@
 -- the bytes after it, or nothing. What the public reader owes is said by Directory.
 use Rattle.std.specs.Prelude.{ℕ, ◌+◌, ◌*◌, ◌==◌, List, length, Option, Some, None, if◌then◌else◌}
 use Rattle.std.specs.Int.{w16, w32, w64}
-use Rattle.rs_record.specs.Reading.{◌>>=◌, piece_at, number_at, counted_at, moment_at}
+use Rattle.rs_record.specs.Reading.{◌>>=◌, piece_at, number_in, counted_at, moment_in}
 use Rattle.rs_page.specs.declared.place.PageRef.{PageRef}
 use Rattle.rs_directory.specs.declared.header.Header.{Header}
 use Rattle.rs_directory.specs.declared.parts.HeaderFields.{HeaderFields}
@@ -12,7 +12,7 @@ use Rattle.rs_directory.specs.Limit.{limit_of}
 -- an item limit
 unfoldable pub limit_at : List ℕ → Option (ℕ × List ℕ)
 limit_at bytes = do
-  items ← number_at w16 bytes
+  items ← number_in w16 bytes
   limit ← limit_of items.0
   Some (limit, items.1)
 
@@ -21,18 +21,18 @@ unfoldable pub header_at : List ℕ → Option (Header × List ℕ)
 header_at bytes = do
   limit ← limit_at bytes
   base ← counted_at limit.1
-  start ← moment_at base.1
-  last ← moment_at start.1
-  number ← number_at w64 last.1
-  at ← moment_at number.1
+  start ← moment_in base.1
+  last ← moment_in start.1
+  number ← number_in w64 last.1
+  at ← moment_in number.1
   Some (record { base = base.0; limit = limit.0; start = start.0; last = last.0; number = number.0; at = at.0 }, at.1)
 
 -- the numbers of pages
 unfoldable pub counts_at : List ℕ → Option (Counts × List ℕ)
 counts_at bytes = do
-  catalogue ← number_at w32 bytes
-  changes ← number_at w32 catalogue.1
-  published ← number_at w32 changes.1
+  catalogue ← number_in w32 bytes
+  changes ← number_in w32 catalogue.1
+  published ← number_in w32 changes.1
   Some (record { catalogue = catalogue.0; changes = changes.0; published = published.0 }, published.1)
 
 -- how many pages there are
@@ -40,11 +40,11 @@ abbrev pub pages_of : Counts → ℕ
 pages_of counts = counts.catalogue + counts.changes + counts.published
 
 -- an entry of a page
-unfoldable pub ref_at : List ℕ → Option (PageRef × List ℕ)
-ref_at bytes = do
-  first ← number_at w32 bytes
-  blocks ← number_at w32 first.1
-  len ← number_at w32 blocks.1
+unfoldable pub page_entry_at : List ℕ → Option (PageRef × List ℕ)
+page_entry_at bytes = do
+  first ← number_in w32 bytes
+  blocks ← number_in w32 first.1
+  len ← number_in w32 blocks.1
   sha256 ← piece_at 32 len.1
   Some (record { extent = record { first = first.0; blocks = blocks.0 }; length = len.0; sha256 = sha256.0 }, sha256.1)
 

@@ -1,10 +1,10 @@
 //! A directory as bytes on the disk.
 
 ghost use Rattle.std.specs.Prelude.{◌≡◌, ◌≤◌, ◌+◌, ◌*◌, ◌++◌, vec_len, vec_capacity, length, flat_map, All, IfOk};
+ghost use Rattle.rs_record.specs.Limits.{most_items};
 ghost use Rattle.rs_directory.specs.Directory.{header_bytes, ref_bytes, count_bytes, directory_bytes as bytes_of, directory_length, IsLawfulHeader, IsLawfulRef, AreLawfulRefs};
 
 use crate::Header;
-use crate::fields::append;
 use rs_page::PageRef;
 use std::alloc::{AllocError, Global};
 
@@ -14,7 +14,7 @@ pub(crate) const ENTRY_SIZE: usize = 44;
 /// How many bytes a directory with this header and so many entries has in all: at most 175, and 44
 /// for each entry.
 pub fn directory_size(header: &Header, entries: usize) -> u32
-    requires { entries ≤ 150000 }
+    requires { entries ≤ 3 * most_items }
     ensures size { result ≡ directory_length header.now entries }
     ensures bound { result ≤ 175 + 44 * entries }
 {
@@ -22,7 +22,7 @@ pub fn directory_size(header: &Header, entries: usize) -> u32
 }
 
 /// The bytes of a directory: its header, the number of entries of each kind, and the entries. Each
-/// kind has at most 50,000 of them.
+/// kind has at most [`MOST_ITEMS`](rs_record::MOST_ITEMS) of them.
 ///
 /// Memory is asked for once, for exactly as many bytes as the directory has.
 ///
@@ -36,11 +36,13 @@ pub fn directory_bytes(
     changes: &[PageRef],
     published: &[PageRef],
 ) -> Result<Vec<u8>, AllocError>
-    requires catalogue { length catalogue.now ≤ 50000 }
-    requires changes { length changes.now ≤ 50000 }
-    requires published { length published.now ≤ 50000 }
-    ensures bytes { IfOk result (λ out. out.items ≡ bytes_of header.now catalogue.now changes.now published.now) }
-    ensures size { IfOk result (λ out. vec_len out ≡ directory_length header.now (length catalogue.now + length changes.now + length published.now)) }
+    requires catalogue { length catalogue.now ≤ most_items }
+    requires changes { length changes.now ≤ most_items }
+    requires published { length published.now ≤ most_items }
+    ensures bytes { IfOk result (λ out. out.items
+        ≡ bytes_of header.now catalogue.now changes.now published.now) }
+    ensures size { IfOk result (λ out. vec_len out ≡ directory_length header.now
+        (length catalogue.now + length changes.now + length published.now)) }
 
     // So what was written is read again.
     ensures header { IfOk result (λ _. IsLawfulHeader header.now) }
@@ -80,7 +82,7 @@ fn append_header(header: &Header, out: &mut Vec<u8>)
 
 // Appends the number of the entries, for which there is room.
 fn append_count(refs: &[PageRef], out: &mut Vec<u8>)
-    requires most { length refs.now ≤ 50000 }
+    requires most { length refs.now ≤ most_items }
     requires room { vec_len out.old + 4 ≤ vec_capacity out.old }
     ensures items { out.new.items ≡ out.old.items ++ count_bytes refs.now }
     ensures len { vec_len out.new ≡ vec_len out.old + 4 }
@@ -114,4 +116,14 @@ fn append_ref(entry: &PageRef, out: &mut Vec<u8>)
     append(&entry.extent.blocks.to_be_bytes(), out);
     append(&entry.length.to_be_bytes(), out);
     append(&entry.sha256, out);
+}
+
+// Appends bytes for which there is room, and so takes no memory.
+fn append(bytes: &[u8], out: &mut Vec<u8>)
+    requires room { vec_len out.old + length bytes.now ≤ vec_capacity out.old }
+    ensures items { out.new.items ≡ out.old.items ++ bytes.now }
+    ensures len { vec_len out.new ≡ vec_len out.old + length bytes.now }
+    ensures capacity { vec_capacity out.old ≤ vec_capacity out.new }
+{
+    out.extend_from_slice(bytes).unwrap();
 }

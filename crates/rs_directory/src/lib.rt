@@ -6,7 +6,6 @@
 #![tactic(auto)]
 
 mod directory;
-mod fields;
 mod format;
 mod header;
 pub mod laws;

@@ -1,13 +1,13 @@
 //! The parts of a directory, read off the front of some bytes.
 
-ghost use Rattle.rs_record.specs.Reading.{Gives};
-ghost use Rattle.rs_directory.specs.Reading.{header_at as header_read, counts_at as counts_read, entries_at as entries_read, ref_at as ref_read, header_seen};
+ghost use Rattle.rs_record.specs.Reading.{IsSeenAs};
+ghost use Rattle.rs_directory.specs.Reading.{header_at as header_read, counts_at as counts_read, entries_at as entries_read, page_entry_at as ref_read, header_seen};
 
 use crate::Limit;
-use crate::fields::{counted_at, u16_at, u32_at, u64_at};
 use crate::format::ENTRY_SIZE;
 use rs_extent::Extent;
 use rs_page::PageRef;
+use rs_record::fields::{counted_at, u16_at, u32_at, u64_at};
 use rs_time::Moment;
 
 /// A header that was read. Whether its base is lawful was not looked at.
@@ -30,9 +30,9 @@ pub struct Counts {
 }
 
 /// A header, and the bytes after it.
-#[tactic(auto, unfolding(crate::specs::Reading::header_at, crate::specs::Reading::limit_at, rs_record::specs::Reading::moment_at))]
+#[tactic(auto, unfolding(crate::specs::Reading::header_at, crate::specs::Reading::limit_at, rs_record::specs::Reading::moment_in))]
 pub fn header_at(bytes: &[u8]) -> Option<(HeaderFields<'_>, &[u8])>
-    ensures { Gives (λ x. (header_seen x.0, x.1.now)) result (header_read bytes.now) }
+    ensures { IsSeenAs (λ x. (header_seen x.0, x.1.now)) result (header_read bytes.now) }
 {
     let (items, rest) = u16_at(bytes)?;
     let limit = Limit::new(items)?;
@@ -58,7 +58,7 @@ pub fn header_at(bytes: &[u8]) -> Option<(HeaderFields<'_>, &[u8])>
 // The numbers of pages, and the bytes after them.
 #[tactic(auto, unfolding(crate::specs::Reading::counts_at))]
 fn counts_at(bytes: &[u8]) -> Option<(Counts, &[u8])>
-    ensures { Gives (λ x. (x.0, x.1.now)) result (counts_read bytes.now) }
+    ensures { IsSeenAs (λ x. (x.0, x.1.now)) result (counts_read bytes.now) }
 {
     let (catalogue, rest) = u32_at(bytes)?;
     let (changes, rest) = u32_at(rest)?;
@@ -74,7 +74,7 @@ fn counts_at(bytes: &[u8]) -> Option<(Counts, &[u8])>
 /// The numbers of pages, and the bytes of their entries: as many as the numbers say, and no more.
 #[tactic(auto, unfolding(crate::specs::Reading::entries_at))]
 pub fn entries_at(bytes: &[u8]) -> Option<(Counts, &[u8])>
-    ensures { Gives (λ x. (x.0, x.1.now)) result (entries_read bytes.now) }
+    ensures { IsSeenAs (λ x. (x.0, x.1.now)) result (entries_read bytes.now) }
 {
     let (counts, entries) = counts_at(bytes)?;
     let pages = counts.catalogue as usize + counts.changes as usize + counts.published as usize;
@@ -85,9 +85,9 @@ pub fn entries_at(bytes: &[u8]) -> Option<(Counts, &[u8])>
 }
 
 /// An entry of a page, and the bytes after it.
-#[tactic(auto, unfolding(crate::specs::Reading::ref_at))]
+#[tactic(auto, unfolding(crate::specs::Reading::page_entry_at))]
 pub fn ref_at(bytes: &[u8]) -> Option<(PageRef, &[u8])>
-    ensures { Gives (λ x. (x.0, x.1.now)) result (ref_read bytes.now) }
+    ensures { IsSeenAs (λ x. (x.0, x.1.now)) result (ref_read bytes.now) }
 {
     let (first, rest) = u32_at(bytes)?;
     let (blocks, rest) = u32_at(rest)?;

@@ -28,9 +28,11 @@ pub fn read_directory(alloc: Global, bytes: &[u8]) -> Result<Directory, FieldFau
     ensures catalogue { IfOk result (λ d. AreLawfulRefs d.catalogue.items) }
     ensures changes { IfOk result (λ d. AreLawfulRefs d.changes.items) }
     ensures published { IfOk result (λ d. AreLawfulRefs d.published.items) }
-    ensures found { IfOk result (λ d. bytes.now ≡ directory_bytes d.header d.catalogue.items d.changes.items d.published.items) }
+    ensures found { IfOk result (λ d. bytes.now
+        ≡ directory_bytes d.header d.catalogue.items d.changes.items d.published.items) }
     ensures malformed { IsErrOf result FieldFault.Malformed
-        ↔ ((h : Header) (catalogue changes published : List PageRef) → IsLawfulHeader h → AreLawfulRefs catalogue → AreLawfulRefs changes → AreLawfulRefs published
+        ↔ ((h : Header) (catalogue changes published : List PageRef) → IsLawfulHeader h
+        → AreLawfulRefs catalogue → AreLawfulRefs changes → AreLawfulRefs published
         → ¬ (bytes.now ≡ directory_bytes h catalogue changes published)) }
 {
     let Some((fields, rest)) = header_at(bytes) else {
@@ -55,7 +57,8 @@ pub fn read_directory(alloc: Global, bytes: &[u8]) -> Result<Directory, FieldFau
 fn header_of(alloc: Global, fields: HeaderFields<'_>) -> Result<Header, FieldFault>
     ensures value { IfOk result (λ header. header ≡ header_seen fields.entry) }
     ensures lawful { OnOk result (IsTrue (is_base fields.entry.base.now)) }
-    ensures malformed { IsErrOf result FieldFault.Malformed ↔ (is_base fields.entry.base.now ≡ false) }
+    ensures malformed { IsErrOf result FieldFault.Malformed
+        ↔ (is_base fields.entry.base.now ≡ false) }
 {
     let base = match Base::new(alloc, fields.base) {
         Ok(base) => base,
@@ -79,9 +82,15 @@ fn lists_of(
     entries: &[u8],
 ) -> Result<(Vec<PageRef>, Vec<PageRef>, Vec<PageRef>), AllocError>
     requires { length entries.now ≡ 44 * pages_of counts }
-    ensures counts { IfOk result (λ lists. (length lists.0.items ≡ counts.catalogue) × (length lists.1.items ≡ counts.changes) × (length lists.2.items ≡ counts.published)) }
-    ensures lawful { IfOk result (λ lists. AreLawfulRefs lists.0.items × AreLawfulRefs lists.1.items × AreLawfulRefs lists.2.items) }
-    ensures bytes { IfOk result (λ lists. entries.now ≡ flat_map ref_bytes lists.0.items ++ (flat_map ref_bytes lists.1.items ++ flat_map ref_bytes lists.2.items)) }
+    ensures counts { IfOk result (λ lists. (length lists.0.items ≡ counts.catalogue)
+        × (length lists.1.items ≡ counts.changes)
+        × (length lists.2.items ≡ counts.published)) }
+    ensures lawful { IfOk result (λ lists. AreLawfulRefs lists.0.items
+        × AreLawfulRefs lists.1.items
+        × AreLawfulRefs lists.2.items) }
+    ensures bytes { IfOk result (λ lists. entries.now
+        ≡ flat_map ref_bytes lists.0.items
+        ++ (flat_map ref_bytes lists.1.items ++ flat_map ref_bytes lists.2.items)) }
 {
     let (catalogue, rest) = entries.split_at(ENTRY_SIZE * counts.catalogue as usize);
     let (changes, published) = rest.split_at(ENTRY_SIZE * counts.changes as usize);
@@ -95,7 +104,8 @@ fn lists_of(
 // The entries that the bytes begin with, as many as there are. Fewer bytes than one has may follow.
 fn refs_of(alloc: Global, bytes: &[u8]) -> Result<Vec<PageRef>, AllocError>
     ensures lawful { IfOk result (λ refs. All IsLawfulRef refs.items) }
-    ensures found { IfOk result (λ refs. (rest : List ℕ) × (bytes.now ≡ flat_map ref_bytes refs.items ++ rest) × (length rest < 44)) }
+    ensures found { IfOk result (λ refs. (rest : List ℕ)
+        × (bytes.now ≡ flat_map ref_bytes refs.items ++ rest) × (length rest < 44)) }
 {
     let mut refs = Vec::with_capacity(alloc, bytes.len() / ENTRY_SIZE)?;
     let mut rest = bytes;

@@ -2,7 +2,7 @@
 use Rattle.std.proofs.Common.{true≢false, ◌≡◌, inl, inr, ⊎_elim, ℕ, ◌+◌, ◌<◌, ◌≤◌, ◌^◌, List, length, refl, sym, ◌∙◌, ◌↔◌, ap, subst, arith, Result, Ok, Err, IsErr, OnOk, OnErr}
 use Rattle.std.proofs.lemmas.Bool.{cases_lt}
 use Rattle.rs_disk.specs.Medium.{Medium, DiskState, IsImage, IsImageAt, IsMedium, widened, written}
-use Rattle.rs_disk.specs.Calls.{Counts, Passes, Stays, Writes, Tears, Settles}
+use Rattle.rs_disk.specs.Calls.{CountsCall, Passes, Stays, Writes, Tears, Settles}
 use Rattle.rs_disk.specs.Leaves.{Leaves, TornFrom, Rests, Runs}
 use Rattle.rs_disk.proofs.Images.{torn_from, written_image, image_widened, resting_image}
 
@@ -53,7 +53,7 @@ one_call old new P held passes later next within after = record {
   ];
 }
 
-pub counts_calls : {T E : Type 0} (old new : DiskState) (result : Result T E) → Counts old new result → (old.calls ≤ new.calls) × (new.calls ≤ old.calls + 1)
+pub counts_calls : {T E : Type 0} (old new : DiskState) (result : Result T E) → CountsCall old new result → (old.calls ≤ new.calls) × (new.calls ≤ old.calls + 1)
 counts_calls old new result counts = elim (cases_lt (old.calls + 1) (2 ^ 64)) [
   | inl more ↦ let one : new.calls ≡ old.calls + 1 = counts.calls more in (omega (arith, one), omega (arith, one))
   | inr last ↦ let none : new.calls ≡ old.calls = ap (λ (d : DiskState). d.calls) (counts.spent last).0 in (omega (arith, none), omega (arith, none))
@@ -83,7 +83,7 @@ failed_write old new at n is fits calls (inr refused) =
     refused.passes
 
 -- a write, whether it succeeded or not
-pub write_leaves : {E : Type 0} (old new : DiskState) (at : ℕ) (bytes : List ℕ) (result : Result (Unit {0}) E) → Counts old new result → IsMedium old.size old.now → at + length bytes ≤ old.size
+pub write_leaves : {E : Type 0} (old new : DiskState) (at : ℕ) (bytes : List ℕ) (result : Result (Unit {0}) E) → CountsCall old new result → IsMedium old.size old.now → at + length bytes ≤ old.size
     → OnOk result (Writes at bytes old new) → OnErr result (Tears at (length bytes) old new) → Leaves old new (λ _. TornFrom old.now at (length bytes))
 write_leaves old new at bytes (Ok x) counts is fits ok err =
     let calls = counts_calls old new (Ok x) counts in
@@ -93,7 +93,7 @@ write_leaves old new at bytes (Ok x) counts is fits ok err =
 write_leaves old new at bytes (Err e) counts is fits ok err = failed_write old new at (length bytes) is fits (counts_calls old new (Err e) counts) err
 
 -- a sync, whether it succeeded or not
-pub sync_leaves : {E : Type 0} (old new : DiskState) (P : List ℕ → Type 0) (result : Result (Unit {0}) E) → Counts old new result → IsMedium old.size old.now
+pub sync_leaves : {E : Type 0} (old new : DiskState) (P : List ℕ → Type 0) (result : Result (Unit {0}) E) → CountsCall old new result → IsMedium old.size old.now
     → OnOk result (Settles old new) → OnErr result (Stays old new) → ((image : List ℕ) → IsImage old.now image → P image) → Leaves old new (λ _. P)
 sync_leaves old new P (Ok x) counts is ok err here =
     let calls = counts_calls old new (Ok x) counts in
@@ -112,7 +112,7 @@ exit_images old new P so_far image is =
 pub runs_started : {T E : Type 0} (disk : DiskState) (x : T) → Runs {T = T} {E = E} disk disk (Ok x)
 runs_started disk x = record { size = refl; lasts = λ h. h; calls = omega arith; faults = omega arith; cause = tt }
 
-pub runs_one : {T E : Type 0} (old new : DiskState) (result : Result T E) → Counts old new result → Runs old new result
+pub runs_one : {T E : Type 0} (old new : DiskState) (result : Result T E) → CountsCall old new result → Runs old new result
 runs_one old new (Ok x) counts =
     record { size = counts.size; lasts = counts.lasts; calls = (counts_calls old new (Ok x) counts).0; faults = let same : new.faults ≡ old.faults = counts.ok in omega arith; cause = tt }
 runs_one old new (Err e) counts = elim (cases_lt (old.calls + 1) (2 ^ 64)) [
@@ -130,7 +130,7 @@ runs_one old new (Err e) counts = elim (cases_lt (old.calls + 1) (2 ^ 64)) [
 pub rests : (disk : DiskState) → Rests disk disk
 rests disk = record { now = refl; size = refl; lasts = λ h. h; faults = omega arith; leaves = started disk (λ _. IsImage disk.now) (λ image left. left) }
 
-pub rest_one : {T E : Type 0} (old new : DiskState) (result : Result T E) → Counts old new result → Stays old new → Rests old new
+pub rest_one : {T E : Type 0} (old new : DiskState) (result : Result T E) → CountsCall old new result → Stays old new → Rests old new
 rest_one old new result counts stays =
     let calls = counts_calls old new result counts in
     record {

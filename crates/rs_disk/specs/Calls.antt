@@ -4,7 +4,7 @@ use Rattle.rs_disk.specs.Medium.{Medium, DiskState, widened, written, resting}
 
 -- What holds of a call of every device: the size stays, no call makes a device honest again, and the call is counted, as a fault where it fails.
 -- Where the calls stand at their last value a further call answers an error and changes nothing.
-pub record Counts {T E : Type 0} (old new : DiskState) (result : Result T E) : Type 0 where
+pub record CountsCall {T E : Type 0} (old new : DiskState) (result : Result T E) : Type 0 where
   pub size : new.size ≡ old.size
   pub lasts : IsTrue new.honest → IsTrue old.honest
   pub spent : 2 ^ 64 ≤ old.calls + 1 → (new ≡ old) × IsErr result

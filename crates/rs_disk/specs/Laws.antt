@@ -2,7 +2,7 @@
 use Rattle.std.specs.Prelude.{◌≡◌, ◌↔◌, ℕ, ◌+◌, ◌<◌, ◌≤◌, List, [], ◌∷◌, length, replicate, get_or, Result, IsErr, OnOk, OnErr}
 use Rattle.rs_disk.specs.declared.disk.Fault.{Fault}
 use Rattle.rs_disk.specs.Medium.{Medium, DiskState, IsImage, IsImageAt, IsMedium, widened, partly_written, written, resting, image_of}
-use Rattle.rs_disk.specs.Calls.{Counts, Passes, Stays, Writes, Tears, Settles}
+use Rattle.rs_disk.specs.Calls.{CountsCall, Passes, Stays, Writes, Tears, Settles}
 use Rattle.rs_disk.specs.Leaves.{Leaves, Runs, TornFrom, Rests}
 
 -- Where all is settled, what a read gives is the one image.
@@ -35,17 +35,17 @@ PastImagesStay = (old new : DiskState) (held : Medium) → Passes old new held �
 
 -- Whatever a write answers, each image from its entry to its exit is one of its entry with any bytes in its range.
 abbrev pub WriteLeaves : Type 0
-WriteLeaves = (old new : DiskState) (at : ℕ) (bytes : List ℕ) (result : Result (Unit {0}) Fault) → Counts old new result → IsMedium old.size old.now → at + length bytes ≤ old.size
+WriteLeaves = (old new : DiskState) (at : ℕ) (bytes : List ℕ) (result : Result (Unit {0}) Fault) → CountsCall old new result → IsMedium old.size old.now → at + length bytes ≤ old.size
     → OnOk result (Writes at bytes old new) → OnErr result (Tears at (length bytes) old new) → Leaves old new (λ _. TornFrom old.now at (length bytes))
 
 -- Whatever a sync answers, each image from its entry to its exit is one of its entry.
 abbrev pub SyncLeaves : Type 0
-SyncLeaves = (old new : DiskState) (result : Result (Unit {0}) Fault) → Counts old new result → IsMedium old.size old.now
+SyncLeaves = (old new : DiskState) (result : Result (Unit {0}) Fault) → CountsCall old new result → IsMedium old.size old.now
     → OnOk result (Settles old new) → OnErr result (Stays old new) → Leaves old new (λ _. IsImage old.now)
 
 -- Whatever a read answers, nothing changes.
 abbrev pub ReadRests : Type 0
-ReadRests = (old new : DiskState) (result : Result (Unit {0}) Fault) → Counts old new result → Stays old new → Rests old new
+ReadRests = (old new : DiskState) (result : Result (Unit {0}) Fault) → CountsCall old new result → Stays old new → Rests old new
 
 -- A run of no call leaves P where each image of what is held has it.
 abbrev pub NoCallLeaves : (ℕ → List ℕ → Type 0) → Type 0
@@ -70,7 +70,7 @@ WeakerIsLeft P Q = (old new : DiskState) → ((m : ℕ) (image : List ℕ) → P
 
 -- One call is a run.
 abbrev pub OneCallRuns : Type 0 → Type 0 → Type 0
-OneCallRuns T E = (old new : DiskState) (result : Result T E) → Counts old new result → Runs old new result
+OneCallRuns T E = (old new : DiskState) (result : Result T E) → CountsCall old new result → Runs old new result
 
 -- A run, whatever it answers, and then another are a run with the second's answer.
 abbrev pub CountsGoOn : Type 0 → Type 0 → Type 0 → Type 0 → Type 0

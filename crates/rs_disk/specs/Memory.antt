@@ -8,8 +8,8 @@ use Rattle.rs_disk.specs.History.{held_within}
 use Rattle.rs_disk.specs.Plan.{planned_by}
 
 -- The state of a memory disk: it is honest always, and what it held within earlier calls is known from its record.
-abbrev pub state_of : MemoryDisk → DiskState
-state_of d = record {
+abbrev pub memory_state : MemoryDisk → DiskState
+memory_state d = record {
   size = length d.contents.seen.items;
   calls = d.calls;
   faults = d.faults;
@@ -23,7 +23,7 @@ abbrev pub planned : MemoryDisk → ℕ → Outcome
 planned d = planned_by d.plan
 
 -- its parts have one size, and what a read gives is an image
-pub sound : (d : MemoryDisk) → IsMedium (state_of d).size (state_of d).now
+pub sound : (d : MemoryDisk) → IsMedium (memory_state d).size (memory_state d).now
 sound d = d.contents.sound
 
 -- A call moves the plan on, where it was counted: what was planned of the next call but one is planned of the next.

@@ -23,8 +23,8 @@ planned_by (FailsAfter k) i = fails_once k i
 
 -- what a failing write of these bytes leaves: the first half of them is there and its whole range unsettled; none of them and its range unsettled;
 -- or what was there, where it was refused or was to work and its record was refused memory
-abbrev pub left_by : Outcome → ℕ → List ℕ → Medium → Medium
-left_by Works at bytes m = m
-left_by FailsHalfway at bytes m = partly_written m at (length bytes) (take (length bytes / 2) bytes)
-left_by FailsAtStart at bytes m = widened m at (length bytes)
-left_by Refused at bytes m = m
+abbrev pub left_by_write : Outcome → ℕ → List ℕ → Medium → Medium
+left_by_write Works at bytes m = m
+left_by_write FailsHalfway at bytes m = partly_written m at (length bytes) (take (length bytes / 2) bytes)
+left_by_write FailsAtStart at bytes m = widened m at (length bytes)
+left_by_write Refused at bytes m = m

@@ -10,7 +10,8 @@ pub(crate) struct Contents {
     seen: Vec<u8>,
     settled: Vec<u8>,
     unsettled: Vec<bool>,
-    ghost sound: { IsMedium (length seen.items) (record { seen = seen.items; settled = settled.items; unsettled = unsettled.items }) },
+    ghost sound: { IsMedium (length seen.items)
+        (record { seen = seen.items; settled = settled.items; unsettled = unsettled.items }) },
 }
 
 impl Contents {

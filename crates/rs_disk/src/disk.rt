@@ -1,7 +1,7 @@
 //! A disk as its callers see it.
 ghost use Rattle.std.specs.Prelude.{◌≡◌, ◌+◌, ◌≤◌, length, take, drop, OnOk, OnErr, IsTrue};
 ghost use Rattle.rs_disk.specs.Medium.{DiskState, IsMedium};
-ghost use Rattle.rs_disk.specs.Calls.{Counts, Stays, Writes, Tears, Settles};
+ghost use Rattle.rs_disk.specs.Calls.{CountsCall, Stays, Writes, Tears, Settles};
 
 use thiserror::Error;
 
@@ -48,10 +48,13 @@ pub trait Disk {
     /// Answers [`Fault`] where the device fails; nothing is known of `into` then.
     fn read(&mut self, at: u64, into: &mut [u8]) -> Result<(), Fault>
         requires { at + length into.old ≤ (state self.old).size }
-        ensures counts { Counts (state self.old) (state self.new) result }
+        ensures counts { CountsCall (state self.old) (state self.new) result }
         ensures stays { Stays (state self.old) (state self.new) }
-        ensures gives { IsTrue (state self.new).honest → OnOk result (into.new ≡ take (length into.old) (drop at (state self.old).now.seen)) }
-        ensures keeps { IsTrue (state self.old).honest → OnOk result (into.new ≡ take (length into.old) (drop at (state self.old).now.seen)) → IsTrue (state self.new).honest };
+        ensures gives { IsTrue (state self.new).honest
+            → OnOk result (into.new ≡ take (length into.old) (drop at (state self.old).now.seen)) }
+        ensures keeps { IsTrue (state self.old).honest
+            → OnOk result (into.new ≡ take (length into.old) (drop at (state self.old).now.seen))
+            → IsTrue (state self.new).honest };
 
     /// Writes the bytes from the offset `at` on. A read gives them from then on, and their range
     /// is unsettled until a sync succeeds.
@@ -63,9 +66,10 @@ pub trait Disk {
     /// unsettled, or nothing has changed.
     fn write(&mut self, at: u64, bytes: &[u8]) -> Result<(), Fault>
         requires { at + length bytes.now ≤ (state self.old).size }
-        ensures counts { Counts (state self.old) (state self.new) result }
+        ensures counts { CountsCall (state self.old) (state self.new) result }
         ensures writes { OnOk result (Writes at bytes.now (state self.old) (state self.new)) }
-        ensures tears { OnErr result (Tears at (length bytes.now) (state self.old) (state self.new)) }
+        ensures tears { OnErr result
+            (Tears at (length bytes.now) (state self.old) (state self.new)) }
         ensures keeps { (state self.new).honest ≡ (state self.old).honest };
 
     /// Settles what a read gives: after it no place is unsettled.
@@ -73,7 +77,7 @@ pub trait Disk {
     /// # Errors
     /// Answers [`Fault`] where the device fails; nothing is settled then.
     fn sync(&mut self) -> Result<(), Fault>
-        ensures counts { Counts (state self.old) (state self.new) result }
+        ensures counts { CountsCall (state self.old) (state self.new) result }
         ensures settles { OnOk result (Settles (state self.old) (state self.new)) }
         ensures stays { OnErr result (Stays (state self.old) (state self.new)) }
         ensures keeps { (state self.new).honest ≡ (state self.old).honest };

@@ -48,10 +48,12 @@ impl Read for FaultyReader<'_> {
     /// Of the kind `Other` from read number `fail_at` on; nothing is given then.
     fn read(&mut self, buf: &mut [u8]) -> io::Result<usize>
         ensures bound { ReadsAtMost result buf.new }
-        ensures bytes { ReadConsumes (Some (unread self.old)) (Some (unread self.new)) result buf.new }
+        ensures bytes { ReadConsumes (Some (unread self.old)) (Some (unread self.new))
+            result buf.new }
         ensures fails { IsErr result ↔ (reads_left self.old ≡ 0) }
         ensures kind { IfErr result (λ e. error_kind e ≡ ErrorKind.Other) }
-        ensures count { IfOk result (λ n. n ≡ min (min (piece_of self.old) (length buf.old)) (length (unread self.old))) }
+        ensures count { IfOk result (λ n. n
+            ≡ min (min (piece_of self.old) (length buf.old)) (length (unread self.old))) }
         ensures left { reads_left self.new ≡ reads_left self.old - 1 }
         ensures piece { piece_of self.new ≡ piece_of self.old }
     {
@@ -109,10 +111,13 @@ impl Write for FaultyWriter {
     /// where memory is refused. A write that fails keeps nothing, and is counted.
     fn write(&mut self, buf: &[u8]) -> io::Result<usize>
         ensures bound { WritesAtMost result buf.now }
-        ensures bytes { WriteAppends (Some (kept_by self.old)) (Some (kept_by self.new)) result buf.now }
+        ensures bytes { WriteAppends (Some (kept_by self.old)) (Some (kept_by self.new))
+            result buf.now }
         ensures fails { writes_left self.old ≡ 0 → IsErr result }
-        ensures planned { writes_left self.old ≡ 0 → IfErr result (λ e. error_kind e ≡ ErrorKind.Other) }
-        ensures memory { 0 < writes_left self.old → IfErr result (λ e. error_kind e ≡ ErrorKind.OutOfMemory) }
+        ensures planned { writes_left self.old ≡ 0
+            → IfErr result (λ e. error_kind e ≡ ErrorKind.Other) }
+        ensures memory { 0 < writes_left self.old
+            → IfErr result (λ e. error_kind e ≡ ErrorKind.OutOfMemory) }
         ensures all { IfOk result (λ n. n ≡ length buf.now) }
         ensures left { writes_left self.new ≡ writes_left self.old - 1 }
     {

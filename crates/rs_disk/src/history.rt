@@ -45,9 +45,12 @@ impl History {
 
     // Notes a change within the call that comes after this many counted ones.
     pub(crate) fn note(&mut self, call: u64, change: Change) -> Result<(), AllocError>
-        ensures before { OnOk result ((k : ℕ) → k < call → held_within k self.new ≡ held_within k self.old) }
-        ensures within { OnOk result (held_within call self.new ≡ during change (held_within call self.old)) }
-        ensures after { OnOk result ((k : ℕ) → call < k → held_within k self.new ≡ after change (held_within k self.old)) }
+        ensures before { OnOk result ((k : ℕ) → k < call
+            → held_within k self.new ≡ held_within k self.old) }
+        ensures within { OnOk result (held_within call self.new
+            ≡ during change (held_within call self.old)) }
+        ensures after { OnOk result ((k : ℕ) → call < k
+            → held_within k self.new ≡ after change (held_within k self.old)) }
         ensures err { OnErr result ((k : ℕ) → held_within k self.new ≡ held_within k self.old) }
     {
         self.entries.push(Entry { call, change })?;

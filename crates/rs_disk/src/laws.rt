@@ -4,7 +4,7 @@
 //! the lemmas behind them, in `proofs/Images.antt`, `proofs/Choice.antt` and `proofs/Steps.antt`.
 ghost use Rattle.std.specs.Prelude.{◌≡◌, ℕ, List, [], ◌∷◌, replicate};
 ghost use Rattle.rs_disk.specs.Medium.{image_of, resting, written};
-ghost use Rattle.rs_disk.specs.Plan.{left_by, stops_after, fails_once};
+ghost use Rattle.rs_disk.specs.Plan.{left_by_write, stops_after, fails_once};
 ghost use Rattle.rs_disk.specs.Laws.{SettledImage, ImagesWithinWrite, ImagesAfterWrite, ChoicesAreImages, ImagesHaveChoices, PastImagesStay, WriteLeaves, SyncLeaves, ReadRests, NoCallLeaves, OneCallLeaves, RunsGoOn, ExitHas, WeakerIsLeft, OneCallRuns, CountsGoOn, FailedRunEnds, zeros, three_written};
 
 /// Where all is settled, what a read gives is the one image.
@@ -42,19 +42,28 @@ pub fn one_call_leaves()
 pub fn worked_images()
     ensures one { image_of (9 ∷ []) three_written ≡ 0 ∷ 0 ∷ 9 ∷ 9 ∷ 9 ∷ 0 ∷ 0 ∷ 0 ∷ [] }
     ensures two { image_of (7 ∷ 8 ∷ []) three_written ≡ 0 ∷ 0 ∷ 7 ∷ 8 ∷ 7 ∷ 0 ∷ 0 ∷ 0 ∷ [] }
-    ensures longer { image_of (4 ∷ 5 ∷ 6 ∷ 7 ∷ []) three_written ≡ 0 ∷ 0 ∷ 4 ∷ 5 ∷ 6 ∷ 0 ∷ 0 ∷ 0 ∷ [] }
+    ensures longer { image_of (4 ∷ 5 ∷ 6 ∷ 7 ∷ []) three_written
+        ≡ 0 ∷ 0 ∷ 4 ∷ 5 ∷ 6 ∷ 0 ∷ 0 ∷ 0 ∷ [] }
     ensures seen { image_of [] three_written ≡ 0 ∷ 0 ∷ 1 ∷ 2 ∷ 3 ∷ 0 ∷ 0 ∷ 0 ∷ [] }
-    ensures synced { image_of (9 ∷ []) (resting three_written.seen) ≡ 0 ∷ 0 ∷ 1 ∷ 2 ∷ 3 ∷ 0 ∷ 0 ∷ 0 ∷ [] }
-    ensures again { image_of (9 ∷ []) (written (resting three_written.seen) 4 (5 ∷ 6 ∷ [])) ≡ 0 ∷ 0 ∷ 1 ∷ 2 ∷ 9 ∷ 9 ∷ 0 ∷ 0 ∷ [] }
+    ensures synced { image_of (9 ∷ []) (resting three_written.seen)
+        ≡ 0 ∷ 0 ∷ 1 ∷ 2 ∷ 3 ∷ 0 ∷ 0 ∷ 0 ∷ [] }
+    ensures again { image_of (9 ∷ []) (written (resting three_written.seen) 4 (5 ∷ 6 ∷ []))
+        ≡ 0 ∷ 0 ∷ 1 ∷ 2 ∷ 9 ∷ 9 ∷ 0 ∷ 0 ∷ [] }
 {}
 
 /// The same write where it is planned to fail: halfway, at its start, and refused.
 pub fn worked_failures()
-    ensures half_seen { image_of [] (left_by (fails_once 0 0) 2 (1 ∷ 2 ∷ 3 ∷ []) zeros) ≡ 0 ∷ 0 ∷ 1 ∷ 0 ∷ 0 ∷ 0 ∷ 0 ∷ 0 ∷ [] }
-    ensures half_image { image_of (9 ∷ []) (left_by (fails_once 0 0) 2 (1 ∷ 2 ∷ 3 ∷ []) zeros) ≡ 0 ∷ 0 ∷ 9 ∷ 9 ∷ 9 ∷ 0 ∷ 0 ∷ 0 ∷ [] }
-    ensures stop_seen { image_of [] (left_by (stops_after 0 0) 2 (1 ∷ 2 ∷ 3 ∷ []) zeros) ≡ replicate 8 0 }
-    ensures stop_image { image_of (9 ∷ []) (left_by (stops_after 0 0) 2 (1 ∷ 2 ∷ 3 ∷ []) zeros) ≡ 0 ∷ 0 ∷ 9 ∷ 9 ∷ 9 ∷ 0 ∷ 0 ∷ 0 ∷ [] }
-    ensures refused { image_of (9 ∷ []) (left_by (stops_after 0 1) 2 (1 ∷ 2 ∷ 3 ∷ []) zeros) ≡ replicate 8 0 }
+    ensures half_seen { image_of [] (left_by_write (fails_once 0 0) 2 (1 ∷ 2 ∷ 3 ∷ []) zeros)
+        ≡ 0 ∷ 0 ∷ 1 ∷ 0 ∷ 0 ∷ 0 ∷ 0 ∷ 0 ∷ [] }
+    ensures half_image { image_of (9 ∷ []) (left_by_write (fails_once 0 0) 2 (1 ∷ 2 ∷ 3 ∷ []) zeros)
+        ≡ 0 ∷ 0 ∷ 9 ∷ 9 ∷ 9 ∷ 0 ∷ 0 ∷ 0 ∷ [] }
+    ensures stop_seen { image_of [] (left_by_write (stops_after 0 0) 2 (1 ∷ 2 ∷ 3 ∷ []) zeros)
+        ≡ replicate 8 0 }
+    ensures stop_image { image_of (9 ∷ [])
+        (left_by_write (stops_after 0 0) 2 (1 ∷ 2 ∷ 3 ∷ []) zeros)
+        ≡ 0 ∷ 0 ∷ 9 ∷ 9 ∷ 9 ∷ 0 ∷ 0 ∷ 0 ∷ [] }
+    ensures refused { image_of (9 ∷ []) (left_by_write (stops_after 0 1) 2 (1 ∷ 2 ∷ 3 ∷ []) zeros)
+        ≡ replicate 8 0 }
 {}
 
 /// What a run of calls is said to leave: a claim on each image of a crash after a number of calls.

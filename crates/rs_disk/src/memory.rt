@@ -30,7 +30,7 @@ pub struct MemoryDisk {
 }
 
 impl MemoryDisk {
-    ghost use Rattle.rs_disk.specs.Memory.{state_of, planned};
+    ghost use Rattle.rs_disk.specs.Memory.{memory_state, planned};
     ghost use Rattle.rs_disk.specs.Plan.{stops_after, fails_once};
     ghost use Rattle.rs_disk.specs.declared.plan.Outcome.TheVariants.{Works};
 
@@ -39,10 +39,10 @@ impl MemoryDisk {
     /// # Errors
     /// [`AllocError`] where memory is refused.
     pub fn from_bytes(alloc: Global, bytes: &[u8]) -> Result<Self, AllocError>
-        ensures now { IfOk result (λ d. (state_of d).now ≡ resting bytes.now) }
-        ensures size { IfOk result (λ d. (state_of d).size ≡ length bytes.now) }
-        ensures calls { IfOk result (λ d. (state_of d).calls ≡ 0) }
-        ensures faults { IfOk result (λ d. (state_of d).faults ≡ 0) }
+        ensures now { IfOk result (λ d. (memory_state d).now ≡ resting bytes.now) }
+        ensures size { IfOk result (λ d. (memory_state d).size ≡ length bytes.now) }
+        ensures calls { IfOk result (λ d. (memory_state d).calls ≡ 0) }
+        ensures faults { IfOk result (λ d. (memory_state d).faults ≡ 0) }
         ensures plan { IfOk result (λ d. (i : ℕ) → planned d i ≡ Works) }
     {
         Ok(MemoryDisk {
@@ -60,10 +60,10 @@ impl MemoryDisk {
     /// # Errors
     /// [`AllocError`] where memory is refused.
     pub fn new(alloc: Global, size: u64) -> Result<Self, AllocError>
-        ensures now { IfOk result (λ d. (state_of d).now ≡ resting (replicate size 0)) }
-        ensures size { IfOk result (λ d. (state_of d).size ≡ size) }
-        ensures calls { IfOk result (λ d. (state_of d).calls ≡ 0) }
-        ensures faults { IfOk result (λ d. (state_of d).faults ≡ 0) }
+        ensures now { IfOk result (λ d. (memory_state d).now ≡ resting (replicate size 0)) }
+        ensures size { IfOk result (λ d. (memory_state d).size ≡ size) }
+        ensures calls { IfOk result (λ d. (memory_state d).calls ≡ 0) }
+        ensures faults { IfOk result (λ d. (memory_state d).faults ≡ 0) }
         ensures plan { IfOk result (λ d. (i : ℕ) → planned d i ≡ Works) }
     {
         let zeros: Vec<u8> = vec![in alloc; 0; size as usize]?;
@@ -75,7 +75,7 @@ impl MemoryDisk {
     /// The first failing call, if a write, leaves its range unsettled; later ones change nothing.
     /// This replaces what `stop_after` or `fail_once` planned before.
     pub fn stop_after(&mut self, k: u64)
-        ensures state { state_of self.new ≡ state_of self.old }
+        ensures state { memory_state self.new ≡ memory_state self.old }
         ensures plan { (i : ℕ) → planned self.new i ≡ stops_after k i }
     {
         self.plan = Plan::StopsAfter(k);
@@ -86,7 +86,7 @@ impl MemoryDisk {
     /// A write that fails so puts the first half of its bytes, rounded down, and leaves its whole
     /// range unsettled. This replaces what `stop_after` or `fail_once` planned before.
     pub fn fail_once(&mut self, k: u64)
-        ensures state { state_of self.new ≡ state_of self.old }
+        ensures state { memory_state self.new ≡ memory_state self.old }
         ensures plan { (i : ℕ) → planned self.new i ≡ fails_once k i }
     {
         self.plan = Plan::FailsAfter(k);
@@ -99,8 +99,9 @@ impl MemoryDisk {
     /// # Errors
     /// [`AllocError`] where memory is refused.
     pub fn image(&self, choice: &[u8]) -> Result<Vec<u8>, AllocError>
-        ensures chosen { IfOk result (λ v. v.items ≡ image_of choice.now (state_of self.now).now) }
-        ensures image { IfOk result (λ v. IsImage (state_of self.now).now v.items) }
+        ensures chosen { IfOk result (λ v. v.items
+            ≡ image_of choice.now (memory_state self.now).now) }
+        ensures image { IfOk result (λ v. IsImage (memory_state self.now).now v.items) }
     {
         self.contents.image(self.alloc, choice)
     }

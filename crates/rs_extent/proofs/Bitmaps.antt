@@ -7,7 +7,7 @@ use Rattle.std.proofs.lemmas.Nat.Bits.{bit_at-lt, bit_at-zero}
 use Rattle.std.proofs.lemmas.Bool.{cases_lt, true≢false, eq-eqb, ne_eqb, eqb-false, lt-ltb, le-ltb}
 use Rattle.rs_extent.specs.declared.Extent.{Extent}
 use Rattle.rs_extent.specs.Blocks.{is_used, IsFreeRun, IsLowest, Sets}
-use Rattle.rs_extent.specs.Words.{bit_of, IsRun, IsLowestRun, SetsBits}
+use Rattle.rs_extent.specs.Words.{bit_of, IsSetRun, IsLowestRun, SetsBits}
 use Rattle.rs_extent.specs.Bitmap.{table, used_blocks, IsBitmap}
 use Rattle.rs_extent.proofs.Blocks.{run_on_disk}
 use Rattle.rs_extent.proofs.Places.{bit_of-word}
@@ -96,11 +96,11 @@ stored_words-new len new items is = ap (λ (n : ℕ). take n (new ++ drop (lengt
 
 -- runs of set bits are runs of free blocks
 pub bits_run : (blocks full : ℕ) (words : List ℕ) (used : List Bool) (first n : ℕ) → IsBitmap blocks words full → used_blocks blocks words ≡ used
-    → IsFreeRun used first n → IsRun (bit_of words) first n
+    → IsFreeRun used first n → IsSetRun (bit_of words) first n
 bits_run blocks full words used first n map is run place from until = free_set blocks full words used map is place (run place from until)
 
 pub blocks_run : (blocks full : ℕ) (words : List ℕ) (used : List Bool) (first n : ℕ) → IsBitmap blocks words full → used_blocks blocks words ≡ used
-    → IsRun (bit_of words) first n → IsFreeRun used first n
+    → IsSetRun (bit_of words) first n → IsFreeRun used first n
 blocks_run blocks full words used first n map is run place from until = set_free blocks full words used map is place (run place from until)
 
 pub length-used : (blocks : ℕ) (words : List ℕ) (used : List Bool) → used_blocks blocks words ≡ used → length used ≡ blocks

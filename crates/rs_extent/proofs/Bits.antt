@@ -4,7 +4,7 @@ use Rattle.std.specs.Int.{bit_at, bit_not, w64}
 use Rattle.std.proofs.lemmas.Nat.{shr-shr}
 use Rattle.std.proofs.lemmas.Nat.Bits.{bit_at_and, bit_at_or, bit_at_not, bit_at-lt, bit_at_mask_inside, bit_at_mask_below, bit_at_mask_above, same_from_bits}
 use Rattle.std.proofs.lemmas.Bool.{cases_lt}
-use Rattle.rs_extent.specs.Words.{IsRun}
+use Rattle.rs_extent.specs.Words.{IsSetRun}
 
 -- a shift to the right moves each bit down
 pub bit_at-shr : (n k i : ℕ) → bit_at (n / 2 ^ k) i ≡ bit_at n (k + i)
@@ -18,8 +18,8 @@ pub and_parts : (a b i : ℕ) → bit_at (bit_and a b) i ≡ 1 → (bit_at a i �
 and_parts a b i h = (omega (arith, bit_at_and a b i, bit_at-lt a i, bit_at-lt b i), omega (arith, bit_at_and a b i, bit_at-lt a i, bit_at-lt b i))
 
 -- where the bits of `starts` begin runs of `have` ones, those of `starts & (starts >> step)` begin runs of `have + step`
-pub longer_found : (word starts have step : ℕ) → step ≤ have → ((first : ℕ) → bit_at starts first ≡ 1 → IsRun (bit_at word) first have)
-    → (first : ℕ) → bit_at (bit_and starts (starts / 2 ^ step)) first ≡ 1 → IsRun (bit_at word) first (have + step)
+pub longer_found : (word starts have step : ℕ) → step ≤ have → ((first : ℕ) → bit_at starts first ≡ 1 → IsSetRun (bit_at word) first have)
+    → (first : ℕ) → bit_at (bit_and starts (starts / 2 ^ step)) first ≡ 1 → IsSetRun (bit_at word) first (have + step)
 longer_found word starts have step le found first h place from until =
     let both = and_parts starts (starts / 2 ^ step) first h in
     let later : bit_at starts (step + first) ≡ 1 = sym (bit_at-shr starts step first) ∙ both.1 in
@@ -28,8 +28,8 @@ longer_found word starts have step le found first h place from until =
       | inr le2 ↦ found (step + first) later place (omega arith) (omega arith)
     ]
 
-pub longer_all : (word starts have step : ℕ) → ((first : ℕ) → IsRun (bit_at word) first have → bit_at starts first ≡ 1)
-    → (first : ℕ) → IsRun (bit_at word) first (have + step) → bit_at (bit_and starts (starts / 2 ^ step)) first ≡ 1
+pub longer_all : (word starts have step : ℕ) → ((first : ℕ) → IsSetRun (bit_at word) first have → bit_at starts first ≡ 1)
+    → (first : ℕ) → IsSetRun (bit_at word) first (have + step) → bit_at (bit_and starts (starts / 2 ^ step)) first ≡ 1
 longer_all word starts have step all first run =
     and_set starts (starts / 2 ^ step) first (all first (λ place from until. run place from (omega arith)))
     (bit_at-shr starts step first ∙ all (step + first) (λ place from until. run place (omega arith) (omega arith)))
@@ -67,13 +67,13 @@ cleared_outside word mask low high i is fits small out =
     omega (arith, bit_at_and word (bit_not w64 mask) i, bit_at-lt word i)
 
 -- `word & mask` is `mask` where the bits of the mask are set
-pub has_mask : (word mask low high : ℕ) → mask ≡ 2 ^ high - 2 ^ low → low ≤ high → (bit_and word mask ≡ mask) ↔ IsRun (bit_at word) low (high - low)
+pub has_mask : (word mask low high : ℕ) → mask ≡ 2 ^ high - 2 ^ low → low ≤ high → (bit_and word mask ≡ mask) ↔ IsSetRun (bit_at word) low (high - low)
 has_mask word mask low high is order = (there, back)
   where
-    there : bit_and word mask ≡ mask → IsRun (bit_at word) low (high - low)
+    there : bit_and word mask ≡ mask → IsSetRun (bit_at word) low (high - low)
     there same place from until = (and_parts word mask place (ap (λ (n : ℕ). bit_at n place) same ∙ bit_in_mask mask low high place is from (omega arith))).0
 
-    back : IsRun (bit_at word) low (high - low) → bit_and word mask ≡ mask
+    back : IsSetRun (bit_at word) low (high - low) → bit_and word mask ≡ mask
     back run = same_from_bits (bit_and word mask) mask each
       where
         each : (i : ℕ) → bit_at (bit_and word mask) i ≡ bit_at mask i

@@ -1,4 +1,6 @@
 pub mod Blocks
+pub mod Sets
+pub mod Taken
 pub mod Bits
 pub mod Places
 pub mod Ends

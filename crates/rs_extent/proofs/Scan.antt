@@ -3,7 +3,7 @@ use Rattle.std.proofs.Common.{◌≡◌, inl, inr, ℕ, ◌+◌, ◌*◌, ◌-�
 use Rattle.std.specs.Int.{bit_at, trailing_ones, leading_ones, w64}
 use Rattle.std.proofs.lemmas.Nat.Bits.{bit_at_above}
 use Rattle.std.proofs.lemmas.Bool.{cases_lt}
-use Rattle.rs_extent.specs.Words.{bit_of, IsRun, HasNoRun, IsLowestRun}
+use Rattle.rs_extent.specs.Words.{bit_of, IsSetRun, HasNoSetRun, IsLowestRun}
 use Rattle.rs_extent.proofs.Ends.{trailing_ones-le, trailing_set, trailing_end, leading_set, leading_end, leading_ones-le}
 use Rattle.rs_extent.proofs.Places.{bit_of-at}
 
@@ -12,7 +12,7 @@ pub record IsScanned (bits : ℕ → ℕ) (n base run : ℕ) : Type 0 where
   pub short : run < n
   pub back : run ≤ base
   pub is_set : (place : ℕ) → place < base → base ≤ place + run → bits place ≡ 1
-  pub none : (lower : ℕ) → lower + run < base → IsRun bits lower n → ⊥
+  pub none : (lower : ℕ) → lower + run < base → IsSetRun bits lower n → ⊥
 
 -- the bits from `base` on are those of a word
 pub record IsWord (bits : ℕ → ℕ) (base word : ℕ) : Type 0 where
@@ -71,13 +71,13 @@ scan_ones bits n base run s short ones = record {
 }
 
 -- it ends in the word, so no run of n ones begins before the word
-no_run_across : (bits : ℕ → ℕ) (n base run head : ℕ) → IsScanned bits n base run → run + head < n → bits (base + head) ≡ 0 → (lower : ℕ) → lower < base → IsRun bits lower n → ⊥
+no_run_across : (bits : ℕ → ℕ) (n base run head : ℕ) → IsScanned bits n base run → run + head < n → bits (base + head) ≡ 0 → (lower : ℕ) → lower < base → IsSetRun bits lower n → ⊥
 no_run_across bits n base run head s short off lower lt is_run = elim (cases_lt (lower + run) base) [
   | inl below ↦ s.none lower below is_run
   | inr le ↦ let set = is_run (base + head) (omega arith) (omega arith) in absurd (omega arith)
 ]
 
-pub run_fits : (word n bit : ℕ) → word < 2 ^ 64 → 1 ≤ n → IsRun (bit_at word) bit n → bit + n ≤ 64
+pub run_fits : (word n bit : ℕ) → word < 2 ^ 64 → 1 ≤ n → IsSetRun (bit_at word) bit n → bit + n ≤ 64
 run_fits word n bit fits some run = elim (cases_lt 64 (bit + n)) [
   | inl past ↦
       let set = run (bit + n - 1) (omega arith) (omega arith) in
@@ -101,7 +101,7 @@ scan_within bits n base run head word bit some s w short off found =
 
 -- no run within it: the ones at its end go on
 pub scan_passes : (bits : ℕ → ℕ) (n base run head word : ℕ) → IsScanned bits n base run → IsWord bits base word → run + head < n → bits (base + head) ≡ 0
-    → word + 1 < 2 ^ 64 → HasNoRun (bit_at word) n → IsScanned bits n (base + 64) (leading_ones w64 word)
+    → word + 1 < 2 ^ 64 → HasNoSetRun (bit_at word) n → IsScanned bits n (base + 64) (leading_ones w64 word)
 scan_passes bits n base run head word s w short off partial none =
     let tail : ℕ = leading_ones w64 word in
     let few : leading_ones w64 word ≤ 64 = leading_ones-le word in
@@ -126,7 +126,7 @@ scan_passes bits n base run head word s w short off partial none =
     }
 
 -- nothing is set from `base` on
-pub scan_ends : (bits : ℕ → ℕ) (n base run : ℕ) → IsScanned bits n base run → ((place : ℕ) → base ≤ place → bits place ≡ 0) → HasNoRun bits n
+pub scan_ends : (bits : ℕ → ℕ) (n base run : ℕ) → IsScanned bits n base run → ((place : ℕ) → base ≤ place → bits place ≡ 0) → HasNoSetRun bits n
 scan_ends bits n base run s empty lower is_run = elim (cases_lt (lower + run) base) [
   | inl below ↦ s.none lower below is_run
   | inr le ↦

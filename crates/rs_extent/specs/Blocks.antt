@@ -2,6 +2,10 @@
 use Rattle.std.specs.Prelude.{◌≡◌, ℕ, ◌+◌, ◌<◌, ◌≤◌, Bool, true, false, List, length, get_or}
 use Rattle.rs_extent.specs.declared.Extent.{Extent}
 
+-- how many bytes a block has
+abbrev pub block_size : ℕ
+block_size = 512
+
 -- a block is used; past the end of the disk each is, so that no run reaches there
 abbrev pub is_used : List Bool → ℕ → Bool
 is_used used b = get_or used b true

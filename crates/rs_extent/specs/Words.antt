@@ -7,17 +7,17 @@ unfoldable pub bit_of : List ℕ → ℕ → ℕ
 bit_of words place = bit_at (get_or words (place / 64) 0) (place % 64)
 
 -- n bits in a row are set
-abbrev pub IsRun : (ℕ → ℕ) → ℕ → ℕ → Type 0
-IsRun bits first n = (place : ℕ) → first ≤ place → place < first + n → bits place ≡ 1
+abbrev pub IsSetRun : (ℕ → ℕ) → ℕ → ℕ → Type 0
+IsSetRun bits first n = (place : ℕ) → first ≤ place → place < first + n → bits place ≡ 1
 
 -- no n bits in a row are set
-abbrev pub HasNoRun : (ℕ → ℕ) → ℕ → Type 0
-HasNoRun bits n = (first : ℕ) → IsRun bits first n → ⊥
+abbrev pub HasNoSetRun : (ℕ → ℕ) → ℕ → Type 0
+HasNoSetRun bits n = (first : ℕ) → IsSetRun bits first n → ⊥
 
 -- this is the lowest place from which n bits in a row are set
 pub record IsLowestRun (bits : ℕ → ℕ) (n first : ℕ) : Type 0 where
-  pub is_run : IsRun bits first n
-  pub lowest : (lower : ℕ) → lower < first → IsRun bits lower n → ⊥
+  pub is_run : IsSetRun bits first n
+  pub lowest : (lower : ℕ) → lower < first → IsSetRun bits lower n → ⊥
 
 -- the bits from `first` up to `end` have a value afterwards, and the others are as they were
 pub record SetsBits (old new : List ℕ) (first end value : ℕ) : Type 0 where

@@ -1,10 +1,15 @@
-//! Runs of blocks, and the set of the blocks of a disk that are used.
+//! Runs of blocks, and the set of the blocks of a disk that are used. [`laws`] states what follows
+//! from the definitions alone.
 #![tactic(auto)]
 
+pub mod laws;
 mod used;
 mod words;
 
 pub use used::Used;
+
+/// How many bytes a block of a disk has: block `n` begins at byte `n * BLOCK_SIZE`.
+pub const BLOCK_SIZE: usize = 512;
 
 /// A run of blocks of a disk: `blocks` blocks from block `first` on, counted from 0.
 ///

@@ -43,7 +43,8 @@ impl Used {
     pub fn new(alloc: Global, blocks: u32) -> Result<Used, AllocError>
         requires { 2 ≤ blocks }
         ensures size { IfOk result (λ used. length used ≡ blocks) }
-        ensures first_two { IfOk result (λ used. (b : ℕ) → b < blocks → is_used used b ≡ nat_lt b 2) }
+        ensures first_two { IfOk result (λ used. (b : ℕ) → b < blocks
+            → is_used used b ≡ nat_lt b 2) }
     {
         let mut free = Vec::new(alloc);
         free.resize(blocks.div_ceil(64) as usize, 0)?;
@@ -104,7 +105,8 @@ impl Used {
     /// The lowest run of `blocks` free blocks, or `None` where the disk has no such run.
     pub fn find(&self, blocks: u32) -> Option<Extent>
         requires { 1 ≤ blocks }
-        ensures { MatchOption result ((first : ℕ) → IsFreeRun self.now first blocks → ⊥) (IsLowest self.now blocks) }
+        ensures { MatchOption result ((first : ℕ) → ¬ IsFreeRun self.now first blocks)
+            (IsLowest self.now blocks) }
     {
         let first = lowest_run(&self.free, self.full_words, blocks)?;
         Some(Extent { first, blocks })

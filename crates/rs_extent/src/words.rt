@@ -1,7 +1,7 @@
 //! Rows of bits in words of 64 bits: the lowest bit of the first word is bit 0.
 ghost use Rattle.std.specs.Prelude.{ℕ, ◌≡◌, ◌↔◌, ◌+◌, ◌-◌, ◌*◌, ◌^◌, ◌<◌, ◌≤◌, length, get_or, cond, IsTrue, MatchOption};
 ghost use Rattle.std.specs.Int.{bit_at};
-ghost use Rattle.rs_extent.specs.Words.{bit_of, IsRun, HasNoRun, IsLowestRun, SetsBits};
+ghost use Rattle.rs_extent.specs.Words.{bit_of, IsSetRun, HasNoSetRun, IsLowestRun, SetsBits};
 
 /// Gives the bits from `first` up to `end` a value, a word at a time.
 pub fn set_bits(words: &mut [u64], first: usize, end: usize, value: bool)
@@ -22,7 +22,7 @@ pub fn all_set(words: &[u64], first: usize, end: usize) -> bool
     requires order { first ≤ end }
     requires room { end ≤ 64 * length words.now }
     requires short { length words.now ≤ 2 ^ 26 }
-    ensures { IsTrue result ↔ IsRun (bit_of words.now) first (end - first) }
+    ensures { IsTrue result ↔ IsSetRun (bit_of words.now) first (end - first) }
 {
     for i in first / 64..end.div_ceil(64) {
         let start = 64 * i;
@@ -39,7 +39,8 @@ pub fn lowest_run(words: &[u64], from: usize, n: u32) -> Option<u32>
     requires some { 1 ≤ n }
     requires short { length words.now ≤ 2 ^ 26 }
     requires empty { (place : ℕ) → place < 64 * from → bit_of words.now place ≡ 0 }
-    ensures { MatchOption result (HasNoRun (bit_of words.now) n) (IsLowestRun (bit_of words.now) n) }
+    ensures { MatchOption result (HasNoSetRun (bit_of words.now) n)
+        (IsLowestRun (bit_of words.now) n) }
 {
     // How many bits right before the word are set.
     let mut run = 0;
@@ -64,7 +65,7 @@ pub fn lowest_run(words: &[u64], from: usize, n: u32) -> Option<u32>
 // The lowest bit of a word from which `n` bits in a row are set.
 fn lowest_run_within(word: u64, n: u32) -> Option<u32>
     requires { 1 ≤ n }
-    ensures { MatchOption result (HasNoRun (bit_at word) n) (IsLowestRun (bit_at word) n) }
+    ensures { MatchOption result (HasNoSetRun (bit_at word) n) (IsLowestRun (bit_at word) n) }
 {
     if 64 < n {
         return None;
@@ -81,7 +82,7 @@ fn lowest_run_within(word: u64, n: u32) -> Option<u32>
 fn run_starts(word: u64, n: u32) -> u64
     requires some { 1 ≤ n }
     requires fits { n ≤ 64 }
-    ensures { (first : ℕ) → (bit_at result first ≡ 1) ↔ IsRun (bit_at word) first n }
+    ensures { (first : ℕ) → (bit_at result first ≡ 1) ↔ IsSetRun (bit_at word) first n }
 {
     // From each bit of `starts`, `length` bits are set. A step joins two such runs that touch.
     let mut starts = word;
@@ -126,7 +127,7 @@ fn with_bits(word: u64, low: usize, high: usize, value: bool) -> u64
 fn has_bits(word: u64, low: usize, high: usize) -> bool
     requires order { low ≤ high }
     requires fits { high ≤ 64 }
-    ensures { IsTrue result ↔ IsRun (bit_at word) low (high - low) }
+    ensures { IsTrue result ↔ IsSetRun (bit_at word) low (high - low) }
 {
     let mask = ones_between(low, high);
     word & mask == mask

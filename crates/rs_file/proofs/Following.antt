@@ -5,7 +5,7 @@ use Rattle.std.proofs.lemmas.Slice.Eq.{bytes_eq-Decides}
 use Rattle.std.proofs.lemmas.Bool.Decides.{nat_tests}
 use Rattle.rs_disk.specs.Medium.{DiskState}
 use Rattle.rs_file.specs.Events.{Event, WasRead, WasWritten, WasSynced}
-use Rattle.rs_file.specs.Replay.{stands_at, after_call, replay}
+use Rattle.rs_file.specs.Replay.{stands_at, after_call, replay_events}
 use Rattle.rs_file.specs.Honest.{IsRight, AllRight}
 
 step : (torn : ℕ → List ℕ) (m : DiskState) (e : Event) → IsTrue m.honest → IsRight m e → IsTrue (after_call torn e m).honest
@@ -26,12 +26,12 @@ eq_to m n h = grind (arith, nat_tests)
 eq_from : (m n : ℕ) → m ≡ n → IsTrue (nat_eq m n)
 eq_from m n is = grind (arith, nat_tests)
 
-pub to_right : (first : List ℕ) (torn : ℕ → List ℕ) (size : ℕ) (events : List Event) → IsTrue (replay first torn size events).honest → AllRight first torn size events
+pub to_right : (first : List ℕ) (torn : ℕ → List ℕ) (size : ℕ) (events : List Event) → IsTrue (replay_events first torn size events).honest → AllRight first torn size events
 to_right first torn size [] h = eq_to size (length first) h
 to_right first torn size (e ∷ earlier) h =
-    let both = back torn (replay first torn size earlier) e h in
+    let both = back torn (replay_events first torn size earlier) e h in
     (to_right first torn size earlier both.0, both.1)
 
-pub from_right : (first : List ℕ) (torn : ℕ → List ℕ) (size : ℕ) (events : List Event) → AllRight first torn size events → IsTrue (replay first torn size events).honest
+pub from_right : (first : List ℕ) (torn : ℕ → List ℕ) (size : ℕ) (events : List Event) → AllRight first torn size events → IsTrue (replay_events first torn size events).honest
 from_right first torn size [] is = eq_from size (length first) is
-from_right first torn size (e ∷ earlier) right = step torn (replay first torn size earlier) e (from_right first torn size earlier right.0) right.1
+from_right first torn size (e ∷ earlier) right = step torn (replay_events first torn size earlier) e (from_right first torn size earlier right.0) right.1

@@ -6,7 +6,7 @@ use Rattle.rs_disk.specs.Medium.{Medium, DiskState, IsMedium, widened, written, 
 use Rattle.rs_disk.specs.Calls.{Passes, Writes, Tears}
 use Rattle.rs_disk.proofs.Images.{resting_medium, written_medium}
 use Rattle.rs_file.specs.Events.{Event, WasWritten}
-use Rattle.rs_file.specs.Replay.{sized, one_more, opened, replay}
+use Rattle.rs_file.specs.Replay.{sized, one_more, opened, replay_events}
 
 pub length-sized : (n : ℕ) (bytes : List ℕ) → length (sized n bytes) ≡ n
 unfolding sized
@@ -26,14 +26,14 @@ passes_more m follows held now ok = record {
 
 module _ (first : List ℕ) (torn : ℕ → List ℕ) (size : ℕ) (events later : List Event) (at : ℕ) (bytes : List ℕ) where
   abbrev before : DiskState
-  before = replay first torn size events
+  before = replay_events first torn size events
 
   abbrev behind : DiskState
-  behind = replay first torn size later
+  behind = replay_events first torn size later
 
   -- a write within the disk, whether it succeeded or not
   pub write_sound : (ok : Bool) → later ≡ WasWritten at ok bytes ∷ events → at + length bytes ≤ size → IsMedium size before.now → IsMedium size behind.now
-  write_sound ok noted fits sound = subst (λ (l : List Event). IsMedium size (replay first torn size l).now) (sym noted) (here ok)
+  write_sound ok noted fits sound = subst (λ (l : List Event). IsMedium size (replay_events first torn size l).now) (sym noted) (here ok)
     where
       here : (b : Bool) → IsMedium size (written before.now at (if b then bytes else sized (length bytes) (torn before.calls)))
       here true = written_medium size before.now at bytes sound fits
@@ -50,15 +50,15 @@ module _ (first : List ℕ) (torn : ℕ → List ℕ) (size : ℕ) (events later
       inl (
         any,
         long,
-        subst (λ (l : List Event). Writes at any before (replay first torn size l)) (sym noted) (record {
+        subst (λ (l : List Event). Writes at any before (replay_events first torn size l)) (sym noted) (record {
           now = refl;
           passes = subst (λ (k : ℕ). Passes before (one_more false true held (written before.now at any) before) (widened before.now at k)) (sym long) (passes_more before true held (written before.now at any) false);
         }),
       )
 
 -- at first
-pub first_sound : (first : List ℕ) (torn : ℕ → List ℕ) (size : ℕ) (events : List Event) → events ≡ [] → IsMedium size (replay first torn size events).now
-first_sound first torn size events none = subst (λ (es : List Event). IsMedium size (replay first torn size es).now) (sym none) (resting_medium size (sized size first) (length-sized size first))
+pub first_sound : (first : List ℕ) (torn : ℕ → List ℕ) (size : ℕ) (events : List Event) → events ≡ [] → IsMedium size (replay_events first torn size events).now
+first_sound first torn size events none = subst (λ (es : List Event). IsMedium size (replay_events first torn size es).now) (sym none) (resting_medium size (sized size first) (length-sized size first))
 
 equal : (m n : ℕ) → IsTrue (nat_eq m n) → m ≡ n
 equal m n h = grind (arith, nat_tests)
@@ -68,8 +68,8 @@ unfolding sized
 whole bytes = take_at bytes (replicate (length bytes) 0) (length bytes) refl
 
 -- a file that has the length of what it is supposed to have held holds that
-pub opened_first : (first : List ℕ) (torn : ℕ → List ℕ) (size : ℕ) (events : List Event) → events ≡ [] → IsTrue (replay first torn size events).honest → (replay first torn size events).now ≡ resting first
-opened_first first torn size events none = subst (λ (es : List Event). IsTrue (replay first torn size es).honest → (replay first torn size es).now ≡ resting first) (sym none) here
+pub opened_first : (first : List ℕ) (torn : ℕ → List ℕ) (size : ℕ) (events : List Event) → events ≡ [] → IsTrue (replay_events first torn size events).honest → (replay_events first torn size events).now ≡ resting first
+opened_first first torn size events none = subst (λ (es : List Event). IsTrue (replay_events first torn size es).honest → (replay_events first torn size es).now ≡ resting first) (sym none) here
   where
     here : IsTrue (opened first size).honest → (opened first size).now ≡ resting first
     here h = ap (λ (n : ℕ). resting (sized n first)) (equal size (length first) h) ∙ ap resting (whole first)

@@ -5,7 +5,7 @@ use Rattle.rs_disk.specs.Medium.{DiskState, IsMedium}
 use Rattle.rs_file.specs.declared.disk.FileDisk.{FileDisk}
 use Rattle.rs_file.specs.declared.start.Start.{Ghosts}
 use Rattle.rs_file.specs.Events.{Event}
-use Rattle.rs_file.specs.Replay.{replay}
+use Rattle.rs_file.specs.Replay.{replay_events}
 
 module _ {S : Type 0} where
   -- the calls that were counted, with their answers, the newest first
@@ -14,7 +14,7 @@ module _ {S : Type 0} where
 
   -- what these show of the disk
   abbrev pub state_of : (start : Ghosts S) → FileDisk S start → DiskState
-  state_of start d = replay start.first start.torn d.size d.file.log.events
+  state_of start d = replay_events start.first start.torn d.size d.file.log.events
 
   pub sound_of : (start : Ghosts S) (d : FileDisk S start) → IsMedium (state_of start d).size (state_of start d).now
   sound_of start d = subst (λ (k : ℕ). IsMedium k (state_of start d).now) (sym d.long) d.sound

@@ -2,7 +2,7 @@
 use Rattle.std.specs.Prelude.{◌≡◌, ℕ, true, false, List, [], ◌∷◌, length, take, drop}
 use Rattle.rs_disk.specs.Medium.{DiskState}
 use Rattle.rs_file.specs.Events.{Event, WasRead, WasWritten, WasSynced}
-use Rattle.rs_file.specs.Replay.{replay}
+use Rattle.rs_file.specs.Replay.{replay_events}
 
 -- A read that succeeded gave the bytes that the disk had there.
 abbrev pub IsRight : DiskState → Event → Type 0
@@ -14,4 +14,4 @@ IsRight disk (WasSynced ok) = Unit {0}
 -- The file had the length of what it is supposed to have held, and each read was right.
 abbrev pub AllRight : List ℕ → (ℕ → List ℕ) → ℕ → List Event → Type 0
 AllRight first torn size [] = size ≡ length first
-AllRight first torn size (e ∷ earlier) = AllRight first torn size earlier × IsRight (replay first torn size earlier) e
+AllRight first torn size (e ∷ earlier) = AllRight first torn size earlier × IsRight (replay_events first torn size earlier) e

@@ -36,6 +36,6 @@ opened first size =
     record { size = size; calls = 0; faults = 0; honest = nat_eq size (length first); now = resting (sized size first); within = λ _. resting (sized size first) }
 
 -- after these calls, of which the newest comes first
-abbrev pub replay : List ℕ → (ℕ → List ℕ) → ℕ → List Event → DiskState
-replay first torn size [] = opened first size
-replay first torn size (e ∷ earlier) = after_call torn e (replay first torn size earlier)
+abbrev pub replay_events : List ℕ → (ℕ → List ℕ) → ℕ → List Event → DiskState
+replay_events first torn size [] = opened first size
+replay_events first torn size (e ∷ earlier) = after_call torn e (replay_events first torn size earlier)

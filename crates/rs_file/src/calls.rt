@@ -32,7 +32,8 @@ impl RecordedFile {
     }
 
     pub(crate) fn read(&mut self, at: u64, into: &mut [u8]) -> Result<(), Fault>
-        ensures noted { self.new.log.events ≡ WasRead at (is_ok result) into.new ∷ self.old.log.events }
+        ensures noted { self.new.log.events
+            ≡ WasRead at (is_ok result) into.new ∷ self.old.log.events }
         ensures stopped { IsTrue (sync_failed self.old.log.events) → IsErr result }
     {
         if self.lost {
@@ -43,7 +44,8 @@ impl RecordedFile {
     }
 
     pub(crate) fn write(&mut self, at: u64, bytes: &[u8]) -> Result<(), Fault>
-        ensures noted { self.new.log.events ≡ WasWritten at (is_ok result) bytes.now ∷ self.old.log.events }
+        ensures noted { self.new.log.events
+            ≡ WasWritten at (is_ok result) bytes.now ∷ self.old.log.events }
         ensures stopped { IsTrue (sync_failed self.old.log.events) → IsErr result }
     {
         if self.lost {

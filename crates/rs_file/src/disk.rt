@@ -1,7 +1,7 @@
 //! A file as a disk.
 ghost use Rattle.std.specs.Prelude.{◌≡◌, ◌≤◌};
 ghost use Rattle.rs_disk.specs.Medium.{IsMedium, resting};
-ghost use Rattle.rs_file.specs.Replay.{replay};
+ghost use Rattle.rs_file.specs.Replay.{replay_events};
 
 use crate::Start;
 use crate::calls::RecordedFile;
@@ -27,11 +27,14 @@ pub struct FileDisk<S: Start> {
     calls: u64,
     faults: u64,
     start: PhantomData<S>,
-    ghost long: { (replay S.Start.first S.Start.torn size file.log.events).size ≡ size },
-    ghost counted: { (replay S.Start.first S.Start.torn size file.log.events).calls ≡ calls },
-    ghost failed: { (replay S.Start.first S.Start.torn size file.log.events).faults ≡ faults },
+    ghost long: { (replay_events S.Start.first S.Start.torn size file.log.events).size ≡ size },
+    ghost counted: { (replay_events S.Start.first S.Start.torn size file.log.events).calls
+        ≡ calls },
+    ghost failed: { (replay_events S.Start.first S.Start.torn size file.log.events).faults
+        ≡ faults },
     ghost fewer: { faults ≤ calls },
-    ghost sound: { IsMedium size (replay S.Start.first S.Start.torn size file.log.events).now },
+    ghost sound: { IsMedium size
+        (replay_events S.Start.first S.Start.torn size file.log.events).now },
 }
 
 impl<S: Start> FileDisk<S> {
@@ -42,7 +45,8 @@ impl<S: Start> FileDisk<S> {
     // A file of this length as a disk on which no call was made.
     pub(crate) fn over(file: File, size: u64) -> FileDisk<S>
         ensures state { state_of S.Start result ≡ opened S.Start.first size }
-        ensures first { IsTrue (state_of S.Start result).honest → (state_of S.Start result).now ≡ resting S.Start.first }
+        ensures first { IsTrue (state_of S.Start result).honest
+            → (state_of S.Start result).now ≡ resting S.Start.first }
         ensures events { events_of result ≡ [] }
     {
         FileDisk {
@@ -66,7 +70,7 @@ impl<S: Start> FileDisk<S> {
 // answer, and once a sync has failed each call fails.
 impl<S: Start> Disk for FileDisk<S> {
     ghost use Rattle.std.specs.Prelude.{◌≡◌, ◌+◌, ◌<◌, ◌≤◌, ◌^◌, ◌∷◌, length, take, drop, is_ok, OnOk, OnErr, IsErr, IsTrue};
-    ghost use Rattle.rs_disk.specs.Calls.{Counts, Stays, Writes, Tears, Settles};
+    ghost use Rattle.rs_disk.specs.Calls.{CountsCall, Stays, Writes, Tears, Settles};
     ghost use Rattle.rs_file.specs.Events.{sync_failed, WasRead, WasWritten, WasSynced};
     ghost use Rattle.rs_file.specs.File.{state_of, events_of, sound_of};
 
@@ -88,12 +92,18 @@ impl<S: Start> Disk for FileDisk<S> {
 
     fn read(&mut self, at: u64, into: &mut [u8]) -> Result<(), Fault>
         requires { at + length into.old ≤ (state_of S.Start self.old).size }
-        ensures counts { Counts (state_of S.Start self.old) (state_of S.Start self.new) result }
+        ensures counts { CountsCall (state_of S.Start self.old) (state_of S.Start self.new) result }
         ensures stays { Stays (state_of S.Start self.old) (state_of S.Start self.new) }
-        ensures gives { IsTrue (state_of S.Start self.new).honest → OnOk result (into.new ≡ take (length into.old) (drop at (state_of S.Start self.old).now.seen)) }
-        ensures keeps { IsTrue (state_of S.Start self.old).honest → OnOk result (into.new ≡ take (length into.old) (drop at (state_of S.Start self.old).now.seen)) → IsTrue (state_of S.Start self.new).honest }
+        ensures gives { IsTrue (state_of S.Start self.new).honest
+            → OnOk result (into.new
+            ≡ take (length into.old) (drop at (state_of S.Start self.old).now.seen)) }
+        ensures keeps { IsTrue (state_of S.Start self.old).honest
+            → OnOk result (into.new
+            ≡ take (length into.old) (drop at (state_of S.Start self.old).now.seen))
+            → IsTrue (state_of S.Start self.new).honest }
 
-        ensures noted { (state_of S.Start self.old).calls + 1 < 2 ^ 64 → events_of self.new ≡ WasRead at (is_ok result) into.new ∷ events_of self.old }
+        ensures noted { (state_of S.Start self.old).calls + 1 < 2 ^ 64
+            → events_of self.new ≡ WasRead at (is_ok result) into.new ∷ events_of self.old }
         ensures stopped { IsTrue (sync_failed (events_of self.old)) → IsErr result }
     {
         if self.is_spent() {
@@ -114,12 +124,15 @@ impl<S: Start> Disk for FileDisk<S> {
 
     fn write(&mut self, at: u64, bytes: &[u8]) -> Result<(), Fault>
         requires { at + length bytes.now ≤ (state_of S.Start self.old).size }
-        ensures counts { Counts (state_of S.Start self.old) (state_of S.Start self.new) result }
-        ensures writes { OnOk result (Writes at bytes.now (state_of S.Start self.old) (state_of S.Start self.new)) }
-        ensures tears { OnErr result (Tears at (length bytes.now) (state_of S.Start self.old) (state_of S.Start self.new)) }
+        ensures counts { CountsCall (state_of S.Start self.old) (state_of S.Start self.new) result }
+        ensures writes { OnOk result
+            (Writes at bytes.now (state_of S.Start self.old) (state_of S.Start self.new)) }
+        ensures tears { OnErr result
+            (Tears at (length bytes.now) (state_of S.Start self.old) (state_of S.Start self.new)) }
         ensures keeps { (state_of S.Start self.new).honest ≡ (state_of S.Start self.old).honest }
 
-        ensures noted { (state_of S.Start self.old).calls + 1 < 2 ^ 64 → events_of self.new ≡ WasWritten at (is_ok result) bytes.now ∷ events_of self.old }
+        ensures noted { (state_of S.Start self.old).calls + 1 < 2 ^ 64
+            → events_of self.new ≡ WasWritten at (is_ok result) bytes.now ∷ events_of self.old }
         ensures stopped { IsTrue (sync_failed (events_of self.old)) → IsErr result }
     {
         if self.is_spent() {
@@ -139,12 +152,15 @@ impl<S: Start> Disk for FileDisk<S> {
     }
 
     fn sync(&mut self) -> Result<(), Fault>
-        ensures counts { Counts (state_of S.Start self.old) (state_of S.Start self.new) result }
-        ensures settles { OnOk result (Settles (state_of S.Start self.old) (state_of S.Start self.new)) }
-        ensures stays { OnErr result (Stays (state_of S.Start self.old) (state_of S.Start self.new)) }
+        ensures counts { CountsCall (state_of S.Start self.old) (state_of S.Start self.new) result }
+        ensures settles { OnOk result
+            (Settles (state_of S.Start self.old) (state_of S.Start self.new)) }
+        ensures stays { OnErr result
+            (Stays (state_of S.Start self.old) (state_of S.Start self.new)) }
         ensures keeps { (state_of S.Start self.new).honest ≡ (state_of S.Start self.old).honest }
 
-        ensures noted { (state_of S.Start self.old).calls + 1 < 2 ^ 64 → events_of self.new ≡ WasSynced (is_ok result) ∷ events_of self.old }
+        ensures noted { (state_of S.Start self.old).calls + 1 < 2 ^ 64
+            → events_of self.new ≡ WasSynced (is_ok result) ∷ events_of self.old }
         ensures stopped { IsTrue (sync_failed (events_of self.old)) → IsErr result }
     {
         if self.is_spent() {

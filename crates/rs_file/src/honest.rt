@@ -9,5 +9,7 @@ use crate::{FileDisk, Start};
 /// opening was that of the bytes that its start names, and each read that succeeded gave the bytes
 /// that the disk model has there. It does nothing.
 pub fn honest_is<S: Start>(_disk: &FileDisk<S>)
-    ensures { IsTrue (state_of S.Start _disk.now).honest ↔ AllRight S.Start.first S.Start.torn (state_of S.Start _disk.now).size (events_of _disk.now) }
+    ensures { IsTrue (state_of S.Start _disk.now).honest
+        ↔ AllRight S.Start.first S.Start.torn (state_of S.Start _disk.now).size
+        (events_of _disk.now) }
 {}

@@ -88,10 +88,13 @@ impl<S: Start> FileDisk<S> {
     /// [`FileFault::Device`] where there is no such file, it is no regular file, or it cannot be
     /// opened for reading and writing, locked, synced or measured.
     pub fn open<R: Files<File = File>>(rt: &R, path: &str, _start: S) -> Result<Self, FileFault>
-        // What it held is settled; where its start names fewer bytes than it has, zeros follow them.
-        ensures now { IfOk result (λ d. (state_of S.Start d).now ≡ resting (sized (state_of S.Start d).size S.Start.first)) }
-        ensures honest { IfOk result (λ d. IsTrue (state_of S.Start d).honest ↔ ((state_of S.Start d).size ≡ length S.Start.first)) }
-        ensures first { IfOk result (λ d. IsTrue (state_of S.Start d).honest → (state_of S.Start d).now ≡ resting S.Start.first) }
+        // What it held is settled; where its start names fewer bytes than it has, zeros follow.
+        ensures now { IfOk result (λ d. (state_of S.Start d).now
+            ≡ resting (sized (state_of S.Start d).size S.Start.first)) }
+        ensures honest { IfOk result (λ d. IsTrue (state_of S.Start d).honest
+            ↔ ((state_of S.Start d).size ≡ length S.Start.first)) }
+        ensures first { IfOk result (λ d. IsTrue (state_of S.Start d).honest
+            → (state_of S.Start d).now ≡ resting S.Start.first) }
         ensures calls { IfOk result (λ d. (state_of S.Start d).calls ≡ 0) }
         ensures faults { IfOk result (λ d. (state_of S.Start d).faults ≡ 0) }
         ensures events { IfOk result (λ d. events_of d ≡ []) }
@@ -119,9 +122,12 @@ impl<S: Start> FileDisk<S> {
         _start: S,
     ) -> Result<Self, FileFault>
         ensures size { IfOk result (λ d. (state_of S.Start d).size ≡ size) }
-        ensures now { IfOk result (λ d. (state_of S.Start d).now ≡ resting (sized size S.Start.first)) }
-        ensures honest { IfOk result (λ d. IsTrue (state_of S.Start d).honest ↔ (size ≡ length S.Start.first)) }
-        ensures first { IfOk result (λ d. IsTrue (state_of S.Start d).honest → (state_of S.Start d).now ≡ resting S.Start.first) }
+        ensures now { IfOk result (λ d. (state_of S.Start d).now
+            ≡ resting (sized size S.Start.first)) }
+        ensures honest { IfOk result (λ d. IsTrue (state_of S.Start d).honest
+            ↔ (size ≡ length S.Start.first)) }
+        ensures first { IfOk result (λ d. IsTrue (state_of S.Start d).honest
+            → (state_of S.Start d).now ≡ resting S.Start.first) }
         ensures calls { IfOk result (λ d. (state_of S.Start d).calls ≡ 0) }
         ensures faults { IfOk result (λ d. (state_of S.Start d).faults ≡ 0) }
         ensures events { IfOk result (λ d. events_of d ≡ []) }

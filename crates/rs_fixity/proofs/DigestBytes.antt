@@ -11,7 +11,7 @@ use Rattle.md5.specs.Md5.{md5, digest_bytes, hash_after, padded_message}
 use Rattle.md5.proofs.StandardFacts.{length-md5}
 use Rattle.sha2.specs.Sha256.{sha256, digest_bytes as digest_bytes_256, final_hash, initial_hash_256}
 use Rattle.sha2.proofs.Facts256.{length-sha256}
-use Rattle.rs_fixity.specs.Digests.{AreBytes}
+use Rattle.rs_fixity.specs.Digests.{AreNBytes}
 
 -- a number below 256
 abbrev IsByte : ℕ → Type 0
@@ -56,12 +56,12 @@ by_place false bytes i e h =
 bytes_all : (bytes : List ℕ) → All IsByte bytes → IsBytes bytes
 bytes_all bytes h i = by_place _ bytes i refl h
 
-pub md5-bytes : (m : List ℕ) → AreBytes 16 (md5 m)
+pub md5-bytes : (m : List ℕ) → AreNBytes 16 (md5 m)
 unfolding md5
 md5-bytes m =
     let blocks : ℕ = length (padded_message m) / 64 in
     (length-md5 m, bytes_all _ (md5_words (hash_after (padded_message m) blocks) 4))
 
-pub sha256-bytes : (m : List ℕ) → AreBytes 32 (sha256 m)
+pub sha256-bytes : (m : List ℕ) → AreNBytes 32 (sha256 m)
 unfolding sha256
 sha256-bytes m = (length-sha256 m, bytes_all _ (sha256_words (final_hash initial_hash_256 m) 8))

@@ -8,7 +8,7 @@ use Rattle.std.proofs.lemmas.List.Folds.{list_all-append}
 use Rattle.hex.specs.Hex.{encode_with, encode_lower, lower_digits, decode_sized}
 use Rattle.hex.specs.declared.error.FromHexError.{FromHexError}
 use Rattle.hex.proofs.HexLemmas.{decode_sized-encode_lower, decode_sized-ok, decode_sized-twice, decode_of-ok}
-use Rattle.rs_fixity.specs.Digests.{AreBytes}
+use Rattle.rs_fixity.specs.Digests.{AreNBytes}
 use Rattle.rs_fixity.specs.declared.Digests.{Digests}
 use Rattle.rs_fixity.specs.HashText.{hash_text_of}
 use Rattle.rs_fixity.specs.Cut.{◌>>=◌, strip, cut, lacks}
@@ -61,7 +61,7 @@ pub hash_text-unescaped : (d : Digests) (mark : ℕ) → Contains (10 ∷ codes 
 hash_text-unescaped d mark is_mark =
     lacks-Contains mark (hash_text_of d) (passes (λ m. lacks m (hash_text_of d)) marks mark (all_lacking d) is_mark)
 
-decoded : (bytes : List ℕ) (n : ℕ) → AreBytes n bytes
+decoded : (bytes : List ℕ) (n : ℕ) → AreNBytes n bytes
     → result_ok (decode_sized (encode_lower bytes) n) ≡ Some bytes
 decoded bytes n h = ap result_ok (decode_sized-encode_lower bytes n h.0 h.1)
 
@@ -79,7 +79,7 @@ abbrev with_parts : List ℕ → List ℕ × List ℕ → Option Digests
 with_parts text parts = result_ok (decode_sized parts.0 16) >>= with_md5 text parts.1
 
 -- what was written is read
-pub read_hash-text : (d : Digests) → AreBytes 16 d.md5 → AreBytes 32 d.sha256
+pub read_hash-text : (d : Digests) → AreNBytes 16 d.md5 → AreNBytes 32 d.sha256
     → read_hash (hash_text_of d) ≡ Some d
 unfolding read_hash strip
 read_hash-text d md5-bytes sha256-bytes =
@@ -100,24 +100,24 @@ ok_given (Ok x) bytes e = cc
 ok_given (Err x) bytes e = cc
 
 decoded_bytes : (digits : List ℕ) (n : ℕ) (bytes : List ℕ) → result_ok (decode_sized digits n) ≡ Some bytes
-    → AreBytes n bytes
+    → AreNBytes n bytes
 decoded_bytes digits n bytes e =
     let is = ok_given (decode_sized digits n) bytes e in
     let long : length digits ≡ 2 * n = decode_sized-ok digits n bytes is in
     let ok = decode_of-ok digits bytes (sym (decode_sized-twice digits n long) ∙ is) in
     (omega (arith, ok.2), ok.3)
 
-if_text_of-gave : (text : List ℕ) (d given : Digests) → AreBytes 16 d.md5 → AreBytes 32 d.sha256
+if_text_of-gave : (text : List ℕ) (d given : Digests) → AreNBytes 16 d.md5 → AreNBytes 32 d.sha256
     → if_text_of text d ≡ Some given
-    → AreBytes 16 given.md5 × AreBytes 32 given.sha256 × (text ≡ hash_text_of given)
+    → AreNBytes 16 given.md5 × AreNBytes 32 given.sha256 × (text ≡ hash_text_of given)
 if_text_of-gave text d given md5-bytes sha256-bytes e =
     let is = if_written_gave (hash_text_of d) text d given e in
-    let P : Digests → Type 0 = λ x. AreBytes 16 x.md5 × AreBytes 32 x.sha256 × (text ≡ hash_text_of x) in
+    let P : Digests → Type 0 = λ x. AreNBytes 16 x.md5 × AreNBytes 32 x.sha256 × (text ≡ hash_text_of x) in
     subst P is.1 (md5-bytes, sha256-bytes, sym is.0)
 
 -- and nothing else
 pub read_hash-exact : (text : List ℕ) (d : Digests) → read_hash text ≡ Some d
-    → AreBytes 16 d.md5 × AreBytes 32 d.sha256 × (text ≡ hash_text_of d)
+    → AreNBytes 16 d.md5 × AreNBytes 32 d.sha256 × (text ≡ hash_text_of d)
 unfolding read_hash
 read_hash-exact text d e =
     let front = then_gave (strip (codes "md5:") text) (λ a. with_parts text (cut 32 a)) d e in

@@ -10,5 +10,5 @@ abbrev pub digests : List ℕ → Digests
 digests m = record { md5 = md5_of m; sha256 = sha256_of m }
 
 -- a list of n bytes
-abbrev pub AreBytes : ℕ → List ℕ → Type 0
-AreBytes n bytes = (length bytes ≡ n) × IsBytes bytes
+abbrev pub AreNBytes : ℕ → List ℕ → Type 0
+AreNBytes n bytes = (length bytes ≡ n) × IsBytes bytes

@@ -2,5 +2,5 @@ pub mod Cut
 pub mod Digests
 pub mod HashText
 pub mod Hex
-pub mod Holds
+pub mod Hashed
 pub mod ReadHash

@@ -3,24 +3,24 @@
 
 ghost use Rattle.std.specs.Prelude.{◌≡◌, ℕ, List, ◌∷◌, ◌++◌, Some, IsTrue, Contains, codes};
 ghost use Rattle.rs_fixity.specs.declared.Digests.{Digests};
-ghost use Rattle.rs_fixity.specs.Digests.{digests, AreBytes};
+ghost use Rattle.rs_fixity.specs.Digests.{digests, AreNBytes};
 ghost use Rattle.rs_fixity.specs.HashText.{hash_text_of};
 ghost use Rattle.rs_fixity.specs.ReadHash.{read_hash};
 ghost use Rattle.rs_fixity.specs.Cut.{cut, strip, lacks};
 
 /// Of each message the MD5 is 16 bytes and the SHA-256 is 32 bytes.
 pub fn digests_are_bytes()
-    ensures md5 { (m : List ℕ) → AreBytes 16 (digests m).md5 }
-    ensures sha256 { (m : List ℕ) → AreBytes 32 (digests m).sha256 }
+    ensures md5 { (m : List ℕ) → AreNBytes 16 (digests m).md5 }
+    ensures sha256 { (m : List ℕ) → AreNBytes 32 (digests m).sha256 }
 {}
 
 /// The text of digests reads as these digests, and any text that reads as digests is the text of them.
 /// So different digests have different texts.
 pub fn hash_texts_read_back()
-    ensures read { (d : Digests) → AreBytes 16 d.md5 → AreBytes 32 d.sha256 →
+    ensures read { (d : Digests) → AreNBytes 16 d.md5 → AreNBytes 32 d.sha256 →
         read_hash (hash_text_of d) ≡ Some d }
     ensures exact { (text : List ℕ) (d : Digests) → read_hash text ≡ Some d →
-        AreBytes 16 d.md5 × AreBytes 32 d.sha256 × (text ≡ hash_text_of d) }
+        AreNBytes 16 d.md5 × AreNBytes 32 d.sha256 × (text ≡ hash_text_of d) }
 {}
 
 /// The text of digests stays on its line, and stands in XML attribute values as it is: it has no line feed,
@@ -41,7 +41,8 @@ pub fn joined_texts_are_cut()
 /// What was cut joins to the text again: a beginning that was stripped off and what follows, and a value
 /// that was cut off before a mark, which lacks the mark, and the rest, which is empty or begins with it.
 pub fn cut_texts_join()
-    ensures strip { (front text rest : List ℕ) → strip front text ≡ Some rest → text ≡ front ++ rest }
+    ensures strip { (front text rest : List ℕ) → strip front text ≡ Some rest
+        → text ≡ front ++ rest }
     ensures cut { (mark : ℕ) (text : List ℕ) → (cut mark text).0 ++ (cut mark text).1 ≡ text }
     ensures lacks { (mark : ℕ) (text : List ℕ) → IsTrue (lacks mark (cut mark text).0) }
     ensures rest { (mark c : ℕ) (text rest : List ℕ) → (cut mark text).1 ≡ c ∷ rest → c ≡ mark }

@@ -13,13 +13,13 @@ use Rattle.rs_store.specs.Views as views
 use Rattle.rs_store.specs.declared.refusal.Refusal as stored
 use Rattle.rs_store.specs.declared.refusal.Refusal.TheVariants.{Closed, NotHeld, Device, Damaged, NoMemory}
 use Rattle.rs_http.specs.declared.response.Framing.{Framing}
-use Rattle.rs_http.specs.Responses.{Outcome, shown, refused, status_of, response_text}
-use Rattle.rs_http.specs.Gives.{IsRead, document_or_none, document_shown, Responds}
+use Rattle.rs_http.specs.Responses.{RequestOutcome, shown, refused, status_code, response_text}
+use Rattle.rs_http.specs.Outcomes.{ReadComesTo, document_or_none, document_shown, Responds}
 use Rattle.rs_http.proofs.Documents.{one_text}
 
 -- an outcome is answered
-pub answered : {E : Type 0} (framing : Framing) (Written : List ℕ → Type 0) (comes : Outcome → Type 0) (result : Result ℕ E) (outcome : Outcome)
-    → comes outcome → IfOk result (λ status. status ≡ status_of outcome) → OnOk result (Written (response_text framing outcome))
+pub answered : {E : Type 0} (framing : Framing) (Written : List ℕ → Type 0) (comes : RequestOutcome → Type 0) (result : Result ℕ E) (outcome : RequestOutcome)
+    → comes outcome → IfOk result (λ status. status ≡ status_code outcome) → OnOk result (Written (response_text framing outcome))
     → Responds framing Written comes result
 answered framing Written comes result outcome c s w = record { outcome = outcome; comes_of_it = c; status = s; written = w }
 
@@ -53,7 +53,7 @@ module _ {D : Type 0} (device : D → DiskState) (old new : Stored D) (name : Li
       cc
 
   -- the body is shown with its recorded type
-  pub body_shown : (kind k given : List ℕ) → kind_of name (state_of device new) ≡ Some kind → k ≡ kind → given ≡ bytes.items → IsRead device old new name (shown k given)
+  pub body_shown : (kind k given : List ℕ) → kind_of name (state_of device new) ≡ Some kind → k ≡ kind → given ≡ bytes.items → ReadComesTo device old new name (shown k given)
   body_shown kind k given e type_is is = record {
     result = Ok bytes;
     answers = a;
@@ -62,7 +62,7 @@ module _ {D : Type 0} (device : D → DiskState) (old new : Stored D) (name : Li
 
   -- or the memory for its type is refused, and so the body is
   pub kind_refused : (refusal : stored.Refusal) → IsErrOf {T = List ℕ} (Err refusal) Closed ↔ IsTrue new.is_closed
-      → IsErrOf {T = List ℕ} (Err refusal) NotHeld ↔ ((new.is_closed ≡ false) × (is_held (state_of device new) name ≡ false)) → IsOfKind refusal → IsRead device old new name (refused refusal)
+      → IsErrOf {T = List ℕ} (Err refusal) NotHeld ↔ ((new.is_closed ≡ false) × (is_held (state_of device new) name ≡ false)) → IsOfKind refusal → ReadComesTo device old new name (refused refusal)
   kind_refused refusal closed not_held is = record {
     result = Err refusal;
     answers = record {
@@ -97,12 +97,12 @@ pub shown_none : (found : Option (List ℕ)) → option_map length found ≡ Non
 shown_none None e = refl
 shown_none (Some text) e = absurd cc
 
-when_open : (closed : Bool) (outcome : Outcome) → closed ≡ false → outcome ≡ (if closed then refused Closed else outcome)
+when_open : (closed : Bool) (outcome : RequestOutcome) → closed ≡ false → outcome ≡ (if closed then refused Closed else outcome)
 when_open closed outcome is = sym (ap (λ b. if b then refused Closed else outcome) is)
 
 -- what a view of an open source shows is what its state shows
-pub document_is : {D : Type 0} (device : D → DiskState) (s : Stored D) (doc : Doc) (view : Shown) (outcome : Outcome) {T : Type 0} (given : T)
-    → IsErrOf {E = stored.Refusal} (Ok given) Closed ↔ IsTrue s.is_closed → view ≡ views.shown_of s.contents
+pub document_is : {D : Type 0} (device : D → DiskState) (s : Stored D) (doc : Doc) (view : Shown) (outcome : RequestOutcome) {T : Type 0} (given : T)
+    → IsErrOf {E = stored.Refusal} (Ok given) Closed ↔ IsTrue s.is_closed → view ≡ views.shown_in s.contents
     → document_or_none (document_text view doc) ≡ outcome → outcome ≡ document_shown device s doc
 document_is device s doc view outcome given closed is e =
     let text = ap (λ v. document_text v doc) is ∙ one_text (device s.disk).now.seen s.contents doc in

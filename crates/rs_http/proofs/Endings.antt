@@ -21,22 +21,22 @@ use Rattle.rs_http.specs.declared.response.Framing.{Framing}
 use Rattle.rs_http.specs.declared.serve.Served.TheVariants.{Answered}
 use Rattle.rs_http.specs.Head.{HeadIs}
 use Rattle.rs_http.specs.Requests.{Asks}
-use Rattle.rs_http.specs.Responses.{Outcome, response_text}
-use Rattle.rs_http.specs.Gives.{Gives, Responds}
+use Rattle.rs_http.specs.Responses.{RequestOutcome, response_text}
+use Rattle.rs_http.specs.Outcomes.{RequestGives, Responds}
 use Rattle.rs_http.specs.Serving.{PlanEnds, RequestEnds, preface_of, Reads, Serves, Breaks, Halts}
 
 -- an answer that was sent ends a plan, for which these bytes were read
 pub sent_ends : {D W : Type 0} (device : D → DiskState) (old new : Stored D) (now : ℕ) (plan asked : Result Plan NoPlan) (framing : Framing)
-    (left rest : Option (List ℕ)) (contents : W → Option (List ℕ)) (before after : Watched W) (more : List ℕ) (comes : Outcome → Type 0) (result : Result ℕ WriteFault) (out : Result ℕ FrontFault)
+    (left rest : Option (List ℕ)) (contents : W → Option (List ℕ)) (before after : Watched W) (more : List ℕ) (comes : RequestOutcome → Type 0) (result : Result ℕ WriteFault) (out : Result ℕ FrontFault)
     → Consumes left rest more → plan ≡ asked → MatchResult result (λ status. out ≡ Ok status) (λ _. out ≡ Err Write) → Responds framing (Wrote contents before after) comes result
-    → ((outcome : Outcome) → comes outcome → Gives device old now asked more rest outcome new) → PlanEnds device old now plan framing left rest (contents (watched before)) (contents (watched after)) new out
+    → ((outcome : RequestOutcome) → comes outcome → RequestGives device old now asked more rest outcome new) → PlanEnds device old now plan framing left rest (contents (watched before)) (contents (watched after)) new out
 sent_ends device old new now plan asked framing left rest contents before after more comes (Ok status) out came same e r gives =
     subst (λ o. PlanEnds device old now plan framing left rest (contents (watched before)) (contents (watched after)) new o) (sym e) (
       more,
       came,
       record {
         outcome = r.outcome;
-        comes_of_it = subst (λ p. Gives device old now p more rest r.outcome new) (sym same) (gives r.outcome r.comes_of_it);
+        comes_of_it = subst (λ p. RequestGives device old now p more rest r.outcome new) (sym same) (gives r.outcome r.comes_of_it);
         status = r.status;
         written = r.written.0;
       },
@@ -47,7 +47,7 @@ sent_ends device old new now plan asked framing left rest contents before after 
       came,
       record {
         outcome = r.outcome;
-        comes_of_it = subst (λ p. Gives device old now p more rest r.outcome new) (sym same) (gives r.outcome r.comes_of_it);
+        comes_of_it = subst (λ p. RequestGives device old now p more rest r.outcome new) (sym same) (gives r.outcome r.comes_of_it);
         status = tt;
         written = tt;
       },

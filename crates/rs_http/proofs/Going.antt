@@ -10,7 +10,7 @@ use Rattle.rs_model.specs.declared.command.Command.{Command}
 use Rattle.rs_model.specs.declared.command.Command.TheVariants as commands
 use Rattle.rs_model.specs.declared.command.Reply.{Reply}
 use Rattle.rs_model.specs.declared.command.Refusal as model
-use Rattle.rs_image.specs.Tells.{state_in}
+use Rattle.rs_image.specs.StateOfImage.{state_in}
 use Rattle.rs_store.specs.Answered.{Answers}
 use Rattle.rs_store.specs.AnswersBody.{AnswersBody}
 use Rattle.rs_store.specs.Received.{IsBodyOf, IsLeft, AnswersFrom}
@@ -24,10 +24,10 @@ use Rattle.rs_http.specs.declared.request.Plan.{Plan}
 use Rattle.rs_http.specs.declared.request.Plan.TheVariants.{ShowBody, ShowDocument, Put, Delete, Publish}
 use Rattle.rs_http.specs.declared.request.NoPlan.{NoPlan}
 use Rattle.rs_http.specs.declared.request.Request.{Request}
-use Rattle.rs_http.specs.Gives.{Gives}
-use Rattle.rs_store.specs.GoesOn.{GoesOnBy, GoesOnOnce}
-use Rattle.rs_http.specs.Responses.{Outcome}
-use Rattle.rs_http.specs.Serving.{IsBroken, Stands, RequestEnds}
+use Rattle.rs_http.specs.Outcomes.{RequestGives}
+use Rattle.rs_store.specs.Advancing.{GoesOnBy, GoesOnOnce}
+use Rattle.rs_http.specs.Responses.{RequestOutcome}
+use Rattle.rs_http.specs.Serving.{IsBroken, LeavesStanding, RequestEnds}
 
 -- a body of n bytes that begins with these
 padded : ℕ → List ℕ → List ℕ
@@ -162,8 +162,8 @@ module _ {D : Type 0} (device : D → DiskState) (old new : Stored D) (now : ℕ
     put_goes (Err Damaged) a = put_refused Damaged (none_fit n came a.0) a.1
 
   -- what may come of a request
-  gives_goes : (plan : Result Plan NoPlan) (more : List ℕ) (rest : Option (List ℕ)) (outcome : Outcome)
-      → Gives device old now plan more rest outcome new → GoesOnOnce device old now new
+  gives_goes : (plan : Result Plan NoPlan) (more : List ℕ) (rest : Option (List ℕ)) (outcome : RequestOutcome)
+      → RequestGives device old now plan more rest outcome new → GoesOnOnce device old now new
   gives_goes (Ok (ShowBody name)) more rest outcome gives = read_goes name gives.1.result gives.1.answers
   gives_goes (Ok (ShowDocument doc)) more rest outcome gives = same_goes gives.2
   gives_goes (Ok (Put name kind n waits)) more rest outcome gives = put_goes name kind n more gives.result gives.answers
@@ -181,7 +181,7 @@ module _ {D : Type 0} (device : D → DiskState) (old new : Stored D) (now : ℕ
   broken_goes (Err reason) more broken = absurd broken
 
   -- a request whose response was not written
-  stands_goes : (request : Request) (more : List ℕ) (rest : Option (List ℕ)) → Stands device old now request more rest new → GoesOnOnce device old now new
+  stands_goes : (request : Request) (more : List ℕ) (rest : Option (List ℕ)) → LeavesStanding device old now request more rest new → GoesOnOnce device old now new
   stands_goes request more rest (inl unsaid) = same_goes unsaid.2
   stands_goes request more rest (inr stands) = gives_goes request.plan more rest stands.0 stands.1
 

@@ -5,7 +5,7 @@ use Rattle.rs_http.specs.declared.request.Plan.{Plan}
 use Rattle.rs_http.specs.declared.request.NoPlan.{NoPlan}
 use Rattle.rs_http.specs.declared.request.NoPlan.TheVariants.{Refused, NoMemory}
 use Rattle.rs_http.specs.Checks.{Causes, first_fault}
-use Rattle.rs_http.specs.Requests.{IsPlanned}
+use Rattle.rs_http.specs.Requests.{IsPlanFor}
 
 -- none of the first causes is there
 passed : (xs ys : Causes) → first_fault xs ≡ None → first_fault (xs ++ ys) ≡ first_fault ys
@@ -19,7 +19,7 @@ met [] ys fault e = absurd cc
 met ((true, f) ∷ xs) ys fault e = e
 met ((false, f) ∷ xs) ys fault e = met xs ys fault e
 
-pub planned_after : (xs ys : Causes) (plan : Option Plan) (made : Result Plan NoPlan) → first_fault xs ≡ None → IsPlanned ys plan made → IsPlanned (xs ++ ys) plan made
+pub planned_after : (xs ys : Causes) (plan : Option Plan) (made : Result Plan NoPlan) → first_fault xs ≡ None → IsPlanFor ys plan made → IsPlanFor (xs ++ ys) plan made
 planned_after xs ys plan (Ok p) e h = (passed xs ys e ∙ h.0, h.1)
 planned_after xs ys plan (Err (Refused fault)) e h = passed xs ys e ∙ h
 planned_after xs ys plan (Err NoMemory) e h = tt

@@ -2,8 +2,9 @@
 use Rattle.std.specs.Prelude.{ℕ, nat_lt, ◌==◌, ◌&&◌, ◌||◌, Bool, true, false, not, is_none, List, [], ◌∷◌, ◌++◌, length, codes, bytes_eq, Option, Some, None, if◌then◌else◌, unwrap_or}
 use Rattle.std.specs.List.{list_any}
 use Rattle.std.specs.Str.{str_eq_ignore_ascii_case}
+use Rattle.rs_record.specs.Decimal.{number_in}
 use Rattle.rs_record.specs.MediaType.{is_media_type}
-use Rattle.rs_model.specs.State.{longest_body}
+use Rattle.rs_record.specs.Limits.{longest_body}
 use Rattle.rs_http.specs.declared.target.Place.{Place}
 use Rattle.rs_http.specs.declared.target.Place.TheVariants.{Resource, Unlawful, Document, Publishing, Nowhere}
 use Rattle.rs_http.specs.declared.target.Methods.TheVariants.{OfResources, OfDocuments, OfPublications}
@@ -11,7 +12,7 @@ use Rattle.rs_http.specs.declared.request.RequestFault.{RequestFault}
 use Rattle.rs_http.specs.declared.request.RequestFault.TheVariants.{ManyFields, BadHost, TransferEncoding, BadLength, BadName, NoSuchDocument, BadMethod, NoLength, BadType, TooLong}
 use Rattle.rs_http.specs.declared.request.Plan.{Plan}
 use Rattle.rs_http.specs.declared.request.Plan.TheVariants.{ShowBody, ShowDocument, Put, Delete, Publish}
-use Rattle.rs_http.specs.Fields.{Parts, values_of, length_in}
+use Rattle.rs_http.specs.Fields.{Parts, values_of}
 use Rattle.rs_http.specs.Targets.{path_of_target, place_of}
 
 -- the greatest number of fields
@@ -29,6 +30,10 @@ abbrev pub is_there : List (List ℕ) → Bool
 is_there [] = false
 is_there (value ∷ values) = true
 
+-- the length of a body: 1 to 18 digits
+abbrev pub length_in : List ℕ → Option ℕ
+length_in text = number_in 18 text
+
 -- more than one length, or one that is no number
 abbrev pub is_bad_length : List (List ℕ) → Bool
 is_bad_length [] = false
@@ -39,6 +44,10 @@ is_bad_length (text ∷ more ∷ texts) = true
 abbrev pub stated_length : List (List ℕ) → Option ℕ
 stated_length [] = None
 stated_length (text ∷ texts) = length_in text
+
+-- the length that a head states
+abbrev pub stated_in : Parts → Option ℕ
+stated_in p = stated_length (values_of (codes "content-length") p.fields)
 
 -- an unlawful type, or a second one
 abbrev pub is_bad_type : List (List ℕ) → Bool
@@ -95,7 +104,7 @@ abbrev pub put_causes : Option ℕ → List (List ℕ) → Causes
 put_causes stated kinds = (is_none stated, NoLength) ∷ (is_bad_type kinds, BadType) ∷ (is_too_long stated, TooLong) ∷ []
 
 abbrev pub put_causes_in : Parts → Causes
-put_causes_in p = put_causes (stated_length (values_of (codes "content-length") p.fields)) (values_of (codes "content-type") p.fields)
+put_causes_in p = put_causes (stated_in p) (values_of (codes "content-type") p.fields)
 
 -- Those that lie in what the target names and in the method, and then those of a PUT, which resources alone allow.
 abbrev pub place_causes : Place → Parts → Causes
@@ -127,7 +136,7 @@ abbrev pub resource_plan : List ℕ → Parts → Plan
 resource_plan name p =
     if is_put p.method then
     put_plan name (values_of (codes "content-type") p.fields)
-    (unwrap_or (stated_length (values_of (codes "content-length") p.fields)) 0)
+    (unwrap_or (stated_in p) 0)
     (expects_word p)
     else if is_delete p.method then Delete name
     else ShowBody name

@@ -1,9 +1,6 @@
 -- The fields of a head, by name (RFC 9110, section 5).
-use Rattle.std.specs.Prelude.{◌≡◌, ℕ, ◌<◌, ◌&&◌, nat_le, Bool, List, [], ◌∷◌, length, map, filter, Option, Some, None, if◌then◌else◌}
-use Rattle.std.specs.List.{list_all}
+use Rattle.std.specs.Prelude.{◌≡◌, ℕ, ◌<◌, List, [], ◌∷◌, length, map, filter}
 use Rattle.std.specs.Str.{str_eq_ignore_ascii_case}
-use Rattle.std.specs.Str.Parse.{digits_value}
-use Rattle.std.specs.Char.{is_ascii_digit}
 use Rattle.httparse.specs.Grammar.{RequestHead}
 use Rattle.httparse.specs.Spans.{span_bytes, header_bytes, name_and_value, IsWithin}
 use Rattle.httparse.specs.declared.spans.HeaderSpan.{HeaderSpan}
@@ -23,12 +20,12 @@ pub record Parts : Type 0 where
   pub minor : ℕ
   pub fields : Pairs
 
-abbrev pub parts_of : RequestHead → Parts
-parts_of h = record { method = h.method; target = h.target; minor = h.minor; fields = map name_and_value h.fields }
+abbrev pub head_parts : RequestHead → Parts
+head_parts h = record { method = h.method; target = h.target; minor = h.minor; fields = map name_and_value h.fields }
 
 -- what lies at these places of a head
-abbrev pub parts_at : List ℕ → RequestSpans → List HeaderSpan → Parts
-parts_at head spans headers =
+abbrev pub head_parts_at : List ℕ → RequestSpans → List HeaderSpan → Parts
+head_parts_at head spans headers =
     record {
       method = span_bytes head spans.method;
       target = span_bytes head spans.path;
@@ -39,14 +36,6 @@ parts_at head spans headers =
 -- the values of the fields of a name, in order; names are compared without case
 abbrev pub values_of : List ℕ → Pairs → List (List ℕ)
 values_of name pairs = map (λ pair. pair.1) (filter (λ pair. str_eq_ignore_ascii_case pair.0 name) pairs)
-
--- 1 to 18 digits
-abbrev pub is_length : List ℕ → Bool
-is_length text = nat_le 1 (length text) && nat_le (length text) 18 && list_all is_ascii_digit text
-
--- the number that they write
-unfoldable pub length_in : List ℕ → Option ℕ
-length_in text = if is_length text then Some (digits_value 10 text) else None
 
 -- the fields of one name: none, one whose value lies there in the head, or more
 abbrev pub LoneIs : List ℕ → Lone → List (List ℕ) → Type 0

@@ -4,5 +4,5 @@ pub mod Targets
 pub mod Checks
 pub mod Requests
 pub mod Responses
-pub mod Gives
+pub mod Outcomes
 pub mod Serving

@@ -9,14 +9,14 @@ use Rattle.rs_http.specs.declared.request.Plan.{Plan}
 use Rattle.rs_http.specs.declared.request.NoPlan.{NoPlan}
 use Rattle.rs_http.specs.declared.request.NoPlan.TheVariants.{Refused, NoMemory}
 use Rattle.rs_http.specs.declared.request.Request.{Request}
-use Rattle.rs_http.specs.Fields.{Parts, parts_of}
+use Rattle.rs_http.specs.Fields.{Parts, head_parts}
 use Rattle.rs_http.specs.Checks.{Causes, first_fault, causes_of, is_bad_type, stated_type, place_in, plan_at}
 
 -- A request that has these causes is refused for the first one that is there, or has this plan; memory may be refused.
-abbrev pub IsPlanned : Causes → Option Plan → Result Plan NoPlan → Type 0
-IsPlanned causes plan (Ok made) = (first_fault causes ≡ None) × (plan ≡ Some made)
-IsPlanned causes plan (Err (Refused fault)) = first_fault causes ≡ Some fault
-IsPlanned causes plan (Err NoMemory) = Unit {0}
+abbrev pub IsPlanFor : Causes → Option Plan → Result Plan NoPlan → Type 0
+IsPlanFor causes plan (Ok made) = (first_fault causes ≡ None) × (plan ≡ Some made)
+IsPlanFor causes plan (Err (Refused fault)) = first_fault causes ≡ Some fault
+IsPlanFor causes plan (Err NoMemory) = Unit {0}
 
 -- the type of a body, which is that of the fields, or why there is none
 abbrev pub TypeIs : List (List ℕ) → Result (List ℕ) NoPlan → Type 0
@@ -27,7 +27,7 @@ TypeIs kinds (Err NoMemory) = Unit {0}
 -- what this head asks for: whether its method is HEAD, and its plan
 pub record IsRequestOf (p : Parts) (request : Request) : Type 0 where
   pub is_head : request.is_head ≡ bytes_eq p.method (codes "HEAD")
-  pub plan : IsPlanned (causes_of p) (plan_at (place_in p) p) request.plan
+  pub plan : IsPlanFor (causes_of p) (plan_at (place_in p) p) request.plan
 
 -- a request of which no more is known
 abbrev pub refused_for : RequestFault → Request
@@ -37,7 +37,7 @@ refused_for fault = record { is_head = false; plan = Err (Refused fault) }
 abbrev pub AsksFor : List ℕ → Request → Type 0
 AsksFor head request =
     (HasNoRequest head × (request ≡ refused_for BadHead))
-    ⊎ ((h : RequestHead) × (after : List ℕ) × ReadsRequest head h after × IsRequestOf (parts_of h) request)
+    ⊎ ((h : RequestHead) × (after : List ℕ) × ReadsRequest head h after × IsRequestOf (head_parts h) request)
 
 -- what the bytes at the front of an input ask for; nothing, where no byte came
 abbrev pub Asks : List ℕ → HeadRead → Option Request → Type 0

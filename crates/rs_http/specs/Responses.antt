@@ -15,15 +15,15 @@ use Rattle.rs_http.specs.declared.request.RequestFault.TheVariants.{HeadTooLong,
 use Rattle.rs_http.specs.declared.response.Framing.{Framing}
 
 -- what comes of a request
-pub data Outcome : Type 0 where
+pub data RequestOutcome : Type 0 where
   -- it is refused before the source is asked
-  faulted : RequestFault → Outcome
+  faulted : RequestFault → RequestOutcome
   -- the source accepted a command
-  replied : Reply → Outcome
+  replied : Reply → RequestOutcome
   -- these are the type and the bytes of a resource or of a document
-  shown : List ℕ → List ℕ → Outcome
+  shown : List ℕ → List ℕ → RequestOutcome
   -- the source refused it
-  refused : stored.Refusal → Outcome
+  refused : stored.Refusal → RequestOutcome
 
 abbrev pub fault_status : RequestFault → ℕ
 fault_status HeadTooLong = 431
@@ -60,11 +60,11 @@ reply_status (Updated moment) = 204
 reply_status (Deleted moment) = 204
 reply_status (Published number moment) = 200
 
-abbrev pub status_of : Outcome → ℕ
-status_of (faulted fault) = fault_status fault
-status_of (replied reply) = reply_status reply
-status_of (shown kind bytes) = 200
-status_of (refused refusal) = refusal_status refusal
+abbrev pub status_code : RequestOutcome → ℕ
+status_code (faulted fault) = fault_status fault
+status_code (replied reply) = reply_status reply
+status_code (shown kind bytes) = 200
+status_code (refused refusal) = refusal_status refusal
 
 -- the reason phrase of a status (RFC 9110, section 15; 507 is of RFC 4918)
 abbrev pub reason_of : ℕ → List ℕ
@@ -106,15 +106,15 @@ refusal_line word = word ++ codes "\n"
 abbrev pub published_text : ℕ → ℕ → List ℕ
 published_text number moment = (codes "published " ++ (decimal number ++ codes " ")) ++ (moment_text moment ++ 10 ∷ [])
 
-abbrev pub reply_text : Reply → List ℕ
-reply_text (Published number moment) = published_text number moment
-reply_text reply = []
+abbrev pub reply_content : Reply → List ℕ
+reply_content (Published number moment) = published_text number moment
+reply_content reply = []
 
-abbrev pub body_of : Outcome → List ℕ
-body_of (faulted fault) = refusal_line (fault_word fault)
-body_of (replied reply) = reply_text reply
-body_of (shown kind bytes) = bytes
-body_of (refused refusal) = refusal_line (refusal_word refusal)
+abbrev pub content_of : RequestOutcome → List ℕ
+content_of (faulted fault) = refusal_line (fault_word fault)
+content_of (replied reply) = reply_content reply
+content_of (shown kind bytes) = bytes
+content_of (refused refusal) = refusal_line (refusal_word refusal)
 
 -- the methods that are allowed where another was asked for
 abbrev pub methods_text : Methods → List ℕ
@@ -140,11 +140,11 @@ reply_lines (Updated moment) = codes "\r\n"
 reply_lines (Deleted moment) = codes "\r\n"
 reply_lines (Published number moment) = content_lines plain (length (published_text number moment))
 
-abbrev pub lines_of : Outcome → List ℕ
-lines_of (faulted fault) = allow_of fault ++ content_lines plain (length (refusal_line (fault_word fault)))
-lines_of (replied reply) = reply_lines reply
-lines_of (shown kind bytes) = content_lines kind (length bytes)
-lines_of (refused refusal) = content_lines plain (length (refusal_line (refusal_word refusal)))
+abbrev pub header_lines : RequestOutcome → List ℕ
+header_lines (faulted fault) = allow_of fault ++ content_lines plain (length (refusal_line (fault_word fault)))
+header_lines (replied reply) = reply_lines reply
+header_lines (shown kind bytes) = content_lines kind (length bytes)
+header_lines (refused refusal) = content_lines plain (length (refusal_line (refusal_word refusal)))
 
 -- the status line, the date (an IMF-fixdate of RFC 9110, section 5.6.7), and that the connection ends
 unfoldable pub first_lines : ℕ → List ℕ → List ℕ
@@ -159,8 +159,8 @@ sent_body framing body = if framing.is_head then [] else body
 abbrev pub framed : Framing → ℕ → List ℕ → List ℕ → List ℕ
 framed framing status lines body = first_lines status (date_text framing.date) ++ (lines ++ sent_body framing body)
 
-abbrev pub response_text : Framing → Outcome → List ℕ
-response_text framing outcome = framed framing (status_of outcome) (lines_of outcome) (body_of outcome)
+abbrev pub response_text : Framing → RequestOutcome → List ℕ
+response_text framing outcome = framed framing (status_code outcome) (header_lines outcome) (content_of outcome)
 
 -- what goes out before a body that was waited for
 abbrev pub go_on : List ℕ

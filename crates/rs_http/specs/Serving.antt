@@ -4,6 +4,8 @@ use Rattle.std.specs.Io.KnownBytes.{Consumes, Appends, IsAtEnd}
 use Rattle.httpdate.specs.Date.{unix_secs}
 use Rattle.httpdate.specs.declared.date.HttpDate.{HttpDate}
 use Rattle.rs_disk.specs.Medium.{DiskState}
+use Rattle.rs_io.specs.declared.watch.Watched.{Watched}
+use Rattle.rs_io.specs.Watch.{failures, EndFailed}
 use Rattle.rs_store.specs.Received.{IsCutShort}
 use Rattle.rs_store.specs.Source.{Stored}
 use Rattle.rs_http.specs.declared.fault.FrontFault.{FrontFault}
@@ -19,8 +21,16 @@ use Rattle.rs_http.specs.declared.serve.Served.{Served}
 use Rattle.rs_http.specs.declared.serve.Served.TheVariants.{Answered, Nothing}
 use Rattle.rs_http.specs.Head.{HeadIs, HasNoEnd}
 use Rattle.rs_http.specs.Requests.{Asks}
-use Rattle.rs_http.specs.Responses.{Outcome, status_of, response_text, go_on}
-use Rattle.rs_http.specs.Gives.{Gives, Responds}
+use Rattle.rs_http.specs.Responses.{RequestOutcome, status_code, response_text, go_on}
+use Rattle.rs_http.specs.Outcomes.{RequestGives, Responds}
+
+-- no call of either end failed in between
+abbrev pub NoneFailed : {R W : Type 0} → Watched R → Watched R → Watched W → Watched W → Type 0
+NoneFailed reader left writer after = (failures left ≡ failures reader) × (failures after ≡ failures writer)
+
+-- a call of this end failed in between, and none of the other one
+abbrev pub FailedAlone : {A B : Type 0} → Watched A → Watched A → Watched B → Watched B → Type 0
+FailedAlone old new other after = EndFailed old new × (failures after ≡ failures other)
 
 -- what goes out before the source is asked: the word to go on, where a put waits for it
 abbrev pub preface_of : Result Plan NoPlan → List ℕ
@@ -39,22 +49,22 @@ abbrev pub PlanEnds : {D : Type 0} → (D → DiskState) → Stored D → ℕ �
 PlanEnds device old now plan framing left rest before after new (Err Read) =
     (after ≡ before) × (more : List ℕ) × Consumes left rest more × IsBroken device old now plan more new
 PlanEnds device old now plan framing left rest before after new result =
-    (more : List ℕ) × Consumes left rest more × Responds framing (Appends before after) (λ outcome. Gives device old now plan more rest outcome new) result
+    (more : List ℕ) × Consumes left rest more × Responds framing (Appends before after) (λ outcome. RequestGives device old now plan more rest outcome new) result
 
 -- What came of a request is answered: the status is given, and after what went out before, its response is written.
 pub record IsAnswered {D : Type 0} (device : D → DiskState) (old : Stored D) (now : ℕ) (request : Request) (more : List ℕ) (rest : Option (List ℕ)) (output : List ℕ) (status : ℕ) (new : Stored D) : Type 0 where
-  pub outcome : Outcome
+  pub outcome : RequestOutcome
   pub date : HttpDate
   pub dated : unix_secs date ≡ now / 1000
-  pub gives : Gives device old now request.plan more rest outcome new
-  pub status_is : status ≡ status_of outcome
+  pub gives : RequestGives device old now request.plan more rest outcome new
+  pub status_is : status ≡ status_code outcome
   pub written : output ≡ preface_of request.plan ++ response_text (record { date = date; is_head = request.is_head }) outcome
 
 -- What a request leaves whose response was not written: the word to go on was not, and nothing is done; or what came of the
 -- request stands.
-abbrev pub Stands : {D : Type 0} → (D → DiskState) → Stored D → ℕ → Request → List ℕ → Option (List ℕ) → Stored D → Type 0
-Stands device old now request more rest new =
-    ((preface_of request.plan ≡ go_on) × (more ≡ []) × (new ≡ old)) ⊎ ((outcome : Outcome) × Gives device old now request.plan more rest outcome new)
+abbrev pub LeavesStanding : {D : Type 0} → (D → DiskState) → Stored D → ℕ → Request → List ℕ → Option (List ℕ) → Stored D → Type 0
+LeavesStanding device old now request more rest new =
+    ((preface_of request.plan ≡ go_on) × (more ≡ []) × (new ≡ old)) ⊎ ((outcome : RequestOutcome) × RequestGives device old now request.plan more rest outcome new)
 
 -- How the answer to a request ends.
 abbrev pub RequestEnds : {D : Type 0} → (D → DiskState) → Stored D → ℕ → Request
@@ -64,7 +74,7 @@ RequestEnds device old now request left rest before after new (Ok status) =
 RequestEnds device old now request left rest before after new (Err Read) =
     (more : List ℕ) × Consumes left rest more × Appends before after (preface_of request.plan) × IsBroken device old now request.plan more new
 RequestEnds device old now request left rest before after new (Err Write) =
-    (more : List ℕ) × Consumes left rest more × Stands device old now request more rest new
+    (more : List ℕ) × Consumes left rest more × LeavesStanding device old now request more rest new
 
 -- An input is these bytes, which ask for this request, and what was read past them. `behind` is what the reader had left
 -- behind them: nothing, where they are a head that is cut.
@@ -96,4 +106,4 @@ Breaks device old now left input rest output new =
 -- not written.
 abbrev pub Halts : {D : Type 0} → (D → DiskState) → Stored D → ℕ → Option (List ℕ) → List ℕ → Option (List ℕ) → Stored D → Type 0
 Halts device old now left input rest new =
-    (more : List ℕ) × (request : Request) × Reads left input more rest request × Stands device old now request more rest new
+    (more : List ℕ) × (request : Request) × Reads left input more rest request × LeavesStanding device old now request more rest new

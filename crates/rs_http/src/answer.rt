@@ -4,9 +4,9 @@ ghost use Rattle.std.specs.Prelude.{◌≡◌, ◌/◌, Bool, true, Ok, Err, IfO
 ghost use Rattle.std.specs.Io.KnownBytes.{Keeps};
 ghost use Rattle.httpdate.specs.Date.{unix_secs};
 ghost use Rattle.rs_io.specs.Watch.{watched, failures, is_flushed, StaysFlushed, EndFailed, Wrote};
-ghost use Rattle.rs_http.specs.Serving.{PlanEnds, RequestEnds, preface_of};
-ghost use Rattle.rs_http.specs.Responses.{go_on, response_text, status_of};
-ghost use Rattle.rs_http.specs.Gives.{unplanned};
+ghost use Rattle.rs_http.specs.Serving.{PlanEnds, RequestEnds, preface_of, NoneFailed, FailedAlone};
+ghost use Rattle.rs_http.specs.Responses.{go_on, response_text, status_code};
+ghost use Rattle.rs_http.specs.Outcomes.{unplanned};
 
 use crate::ask::{delete, publish, show_body, show_document};
 use crate::fault::FrontFault;
@@ -23,7 +23,8 @@ use std::io::{Read, Write};
 
 // What came of writing a response; a fault of the writer ends the connection.
 fn sent(answer: Result<u16, WriteFault>) -> Result<u16, FrontFault>
-    ensures { MatchResult answer (λ status. result ≡ Ok status) (λ _. result ≡ Err FrontFault.Write) }
+    ensures { MatchResult answer
+        (λ status. result ≡ Ok status) (λ _. result ≡ Err FrontFault.Write) }
 {
     match answer {
         Ok(status) => Ok(status),
@@ -37,8 +38,9 @@ fn write_unplanned<W: Write>(
     framing: Framing,
     reason: NoPlan,
 ) -> Result<u16, WriteFault>
-    ensures status { IfOk result (λ status. status ≡ status_of (unplanned reason)) }
-    ensures ok { OnOk result (Wrote W.contents writer.old writer.new (response_text framing (unplanned reason))) }
+    ensures status { IfOk result (λ status. status ≡ status_code (unplanned reason)) }
+    ensures ok { OnOk result (Wrote W.contents writer.old writer.new
+        (response_text framing (unplanned reason))) }
     ensures failed { OnErr result (EndFailed writer.old writer.new) }
 {
     match reason {
@@ -58,11 +60,15 @@ fn put<D: Disk, R: Read, W: Write>(
     framing: Framing,
     now: Moment,
 ) -> Result<u16, FrontFault>
-    ensures ends { (waits : Bool) → PlanEnds D.state source.old now (Ok (Plan.Put name.now kind.now body_length waits)) framing
-        (R.remaining (watched reader.old)) (R.remaining (watched reader.new)) (W.contents (watched writer.old)) (W.contents (watched writer.new)) source.new result }
-    ensures sound { OnOk result ((failures reader.new ≡ failures reader.old) × (failures writer.new ≡ failures writer.old)) }
-    ensures read { IsErrOf result FrontFault.Read → EndFailed reader.old reader.new × (failures writer.new ≡ failures writer.old) }
-    ensures write { IsErrOf result FrontFault.Write → EndFailed writer.old writer.new × (failures reader.new ≡ failures reader.old) }
+    ensures ends { (waits : Bool) → PlanEnds D.state source.old now
+        (Ok (Plan.Put name.now kind.now body_length waits)) framing
+        (R.remaining (watched reader.old)) (R.remaining (watched reader.new))
+        (W.contents (watched writer.old)) (W.contents (watched writer.new)) source.new result }
+    ensures sound { OnOk result (NoneFailed reader.old reader.new writer.old writer.new) }
+    ensures read { IsErrOf result FrontFault.Read
+        → FailedAlone reader.old reader.new writer.old writer.new }
+    ensures write { IsErrOf result FrontFault.Write
+        → FailedAlone writer.old writer.new reader.old reader.new }
     ensures silent { IsErrOf result FrontFault.Read → writer.new ≡ writer.old }
 {
     match source.put_from(name, kind, reader, body_length, now) {
@@ -84,10 +90,13 @@ fn respond<D: Disk, R: Read, W: Write>(
     now: Moment,
 ) -> Result<u16, FrontFault>
     ensures ends { PlanEnds D.state source.old now plan framing
-        (R.remaining (watched reader.old)) (R.remaining (watched reader.new)) (W.contents (watched writer.old)) (W.contents (watched writer.new)) source.new result }
-    ensures sound { OnOk result ((failures reader.new ≡ failures reader.old) × (failures writer.new ≡ failures writer.old)) }
-    ensures read { IsErrOf result FrontFault.Read → EndFailed reader.old reader.new × (failures writer.new ≡ failures writer.old) }
-    ensures write { IsErrOf result FrontFault.Write → EndFailed writer.old writer.new × (failures reader.new ≡ failures reader.old) }
+        (R.remaining (watched reader.old)) (R.remaining (watched reader.new))
+        (W.contents (watched writer.old)) (W.contents (watched writer.new)) source.new result }
+    ensures sound { OnOk result (NoneFailed reader.old reader.new writer.old writer.new) }
+    ensures read { IsErrOf result FrontFault.Read
+        → FailedAlone reader.old reader.new writer.old writer.new }
+    ensures write { IsErrOf result FrontFault.Write
+        → FailedAlone writer.old writer.new reader.old reader.new }
     ensures silent { IsErrOf result FrontFault.Read → writer.new ≡ writer.old }
 {
     match plan {
@@ -113,7 +122,8 @@ fn write_preface<W: Write>(
     plan: &Result<Plan, NoPlan>,
 ) -> Result<(), WriteFault>
     ensures ok { OnOk result (Wrote W.contents writer.old writer.new (preface_of plan.now)) }
-    ensures failed { OnErr result (EndFailed writer.old writer.new × (preface_of plan.now ≡ go_on)) }
+    ensures failed { OnErr result (EndFailed writer.old writer.new
+        × (preface_of plan.now ≡ go_on)) }
     ensures flushed { OnOk result (StaysFlushed writer.old writer.new) }
 {
     match plan {
@@ -137,7 +147,8 @@ fn date_of(now: Moment) -> HttpDate
 
 // Passes on what the writer holds back, and gives the status.
 fn finish<W: Write>(writer: &mut Watched<W>, status: u16) -> Result<u16, FrontFault>
-    ensures value { MatchResult result (λ given. given ≡ status) (λ fault. fault ≡ FrontFault.Write) }
+    ensures value { MatchResult result
+        (λ given. given ≡ status) (λ fault. fault ≡ FrontFault.Write) }
     ensures bytes { Keeps (W.contents (watched writer.old)) (W.contents (watched writer.new)) }
     ensures sound { OnOk result (failures writer.new ≡ failures writer.old) }
     ensures failed { OnErr result (EndFailed writer.old writer.new) }
@@ -163,10 +174,13 @@ pub(crate) fn answer<D: Disk, R: Read, W: Write>(
     now: Moment,
 ) -> Result<u16, FrontFault>
     ensures ends { RequestEnds D.state source.old now request
-        (R.remaining (watched reader.old)) (R.remaining (watched reader.new)) (W.contents (watched writer.old)) (W.contents (watched writer.new)) source.new result }
-    ensures sound { OnOk result ((failures reader.new ≡ failures reader.old) × (failures writer.new ≡ failures writer.old)) }
-    ensures read { IsErrOf result FrontFault.Read → EndFailed reader.old reader.new × (failures writer.new ≡ failures writer.old) }
-    ensures write { IsErrOf result FrontFault.Write → EndFailed writer.old writer.new × (failures reader.new ≡ failures reader.old) }
+        (R.remaining (watched reader.old)) (R.remaining (watched reader.new))
+        (W.contents (watched writer.old)) (W.contents (watched writer.new)) source.new result }
+    ensures sound { OnOk result (NoneFailed reader.old reader.new writer.old writer.new) }
+    ensures read { IsErrOf result FrontFault.Read
+        → FailedAlone reader.old reader.new writer.old writer.new }
+    ensures write { IsErrOf result FrontFault.Write
+        → FailedAlone writer.old writer.new reader.old reader.new }
     ensures flushed { OnOk result (is_flushed writer.new ≡ true) }
     ensures waits { IsErrOf result FrontFault.Read → StaysFlushed writer.old writer.new }
 {

@@ -5,7 +5,7 @@ ghost use Rattle.rs_io.specs.Watch.{EndFailed, Wrote};
 ghost use Rattle.rs_model.specs.declared.command.Command.TheVariants.{Delete, Publish};
 ghost use Rattle.rs_caps.specs.DocumentTexts.{document_text};
 ghost use Rattle.rs_http.specs.Responses.{shown, response_text};
-ghost use Rattle.rs_http.specs.Gives.{IsRun, IsRead, document_shown, Responds};
+ghost use Rattle.rs_http.specs.Outcomes.{RunComesTo, ReadComesTo, document_shown, Responds};
 
 use crate::outcome::{write_fault, write_refusal, write_reply, write_shown};
 use crate::request::RequestFault;
@@ -28,7 +28,7 @@ pub(crate) fn delete<D: Disk, W: Write>(
     framing: Framing,
 ) -> Result<u16, WriteFault>
     ensures answered { Responds framing (Wrote W.contents writer.old writer.new)
-        (IsRun D.state source.old source.new (Delete name.now) now) result }
+        (RunComesTo D.state source.old source.new (Delete name.now) now) result }
     ensures failed { OnErr result (EndFailed writer.old writer.new) }
 {
     match source.delete(name, now) {
@@ -45,7 +45,7 @@ pub(crate) fn publish<D: Disk, W: Write>(
     framing: Framing,
 ) -> Result<u16, WriteFault>
     ensures answered { Responds framing (Wrote W.contents writer.old writer.new)
-        (IsRun D.state source.old source.new Publish now) result }
+        (RunComesTo D.state source.old source.new Publish now) result }
     ensures failed { OnErr result (EndFailed writer.old writer.new) }
 {
     match source.publish(now) {
@@ -62,7 +62,7 @@ pub(crate) fn show_body<D: Disk, W: Write>(
     framing: Framing,
 ) -> Result<u16, WriteFault>
     ensures answered { Responds framing (Wrote W.contents writer.old writer.new)
-        (IsRead D.state source.old source.new name.now) result }
+        (ReadComesTo D.state source.old source.new name.now) result }
     ensures failed { OnErr result (EndFailed writer.old writer.new) }
 {
     let bytes = match source.body(name) {
@@ -86,7 +86,8 @@ fn write_shown_document<V: View, W: Write>(
     requires { option_map length (document_text (V.shown view.now) doc) ≡ Some count }
     ensures status { IfOk result (λ status. status ≡ 200) }
     ensures ok { OnOk result ((text : List ℕ) × (document_text (V.shown view.now) doc ≡ Some text)
-        × Wrote W.contents writer.old writer.new (response_text framing (shown (codes "application/xml") text))) }
+        × Wrote W.contents writer.old writer.new
+        (response_text framing (shown (codes "application/xml") text))) }
     ensures failed { OnErr result (EndFailed writer.old writer.new) }
 {
     write_document_head(writer, framing, count)?;

@@ -2,16 +2,21 @@
 
 ghost use Rattle.std.specs.Prelude.{◌≡◌, ◌<◌, ℕ, List, length, map, All, IfOk, IfErr, Some, None, codes, true, false};
 ghost use Rattle.httparse.specs.Spans.{IsHeaderWithin, header_bytes};
-ghost use Rattle.rs_http.specs.Fields.{LoneIs, values_of, parts_at};
-ghost use Rattle.rs_http.specs.Checks.{is_bad_host as has_bad_host, is_there as has_one, is_bad_length, stated_length, is_continue as says_continue, expects_word as says_word, field_causes, first_fault};
+ghost use Rattle.rs_http.specs.Fields.{LoneIs, values_of, head_parts_at};
+ghost use Rattle.rs_http.specs.Checks.{is_bad_host as has_bad_host, is_there as has_one, is_bad_length, stated_length, stated_in, is_continue as says_continue, expects_word as says_word, field_causes, first_fault};
 
-use crate::fields::{Lone, find_lone, is_named, is_same, length_in};
+use crate::fields::{Lone, find_lone, is_named, is_same};
 use crate::request::RequestFault;
 use httparse::spans::{HeaderSpan, RequestSpans};
+use rs_record::number;
+
+/// The most digits of a length.
+const LENGTH_DIGITS: usize = 18;
 
 // Whether there is more than one Host, or none in HTTP/1.1.
 fn is_bad_host(minor: u8, host: Lone) -> bool
-    ensures { (head : List ℕ) (hosts : List (List ℕ)) → LoneIs head host hosts → result ≡ has_bad_host minor hosts }
+    ensures { (head : List ℕ) (hosts : List (List ℕ)) → LoneIs head host hosts
+        → result ≡ has_bad_host minor hosts }
 {
     match host {
         Lone::Absent => minor == 1,
@@ -22,7 +27,8 @@ fn is_bad_host(minor: u8, host: Lone) -> bool
 
 // Whether there is a field.
 fn is_there(lone: Lone) -> bool
-    ensures { (head : List ℕ) (values : List (List ℕ)) → LoneIs head lone values → result ≡ has_one values }
+    ensures { (head : List ℕ) (values : List (List ℕ)) → LoneIs head lone values
+        → result ≡ has_one values }
 {
     match lone {
         Lone::Absent => false,
@@ -33,13 +39,15 @@ fn is_there(lone: Lone) -> bool
 // The length that the fields of a head state, or `BadLength`.
 fn body_length(head: &[u8], lone: Lone) -> Result<Option<u64>, RequestFault>
     requires { (values : List (List ℕ)) × LoneIs head.now lone values }
-    ensures ok { IfOk result (λ length. (values : List (List ℕ)) → LoneIs head.now lone values → (is_bad_length values ≡ false) × (length ≡ stated_length values)) }
-    ensures err { IfErr result (λ fault. (fault ≡ RequestFault.BadLength) × ((values : List (List ℕ)) → LoneIs head.now lone values → is_bad_length values ≡ true)) }
+    ensures ok { IfOk result (λ length. (values : List (List ℕ)) → LoneIs head.now lone values
+        → (is_bad_length values ≡ false) × (length ≡ stated_length values)) }
+    ensures err { IfErr result (λ fault. (fault ≡ RequestFault.BadLength)
+        × ((values : List (List ℕ)) → LoneIs head.now lone values → is_bad_length values ≡ true)) }
 {
     match lone {
         Lone::Absent => Ok(None),
         Lone::Many => Err(RequestFault::BadLength),
-        Lone::One(span) => match length_in(span.of(head)) {
+        Lone::One(span) => match number(span.of(head), LENGTH_DIGITS) {
             Some(length) => Ok(Some(length)),
             None => Err(RequestFault::BadLength),
         },
@@ -58,9 +66,12 @@ pub(crate) fn check_fields(
     headers: &[HeaderSpan],
 ) -> Result<Option<u64>, RequestFault>
     requires { All (IsHeaderWithin (length head.now)) headers.now }
-    ensures ok { IfOk result (λ _. first_fault (field_causes (parts_at head.now spans headers.now)) ≡ None) }
-    ensures stated { IfOk result (λ stated. stated ≡ stated_length (values_of (codes "content-length") (map (header_bytes head.now) headers.now))) }
-    ensures err { IfErr result (λ fault. first_fault (field_causes (parts_at head.now spans headers.now)) ≡ Some fault) }
+    ensures ok { IfOk result (λ _.
+        first_fault (field_causes (head_parts_at head.now spans headers.now)) ≡ None) }
+    ensures stated { IfOk result (λ stated.
+        stated ≡ stated_in (head_parts_at head.now spans headers.now)) }
+    ensures err { IfErr result (λ fault.
+        first_fault (field_causes (head_parts_at head.now spans headers.now)) ≡ Some fault) }
 {
     if headers.len() > 32 {
         return Err(RequestFault::ManyFields);
@@ -77,7 +88,8 @@ pub(crate) fn check_fields(
 // Whether an `Expect` says `100-continue`.
 fn is_continue(head: &[u8], headers: &[HeaderSpan]) -> bool
     requires { All (IsHeaderWithin (length head.now)) headers.now }
-    ensures { result ≡ says_continue (values_of (codes "expect") (map (header_bytes head.now) headers.now)) }
+    ensures { result
+        ≡ says_continue (values_of (codes "expect") (map (header_bytes head.now) headers.now)) }
 {
     let mut found = false;
     for header in headers {
@@ -91,7 +103,7 @@ fn is_continue(head: &[u8], headers: &[HeaderSpan]) -> bool
 /// Whether a request of HTTP/1.1 expects the word to go on.
 pub(crate) fn expects_word(head: &[u8], spans: RequestSpans, headers: &[HeaderSpan]) -> bool
     requires { All (IsHeaderWithin (length head.now)) headers.now }
-    ensures { result ≡ says_word (parts_at head.now spans headers.now) }
+    ensures { result ≡ says_word (head_parts_at head.now spans headers.now) }
 {
     if spans.version != 1 {
         return false;

@@ -3,7 +3,7 @@
 ghost use Rattle.std.specs.Prelude.{◌≡◌, ◌≤◌, ◌<◌, length, All, map, filter};
 ghost use Rattle.std.specs.Str.{str_eq_ignore_ascii_case};
 ghost use Rattle.httparse.specs.Spans.{header_bytes, IsHeaderWithin, IsWithin, span_bytes};
-ghost use Rattle.rs_http.specs.Fields.{values_of, LoneIs, length_in as number_of};
+ghost use Rattle.rs_http.specs.Fields.{values_of, LoneIs};
 
 use httparse::spans::{HeaderSpan, Span};
 
@@ -36,7 +36,8 @@ pub(crate) fn is_named(head: &[u8], header: &HeaderSpan, name: &[u8]) -> bool
 /// The fields of a name.
 pub(crate) fn find_lone(head: &[u8], headers: &[HeaderSpan], name: &[u8]) -> Lone
     requires { All (IsHeaderWithin (length head.now)) headers.now }
-    ensures { LoneIs head.now result (values_of name.now (map (header_bytes head.now) headers.now)) }
+    ensures { LoneIs head.now result
+        (values_of name.now (map (header_bytes head.now) headers.now)) }
 {
     let mut found = Lone::Absent;
     for header in headers {
@@ -48,22 +49,4 @@ pub(crate) fn find_lone(head: &[u8], headers: &[HeaderSpan], name: &[u8]) -> Lon
         }
     }
     found
-}
-
-/// The number that a text of 1 to 18 digits writes.
-#[tactic(auto, unfolding(crate::specs::Fields::length_in))]
-pub(crate) fn length_in(text: &[u8]) -> Option<u64>
-    ensures { result ≡ number_of text.now }
-{
-    if text.is_empty() || text.len() > 18 {
-        return None;
-    }
-    let mut value = 0u64;
-    for b in text {
-        if !b.is_ascii_digit() {
-            return None;
-        }
-        value = value * 10 + u64::from(*b - b'0');
-    }
-    Some(value)
 }

@@ -39,9 +39,11 @@ fn is_end(bytes: &[u8]) -> bool
 ///
 /// [`ReadFault`] where the read failed.
 pub(crate) fn read_byte<R: Read>(reader: &mut Watched<R>) -> Result<Option<u8>, ReadFault>
-    ensures ok { IfOk result (λ byte. Took R.remaining reader.old reader.new (option_to_list byte)) }
+    ensures ok { IfOk result (λ byte.
+        Took R.remaining reader.old reader.new (option_to_list byte)) }
     ensures end { IfOk result (λ byte. IfNone byte (IsAtEnd (R.remaining (watched reader.new)))) }
-    ensures err { OnErr result (Keeps (R.remaining (watched reader.old)) (R.remaining (watched reader.new))) }
+    ensures err { OnErr result
+        (Keeps (R.remaining (watched reader.old)) (R.remaining (watched reader.new))) }
     ensures failed { OnErr result (EndFailed reader.old reader.new) }
 {
     let mut byte = [0u8; 1];
@@ -65,9 +67,11 @@ pub(crate) fn read_head<R: Read>(
     ensures ok { IfOk result (λ r. (r.1 ≤ 8192)
         × Took R.remaining reader.old reader.new (take r.1 buf.new)
         × HeadIs (take r.1 buf.new) r.0) }
-    ensures end { IfOk result (λ r. r.0 ≡ HeadRead.Ended → IsAtEnd (R.remaining (watched reader.new))) }
+    ensures end { IfOk result (λ r. r.0 ≡ HeadRead.Ended
+        → IsAtEnd (R.remaining (watched reader.new))) }
     ensures err { OnErr result ((bytes : List ℕ)
-        × Consumes (R.remaining (watched reader.old)) (R.remaining (watched reader.new)) bytes × HasNoEnd bytes) }
+        × Consumes (R.remaining (watched reader.old)) (R.remaining (watched reader.new)) bytes
+        × HasNoEnd bytes) }
     ensures failed { OnErr result (EndFailed reader.old reader.new) }
 {
     for came in 0..buf.len() {

@@ -1,9 +1,8 @@
 //! The responses to what came of requests.
 
-ghost use Rattle.std.specs.Prelude.{◌≡◌, ◌≤◌, length, IfOk, OnOk, OnErr};
-ghost use Rattle.std.specs.Fmt.{decimal};
+ghost use Rattle.std.specs.Prelude.{◌≡◌, length, IfOk, OnOk, OnErr};
 ghost use Rattle.rs_io.specs.Watch.{EndFailed, Wrote};
-ghost use Rattle.rs_http.specs.Responses.{fault_status as status_of_fault, fault_word as word_of_fault, refusal_status as status_of_refusal, allow_of, published_text, content_lines, sent_body, framed, response_text, status_of, plain};
+ghost use Rattle.rs_http.specs.Responses.{fault_status as status_of_fault, fault_word as word_of_fault, refusal_status as status_of_refusal, allow_of, published_text, content_lines, sent_body, framed, response_text, status_code, plain};
 ghost use Rattle.rs_http.specs.Responses.{faulted, replied, shown, refused};
 
 use crate::request::RequestFault;
@@ -11,6 +10,7 @@ use crate::response::{Framing, write_bare, write_content, write_first, write_tex
 use crate::target::Methods;
 use rs_io::{Watched, WriteFault};
 use rs_model::Reply;
+use rs_record::count_digits;
 use rs_store::Refusal;
 use rs_time::Moment;
 use std::io::Write;
@@ -93,8 +93,9 @@ pub(crate) fn write_fault<W: Write>(
     framing: Framing,
     fault: RequestFault,
 ) -> Result<u16, WriteFault>
-    ensures status { IfOk result (λ status. status ≡ status_of (faulted fault)) }
-    ensures ok { OnOk result (Wrote W.contents writer.old writer.new (response_text framing (faulted fault))) }
+    ensures status { IfOk result (λ status. status ≡ status_code (faulted fault)) }
+    ensures ok { OnOk result (Wrote W.contents writer.old writer.new
+        (response_text framing (faulted fault))) }
     ensures failed { OnErr result (EndFailed writer.old writer.new) }
 {
     let status = fault_status(fault);
@@ -110,8 +111,9 @@ pub(crate) fn write_refusal<W: Write>(
     framing: Framing,
     refusal: Refusal,
 ) -> Result<u16, WriteFault>
-    ensures status { IfOk result (λ status. status ≡ status_of (refused refusal)) }
-    ensures ok { OnOk result (Wrote W.contents writer.old writer.new (response_text framing (refused refusal))) }
+    ensures status { IfOk result (λ status. status ≡ status_code (refused refusal)) }
+    ensures ok { OnOk result (Wrote W.contents writer.old writer.new
+        (response_text framing (refused refusal))) }
     ensures failed { OnErr result (EndFailed writer.old writer.new) }
 {
     let status = refusal_status(refusal);
@@ -127,33 +129,25 @@ pub(crate) fn write_shown<W: Write>(
     kind: &[u8],
     bytes: &[u8],
 ) -> Result<u16, WriteFault>
-    ensures status { IfOk result (λ status. status ≡ status_of (shown kind.now bytes.now)) }
-    ensures ok { OnOk result (Wrote W.contents writer.old writer.new (response_text framing (shown kind.now bytes.now))) }
+    ensures status { IfOk result (λ status. status ≡ status_code (shown kind.now bytes.now)) }
+    ensures ok { OnOk result (Wrote W.contents writer.old writer.new
+        (response_text framing (shown kind.now bytes.now))) }
     ensures failed { OnErr result (EndFailed writer.old writer.new) }
 {
     write_text(writer, framing, 200, "", kind, bytes)?;
     Ok(200)
 }
 
-// How many decimal digits a number has.
-fn count_digits(number: u64) -> u64
-    ensures value { result ≡ length (decimal number) }
-    ensures few { result ≤ 20 }
-{
-    match number.checked_ilog10() {
-        Some(power) => power as u64 + 1,
-        None => 1,
-    }
-}
-
-// Writes `published`, the number and the moment of a publication and a line feed, unless the method is HEAD.
+// Writes `published`, the number and the moment of a publication and a line feed, unless the method
+// is HEAD.
 fn write_publication<W: Write>(
     writer: &mut Watched<W>,
     framing: Framing,
     number: u64,
     moment: Moment,
 ) -> Result<(), WriteFault>
-    ensures ok { OnOk result (Wrote W.contents writer.old writer.new (sent_body framing (published_text number moment))) }
+    ensures ok { OnOk result (Wrote W.contents writer.old writer.new
+        (sent_body framing (published_text number moment))) }
     ensures failed { OnErr result (EndFailed writer.old writer.new) }
 {
     if framing.is_head {
@@ -172,7 +166,8 @@ fn write_published<W: Write>(
     moment: Moment,
 ) -> Result<(), WriteFault>
     ensures ok { OnOk result (Wrote W.contents writer.old writer.new
-        (framed framing 200 (content_lines plain (length (published_text number moment))) (published_text number moment))) }
+        (framed framing 200 (content_lines plain (length (published_text number moment)))
+        (published_text number moment))) }
     ensures failed { OnErr result (EndFailed writer.old writer.new) }
 {
     let length = count_digits(number) + 36;
@@ -187,8 +182,9 @@ pub(crate) fn write_reply<W: Write>(
     framing: Framing,
     reply: Reply,
 ) -> Result<u16, WriteFault>
-    ensures status { IfOk result (λ status. status ≡ status_of (replied reply)) }
-    ensures ok { OnOk result (Wrote W.contents writer.old writer.new (response_text framing (replied reply))) }
+    ensures status { IfOk result (λ status. status ≡ status_code (replied reply)) }
+    ensures ok { OnOk result (Wrote W.contents writer.old writer.new
+        (response_text framing (replied reply))) }
     ensures failed { OnErr result (EndFailed writer.old writer.new) }
 {
     match reply {

@@ -3,9 +3,9 @@
 ghost use Rattle.std.specs.Prelude.{◌≡◌, ◌≤◌, ◌∷◌, [], ℕ, List, length, map, All, IfSome, IfNone, Some, codes, bytes_eq, unwrap_or};
 ghost use Rattle.httparse.specs.Grammar.{HasNoRequest};
 ghost use Rattle.httparse.specs.Spans.{IsHeaderWithin, IsWithin, IsRequestWithin, IsRequestOf, header_bytes, span_bytes};
-ghost use Rattle.rs_http.specs.Fields.{LoneIs, values_of, parts_at};
-ghost use Rattle.rs_http.specs.Checks.{is_get as gets, stated_length, put_causes, put_plan as plan_of_put, place_causes, causes_of, plan_at as plan_there, place_in};
-ghost use Rattle.rs_http.specs.Requests.{TypeIs, IsPlanned, AsksFor, Asks, refused_for};
+ghost use Rattle.rs_http.specs.Fields.{LoneIs, values_of, head_parts_at};
+ghost use Rattle.rs_http.specs.Checks.{is_get as gets, stated_in, put_causes, put_plan as plan_of_put, place_causes, causes_of, plan_at as plan_there, place_in};
+ghost use Rattle.rs_http.specs.Requests.{TypeIs, IsPlanFor, AsksFor, Asks, refused_for};
 
 use crate::checks::{check_fields, expects_word};
 use crate::fields::{Lone, find_lone};
@@ -14,7 +14,7 @@ use crate::request::{NoPlan, Plan, Request, RequestFault};
 use crate::target::{Methods, Place, path_of_target, place_of};
 use httparse::Status;
 use httparse::spans::{EMPTY_HEADER_SPAN, HeaderSpan, RequestSpans, parse_request};
-use rs_record::{MediaType, MediaTypeError, Name};
+use rs_record::{LONGEST_BODY, MediaType, MediaTypeError, Name};
 use std::alloc::Global;
 
 // The media type of this text.
@@ -40,9 +40,6 @@ fn body_type(alloc: Global, head: &[u8], lone: Lone) -> Result<MediaType, NoPlan
     }
 }
 
-// The greatest number of bytes of a body.
-const LONGEST_BODY: u64 = 16_777_216;
-
 // The plan of a put to this name, with the length that the fields state.
 fn put_plan(
     alloc: Global,
@@ -53,14 +50,16 @@ fn put_plan(
     expects: bool,
 ) -> Result<Plan, NoPlan>
     requires { All (IsHeaderWithin (length head.now)) headers.now }
-    ensures { let kinds = values_of (codes "content-type") (map (header_bytes head.now) headers.now) in
-        IsPlanned (put_causes stated kinds) (Some (plan_of_put name kinds (unwrap_or stated 0) expects)) result }
+    ensures { let kinds = values_of (codes "content-type")
+        (map (header_bytes head.now) headers.now) in
+        IsPlanFor (put_causes stated kinds)
+        (Some (plan_of_put name kinds (unwrap_or stated 0) expects)) result }
 {
     let Some(length) = stated else {
         return Err(NoPlan::Refused(RequestFault::NoLength));
     };
     let kind = body_type(alloc, head, find_lone(head, headers, b"content-type"))?;
-    if length > LONGEST_BODY {
+    if length > LONGEST_BODY as u64 {
         return Err(NoPlan::Refused(RequestFault::TooLong));
     }
     Ok(Plan::Put {
@@ -89,8 +88,10 @@ fn resource_plan(
 ) -> Result<Plan, NoPlan>
     requires method { IsWithin (length head.now) spans.method }
     requires headers { All (IsHeaderWithin (length head.now)) headers.now }
-    requires stated { stated ≡ stated_length (values_of (codes "content-length") (map (header_bytes head.now) headers.now)) }
-    ensures { let p = parts_at head.now spans headers.now in IsPlanned (place_causes (Place.Resource name) p) (plan_there (Place.Resource name) p) result }
+    requires stated { stated ≡ stated_in (head_parts_at head.now spans headers.now) }
+    ensures { let p = head_parts_at head.now spans headers.now in
+        IsPlanFor (place_causes (Place.Resource name) p)
+        (plan_there (Place.Resource name) p) result }
 {
     let method = spans.method.of(head);
     if method == b"PUT".as_slice() {
@@ -117,8 +118,9 @@ fn plan_at(
 ) -> Result<Plan, NoPlan>
     requires method { IsWithin (length head.now) spans.method }
     requires headers { All (IsHeaderWithin (length head.now)) headers.now }
-    requires stated { stated ≡ stated_length (values_of (codes "content-length") (map (header_bytes head.now) headers.now)) }
-    ensures { let p = parts_at head.now spans headers.now in IsPlanned (place_causes place p) (plan_there place p) result }
+    requires stated { stated ≡ stated_in (head_parts_at head.now spans headers.now) }
+    ensures { let p = head_parts_at head.now spans headers.now in
+        IsPlanFor (place_causes place p) (plan_there place p) result }
 {
     let method = spans.method.of(head);
     match place {
@@ -150,7 +152,8 @@ fn plan_request(
     requires method { IsWithin (length head.now) spans.method }
     requires target { IsWithin (length head.now) spans.path }
     requires headers { All (IsHeaderWithin (length head.now)) headers.now }
-    ensures { let p = parts_at head.now spans headers.now in IsPlanned (causes_of p) (plan_there (place_in p) p) result }
+    ensures { let p = head_parts_at head.now spans headers.now in
+        IsPlanFor (causes_of p) (plan_there (place_in p) p) result }
 {
     let stated = check_fields(head, spans, headers)?;
     let place = place_of(alloc, path_of_target(spans.path.of(head)))?;

@@ -46,7 +46,8 @@ pub(crate) fn write_first<W: Write>(
     status: u16,
     date: &HttpDate,
 ) -> Result<(), WriteFault>
-    ensures ok { OnOk result (Wrote W.contents writer.old writer.new (first_lines status (date_text date.now))) }
+    ensures ok { OnOk result (Wrote W.contents writer.old writer.new
+        (first_lines status (date_text date.now))) }
     ensures failed { OnErr result (EndFailed writer.old writer.new) }
 {
     let reason = reason_of(status);
@@ -61,7 +62,8 @@ pub(crate) fn write_content<W: Write>(
     kind: &[u8],
     length: u64,
 ) -> Result<(), WriteFault>
-    ensures ok { OnOk result (Wrote W.contents writer.old writer.new (content_lines kind.now length)) }
+    ensures ok { OnOk result (Wrote W.contents writer.old writer.new
+        (content_lines kind.now length)) }
     ensures failed { OnErr result (EndFailed writer.old writer.new) }
 {
     writer.put(b"Content-Type: ")?;
@@ -76,7 +78,8 @@ fn write_lines<W: Write>(
     kind: &[u8],
     length: u64,
 ) -> Result<(), WriteFault>
-    ensures ok { OnOk result (Wrote W.contents writer.old writer.new (allow.now ++ content_lines kind.now length)) }
+    ensures ok { OnOk result (Wrote W.contents writer.old writer.new
+        (allow.now ++ content_lines kind.now length)) }
     ensures failed { OnErr result (EndFailed writer.old writer.new) }
 {
     writer.put(allow.as_bytes())?;
@@ -122,7 +125,8 @@ fn write_line<W: Write>(
     framing: Framing,
     word: &str,
 ) -> Result<(), WriteFault>
-    ensures ok { OnOk result (Wrote W.contents writer.old writer.new (sent_body framing (refusal_line word.now))) }
+    ensures ok { OnOk result (Wrote W.contents writer.old writer.new
+        (sent_body framing (refusal_line word.now))) }
     ensures failed { OnErr result (EndFailed writer.old writer.new) }
 {
     if framing.is_head {
@@ -140,7 +144,8 @@ pub(crate) fn write_word<W: Write>(
     word: &str,
 ) -> Result<(), WriteFault>
     ensures ok { OnOk result (Wrote W.contents writer.old writer.new
-        (framed framing status (allow.now ++ content_lines plain (length (refusal_line word.now))) (refusal_line word.now))) }
+        (framed framing status (allow.now ++ content_lines plain (length (refusal_line word.now)))
+        (refusal_line word.now))) }
     ensures failed { OnErr result (EndFailed writer.old writer.new) }
 {
     write_first(writer, status, &framing.date)?;
@@ -155,7 +160,8 @@ pub(crate) fn write_bare<W: Write>(
     status: u16,
     lines: &[u8],
 ) -> Result<(), WriteFault>
-    ensures ok { OnOk result (Wrote W.contents writer.old writer.new (framed framing status lines.now [])) }
+    ensures ok { OnOk result (Wrote W.contents writer.old writer.new
+        (framed framing status lines.now [])) }
     ensures failed { OnErr result (EndFailed writer.old writer.new) }
 {
     write_first(writer, status, &framing.date)?;
@@ -170,7 +176,8 @@ pub(crate) fn write_document_head<W: Write>(
     length: u64,
 ) -> Result<(), WriteFault>
     ensures ok { OnOk result (Wrote W.contents writer.old writer.new
-        (first_lines 200 (date_text framing.date) ++ content_lines (codes "application/xml") length)) }
+        (first_lines 200 (date_text framing.date)
+        ++ content_lines (codes "application/xml") length)) }
     ensures failed { OnErr result (EndFailed writer.old writer.new) }
 {
     write_first(writer, 200, &framing.date)?;

@@ -3,7 +3,7 @@
 ghost use Rattle.std.specs.Prelude.{ℕ, List, IfOk, OnOk, IsErrOf};
 ghost use Rattle.std.specs.Io.KnownBytes.{Consumes};
 ghost use Rattle.rs_io.specs.Watch.{watched, StaysFlushed, EndFailed, Took, Wrote};
-ghost use Rattle.rs_store.specs.GoesOn.{GoesOnOnce};
+ghost use Rattle.rs_store.specs.Advancing.{GoesOnOnce};
 ghost use Rattle.rs_http.specs.Serving.{Serves, Breaks, Halts};
 
 use crate::answer::answer;
@@ -49,24 +49,31 @@ pub fn serve_one<D: Disk, R: Read, W: Write>(
     ensures ok { IfOk result (λ served. (input : List ℕ) × (output : List ℕ)
         × Took R.remaining reader.old reader.new input
         × Wrote W.contents writer.old writer.new output
-        × Serves D.state source.old now (R.remaining (watched reader.old)) input (R.remaining (watched reader.new)) output served source.new) }
+        × Serves D.state source.old now (R.remaining (watched reader.old)) input
+        (R.remaining (watched reader.new)) output served source.new) }
 
     // A read failed within what was read, and the writer did not.
-    ensures read { IsErrOf result FrontFault.Read → EndFailed reader.old reader.new × (input : List ℕ) × (output : List ℕ)
+    ensures read { IsErrOf result FrontFault.Read → EndFailed reader.old reader.new
+        × (input : List ℕ) × (output : List ℕ)
         × Consumes (R.remaining (watched reader.old)) (R.remaining (watched reader.new)) input
         × Wrote W.contents writer.old writer.new output
-        × Breaks D.state source.old now (R.remaining (watched reader.old)) input (R.remaining (watched reader.new)) output source.new }
+        × Breaks D.state source.old now (R.remaining (watched reader.old)) input
+        (R.remaining (watched reader.new)) output source.new }
 
     // A call of the writer failed, and none of the reader; what was done stands.
-    ensures write { IsErrOf result FrontFault.Write → EndFailed writer.old writer.new × (input : List ℕ)
+    ensures write { IsErrOf result FrontFault.Write → EndFailed writer.old writer.new
+        × (input : List ℕ)
         × Took R.remaining reader.old reader.new input
-        × Halts D.state source.old now (R.remaining (watched reader.old)) input (R.remaining (watched reader.new)) source.new }
+        × Halts D.state source.old now (R.remaining (watched reader.old)) input
+        (R.remaining (watched reader.new)) source.new }
 
-    // What was written was flushed too: the whole response, and the word to go on before the body was read.
+    // What was written was flushed too: the whole response, and the word to go on before the body
+    // was read.
     ensures flushed { OnOk result (StaysFlushed writer.old writer.new) }
     ensures waits { IsErrOf result FrontFault.Read → StaysFlushed writer.old writer.new }
 
-    // Whatever the result is, a state that was held has become what one command at most makes of it, while the source is open.
+    // Whatever the result is, a state that was held has become what one command at most makes of
+    // it, while the source is open.
     ensures goes_on { GoesOnOnce D.state source.old now source.new }
 {
     let mut buf = [0u8; HEAD_LIMIT];

@@ -4,23 +4,25 @@ use Rattle.std.specs.Prelude.{nat_le, All}
 use Rattle.std.proofs.lemmas.Bool.Decides.{nat_tests}
 use Rattle.std.proofs.lemmas.List.{get_or-drop}
 use Rattle.std.proofs.lemmas.List.Elements.{All-head, All-tail}
-use Rattle.rs_body.specs.Blocks.{part, in_some}
+use Rattle.rs_extent.specs.Extents.{in_some}
+use Rattle.rs_body.specs.Blocks.{part}
 use Rattle.rs_body.specs.Outside.{Keeps}
-use Rattle.rs_body.proofs.Kept.{part_kept}
-use Rattle.rs_body.proofs.Sets.{some_first, some_rest, fits_sized}
+use Rattle.rs_body.proofs.KeptBlocks.{part_kept}
+use Rattle.rs_extent.proofs.Sets.{some_first, some_rest}
+use Rattle.rs_body.proofs.Sets.{fits_sized}
 use Rattle.rs_commit.specs.Commit.{SameBehind}
 use Rattle.rs_record.specs.declared.record.Record.{Record}
 use Rattle.rs_model.specs.declared.value.Held.{Held}
 use Rattle.rs_model.specs.Listed.{entry_of}
 use Rattle.rs_page.specs.Items.{record_format, change_format}
-use Rattle.rs_page.specs.Sheets.{stored_refs}
+use Rattle.rs_page.specs.Pages.{stored_refs}
 use Rattle.rs_page.proofs.Standing.{pages_stay}
 use Rattle.rs_catalogue.specs.Catalogue.{records_of}
 use Rattle.rs_catalogue.specs.Laws.{CatalogueStays}
 use Rattle.rs_changes.specs.Laws.{HistoryStays}
 use Rattle.rs_image.specs.Reach.{bodies_of}
 use Rattle.rs_image.specs.Whole.{IsWhole, IsSoundRecord}
-use Rattle.rs_image.specs.Tells.{held_in, state_in}
+use Rattle.rs_image.specs.StateOfImage.{held_in, state_in}
 use Rattle.rs_image.specs.Laws.{TellsStays, TellsBehind}
 use Rattle.rs_image.proofs.Reaching.{reaches_directory, reaches_catalogue, reaches_history, reaches_bodies, reaches_published}
 

@@ -5,8 +5,9 @@ use Rattle.std.specs.Result.{IsErrAnd}
 use Rattle.rs_disk.specs.Medium.{Medium, DiskState, IsMedium}
 use Rattle.rs_disk.specs.Leaves.{Rests}
 use Rattle.rs_extent.specs.declared.Extent.{Extent}
-use Rattle.rs_body.specs.Blocks.{within, part, IsSized}
-use Rattle.rs_body.proofs.Sets.{within_true, within_is}
+use Rattle.rs_extent.specs.Extents.{within}
+use Rattle.rs_body.specs.Blocks.{part, IsSized}
+use Rattle.rs_extent.proofs.Sets.{within_true, within_is}
 use Rattle.rs_record.specs.declared.fields.FieldFault.{FieldFault}
 use Rattle.rs_record.specs.declared.fields.FieldFault.TheVariants.{Malformed, NoMemory as NoFieldMemory}
 use Rattle.rs_page.specs.declared.page.load.LoadFault.{LoadFault}
@@ -18,16 +19,16 @@ use Rattle.rs_directory.specs.Directory.{directory_bytes, IsLawfulHeader, AreLaw
 use Rattle.rs_fixity.specs.Digests.{digests}
 use Rattle.rs_commit.specs.declared.root.Root.{Root}
 use Rattle.rs_model.specs.State.{Source}
-use Rattle.rs_page.specs.Sheets.{Sheet, stored_refs}
+use Rattle.rs_page.specs.Pages.{Page, stored_refs}
 use Rattle.rs_catalogue.specs.Catalogue.{HoldsCatalogue}
 use Rattle.rs_changes.specs.History.{HoldsHistory}
 use Rattle.rs_directory.specs.declared.directory.Directory.{Directory}
 use Rattle.rs_image.specs.declared.contents.Contents.{Contents}
 use Rattle.rs_image.specs.Reach.{blocks_of_disk}
 use Rattle.rs_image.specs.Whole.{IsWhole}
-use Rattle.rs_image.specs.Tells.{Tells, state_in, listing}
-use Rattle.rs_image.specs.Loading.{spelled, IsLawful, AreOf, Hold}
-use Rattle.rs_image.proofs.Once.{sheets_once, catalogue_held_once, history_held_once}
+use Rattle.rs_image.specs.StateOfImage.{Tells, state_in, listing}
+use Rattle.rs_image.specs.Loading.{spelled, IsLawfulDirectory, AreOf, Hold}
+use Rattle.rs_image.proofs.Once.{pages_once, catalogue_held_once, history_held_once}
 use Rattle.rs_directory.proofs.OneDirectory.{one_directory}
 
 -- whether both ends of an extent are inside
@@ -78,15 +79,15 @@ handed_on fault (Ok x) is damaged = absurd is
 handed_on fault (Err made) is damaged = let same : made ≡ Damaged = cc in sym is ∙ same
 
 -- the items of pages
-abbrev pub items_in : {T : Type 0} → List (Sheet T) → List (List T)
-items_in sheets = map (λ sheet. sheet.items) sheets
+abbrev pub items_in : {T : Type 0} → List (Page T) → List (List T)
+items_in pages = map (λ page. page.items) pages
 
 -- what pages of a directory hold the lists
 abbrev pub HoldLists : Directory → List ℕ → Contents → Type 0
 HoldLists d image c = Hold d image (items_in c.catalogue) (items_in c.history) (items_in c.published)
 
 -- The lists that a root tells are those of the directory that was read.
-pub told_of : (root : Root) (d : Directory) (c : Contents) (image : List ℕ) (s : Source) → IsLawful d → part root.directory root.length image ≡ spelled d
+pub told_of : (root : Root) (d : Directory) (c : Contents) (image : List ℕ) (s : Source) → IsLawfulDirectory d → part root.directory root.length image ≡ spelled d
     → Tells root c image s → AreOf d c
 told_of root d c image s lawful found tells =
     let same = one_directory c.header d.header (stored_refs c.catalogue) d.catalogue.items (stored_refs c.history) d.changes.items
@@ -114,16 +115,16 @@ told_hold root d c image s of tells = record {
 pub same_lists : (d : Directory) (a b : Contents) (image : List ℕ) → AreOf d a → AreOf d b → HoldLists d image a → HoldLists d image b → a ≡ b
 same_lists d a b image of_a of_b hold_a hold_b =
     let header : a.header ≡ b.header = of_a.header ∙ sym of_b.header in
-    let catalogue : a.catalogue ≡ b.catalogue = sheets_once a.catalogue b.catalogue of_a.catalogue_stored of_b.catalogue_stored (of_a.catalogue ∙ sym of_b.catalogue)
+    let catalogue : a.catalogue ≡ b.catalogue = pages_once a.catalogue b.catalogue of_a.catalogue_stored of_b.catalogue_stored (of_a.catalogue ∙ sym of_b.catalogue)
     (catalogue_held_once d.catalogue.items image (items_in a.catalogue) (items_in b.catalogue) hold_a.catalogue hold_b.catalogue) in
-    let history : a.history ≡ b.history = sheets_once a.history b.history of_a.changes_stored of_b.changes_stored (of_a.changes ∙ sym of_b.changes)
+    let history : a.history ≡ b.history = pages_once a.history b.history of_a.changes_stored of_b.changes_stored (of_a.changes ∙ sym of_b.changes)
     (history_held_once d.changes.items image (items_in a.history) (items_in b.history) hold_a.changes hold_b.changes) in
-    let published : a.published ≡ b.published = sheets_once a.published b.published of_a.published_stored of_b.published_stored (of_a.published ∙ sym of_b.published)
+    let published : a.published ≡ b.published = pages_once a.published b.published of_a.published_stored of_b.published_stored (of_a.published ∙ sym of_b.published)
     (catalogue_held_once d.published.items image (items_in a.published) (items_in b.published) hold_a.published hold_b.published) in
     λ i. record { header = header i; catalogue = catalogue i; history = history i; published = published i }
 
 -- Lists of a directory that are whole are told, ..
-pub are_told : (root : Root) (d : Directory) (c : Contents) (image : List ℕ) (size : ℕ) → IsLawful d → (digests (spelled d)).sha256 ≡ root.sha256
+pub are_told : (root : Root) (d : Directory) (c : Contents) (image : List ℕ) (size : ℕ) → IsLawfulDirectory d → (digests (spelled d)).sha256 ≡ root.sha256
     → part root.directory root.length image ≡ spelled d → AreOf d c → HoldLists d image c → size ≡ length image → IsWhole size root c
     → Tells root c image (state_in image c)
 are_told root d c image size lawful digest found of hold long whole =
@@ -145,7 +146,7 @@ are_told root d c image size lawful digest found of hold long whole =
     }
 
 -- .. and where they are not, none are.
-pub none_told : (root : Root) (d : Directory) (c : Contents) (image : List ℕ) (size : ℕ) → IsLawful d → part root.directory root.length image ≡ spelled d
+pub none_told : (root : Root) (d : Directory) (c : Contents) (image : List ℕ) (size : ℕ) → IsLawfulDirectory d → part root.directory root.length image ≡ spelled d
     → AreOf d c → HoldLists d image c → size ≡ length image → ¬ IsWhole size root c → (other : Contents) (s : Source) → ¬ Tells root other image s
 none_told root d c image size lawful found of hold long broken other s tells =
     let of_other = told_of root d other image s lawful found tells in

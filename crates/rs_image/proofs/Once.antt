@@ -8,9 +8,9 @@ use Rattle.rs_commit.proofs.Contents.{opens_once}
 use Rattle.rs_page.specs.declared.place.PageRef.{PageRef}
 use Rattle.rs_page.specs.declared.place.Place.{Place}
 use Rattle.rs_page.specs.declared.place.Place.TheVariants.{Touched, Placed, Stored}
-use Rattle.rs_page.specs.Apart.{records_apart, changes_apart}
+use Rattle.rs_page.specs.FormatsApart.{records_apart, changes_apart}
 use Rattle.rs_page.specs.Items.{record_format, change_format}
-use Rattle.rs_page.specs.Sheets.{Sheet, IsStored, stored_ref, stored_refs}
+use Rattle.rs_page.specs.Pages.{Page, IsStored, stored_ref, stored_refs}
 use Rattle.rs_page.proofs.OneList.{pages_hold_once}
 use Rattle.rs_catalogue.specs.Catalogue.{HoldsCatalogue}
 use Rattle.rs_catalogue.specs.Laws.{CatalogueHeldOnce}
@@ -19,7 +19,7 @@ use Rattle.rs_changes.specs.Laws.{HistoryHeldOnce}
 use Rattle.rs_directory.proofs.OneDirectory.{one_directory}
 use Rattle.rs_record.specs.declared.record.Record.{Record}
 use Rattle.rs_record.specs.declared.change.Change.{Change}
-use Rattle.rs_image.specs.Tells.{state_in, Tells}
+use Rattle.rs_image.specs.StateOfImage.{state_in, Tells}
 use Rattle.rs_image.specs.Laws.{StandsOnce, TellsOnce}
 
 -- pages of records, and of changes
@@ -42,32 +42,32 @@ one_place (Stored ref) (Stored other) more others is_a is_b same =
     (ap Stored refs, rests)
 
 -- Stored pages are what the references to them and the items of each say.
-pub sheets_once : {T : Type 0} (a b : List (Sheet T)) → All IsStored a → All IsStored b → stored_refs a ≡ stored_refs b
-    → map (λ sheet. sheet.items) a ≡ map (λ sheet. sheet.items) b → a ≡ b
-sheets_once [] [] of_a of_b refs items = refl
-sheets_once [] (sheet ∷ b) of_a of_b refs items = absurd cc
-sheets_once (sheet ∷ a) [] of_a of_b refs items = absurd cc
-sheets_once (x ∷ a) (y ∷ b) of_a of_b refs items =
+pub pages_once : {T : Type 0} (a b : List (Page T)) → All IsStored a → All IsStored b → stored_refs a ≡ stored_refs b
+    → map (λ page. page.items) a ≡ map (λ page. page.items) b → a ≡ b
+pages_once [] [] of_a of_b refs items = refl
+pages_once [] (page ∷ b) of_a of_b refs items = absurd cc
+pages_once (page ∷ a) [] of_a of_b refs items = absurd cc
+pages_once (x ∷ a) (y ∷ b) of_a of_b refs items =
     let place = one_place x.place y.place (stored_refs a) (stored_refs b) (All-head IsStored x a of_a) (All-head IsStored y b of_b) refs in
     let here : x.items ≡ y.items = cc in
-    let there : map (λ sheet. sheet.items) a ≡ map (λ sheet. sheet.items) b = cc in
-    let rest : a ≡ b = sheets_once a b (All-tail IsStored x a of_a) (All-tail IsStored y b of_b) place.1 there in
+    let there : map (λ page. page.items) a ≡ map (λ page. page.items) b = cc in
+    let rest : a ≡ b = pages_once a b (All-tail IsStored x a of_a) (All-tail IsStored y b of_b) place.1 there in
     λ i. record { items = here i; place = place.0 i } ∷ rest i
 
 -- the lists of a catalogue, and of a history, by the references to their pages
-pub catalogue_once : (a b : List (Sheet Record)) (image : List ℕ) → All IsStored a → All IsStored b → stored_refs a ≡ stored_refs b
-    → HoldsCatalogue (stored_refs a) image (map (λ sheet. sheet.items) a) → HoldsCatalogue (stored_refs b) image (map (λ sheet. sheet.items) b) → a ≡ b
+pub catalogue_once : (a b : List (Page Record)) (image : List ℕ) → All IsStored a → All IsStored b → stored_refs a ≡ stored_refs b
+    → HoldsCatalogue (stored_refs a) image (map (λ page. page.items) a) → HoldsCatalogue (stored_refs b) image (map (λ page. page.items) b) → a ≡ b
 catalogue_once a b image of_a of_b refs holds_a holds_b =
-    sheets_once a b of_a of_b refs
-    (catalogue_held_once (stored_refs b) image (map (λ sheet. sheet.items) a) (map (λ sheet. sheet.items) b)
-    (subst (λ (of : List PageRef). HoldsCatalogue of image (map (λ sheet. sheet.items) a)) refs holds_a) holds_b)
+    pages_once a b of_a of_b refs
+    (catalogue_held_once (stored_refs b) image (map (λ page. page.items) a) (map (λ page. page.items) b)
+    (subst (λ (of : List PageRef). HoldsCatalogue of image (map (λ page. page.items) a)) refs holds_a) holds_b)
 
-pub history_once : (a b : List (Sheet Change)) (image : List ℕ) → All IsStored a → All IsStored b → stored_refs a ≡ stored_refs b
-    → HoldsHistory (stored_refs a) image (map (λ sheet. sheet.items) a) → HoldsHistory (stored_refs b) image (map (λ sheet. sheet.items) b) → a ≡ b
+pub history_once : (a b : List (Page Change)) (image : List ℕ) → All IsStored a → All IsStored b → stored_refs a ≡ stored_refs b
+    → HoldsHistory (stored_refs a) image (map (λ page. page.items) a) → HoldsHistory (stored_refs b) image (map (λ page. page.items) b) → a ≡ b
 history_once a b image of_a of_b refs holds_a holds_b =
-    sheets_once a b of_a of_b refs
-    (history_held_once (stored_refs b) image (map (λ sheet. sheet.items) a) (map (λ sheet. sheet.items) b)
-    (subst (λ (of : List PageRef). HoldsHistory of image (map (λ sheet. sheet.items) a)) refs holds_a) holds_b)
+    pages_once a b of_a of_b refs
+    (history_held_once (stored_refs b) image (map (λ page. page.items) a) (map (λ page. page.items) b)
+    (subst (λ (of : List PageRef). HoldsHistory of image (map (λ page. page.items) a)) refs holds_a) holds_b)
 
 -- A root tells at most one set of lists in an image.
 pub tells_once : TellsOnce

@@ -3,7 +3,7 @@ use Rattle.std.proofs.Common.{◌≡◌, List, ◌∷◌, ◌++◌, ◌∙◌, a
 use Rattle.std.proofs.lemmas.List.{map-append}
 use Rattle.rs_extent.specs.declared.Extent.{Extent}
 use Rattle.rs_page.specs.declared.place.PageRef.{PageRef}
-use Rattle.rs_page.specs.Sheets.{extents_of}
+use Rattle.rs_page.specs.Pages.{extents_of}
 
 -- the extents that a root reaches, by its pages and bodies
 pub reach_by : (directory : Extent) (catalogue history published pages : List PageRef) (bodies : List Extent) → pages ≡ catalogue ++ history ++ published

@@ -4,35 +4,16 @@ use Rattle.std.specs.Prelude.{nat_eq, not, bytes_eq, cond, ◌&&◌}
 use Rattle.std.specs.List.{list_any}
 use Rattle.std.proofs.lemmas.Bool.{and_parts, or_cases}
 use Rattle.std.proofs.lemmas.Bool.Decides.{nat_tests}
+use Rattle.rs_extent.proofs.Sets.{some_front, some_behind, some_of_both}
 use Rattle.rs_extent.specs.declared.Extent.{Extent}
-use Rattle.rs_body.specs.Blocks.{within, in_some}
-use Rattle.rs_body.proofs.Sets.{within_true, within_is, some_first, some_rest, some_split}
+use Rattle.rs_extent.specs.Extents.{within, in_some}
+use Rattle.rs_extent.proofs.Sets.{within_true, within_is, some_first, some_rest, some_split}
 use Rattle.rs_commit.specs.declared.root.Root.{Root}
 use Rattle.rs_page.specs.declared.place.PageRef.{PageRef}
-use Rattle.rs_page.specs.Sheets.{stored_refs, extents_of}
+use Rattle.rs_page.specs.Pages.{stored_refs, extents_of}
 use Rattle.rs_catalogue.specs.Catalogue.{records_of}
 use Rattle.rs_image.specs.declared.contents.Contents.{Contents}
 use Rattle.rs_image.specs.Reach.{same_page, unshared, bodies_of, reach}
-
--- a block of one of two lists of extents is one of both
-pub some_left : (es fs : List Extent) (b : ℕ) → in_some es b ≡ true → in_some (es ++ fs) b ≡ true
-some_left [] fs b is = absurd cc
-some_left (e ∷ es) fs b is = ⊎_elim
-    (λ here. some_first e (es ++ fs) b here)
-    (λ there. some_rest e (es ++ fs) b (some_left es fs b there))
-    (some_split e es b is)
-
-pub some_right : (es fs : List Extent) (b : ℕ) → in_some fs b ≡ true → in_some (es ++ fs) b ≡ true
-some_right [] fs b is = is
-some_right (e ∷ es) fs b is = some_rest e (es ++ fs) b (some_right es fs b is)
-
--- a block of both lists is one of either
-pub some_either : (es fs : List Extent) (b : ℕ) → in_some (es ++ fs) b ≡ true → (in_some es b ≡ true) ⊎ (in_some fs b ≡ true)
-some_either [] fs b is = inr is
-some_either (e ∷ es) fs b is = ⊎_elim
-    (λ here. inl (some_first e es b here))
-    (λ there. ⊎_elim (λ left. inl (some_rest e es b left)) (λ right. inr right) (some_either es fs b there))
-    (some_split e (es ++ fs) b is)
 
 same_number : (m n : ℕ) → nat_eq m n ≡ true → m ≡ n
 same_number m n is = grind (arith, nat_tests)
@@ -98,22 +79,22 @@ module _ (root : Root) (c : Contents) (b : ℕ) where
   reaches_directory is = some_first root.directory (all_pages c ++ bodies c) b is
 
   reaches_pages : in_some (all_pages c) b ≡ true → in_some (reach root c) b ≡ true
-  reaches_pages is = some_rest root.directory (all_pages c ++ bodies c) b (some_left (all_pages c) (bodies c) b is)
+  reaches_pages is = some_rest root.directory (all_pages c ++ bodies c) b (some_front (all_pages c) (bodies c) b is)
 
   reaches_lists : in_some (catalogue_pages c ++ history_pages c) b ≡ true → in_some (reach root c) b ≡ true
-  reaches_lists is = reaches_pages (some_left (catalogue_pages c ++ history_pages c) (own_pages c) b is)
+  reaches_lists is = reaches_pages (some_front (catalogue_pages c ++ history_pages c) (own_pages c) b is)
 
   pub reaches_catalogue : in_some (extents_of (stored_refs c.catalogue)) b ≡ true → in_some (reach root c) b ≡ true
-  reaches_catalogue is = reaches_lists (some_left (catalogue_pages c) (history_pages c) b is)
+  reaches_catalogue is = reaches_lists (some_front (catalogue_pages c) (history_pages c) b is)
 
   pub reaches_history : in_some (extents_of (stored_refs c.history)) b ≡ true → in_some (reach root c) b ≡ true
-  reaches_history is = reaches_lists (some_right (catalogue_pages c) (history_pages c) b is)
+  reaches_history is = reaches_lists (some_behind (catalogue_pages c) (history_pages c) b is)
 
   pub reaches_unshared : in_some (extents_of (unshared (stored_refs c.published) (stored_refs c.catalogue))) b ≡ true → in_some (reach root c) b ≡ true
-  reaches_unshared is = reaches_pages (some_right (catalogue_pages c ++ history_pages c) (own_pages c) b is)
+  reaches_unshared is = reaches_pages (some_behind (catalogue_pages c ++ history_pages c) (own_pages c) b is)
 
   pub reaches_bodies : in_some (bodies_of (records_of c.catalogue)) b ≡ true → in_some (reach root c) b ≡ true
-  reaches_bodies is = some_rest root.directory (all_pages c ++ bodies c) b (some_right (all_pages c) (bodies c) b is)
+  reaches_bodies is = some_rest root.directory (all_pages c ++ bodies c) b (some_behind (all_pages c) (bodies c) b is)
 
   -- the published pages, those of the catalogue too or not
   pub reaches_published : in_some (extents_of (stored_refs c.published)) b ≡ true → in_some (reach root c) b ≡ true

@@ -1,13 +1,13 @@
 -- What follows from the definition of what an image stands for.
 use Rattle.std.specs.Prelude.{◌≡◌, ℕ, Bool, true, List}
-use Rattle.rs_body.specs.Blocks.{in_some}
+use Rattle.rs_extent.specs.Extents.{in_some}
 use Rattle.rs_body.specs.Outside.{Keeps}
 use Rattle.rs_commit.specs.declared.root.Root.{Root}
 use Rattle.rs_commit.specs.Commit.{SameBehind}
 use Rattle.rs_model.specs.State.{Source}
 use Rattle.rs_image.specs.declared.contents.Contents.{Contents}
 use Rattle.rs_image.specs.Reach.{reach}
-use Rattle.rs_image.specs.Tells.{Tells, StandsFor}
+use Rattle.rs_image.specs.StateOfImage.{Tells, StandsFor}
 
 -- An image stands for at most one state.
 abbrev pub StandsOnce : Type 0

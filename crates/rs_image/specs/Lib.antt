@@ -1,6 +1,6 @@
 pub mod Reach
 pub mod Whole
-pub mod Takes
-pub mod Tells
+pub mod StateOfImage
+pub mod Rooted
 pub mod Laws
 pub mod Loading

@@ -1,10 +1,11 @@
 -- Words of the loader's contracts: where a directory may lie, a directory as it was read, and lists that stand where it says.
 use Rattle.std.specs.Prelude.{◌≡◌, ◌<◌, ◌≤◌, List, ℕ, true, All}
-use Rattle.rs_body.specs.Blocks.{within, IsSized}
+use Rattle.rs_extent.specs.Extents.{within}
+use Rattle.rs_body.specs.Blocks.{IsSized}
 use Rattle.rs_commit.specs.declared.root.Root.{Root}
 use Rattle.rs_record.specs.declared.record.Record.{Record}
 use Rattle.rs_record.specs.declared.change.Change.{Change}
-use Rattle.rs_page.specs.Sheets.{IsStored, stored_refs}
+use Rattle.rs_page.specs.Pages.{IsStored, stored_refs}
 use Rattle.rs_catalogue.specs.Catalogue.{HoldsCatalogue}
 use Rattle.rs_changes.specs.History.{HoldsHistory}
 use Rattle.rs_directory.specs.Directory.{directory_bytes, IsLawfulHeader, AreLawfulRefs}
@@ -14,7 +15,7 @@ use Rattle.rs_image.specs.Reach.{blocks_of_disk}
 
 -- The directory of a root has exactly the blocks of its length, all of them behind the slots in what is used of a disk of
 -- this many bytes.
-pub record IsPlaced (size : ℕ) (root : Root) : Type 0 where
+pub record IsDirectoryPlaced (size : ℕ) (root : Root) : Type 0 where
   pub sized : IsSized root.directory root.length
   pub inside : (b : ℕ) → within root.directory b ≡ true → (2 ≤ b) × (b < blocks_of_disk size)
 
@@ -23,7 +24,7 @@ abbrev pub spelled : Directory → List ℕ
 spelled d = directory_bytes d.header d.catalogue.items d.changes.items d.published.items
 
 -- What every directory that was read keeps.
-pub record IsLawful (d : Directory) : Type 0 where
+pub record IsLawfulDirectory (d : Directory) : Type 0 where
   pub header : IsLawfulHeader d.header
   pub catalogue : AreLawfulRefs d.catalogue.items
   pub changes : AreLawfulRefs d.changes.items

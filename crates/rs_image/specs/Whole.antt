@@ -4,9 +4,9 @@ use Rattle.rs_body.specs.Blocks.{IsSized}
 use Rattle.rs_commit.specs.declared.root.Root.{Root}
 use Rattle.rs_record.specs.declared.record.Record.{Record}
 use Rattle.rs_record.specs.declared.change.Change.{Change}
-use Rattle.rs_model.specs.State.{longest_body}
-use Rattle.rs_page.specs.Sheets.{IsStored}
-use Rattle.rs_page.specs.Kept.{AreApart}
+use Rattle.rs_record.specs.Limits.{longest_body}
+use Rattle.rs_page.specs.Pages.{IsStored}
+use Rattle.rs_extent.specs.Extents.{AreApart}
 use Rattle.rs_catalogue.specs.Catalogue.{records_of}
 use Rattle.rs_changes.specs.History.{changes_of, last_of}
 use Rattle.rs_directory.specs.declared.header.Header.{Header}

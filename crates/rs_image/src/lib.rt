@@ -4,9 +4,11 @@
 mod contents;
 pub mod laws;
 mod loading;
+mod rooted;
 mod used;
 mod whole;
 
 pub use contents::Contents;
 pub use loading::load;
+pub use rooted::Rooted;
 pub use used::used_of;

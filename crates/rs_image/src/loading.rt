@@ -3,15 +3,16 @@
 ghost use Rattle.std.specs.Prelude.{◌≡◌, ◌↔◌, ◌<◌, ◌≤◌, ◌+◌, ℕ, List, true, map, IfOk, OnOk, IsErrOf, IsTrue};
 ghost use Rattle.rs_disk.specs.Leaves.{Rests, HasFailed};
 ghost use Rattle.rs_fixity.specs.Digests.{digests};
-ghost use Rattle.rs_body.specs.Blocks.{within, part};
+ghost use Rattle.rs_extent.specs.Extents.{within};
+ghost use Rattle.rs_body.specs.Blocks.{part};
 ghost use Rattle.rs_record.specs.declared.record.Record.{Record};
 ghost use Rattle.rs_record.specs.declared.change.Change.{Change};
 ghost use Rattle.rs_model.specs.State.{Source};
 ghost use Rattle.rs_image.specs.declared.contents.Contents.{Contents};
 ghost use Rattle.rs_image.specs.Reach.{blocks_of_disk};
 ghost use Rattle.rs_image.specs.Whole.{IsWhole};
-ghost use Rattle.rs_image.specs.Tells.{AreListable, Tells, state_in};
-ghost use Rattle.rs_image.specs.Loading.{IsPlaced, spelled, IsLawful, AreOf, Hold};
+ghost use Rattle.rs_image.specs.StateOfImage.{AreListable, Tells, state_in};
+ghost use Rattle.rs_image.specs.Loading.{IsDirectoryPlaced, spelled, IsLawfulDirectory, AreOf, Hold};
 
 use crate::Contents;
 use crate::used::block_count;
@@ -43,10 +44,16 @@ pub fn load<D: Disk>(alloc: Global, disk: &mut D, root: &Root) -> Result<Content
     ensures listable { IfOk result AreListable }
 
     // What the disk holds is said of a device that has followed the model.
-    ensures told { IfOk result (λ c. IsTrue (D.state disk.new).honest → Tells root.now c (D.state disk.new).now.seen (state_in (D.state disk.new).now.seen c)) }
-    ensures damaged { IsErrOf result LoadFault.Damaged → IsTrue (D.state disk.new).honest → (c : Contents) (s : Source) → ¬ Tells root.now c (D.state disk.new).now.seen s }
-    ensures device { IsErrOf result LoadFault.Device → HasFailed (D.state disk.old) (D.state disk.new) }
-    ensures no_memory { IsErrOf result LoadFault.NoMemory → IsPlaced (D.state disk.new).size root.now }
+    ensures told { IfOk result (λ c. IsTrue (D.state disk.new).honest
+        → Tells root.now c (D.state disk.new).now.seen (state_in (D.state disk.new).now.seen c)) }
+    ensures damaged { IsErrOf result LoadFault.Damaged
+        → IsTrue (D.state disk.new).honest
+        → (c : Contents) (s : Source)
+        → ¬ Tells root.now c (D.state disk.new).now.seen s }
+    ensures device { IsErrOf result LoadFault.Device
+        → HasFailed (D.state disk.old) (D.state disk.new) }
+    ensures no_memory { IsErrOf result LoadFault.NoMemory
+        → IsDirectoryPlaced (D.state disk.new).size root.now }
 
     ensures rests { Rests (D.state disk.old) (D.state disk.new) }
 {
@@ -61,14 +68,20 @@ pub fn load<D: Disk>(alloc: Global, disk: &mut D, root: &Root) -> Result<Content
 
 // Reads the directory of a root.
 fn load_directory<D: Disk>(alloc: Global, disk: &mut D, root: &Root) -> Result<Directory, LoadFault>
-    ensures placed { OnOk result (IsPlaced (D.state disk.new).size root.now) }
+    ensures placed { OnOk result (IsDirectoryPlaced (D.state disk.new).size root.now) }
     ensures room { OnOk result (1024 ≤ (D.state disk.new).size) }
-    ensures lawful { IfOk result IsLawful }
+    ensures lawful { IfOk result IsLawfulDirectory }
     ensures digest { IfOk result (λ d. (digests (spelled d)).sha256 ≡ root.now.sha256) }
-    ensures found { IfOk result (λ d. IsTrue (D.state disk.new).honest → part root.now.directory root.now.length (D.state disk.new).now.seen ≡ spelled d) }
-    ensures damaged { IsErrOf result LoadFault.Damaged → IsTrue (D.state disk.new).honest → (c : Contents) (s : Source) → ¬ Tells root.now c (D.state disk.new).now.seen s }
-    ensures device { IsErrOf result LoadFault.Device → HasFailed (D.state disk.old) (D.state disk.new) }
-    ensures no_memory { IsErrOf result LoadFault.NoMemory → IsPlaced (D.state disk.new).size root.now }
+    ensures found { IfOk result (λ d. IsTrue (D.state disk.new).honest
+        → part root.now.directory root.now.length (D.state disk.new).now.seen ≡ spelled d) }
+    ensures damaged { IsErrOf result LoadFault.Damaged
+        → IsTrue (D.state disk.new).honest
+        → (c : Contents) (s : Source)
+        → ¬ Tells root.now c (D.state disk.new).now.seen s }
+    ensures device { IsErrOf result LoadFault.Device
+        → HasFailed (D.state disk.old) (D.state disk.new) }
+    ensures no_memory { IsErrOf result LoadFault.NoMemory
+        → IsDirectoryPlaced (D.state disk.new).size root.now }
     ensures rests { Rests (D.state disk.old) (D.state disk.new) }
 {
     if !is_sized(root.directory, root.length) || !is_inside(root.directory, disk.size()) {
@@ -82,7 +95,8 @@ fn load_directory<D: Disk>(alloc: Global, disk: &mut D, root: &Root) -> Result<D
 // Whether each block of an extent is behind the slots, and one of those that are used of a disk of
 // `size` bytes.
 fn is_inside(extent: Extent, size: u64) -> bool
-    ensures { IsTrue result ↔ ((b : ℕ) → within extent b ≡ true → (2 ≤ b) × (b < blocks_of_disk size)) }
+    ensures { IsTrue result
+        ↔ ((b : ℕ) → within extent b ≡ true → (2 ≤ b) × (b < blocks_of_disk size)) }
 {
     let end = extent.first as u64 + extent.blocks as u64;
     extent.blocks == 0 || 2 <= extent.first && end <= block_count(size) as u64
@@ -95,9 +109,16 @@ fn load_lists<D: Disk>(
     directory: Directory,
 ) -> Result<Contents, LoadFault>
     ensures lists { IfOk result (AreOf directory) }
-    ensures found { IfOk result (λ c. IsTrue (D.state disk.new).honest → Hold directory (D.state disk.new).now.seen (map (λ sheet. sheet.items) c.catalogue) (map (λ sheet. sheet.items) c.history) (map (λ sheet. sheet.items) c.published)) }
-    ensures damaged { IsErrOf result LoadFault.Damaged → IsTrue (D.state disk.new).honest → (catalogue : List (List Record)) (changes : List (List Change)) (published : List (List Record)) → ¬ Hold directory (D.state disk.new).now.seen catalogue changes published }
-    ensures device { IsErrOf result LoadFault.Device → HasFailed (D.state disk.old) (D.state disk.new) }
+    ensures found { IfOk result (λ c. IsTrue (D.state disk.new).honest
+        → Hold directory (D.state disk.new).now.seen (map (λ page. page.items) c.catalogue)
+        (map (λ page. page.items) c.history) (map (λ page. page.items) c.published)) }
+    ensures damaged { IsErrOf result LoadFault.Damaged
+        → IsTrue (D.state disk.new).honest
+        → (catalogue : List (List Record)) (changes : List (List Change))
+        (published : List (List Record))
+        → ¬ Hold directory (D.state disk.new).now.seen catalogue changes published }
+    ensures device { IsErrOf result LoadFault.Device
+        → HasFailed (D.state disk.old) (D.state disk.new) }
     ensures rests { Rests (D.state disk.old) (D.state disk.new) }
 {
     let catalogue = Catalogue::load(alloc, disk, &directory.catalogue)?;

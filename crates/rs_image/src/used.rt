@@ -2,46 +2,36 @@
 ghost use Rattle.std.specs.Prelude.{◌≡◌, ◌≤◌, ◌<◌, ℕ, [], ◌∷◌, ◌++◌, true, false, IfOk, IfSome, IfNone, length};
 ghost use Rattle.std.specs.List.{list_any};
 ghost use Rattle.rs_extent.specs.Blocks.{is_used};
-ghost use Rattle.rs_page.specs.Kept.{AreApart, AreTaken};
-ghost use Rattle.rs_page.specs.Sheets.{extents_of, stored_refs};
+ghost use Rattle.rs_extent.specs.Extents.{AreApart, AreTaken, CanTake};
+ghost use Rattle.rs_page.specs.Pages.{extents_of, stored_refs};
 ghost use Rattle.rs_catalogue.specs.Catalogue.{records_of};
 ghost use Rattle.rs_image.specs.Reach.{blocks_of_disk, same_page, unshared, bodies_of, reach, is_kept, AreInside};
-ghost use Rattle.rs_image.specs.Whole.{IsWhole};
-ghost use Rattle.rs_image.specs.Takes.{CanTake};
+ghost use Rattle.rs_image.specs.Rooted.{AreUsed};
 
-use crate::Contents;
+use crate::{Contents, Rooted};
 use rs_catalogue::Catalogue;
 use rs_commit::Root;
-use rs_extent::{Extent, Used};
+use rs_extent::{BLOCK_SIZE, Extent, Used};
 use rs_page::PageRef;
 use std::alloc::{AllocError, Global};
 
-// The bytes of a block.
-const BLOCK: u64 = 512;
 // The greatest number of blocks of a disk that are used.
 const MOST_BLOCKS: u64 = 8_388_608;
 
-/// The blocks of a disk of `size` bytes that are in use: those of the slots, and those that the
-/// root reaches. All others are free.
+/// The blocks of a disk that are in use: those of the slots, and those that the root reaches. All
+/// others are free.
 ///
-/// The root and its lists have to be whole on this disk. It takes time for each record and for each
-/// block that is reached, and asks for a bit a block of memory and for that of the page entries.
+/// It takes time for each record and for each block that is reached, and asks for a bit a block of
+/// memory and for that of the page entries.
 ///
 /// # Errors
 ///
 /// [`AllocError`] where the memory is refused.
-pub fn used_of(
-    alloc: Global,
-    size: u64,
-    root: &Root,
-    contents: &Contents,
-) -> Result<Used, AllocError>
-    requires room { 1024 ≤ size }
-    requires whole { IsWhole size root.now contents.now }
-    ensures blocks { IfOk result (λ used. length used ≡ blocks_of_disk size) }
-    ensures exact { IfOk result (λ used. (b : ℕ) → b < blocks_of_disk size → is_used used b ≡ is_kept root.now contents.now b) }
+pub fn used_of(alloc: Global, rooted: &Rooted<'_>) -> Result<Used, AllocError>
+    ensures { IfOk result (AreUsed rooted.now) }
 {
-    let reached = reached(alloc, size, root, contents)?;
+    let contents = rooted.contents();
+    let reached = reached(alloc, rooted.size(), rooted.root(), contents)?;
     Ok(reached.unwrap())
 }
 
@@ -60,11 +50,18 @@ pub(crate) fn reached(
     contents: &Contents,
 ) -> Result<Option<Used>, AllocError>
     requires { 1024 ≤ size }
-    ensures blocks { IfOk result (λ found. IfSome found (λ used. length used ≡ blocks_of_disk size)) }
-    ensures exact { IfOk result (λ found. IfSome found (λ used. (b : ℕ) → b < blocks_of_disk size → is_used used b ≡ is_kept root.now contents.now b)) }
-    ensures apart { IfOk result (λ found. IfSome found (λ _. AreApart (reach root.now contents.now))) }
-    ensures inside { IfOk result (λ found. IfSome found (λ _. AreInside size (reach root.now contents.now))) }
-    ensures none { IfOk result (λ found. IfNone found (AreApart (reach root.now contents.now) → AreInside size (reach root.now contents.now) → ⊥)) }
+    ensures blocks { IfOk result
+        (λ found. IfSome found (λ used. length used ≡ blocks_of_disk size)) }
+    ensures exact { IfOk result (λ found. IfSome found (λ used. (b : ℕ)
+        → b < blocks_of_disk size
+        → is_used used b ≡ is_kept root.now contents.now b)) }
+    ensures apart { IfOk result
+        (λ found. IfSome found (λ _. AreApart (reach root.now contents.now))) }
+    ensures inside { IfOk result
+        (λ found. IfSome found (λ _. AreInside size (reach root.now contents.now))) }
+    ensures none { IfOk result (λ found. IfNone found (AreApart (reach root.now contents.now)
+        → AreInside size (reach root.now contents.now)
+        → ⊥)) }
 {
     let mut used = Used::new(alloc, block_count(size))?;
     if take_reached(alloc, &mut used, root, contents)? {
@@ -78,7 +75,7 @@ pub(crate) fn reached(
 pub(crate) fn block_count(size: u64) -> u32
     ensures { result ≡ blocks_of_disk size }
 {
-    (size / BLOCK).min(MOST_BLOCKS) as u32
+    (size / BLOCK_SIZE as u64).min(MOST_BLOCKS) as u32
 }
 
 // Takes all that a root reaches, until an extent is not free.
@@ -88,8 +85,11 @@ fn take_reached(
     root: &Root,
     contents: &Contents,
 ) -> Result<bool, AllocError>
-    ensures taken { IfOk result (λ all. all ≡ true → AreTaken used.old used.new (reach root.now contents.now)) }
-    ensures refused { IfOk result (λ all. all ≡ false → CanTake used.old (reach root.now contents.now) → ⊥) }
+    ensures taken { IfOk result (λ all. all ≡ true
+        → AreTaken used.old used.new (reach root.now contents.now)) }
+    ensures refused { IfOk result (λ all. all ≡ false
+        → CanTake used.old (reach root.now contents.now)
+        → ⊥) }
 {
     let pages = reached_pages(alloc, contents)?;
     if !take_bodies(used, &contents.catalogue) {
@@ -104,7 +104,9 @@ fn take_reached(
 // The pages that a root reaches: a published page that is a catalogue page too counts once. Each
 // published page is looked for among the catalogue's pages, of which there is one at most.
 fn reached_pages(alloc: Global, contents: &Contents) -> Result<Vec<PageRef>, AllocError>
-    ensures { IfOk result (λ pages. pages.items ≡ stored_refs contents.now.catalogue ++ stored_refs contents.now.history ++ unshared (stored_refs contents.now.published) (stored_refs contents.now.catalogue)) }
+    ensures { IfOk result (λ pages. pages.items ≡ stored_refs contents.now.catalogue
+        ++ stored_refs contents.now.history
+        ++ unshared (stored_refs contents.now.published) (stored_refs contents.now.catalogue)) }
 {
     let catalogue = contents.catalogue.pages(alloc)?;
     let history = contents.history.pages(alloc)?;
@@ -134,7 +136,8 @@ fn take(used: &mut Used, extent: Extent) -> bool
 
 // Takes the bodies of a catalogue's records, until one is not free.
 fn take_bodies(used: &mut Used, catalogue: &Catalogue) -> bool
-    ensures taken { result ≡ true → AreTaken used.old used.new (bodies_of (records_of catalogue.now)) }
+    ensures taken { result ≡ true
+        → AreTaken used.old used.new (bodies_of (records_of catalogue.now)) }
     ensures refused { result ≡ false → CanTake used.old (bodies_of (records_of catalogue.now)) → ⊥ }
 {
     let mut i = catalogue.len();

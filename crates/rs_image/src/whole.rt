@@ -1,6 +1,6 @@
 //! Whether what a root says, and the lists behind it, keep the rules of an image.
 ghost use Rattle.std.specs.Prelude.{◌≡◌, ◌≤◌, true, false, max, All, IfOk, MatchOption};
-ghost use Rattle.rs_page.specs.Sheets.{IsStored};
+ghost use Rattle.rs_page.specs.Pages.{IsStored};
 ghost use Rattle.rs_catalogue.specs.Catalogue.{records_of};
 ghost use Rattle.rs_changes.specs.History.{changes_of, last_of};
 ghost use Rattle.rs_image.specs.Whole.{IsWithin, IsSoundRecord, IsSoundChange, AreMoments, IsWhole};
@@ -11,12 +11,9 @@ use rs_body::is_sized;
 use rs_catalogue::Catalogue;
 use rs_changes::History;
 use rs_commit::Root;
-use rs_record::{Change, Record};
+use rs_record::{Change, LONGEST_BODY, Record};
 use rs_time::Moment;
 use std::alloc::{AllocError, Global};
-
-// The greatest number of bytes of a body.
-const LONGEST_BODY: u32 = 16_777_216;
 
 /// Whether a root and the lists behind it keep the rules of an image of `size` bytes, whatever they
 /// say: the moments are in order, each record and each change is sound, the directory has exactly
@@ -63,7 +60,9 @@ fn are_moments(contents: &Contents) -> bool
 
 // The later moment of the latest publication and of the last change, if there is one.
 fn latest(contents: &Contents) -> Moment
-    ensures { MatchOption (last_of (changes_of contents.now.history)) (result ≡ contents.now.header.at) (λ change. result ≡ max contents.now.header.at change.moment) }
+    ensures { MatchOption (last_of (changes_of contents.now.history))
+        (result ≡ contents.now.header.at)
+        (λ change. result ≡ max contents.now.header.at change.moment) }
 {
     let at = contents.header.at;
     let changes = contents.history.len();

@@ -98,8 +98,10 @@ impl<R: Read> Watched<R> {
     pub fn read(&mut self, buf: &mut [u8]) -> Result<usize, ReadFault>
         ensures bound { IfOk result (λ n. n ≤ length buf.new) }
         ensures ok { IfOk result (λ n. Took R.remaining self.old self.new (take n buf.new)) }
-        ensures end { IfOk result (λ n. n ≡ 0 → 0 < length buf.new → IsAtEnd (R.remaining (watched self.new))) }
-        ensures err { OnErr result (Keeps (R.remaining (watched self.old)) (R.remaining (watched self.new))) }
+        ensures end { IfOk result (λ n. n ≡ 0 → 0 < length buf.new
+            → IsAtEnd (R.remaining (watched self.new))) }
+        ensures err { OnErr result
+            (Keeps (R.remaining (watched self.old)) (R.remaining (watched self.new))) }
         ensures failed { OnErr result (EndFailed self.old self.new) }
         ensures once { failures self.new ≤ failures self.old + 1 }
         ensures flushed { is_flushed self.new ≡ is_flushed self.old }

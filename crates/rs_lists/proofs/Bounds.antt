@@ -12,6 +12,7 @@ use Rattle.rs_record.specs.Bytes.{is_between}
 use Rattle.rs_record.specs.Name.{is_name, is_segment, segments}
 use Rattle.rs_record.specs.MediaType.{is_media_type, begins_token, begins_subtype, after_token}
 use Rattle.rs_record.specs.Base.{is_base, has_scheme, uri}
+use Rattle.rs_record.specs.Format.{facts_in}
 use Rattle.rs_record.specs.declared.facts.Facts.{Facts}
 use Rattle.rs_record.specs.declared.record.Record.{Record}
 use Rattle.rs_record.specs.declared.change.Change.{Change}
@@ -19,7 +20,7 @@ use Rattle.rs_record.specs.declared.change.What.{What}
 use Rattle.rs_record.specs.declared.change.What.TheVariants.{Created, Updated, Deleted}
 use Rattle.rs_lists.specs.Escape.{escape, escaped}
 use Rattle.rs_lists.specs.Shown.{Shown}
-use Rattle.rs_lists.specs.Text.{line, joined, resource_line, change_line, location_parts, lastmod_parts, some_facts_parts, facts_parts, facts_of_record, what_text, resource_part_path, change_part_path, until_parts, until_of, from_of, resource_entry, change_entry}
+use Rattle.rs_lists.specs.Text.{line, joined, resource_line, change_line, location_parts, lastmod_parts, some_facts_parts, facts_parts, what_text, resource_part_path, change_part_path, until_parts, until_of, from_of, resource_entry, change_entry}
 use Rattle.rs_lists.proofs.Items.{change_line_with}
 use Rattle.rs_lists.proofs.Lengths.{length-moment_text}
 use Rattle.rs_lists.proofs.Plain.{escape-uri}
@@ -95,7 +96,7 @@ pub resource_line_small : (base : List ℕ) (r : Record) → IsTrue (is_base bas
 unfolding total_length
 resource_line_small base r h n k small hash =
     let total : length (line (resource_line base r)) ≡ 10 + (length (escape (uri base r.name)) + (6 + (9 + (length (moment_text r.moment) + (16 + (7 + (length (hash_text_of r.digests) + (10 + (length (decimal r.length) + (8 + (length (escape r.kind) + (1 + (8 + 0))))))))))))) + 1 =
-    length-line (location_parts base r.name ++ (codes "<lastmod>" ∷ moment_text r.moment ∷ codes "</lastmod><rs:md" ∷ []) ++ facts_parts (facts_of_record r) ++ codes "/></url>" ∷ []) in
+    length-line (location_parts base r.name ++ (codes "<lastmod>" ∷ moment_text r.moment ∷ codes "</lastmod><rs:md" ∷ []) ++ facts_parts (facts_in r) ++ codes "/></url>" ∷ []) in
     let u = uri_length base r.name h in
     let a = base_length base h in
     let b = name_length r.name n in

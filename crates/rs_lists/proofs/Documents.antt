@@ -1,5 +1,5 @@
 -- Which text a document has.
-use Rattle.std.proofs.Common.{◌≡◌, ℕ, ◌+◌, ◌-◌, ◌≤◌, ◌<◌, List, [], ◌∷◌, Bool, true, false, cond, nat_le, nat_lt, refl, ap, sym, subst, ◌∙◌, ◌⊎◌, inl, inr, arith, Option, Some, None}
+use Rattle.std.proofs.Common.{◌≡◌, ℕ, ◌+◌, ◌-◌, ◌≤◌, ◌<◌, List, [], ◌∷◌, length, Bool, true, false, cond, nat_le, nat_lt, refl, ap, sym, subst, ◌∙◌, ◌⊎◌, inl, inr, arith, Option, Some, None}
 use Rattle.std.specs.Prelude.{codes, IsTrue, ◌==◌, ◌&&◌, IsSome, is_some, IfSome, Result, OnOk}
 use Rattle.std.proofs.lemmas.Bool.Decides.{nat_tests}
 use Rattle.rs_lists.specs.declared.doc.Doc.{Doc}
@@ -8,10 +8,11 @@ use Rattle.rs_lists.specs.Chunks.{part_at}
 use Rattle.rs_lists.specs.Shown.{Shown, resource_parts_of, change_parts_of}
 use Rattle.rs_lists.specs.Text.{list_text, is_part, up_line, part_links, resource_list, resource_index, change_list, change_index, change_part_text}
 use Rattle.std.specs.Cmp.{first_so, second_so}
+use Rattle.rs_lists.proofs.Parts.{one_part, several_parts}
 
--- a sink took the text of a document
-pub on_document : {A X E : Type 0} (R : A → A → List ℕ → Type 0) (r : Result X E) (a b : A) (d : Option (List ℕ)) (t : List ℕ) → OnOk r (R a b t) → d ≡ Some t → OnOk r (IfSome d (R a b))
-on_document R r a b d t h e = let P : Option (List ℕ) → Type 0 = λ o. OnOk r (IfSome o (R a b)) in subst P (sym e) h
+-- what is so of a text is so of the document that has it
+pub on_document : {X E : Type 0} (P : List ℕ → Type 0) (r : Result X E) (d : Option (List ℕ)) (t : List ℕ) → OnOk r (P t) → d ≡ Some t → OnOk r (IfSome d P)
+on_document P r d t h e = let Q : Option (List ℕ) → Type 0 = λ o. OnOk r (IfSome o P) in subst Q (sym e) h
 
 when_true : {A : Type 0} (b : Bool) (x y : A) → b ≡ true → cond b x y ≡ x
 when_true b x y e = rw e refl
@@ -25,21 +26,22 @@ at_most_one n h = grind (arith, nat_tests)
 several : (n : ℕ) → 1 < n → nat_le n 1 ≡ false
 several n h = grind (arith, nat_tests)
 
-pub resource_head_list : (s : Shown) → resource_parts_of s ≤ 1 → list_text s ResourceHead ≡ Some (resource_list s (up_line s.base ∷ []) s.published)
+-- the heads, by the number of items
+pub resource_head_list : (s : Shown) → 0 < s.limit → length s.published ≤ s.limit → list_text s ResourceHead ≡ Some (resource_list s (up_line s.base ∷ []) s.published)
 unfolding list_text
-resource_head_list s h = ap Some (when_true _ _ _ (at_most_one (resource_parts_of s) h))
+resource_head_list s low h = ap Some (when_true _ _ _ (at_most_one (resource_parts_of s) (one_part (length s.published) s.limit low h)))
 
-pub resource_head_index : (s : Shown) → 1 < resource_parts_of s → list_text s ResourceHead ≡ Some (resource_index s)
+pub resource_head_index : (s : Shown) → 0 < s.limit → s.limit < length s.published → list_text s ResourceHead ≡ Some (resource_index s)
 unfolding list_text
-resource_head_index s h = ap Some (when_false _ _ _ (several (resource_parts_of s) h))
+resource_head_index s low h = ap Some (when_false _ _ _ (several (resource_parts_of s) (several_parts (length s.published) s.limit low h)))
 
-pub change_head_list : (s : Shown) → change_parts_of s ≤ 1 → list_text s ChangeHead ≡ Some (change_list s (up_line s.base ∷ []) s.start None s.changes)
+pub change_head_list : (s : Shown) → 0 < s.limit → length s.changes ≤ s.limit → list_text s ChangeHead ≡ Some (change_list s (up_line s.base ∷ []) s.start None s.changes)
 unfolding list_text
-change_head_list s h = ap Some (when_true _ _ _ (at_most_one (change_parts_of s) h))
+change_head_list s low h = ap Some (when_true _ _ _ (at_most_one (change_parts_of s) (one_part (length s.changes) s.limit low h)))
 
-pub change_head_index : (s : Shown) → 1 < change_parts_of s → list_text s ChangeHead ≡ Some (change_index s)
+pub change_head_index : (s : Shown) → 0 < s.limit → s.limit < length s.changes → list_text s ChangeHead ≡ Some (change_index s)
 unfolding list_text
-change_head_index s h = ap Some (when_false _ _ _ (several (change_parts_of s) h))
+change_head_index s low h = ap Some (when_false _ _ _ (several (change_parts_of s) (several_parts (length s.changes) s.limit low h)))
 
 -- what is given only where a test holds
 pub tested : {A : Type 0} (b : Bool) (x : A) → IsSome (cond b (Some x) None) → (IsTrue b) × (cond b (Some x) None ≡ Some x)

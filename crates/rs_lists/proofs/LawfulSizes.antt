@@ -11,8 +11,8 @@ use Rattle.rs_record.specs.declared.record.Record.{Record}
 use Rattle.rs_record.specs.declared.change.Change.{Change}
 use Rattle.rs_lists.specs.declared.doc.Doc.{Doc}
 use Rattle.rs_lists.specs.declared.doc.Doc.TheVariants.{Description, Capabilities, ResourceHead, ResourcePart, ChangeHead, ChangePart}
-use Rattle.rs_lists.specs.Chunks.{parts_of, part_at}
-use Rattle.rs_record.specs.Format.{facts_of}
+use Rattle.rs_lists.specs.Chunks.{part_at}
+use Rattle.rs_record.specs.Format.{facts_in}
 use Rattle.rs_record.specs.Lawful.{IsLawfulFacts, IsLawfulRecord, IsLawfulChange}
 use Rattle.rs_lists.specs.Lawful.{IsLawfulShown, IsSmall}
 use Rattle.rs_lists.specs.Shown.{Shown, resource_parts_of, change_parts_of}
@@ -20,14 +20,14 @@ use Rattle.rs_lists.specs.Text.{line, joined, numbers_from, list_text, resource_
 use Rattle.rs_lists.proofs.Bounds.{resource_line_small, bound_line_small, unbound_line_small, resource_entry_small, change_entry_small, children_small, base_length}
 use Rattle.rs_lists.proofs.Documents.{resource_head_list, resource_head_index, change_head_list, change_head_index, resource_part_is, change_part_is, others_absent}
 use Rattle.rs_lists.proofs.Lengths.{length-hash_text_of}
-use Rattle.rs_lists.proofs.Parts.{parts_cover, parts_few, scale}
+use Rattle.rs_lists.proofs.Parts.{parts_few}
 use Rattle.rs_lists.proofs.Sizes.{resource_list_small, resource_part_small, resource_index_small, change_list_small, change_part_small, change_index_small}
 
 hash_length_is : (f : Facts) → IsLawfulFacts f → length (hash_text_of f.digests) ≡ 109
 hash_length_is f h = let e = length-hash_text_of f.digests in let a = h.md5 in let b = h.sha256 in omega arith
 
 pub lawful_resource_small : (base : List ℕ) (r : Record) → IsTrue (is_base base) → IsLawfulRecord r → length (line (resource_line base r)) ≤ 2450
-lawful_resource_small base r b h = resource_line_small base r b h.name h.facts.kind h.facts.len (hash_length_is (facts_of r) h.facts)
+lawful_resource_small base r b h = resource_line_small base r b h.name h.facts.kind h.facts.len (hash_length_is (facts_in r) h.facts)
 
 by_facts : (base : List ℕ) (c : Change) (facts : Option Facts) → c.facts ≡ facts → IsTrue (is_base base) → IsLawfulChange c → IfSome facts IsLawfulFacts → length (line (change_line base c)) ≤ 2450
 by_facts base c None e b h f = unbound_line_small base c e b h.name
@@ -45,17 +45,10 @@ length-numbers_from : (first n : ℕ) → length (numbers_from first n) ≡ n
 length-numbers_from first zero = refl
 length-numbers_from first (suc n) = ap suc (length-numbers_from (first + 1) n)
 
-one_or_several : (b : Bool) (n : ℕ) → nat_le n 1 ≡ b → (n ≤ 1) ⊎ (1 < n)
-one_or_several true n e = inl (grind (arith, nat_tests))
-one_or_several false n e = inr (grind (arith, nat_tests))
-
--- the items of one document
-few_items : (n limit : ℕ) → 0 < limit → parts_of n limit ≤ 1 → n ≤ limit
-few_items n limit h one =
-    let cover = parts_cover n limit h in
-    let s = scale (parts_of n limit) 1 limit one in
-    let d : 1 * limit ≡ limit = grind arith in
-    omega arith
+-- items that fit into one document, and those that do not
+one_or_several : (b : Bool) (n limit : ℕ) → nat_le n limit ≡ b → (n ≤ limit) ⊎ (limit < n)
+one_or_several true n limit e = inl (grind (arith, nat_tests))
+one_or_several false n limit e = inr (grind (arith, nat_tests))
 
 text_small : (d : Option (List ℕ)) (t text : List ℕ) → d ≡ Some t → IsSmall t → d ≡ Some text → IsSmall text
 text_small d t text e h f = let same : t ≡ text = cc in subst IsSmall same h
@@ -75,23 +68,21 @@ entries_small entry n h =
     let all = children_small entry 276 (numbers_from 0 n) (numbers_all (λ k. length (line (entry k)) ≤ 276) 0 n (λ k low high. h k (omega arith))) in
     rw (length-numbers_from 0 n) at all
 
-resource_head_small : (s : Shown) (text : List ℕ) → (resource_parts_of s ≤ 1) ⊎ (1 < resource_parts_of s) → IsLawfulShown s → list_text s ResourceHead ≡ Some text → IsSmall text
+resource_head_small : (s : Shown) (text : List ℕ) → (length s.published ≤ s.limit) ⊎ (s.limit < length s.published) → IsLawfulShown s → list_text s ResourceHead ≡ Some text → IsSmall text
 resource_head_small s text (inl one) h e =
-    let few = few_items (length s.published) s.limit (omega (arith, h.shown)) one in
-    text_small _ _ text (resource_head_list s one) (resource_list_small s s.published (length s.published) (base_length s.base h.base) (resources_small s s.published h h.published) (omega (arith, h.shown))) e
+    text_small _ _ text (resource_head_list s (omega (arith, h.shown)) one) (resource_list_small s s.published (length s.published) (base_length s.base h.base) (resources_small s s.published h h.published) (omega (arith, h.shown))) e
 resource_head_small s text (inr several) h e =
     let few = parts_few (length s.published) s.limit h.shown.low h.shown.published in
-    text_small _ _ text (resource_head_index s several)
+    text_small _ _ text (resource_head_index s (omega (arith, h.shown)) several)
     (resource_index_small s (resource_parts_of s) (base_length s.base h.base)
     (entries_small (resource_entry s) (resource_parts_of s) (λ k below. resource_entry_small s k (base_length s.base h.base) h.number (omega arith))) few) e
 
-change_head_small : (s : Shown) (text : List ℕ) → (change_parts_of s ≤ 1) ⊎ (1 < change_parts_of s) → IsLawfulShown s → list_text s ChangeHead ≡ Some text → IsSmall text
+change_head_small : (s : Shown) (text : List ℕ) → (length s.changes ≤ s.limit) ⊎ (s.limit < length s.changes) → IsLawfulShown s → list_text s ChangeHead ≡ Some text → IsSmall text
 change_head_small s text (inl one) h e =
-    let few = few_items (length s.changes) s.limit (omega (arith, h.shown)) one in
-    text_small _ _ text (change_head_list s one) (change_list_small s s.start None s.changes (length s.changes) (base_length s.base h.base) (changes_small s s.changes h h.changes) (omega (arith, h.shown))) e
+    text_small _ _ text (change_head_list s (omega (arith, h.shown)) one) (change_list_small s s.start None s.changes (length s.changes) (base_length s.base h.base) (changes_small s s.changes h h.changes) (omega (arith, h.shown))) e
 change_head_small s text (inr several) h e =
     let few = parts_few (length s.changes) s.limit h.shown.low h.shown.changes in
-    text_small _ _ text (change_head_index s several)
+    text_small _ _ text (change_head_index s (omega (arith, h.shown)) several)
     (change_index_small s (change_parts_of s) (base_length s.base h.base)
     (entries_small (change_entry s) (change_parts_of s) (λ k below. change_entry_small s k (base_length s.base h.base) (omega (arith, h.shown)))) few) e
 
@@ -124,9 +115,9 @@ absent_small s doc text h e =
     cc
 
 pub lawful_document_small : (s : Shown) (doc : Doc) (text : List ℕ) → IsLawfulShown s → list_text s doc ≡ Some text → IsSmall text
-lawful_document_small s ResourceHead text h e = resource_head_small s text (one_or_several (nat_le (resource_parts_of s) 1) (resource_parts_of s) refl) h e
+lawful_document_small s ResourceHead text h e = resource_head_small s text (one_or_several _ (length s.published) s.limit refl) h e
 lawful_document_small s (ResourcePart publication k) text h e = resource_part_lawful s publication k text h e
-lawful_document_small s ChangeHead text h e = change_head_small s text (one_or_several (nat_le (change_parts_of s) 1) (change_parts_of s) refl) h e
+lawful_document_small s ChangeHead text h e = change_head_small s text (one_or_several _ (length s.changes) s.limit refl) h e
 lawful_document_small s (ChangePart number) text h e = change_part_lawful s number text h e
 lawful_document_small s Description text h e = absent_small s Description text (inl refl) e
 lawful_document_small s Capabilities text h e = absent_small s Capabilities text (inr refl) e

@@ -1,12 +1,12 @@
 -- How long documents are at most.
-use Rattle.std.proofs.Common.{◌≡◌, ℕ, ◌+◌, ◌*◌, ◌≤◌, ◌<◌, ◌^◌, List, [], ◌∷◌, ◌++◌, length, map, refl, sym, ap, subst, length-append, arith, Option, Some, None}
+use Rattle.std.proofs.Common.{◌≡◌, ℕ, ◌+◌, ◌*◌, ◌≤◌, ◌<◌, ◌^◌, List, [], ◌∷◌, ◌++◌, length, map, refl, sym, ap, length-append, arith, Option, Some, None}
 use Rattle.std.specs.Prelude.{codes, Result, Ok, Err, OnOk, IfSome}
 use Rattle.rs_time.specs.Moment.{moment_text}
 use Rattle.rs_record.specs.declared.record.Record.{Record}
 use Rattle.rs_record.specs.declared.change.Change.{Change}
 use Rattle.rs_lists.specs.Lawful.{IsSmall}
 use Rattle.std.specs.Option.{option_map}
-use Rattle.rs_lists.specs.Sinks.{Counts}
+use Rattle.rs_lists.specs.Sinks.{CountGrowsBy}
 use Rattle.rs_lists.specs.Shown.{Shown, resource_parts_of, change_parts_of}
 use Rattle.rs_lists.specs.Text.{line, joined, xml_line, open_line, close_line, link_line, up_line, part_links, document, resource_md, change_md, until_parts, resource_line, change_line, resource_list, change_list, resource_index, change_index, resource_entry, change_entry, numbers_from}
 use Rattle.rs_lists.proofs.Bounds.{total_length, length-line}
@@ -101,15 +101,12 @@ change_index_small s n b h few =
     document_small (codes "sitemapindex") (up_line s.base ∷ []) (change_md s.start None) (map (change_entry s) (numbers_from 0 (change_parts_of s))) (omega arith) (up_small s.base b) (change_md_small s.start None) (omega arith)
 
 -- the same of what a call gives only where it succeeds
-pub on_small : {X E : Type 0} (r : Result X E) (d : Option (List ℕ)) (t : List ℕ) → OnOk r (IsSmall t) → d ≡ Some t → OnOk r (IfSome d IsSmall)
-on_small r d t h e = let P : Option (List ℕ) → Type 0 = λ o. OnOk r (IfSome o IsSmall) in subst P (sym e) h
-
 pub on_value : {X E : Type 0} {P : Type 0} (r : Result X E) → P → OnOk r P
 on_value (Ok v) p = p
 on_value (Err v) p = tt
 
 -- what a meter counted of a document
-pub measured : (before after total : ℕ) (d : Option (List ℕ)) → before ≡ 0 → total ≡ after → ¬ (d ≡ None) → IfSome d (Counts before after) → IfSome d IsSmall → Some total ≡ option_map (length {A = ℕ}) d
+pub measured : (before after total : ℕ) (d : Option (List ℕ)) → before ≡ 0 → total ≡ after → ¬ (d ≡ None) → IfSome d (CountGrowsBy before after) → IfSome d IsSmall → Some total ≡ option_map (length {A = ℕ}) d
 measured before after total None e f there counts small = absurd (there refl)
 measured before after total (Some text) e f there counts small =
     let fits : before + length text < 2 ^ 64 = omega arith in

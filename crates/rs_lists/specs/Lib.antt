@@ -1,6 +1,7 @@
 pub mod Chunks
 pub mod Escape
 pub mod Lawful
+pub mod Laws
 pub mod Lines
 pub mod Meters
 pub mod Parts

@@ -1,8 +1,8 @@
--- Runs of lines, and the lists as whole documents.
-use Rattle.std.specs.Prelude.{ℕ, ◌-◌, List, [], ◌∷◌, codes, map, take, drop, None}
+-- Runs of lines.
+use Rattle.std.specs.Prelude.{ℕ, ◌-◌, List, codes, map, take, drop}
 use Rattle.rs_lists.specs.Chunks.{part_at}
 use Rattle.rs_lists.specs.Shown.{Shown}
-use Rattle.rs_lists.specs.Text.{joined, numbers_from, up_line, part_links, resource_line, resource_entry, resource_list, change_line, change_entry, change_list}
+use Rattle.rs_lists.specs.Text.{joined, numbers_from, part_links, resource_line, resource_entry, resource_list, change_line, change_entry}
 
 -- the lines of the published resources from one place up to another
 abbrev pub resource_lines : Shown → ℕ → ℕ → List ℕ
@@ -20,14 +20,6 @@ resource_entries s parts = joined (map (resource_entry s) (numbers_from 0 parts)
 abbrev pub change_entries : Shown → ℕ → List ℕ
 change_entries s parts = joined (map (change_entry s) (numbers_from 0 parts))
 
--- the Resource List in one document
-abbrev pub whole_resource_list : Shown → List ℕ
-whole_resource_list s = resource_list s (up_line s.base ∷ []) s.published
-
 -- part k of the Resource List
 abbrev pub resource_part_text : Shown → ℕ → List ℕ
 resource_part_text s k = resource_list s (part_links s (codes "/resourcelist.xml")) (part_at k s.limit s.published)
-
--- the Change List in one document, which is open
-abbrev pub whole_change_list : Shown → List ℕ
-whole_change_list s = change_list s (up_line s.base ∷ []) s.start None s.changes

@@ -1,5 +1,6 @@
 -- What a view shows of a source.
 use Rattle.std.specs.Prelude.{ℕ, ◌≤◌, List, length}
+use Rattle.rs_record.specs.Limits.{most_items}
 use Rattle.rs_record.specs.declared.record.Record.{Record}
 use Rattle.rs_record.specs.declared.change.Change.{Change}
 use Rattle.rs_lists.specs.Chunks.{parts_of}
@@ -19,8 +20,8 @@ pub record Shown : Type 0 where
 pub record IsShown (s : Shown) : Type 0 where
   pub low : 2 ≤ s.limit
   pub high : s.limit ≤ 4000
-  pub published : length s.published ≤ 50000
-  pub changes : length s.changes ≤ 50000
+  pub published : length s.published ≤ most_items
+  pub changes : length s.changes ≤ most_items
   pub first : s.first ≤ 253402300799999
 
 -- how many parts the published records have

@@ -5,6 +5,7 @@ use Rattle.std.specs.Fmt.{decimal}
 use Rattle.rs_time.specs.Moment.{moment_text}
 use Rattle.rs_fixity.specs.HashText.{hash_text_of}
 use Rattle.rs_record.specs.Base.{uri}
+use Rattle.rs_record.specs.Format.{facts_in}
 use Rattle.rs_record.specs.declared.facts.Facts.{Facts}
 use Rattle.rs_record.specs.declared.record.Record.{Record}
 use Rattle.rs_record.specs.declared.change.Change.{Change}
@@ -72,14 +73,10 @@ facts_parts f =
 abbrev pub location_parts : List ℕ → List ℕ → List (List ℕ)
 location_parts base name = codes "<url><loc>" ∷ escape (uri base name) ∷ codes "</loc>" ∷ []
 
--- what a record says of the body
-abbrev pub facts_of_record : Record → Facts
-facts_of_record r = record { kind = r.kind; length = r.length; digests = r.digests }
-
 -- the entry of a resource
 abbrev pub resource_line : List ℕ → Record → List ℕ
 resource_line base r =
-    concat (location_parts base r.name ++ (codes "<lastmod>" ∷ moment_text r.moment ∷ codes "</lastmod><rs:md" ∷ []) ++ facts_parts (facts_of_record r) ++ codes "/></url>" ∷ [])
+    concat (location_parts base r.name ++ (codes "<lastmod>" ∷ moment_text r.moment ∷ codes "</lastmod><rs:md" ∷ []) ++ facts_parts (facts_in r) ++ codes "/></url>" ∷ [])
 
 -- the value of the attribute `change`
 abbrev pub what_text : What → List ℕ

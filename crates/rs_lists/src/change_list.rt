@@ -2,9 +2,9 @@
 
 ghost use Rattle.std.specs.Prelude.{◌≡◌, ◌-◌, ◌*◌, ◌<◌, ◌≤◌, nat_le, if◌then◌else◌, Some, None, OnOk, OnErr, IfSome, take, length};
 ghost use Rattle.rs_lists.specs.Lawful.{IsSmall};
-ghost use Rattle.rs_lists.specs.Lines.{change_lines, change_entries, whole_change_list};
+ghost use Rattle.rs_lists.specs.Lines.{change_lines, change_entries};
 ghost use Rattle.rs_lists.specs.Shown.{IsShown, change_parts_of};
-ghost use Rattle.rs_lists.specs.Text.{line, what_text, last_moment, change_line, change_md, change_entry, change_part_text, change_index, list_text};
+ghost use Rattle.rs_lists.specs.Text.{line, what_text, last_moment, change_line, change_md, change_entry, change_part_text, list_text};
 
 use crate::frame::{Root, put_closing, put_opening, put_part_opening};
 use crate::meter::hash_length;
@@ -16,7 +16,8 @@ use rs_time::Moment;
 
 /// Puts the head of the Change List: the list, or the index of its parts.
 pub fn put_change_head<V: View, S: Sink>(view: &V, sink: &mut S) -> Result<(), WriteFault>
-    ensures taken { OnOk result (IfSome (list_text (V.shown view.now) Doc.ChangeHead) (S.takes sink.old sink.new)) }
+    ensures taken { OnOk result
+        (IfSome (list_text (V.shown view.now) Doc.ChangeHead) (S.takes sink.old sink.new)) }
     ensures fault { OnErr result (S.fails sink.old sink.new) }
     ensures small { OnOk result (IfSome (list_text (V.shown view.now) Doc.ChangeHead) IsSmall) }
 {
@@ -29,10 +30,12 @@ pub fn put_change_head<V: View, S: Sink>(view: &V, sink: &mut S) -> Result<(), W
 
 // Puts all kept changes in one list, which is open.
 fn put_change_list<V: View, S: Sink>(view: &V, sink: &mut S) -> Result<(), WriteFault>
-    requires { length (V.shown view.now).changes ≤ 4000 }
-    ensures taken { OnOk result (S.takes sink.old sink.new (whole_change_list (V.shown view.now))) }
+    requires shown { IsShown (V.shown view.now) }
+    requires one { length (V.shown view.now).changes ≤ (V.shown view.now).limit }
+    ensures taken { OnOk result
+        (IfSome (list_text (V.shown view.now) Doc.ChangeHead) (S.takes sink.old sink.new)) }
     ensures fault { OnErr result (S.fails sink.old sink.new) }
-    ensures small { OnOk result (IsSmall (whole_change_list (V.shown view.now))) }
+    ensures small { OnOk result (IfSome (list_text (V.shown view.now) Doc.ChangeHead) IsSmall) }
 {
     put_opening(Root::UrlSet, view.base(), sink)?;
     put_change_md(view.start(), None, sink)?;
@@ -47,7 +50,8 @@ pub fn put_change_part<V: View, S: Sink>(
     sink: &mut S,
 ) -> Result<(), WriteFault>
     requires { part < change_parts_of (V.shown view.now) }
-    ensures taken { OnOk result (S.takes sink.old sink.new (change_part_text (V.shown view.now) part)) }
+    ensures taken { OnOk result
+        (S.takes sink.old sink.new (change_part_text (V.shown view.now) part)) }
     ensures fault { OnErr result (S.fails sink.old sink.new) }
     ensures small { OnOk result (IsSmall (change_part_text (V.shown view.now) part)) }
 {
@@ -63,10 +67,12 @@ pub fn put_change_part<V: View, S: Sink>(
 
 // Puts the index of the parts of the Change List.
 fn put_change_index<V: View, S: Sink>(view: &V, sink: &mut S) -> Result<(), WriteFault>
-    requires { IsShown (V.shown view.now) }
-    ensures taken { OnOk result (S.takes sink.old sink.new (change_index (V.shown view.now))) }
+    requires shown { IsShown (V.shown view.now) }
+    requires several { (V.shown view.now).limit < length (V.shown view.now).changes }
+    ensures taken { OnOk result
+        (IfSome (list_text (V.shown view.now) Doc.ChangeHead) (S.takes sink.old sink.new)) }
     ensures fault { OnErr result (S.fails sink.old sink.new) }
-    ensures small { OnOk result (IsSmall (change_index (V.shown view.now))) }
+    ensures small { OnOk result (IfSome (list_text (V.shown view.now) Doc.ChangeHead) IsSmall) }
 {
     put_opening(Root::SitemapIndex, view.base(), sink)?;
     put_change_md(view.start(), None, sink)?;
@@ -77,7 +83,8 @@ fn put_change_index<V: View, S: Sink>(view: &V, sink: &mut S) -> Result<(), Writ
 // The moment of the last of the first `count` changes, or the start where there is none.
 fn moment_after<V: View>(view: &V, count: usize) -> Moment
     requires { count ≤ length (V.shown view.now).changes }
-    ensures { result ≡ last_moment (V.shown view.now).start (take count (V.shown view.now).changes) }
+    ensures { result
+        ≡ last_moment (V.shown view.now).start (take count (V.shown view.now).changes) }
 {
     match count.checked_sub(1) {
         Some(last) => view.change(last).moment,
@@ -88,7 +95,8 @@ fn moment_after<V: View>(view: &V, count: usize) -> Moment
 // The moment of the last of the first `count` changes, if there are so many.
 fn closing_moment<V: View>(view: &V, count: usize) -> Option<Moment>
     ensures { result ≡ (if nat_le count (length (V.shown view.now).changes)
-        then Some (last_moment (V.shown view.now).start (take count (V.shown view.now).changes)) else None) }
+        then Some (last_moment (V.shown view.now).start (take count (V.shown view.now).changes))
+        else None) }
 {
     if count <= view.changes_len() {
         Some(moment_after(view, count))
@@ -132,9 +140,11 @@ fn put_changes<V: View, S: Sink>(
 ) -> Result<(), WriteFault>
     requires order { from ≤ to }
     requires within { to ≤ length (V.shown view.now).changes }
-    ensures taken { OnOk result (S.takes sink.old sink.new (change_lines (V.shown view.now) from to)) }
+    ensures taken { OnOk result
+        (S.takes sink.old sink.new (change_lines (V.shown view.now) from to)) }
     ensures fault { OnErr result (S.fails sink.old sink.new) }
-    ensures small { OnOk result (length (change_lines (V.shown view.now) from to) ≤ 2450 * (to - from)) }
+    ensures small { OnOk result
+        (length (change_lines (V.shown view.now) from to) ≤ 2450 * (to - from)) }
 {
     for i in from..to {
         put_change(view.base(), view.change(i), sink)?;
@@ -148,7 +158,8 @@ fn put_change<'a, S: Sink>(
     change: &'a Change,
     sink: &mut S,
 ) -> Result<(), WriteFault>
-    ensures taken { OnOk result (S.takes sink.old sink.new (line (change_line base.now change.now))) }
+    ensures taken { OnOk result
+        (S.takes sink.old sink.new (line (change_line base.now change.now))) }
     ensures fault { OnErr result (S.fails sink.old sink.new) }
     ensures small { length (line (change_line base.now change.now)) ≤ 2450 }
 {
@@ -166,7 +177,8 @@ fn put_binding<'a, S: Sink>(
     sink: &mut S,
 ) -> Result<(), WriteFault>
     requires { change.now.facts ≡ Some facts.now }
-    ensures taken { OnOk result (S.takes sink.old sink.new (line (change_line base.now change.now))) }
+    ensures taken { OnOk result
+        (S.takes sink.old sink.new (line (change_line base.now change.now))) }
     ensures fault { OnErr result (S.fails sink.old sink.new) }
     ensures small { length (line (change_line base.now change.now)) ≤ 2450 }
 {
@@ -203,7 +215,8 @@ fn put_deletion<'a, S: Sink>(
     sink: &mut S,
 ) -> Result<(), WriteFault>
     requires { change.now.facts ≡ None }
-    ensures taken { OnOk result (S.takes sink.old sink.new (line (change_line base.now change.now))) }
+    ensures taken { OnOk result
+        (S.takes sink.old sink.new (line (change_line base.now change.now))) }
     ensures fault { OnErr result (S.fails sink.old sink.new) }
     ensures small { length (line (change_line base.now change.now)) ≤ 2450 }
 {
@@ -237,9 +250,12 @@ fn word(what: What) -> &'static [u8]
 // Puts the lines of the parts in their order.
 fn put_change_entries<V: View, S: Sink>(view: &V, sink: &mut S) -> Result<(), WriteFault>
     requires { IsShown (V.shown view.now) }
-    ensures taken { OnOk result (S.takes sink.old sink.new (change_entries (V.shown view.now) (change_parts_of (V.shown view.now)))) }
+    ensures taken { OnOk result (S.takes sink.old sink.new
+        (change_entries (V.shown view.now) (change_parts_of (V.shown view.now)))) }
     ensures fault { OnErr result (S.fails sink.old sink.new) }
-    ensures small { OnOk result (length (change_entries (V.shown view.now) (change_parts_of (V.shown view.now))) ≤ 276 * change_parts_of (V.shown view.now)) }
+    ensures small { OnOk result
+        (length (change_entries (V.shown view.now) (change_parts_of (V.shown view.now)))
+        ≤ 276 * change_parts_of (V.shown view.now)) }
 {
     for part in 0..change_parts(view) {
         put_change_entry(view, part, sink)?;
@@ -250,7 +266,8 @@ fn put_change_entries<V: View, S: Sink>(view: &V, sink: &mut S) -> Result<(), Wr
 // Puts the line of a part.
 fn put_change_entry<V: View, S: Sink>(view: &V, part: u64, sink: &mut S) -> Result<(), WriteFault>
     requires { part < change_parts_of (V.shown view.now) }
-    ensures taken { OnOk result (S.takes sink.old sink.new (line (change_entry (V.shown view.now) part))) }
+    ensures taken { OnOk result
+        (S.takes sink.old sink.new (line (change_entry (V.shown view.now) part))) }
     ensures fault { OnErr result (S.fails sink.old sink.new) }
     ensures small { length (line (change_entry (V.shown view.now) part)) ≤ 276 }
 {

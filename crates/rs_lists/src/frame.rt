@@ -59,7 +59,8 @@ pub fn put_opening<S: Sink>(root: Root, base: &Base, sink: &mut S) -> Result<(),
 /// Puts the first lines of a part: those of a list, and the link to its index.
 pub fn put_part_opening<S: Sink>(base: &Base, index: &[u8], sink: &mut S) -> Result<(), WriteFault>
     ensures taken { OnOk result (S.takes sink.old sink.new
-        (joined (xml_line ∷ open_line (codes "urlset") ∷ up_line base.now ∷ link_line (codes "index") base.now index.now ∷ []))) }
+        (joined (xml_line ∷ open_line (codes "urlset") ∷ up_line base.now
+        ∷ link_line (codes "index") base.now index.now ∷ []))) }
     ensures fault { OnErr result (S.fails sink.old sink.new) }
     ensures base { OnOk result (length base.now ≤ 128) }
 {
@@ -74,7 +75,8 @@ fn put_link<'a, S: Sink>(
     path: &'a [u8],
     sink: &mut S,
 ) -> Result<(), WriteFault>
-    ensures taken { OnOk result (S.takes sink.old sink.new (line (link_line relation.now base.now path.now))) }
+    ensures taken { OnOk result
+        (S.takes sink.old sink.new (line (link_line relation.now base.now path.now))) }
     ensures fault { OnErr result (S.fails sink.old sink.new) }
     ensures base { length base.now ≤ 128 }
 {

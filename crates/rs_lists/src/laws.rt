@@ -11,14 +11,14 @@ ghost use Rattle.rs_record.specs.declared.change.Change.{Change};
 ghost use Rattle.rs_lists.specs.declared.doc.Doc.{Doc};
 ghost use Rattle.rs_lists.specs.Escape.{escape, stands_as_it_is};
 ghost use Rattle.rs_lists.specs.Lawful.{IsLawfulShown, IsSmall};
-ghost use Rattle.rs_lists.specs.Parts.{AreChunks};
+ghost use Rattle.rs_lists.specs.Laws.{PartsAreChunks};
 ghost use Rattle.rs_lists.specs.Shown.{Shown};
 ghost use Rattle.rs_lists.specs.Text.{line, list_text, resource_line, change_line, resource_entry, change_entry};
 
 /// No part of a list is empty, none has more items than the limit, all but the last have as many,
 /// and one after another they are the list.
 pub fn parts_are_chunks<T>()
-    ensures { (limit : ℕ) (items : List T) → 0 < limit → AreChunks limit items }
+    ensures { PartsAreChunks T }
 {}
 
 /// A text without the five special characters is written as it is.
@@ -43,5 +43,6 @@ pub fn entries_are_small()
 
 /// Every list, part and index has less than 10,485,760 bytes, as Sitemap 0.9 asks.
 pub fn documents_are_small()
-    ensures { (s : Shown) (doc : Doc) (text : List ℕ) → IsLawfulShown s → list_text s doc ≡ Some text → IsSmall text }
+    ensures { (s : Shown) (doc : Doc) (text : List ℕ) → IsLawfulShown s →
+        list_text s doc ≡ Some text → IsSmall text }
 {}

@@ -1,7 +1,6 @@
 //! The lengths of texts, without the texts.
 
 ghost use Rattle.std.specs.Prelude.{◌≡◌, ◌-◌, ◌^◌, min, length};
-ghost use Rattle.std.specs.Fmt.{decimal};
 ghost use Rattle.rs_fixity.specs.HashText.{hash_text_of};
 ghost use Rattle.rs_lists.specs.Piece.{piece_text, pieces_text};
 
@@ -10,6 +9,7 @@ use crate::escape::escaped_length;
 use crate::sink::Sink;
 use rs_fixity::Digests;
 use rs_io::WriteFault;
+use rs_record::count_digits;
 
 /// A sink that counts the bytes of what it takes, and never fails.
 #[derive(Drop)]
@@ -18,32 +18,32 @@ pub struct Meter {
 }
 
 impl Meter {
-    ghost use Rattle.rs_lists.specs.Meters.{counted};
+    ghost use Rattle.rs_lists.specs.Meters.{bytes_counted};
 
     /// Nothing counted yet.
     pub fn new() -> Meter
-        ensures { counted result ≡ 0 }
+        ensures { bytes_counted result ≡ 0 }
     {
         Meter { total: 0 }
     }
 
     /// How many bytes went in, or `u64::MAX` where they are more.
     pub fn total(&self) -> u64
-        ensures { result ≡ counted self.now }
+        ensures { result ≡ bytes_counted self.now }
     {
         self.total
     }
 }
 
 impl Sink for Meter {
-    ghost use Rattle.rs_lists.specs.Meters.{counted};
-    ghost use Rattle.rs_lists.specs.Sinks.{Counts, counts_nothing, counts_more};
+    ghost use Rattle.rs_lists.specs.Meters.{bytes_counted};
+    ghost use Rattle.rs_lists.specs.Sinks.{CountGrowsBy, counts_nothing, counts_more};
 
-    ghost takes = { λ a b bytes. Counts (counted a) (counted b) bytes };
+    ghost takes = { λ a b bytes. CountGrowsBy (bytes_counted a) (bytes_counted b) bytes };
 
     ghost fails = { λ _ _. ⊥ };
 
-    ghost takes_nothing = { λ a. counts_nothing (counted a) };
+    ghost takes_nothing = { λ a. counts_nothing (bytes_counted a) };
 
     ghost takes_more = { λ a b c x y first second. counts_more _ _ _ x y first second };
 
@@ -87,14 +87,4 @@ pub fn hash_length(digests: &Digests) -> u64
     let md5 = digests.md5.as_slice();
     let sha256 = digests.sha256.as_slice();
     13 + 2 * (md5.len() + sha256.len()) as u64
-}
-
-// How many decimal digits a number has.
-fn count_digits(number: u64) -> u64
-    ensures { result ≡ length (decimal number) }
-{
-    match number.checked_ilog10() {
-        Some(power) => power as u64 + 1,
-        None => 1,
-    }
 }

@@ -2,9 +2,9 @@
 
 ghost use Rattle.std.specs.Prelude.{◌≡◌, ◌-◌, ◌*◌, ◌<◌, ◌≤◌, OnOk, OnErr, IfSome, length};
 ghost use Rattle.rs_lists.specs.Lawful.{IsSmall};
-ghost use Rattle.rs_lists.specs.Lines.{resource_lines, resource_entries, whole_resource_list, resource_part_text};
+ghost use Rattle.rs_lists.specs.Lines.{resource_lines, resource_entries, resource_part_text};
 ghost use Rattle.rs_lists.specs.Shown.{IsShown, resource_parts_of};
-ghost use Rattle.rs_lists.specs.Text.{line, resource_line, resource_md, resource_entry, resource_index, list_text};
+ghost use Rattle.rs_lists.specs.Text.{line, resource_line, resource_md, resource_entry, list_text};
 
 use crate::frame::{Root, put_closing, put_opening, put_part_opening};
 use crate::meter::hash_length;
@@ -16,7 +16,8 @@ use rs_time::Moment;
 
 /// Puts the head of the Resource List: the list, or the index of its parts.
 pub fn put_resource_head<V: View, S: Sink>(view: &V, sink: &mut S) -> Result<(), WriteFault>
-    ensures taken { OnOk result (IfSome (list_text (V.shown view.now) Doc.ResourceHead) (S.takes sink.old sink.new)) }
+    ensures taken { OnOk result
+        (IfSome (list_text (V.shown view.now) Doc.ResourceHead) (S.takes sink.old sink.new)) }
     ensures fault { OnErr result (S.fails sink.old sink.new) }
     ensures small { OnOk result (IfSome (list_text (V.shown view.now) Doc.ResourceHead) IsSmall) }
 {
@@ -29,10 +30,12 @@ pub fn put_resource_head<V: View, S: Sink>(view: &V, sink: &mut S) -> Result<(),
 
 // Puts all published resources in one list.
 fn put_resource_list<V: View, S: Sink>(view: &V, sink: &mut S) -> Result<(), WriteFault>
-    requires { length (V.shown view.now).published ≤ 4000 }
-    ensures taken { OnOk result (S.takes sink.old sink.new (whole_resource_list (V.shown view.now))) }
+    requires shown { IsShown (V.shown view.now) }
+    requires one { length (V.shown view.now).published ≤ (V.shown view.now).limit }
+    ensures taken { OnOk result
+        (IfSome (list_text (V.shown view.now) Doc.ResourceHead) (S.takes sink.old sink.new)) }
     ensures fault { OnErr result (S.fails sink.old sink.new) }
-    ensures small { OnOk result (IsSmall (whole_resource_list (V.shown view.now))) }
+    ensures small { OnOk result (IfSome (list_text (V.shown view.now) Doc.ResourceHead) IsSmall) }
 {
     put_opening(Root::UrlSet, view.base(), sink)?;
     put_resource_md(view.at(), sink)?;
@@ -47,7 +50,8 @@ pub fn put_resource_part<V: View, S: Sink>(
     sink: &mut S,
 ) -> Result<(), WriteFault>
     requires { part < resource_parts_of (V.shown view.now) }
-    ensures taken { OnOk result (S.takes sink.old sink.new (resource_part_text (V.shown view.now) part)) }
+    ensures taken { OnOk result
+        (S.takes sink.old sink.new (resource_part_text (V.shown view.now) part)) }
     ensures fault { OnErr result (S.fails sink.old sink.new) }
     ensures small { OnOk result (IsSmall (resource_part_text (V.shown view.now) part)) }
 {
@@ -62,10 +66,12 @@ pub fn put_resource_part<V: View, S: Sink>(
 
 // Puts the index of the parts of the Resource List.
 fn put_resource_index<V: View, S: Sink>(view: &V, sink: &mut S) -> Result<(), WriteFault>
-    requires { IsShown (V.shown view.now) }
-    ensures taken { OnOk result (S.takes sink.old sink.new (resource_index (V.shown view.now))) }
+    requires shown { IsShown (V.shown view.now) }
+    requires several { (V.shown view.now).limit < length (V.shown view.now).published }
+    ensures taken { OnOk result
+        (IfSome (list_text (V.shown view.now) Doc.ResourceHead) (S.takes sink.old sink.new)) }
     ensures fault { OnErr result (S.fails sink.old sink.new) }
-    ensures small { OnOk result (IsSmall (resource_index (V.shown view.now))) }
+    ensures small { OnOk result (IfSome (list_text (V.shown view.now) Doc.ResourceHead) IsSmall) }
 {
     put_opening(Root::SitemapIndex, view.base(), sink)?;
     put_resource_md(view.at(), sink)?;
@@ -97,9 +103,11 @@ fn put_resources<V: View, S: Sink>(
 ) -> Result<(), WriteFault>
     requires order { from ≤ to }
     requires within { to ≤ length (V.shown view.now).published }
-    ensures taken { OnOk result (S.takes sink.old sink.new (resource_lines (V.shown view.now) from to)) }
+    ensures taken { OnOk result
+        (S.takes sink.old sink.new (resource_lines (V.shown view.now) from to)) }
     ensures fault { OnErr result (S.fails sink.old sink.new) }
-    ensures small { OnOk result (length (resource_lines (V.shown view.now) from to) ≤ 2450 * (to - from)) }
+    ensures small { OnOk result
+        (length (resource_lines (V.shown view.now) from to) ≤ 2450 * (to - from)) }
 {
     for i in from..to {
         put_resource(view.base(), view.published(i), sink)?;
@@ -113,7 +121,8 @@ fn put_resource<'a, S: Sink>(
     record: &'a Record,
     sink: &mut S,
 ) -> Result<(), WriteFault>
-    ensures taken { OnOk result (S.takes sink.old sink.new (line (resource_line base.now «record».now))) }
+    ensures taken { OnOk result
+        (S.takes sink.old sink.new (line (resource_line base.now «record».now))) }
     ensures fault { OnErr result (S.fails sink.old sink.new) }
     ensures small { length (line (resource_line base.now «record».now)) ≤ 2450 }
 {
@@ -141,9 +150,12 @@ fn put_resource<'a, S: Sink>(
 
 // Puts the lines of the parts in their order.
 fn put_resource_entries<V: View, S: Sink>(view: &V, sink: &mut S) -> Result<(), WriteFault>
-    ensures taken { OnOk result (S.takes sink.old sink.new (resource_entries (V.shown view.now) (resource_parts_of (V.shown view.now)))) }
+    ensures taken { OnOk result (S.takes sink.old sink.new
+        (resource_entries (V.shown view.now) (resource_parts_of (V.shown view.now)))) }
     ensures fault { OnErr result (S.fails sink.old sink.new) }
-    ensures small { OnOk result (length (resource_entries (V.shown view.now) (resource_parts_of (V.shown view.now))) ≤ 276 * resource_parts_of (V.shown view.now)) }
+    ensures small { OnOk result
+        (length (resource_entries (V.shown view.now) (resource_parts_of (V.shown view.now)))
+        ≤ 276 * resource_parts_of (V.shown view.now)) }
 {
     for part in 0..resource_parts(view) {
         put_resource_entry(view, part, sink)?;
@@ -153,7 +165,8 @@ fn put_resource_entries<V: View, S: Sink>(view: &V, sink: &mut S) -> Result<(), 
 
 // Puts the line of a part.
 fn put_resource_entry<V: View, S: Sink>(view: &V, part: u64, sink: &mut S) -> Result<(), WriteFault>
-    ensures taken { OnOk result (S.takes sink.old sink.new (line (resource_entry (V.shown view.now) part))) }
+    ensures taken { OnOk result
+        (S.takes sink.old sink.new (line (resource_entry (V.shown view.now) part))) }
     ensures fault { OnErr result (S.fails sink.old sink.new) }
     ensures small { length (line (resource_entry (V.shown view.now) part)) ≤ 276 }
 {

@@ -29,7 +29,8 @@ pub trait Sink {
     ghost takes_nothing: { (a : Self) → takes a a [] };
 
     /// Bytes went in, and then more.
-    ghost takes_more: { (a b c : Self) (x y : List ℕ) → takes a b x → takes b c y → takes a c (x ++ y) };
+    ghost takes_more: { (a b c : Self) (x y : List ℕ) → takes a b x → takes b c y →
+        takes a c (x ++ y) };
 
     /// Bytes went in, and then it failed.
     ghost fails_later: { (a b c : Self) (x : List ℕ) → takes a b x → fails b c → fails a c };

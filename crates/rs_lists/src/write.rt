@@ -49,8 +49,10 @@ pub fn write_list<V: View, W: Write>(
     doc: Doc,
     out: &mut Watched<W>,
 ) -> Result<(), ListError>
-    ensures written { OnOk result (IfSome (list_text (V.shown view.now) doc) (Wrote W.contents out.old out.new)) }
-    ensures missing { IsErrOf result ListError.NoSuchDocument ↔ (list_text (V.shown view.now) doc ≡ None) }
+    ensures written { OnOk result
+        (IfSome (list_text (V.shown view.now) doc) (Wrote W.contents out.old out.new)) }
+    ensures missing { IsErrOf result ListError.NoSuchDocument
+        ↔ (list_text (V.shown view.now) doc ≡ None) }
     ensures untouched { IsErrOf result ListError.NoSuchDocument → out.new ≡ out.old }
     ensures small { OnOk result (IfSome (list_text (V.shown view.now) doc) IsSmall) }
     ensures fault { IsErrOf result ListError.WriteFault → EndFailed out.old out.new }
@@ -60,8 +62,10 @@ pub fn write_list<V: View, W: Write>(
 
 /// Puts a list, an index or a part.
 pub fn put_list<V: View, S: Sink>(view: &V, doc: Doc, sink: &mut S) -> Result<(), ListError>
-    ensures taken { OnOk result (IfSome (list_text (V.shown view.now) doc) (S.takes sink.old sink.new)) }
-    ensures missing { IsErrOf result ListError.NoSuchDocument ↔ (list_text (V.shown view.now) doc ≡ None) }
+    ensures taken { OnOk result
+        (IfSome (list_text (V.shown view.now) doc) (S.takes sink.old sink.new)) }
+    ensures missing { IsErrOf result ListError.NoSuchDocument
+        ↔ (list_text (V.shown view.now) doc ≡ None) }
     ensures untouched { IsErrOf result ListError.NoSuchDocument → sink.new ≡ sink.old }
     ensures fault { IsErrOf result ListError.WriteFault → S.fails sink.old sink.new }
     ensures small { OnOk result (IfSome (list_text (V.shown view.now) doc) IsSmall) }
@@ -97,7 +101,8 @@ fn is_part_of(parts: u64, first: u64, number: u64) -> bool
 // Puts a list, an index or a part that is there.
 fn put_what_is_there<V: View, S: Sink>(view: &V, doc: Doc, sink: &mut S) -> Result<(), WriteFault>
     requires { IsSome (list_text (V.shown view.now) doc) }
-    ensures taken { OnOk result (IfSome (list_text (V.shown view.now) doc) (S.takes sink.old sink.new)) }
+    ensures taken { OnOk result
+        (IfSome (list_text (V.shown view.now) doc) (S.takes sink.old sink.new)) }
     ensures fault { OnErr result (S.fails sink.old sink.new) }
     ensures small { OnOk result (IfSome (list_text (V.shown view.now) doc) IsSmall) }
 {

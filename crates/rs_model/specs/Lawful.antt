@@ -2,7 +2,7 @@
 use Rattle.std.specs.Prelude.{ℕ, ◌<◌, ◌≤◌, ◌^◌, IsTrue, List, length, IfSome}
 use Rattle.std.specs.List.{AllByRecursion}
 use Rattle.rs_time.specs.Moment.{IsMoment}
-use Rattle.rs_fixity.specs.Digests.{AreBytes}
+use Rattle.rs_fixity.specs.Digests.{AreNBytes}
 use Rattle.rs_record.specs.Name.{is_name}
 use Rattle.rs_record.specs.MediaType.{is_media_type}
 use Rattle.rs_record.specs.Base.{is_base}
@@ -19,8 +19,8 @@ use Rattle.rs_model.specs.State.{Source, most_resources, most_changes}
 pub record AreFacts (f : Facts) : Type 0 where
   pub kind : IsTrue (is_media_type f.kind)
   pub length : f.length < 2 ^ 32
-  pub md5 : AreBytes 16 f.digests.md5
-  pub sha256 : AreBytes 32 f.digests.sha256
+  pub md5 : AreNBytes 16 f.digests.md5
+  pub sha256 : AreNBytes 32 f.digests.sha256
 
 -- a lawful name with its facts and a moment
 pub record IsEntry (e : List ℕ × Entry) : Type 0 where

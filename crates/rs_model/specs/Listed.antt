@@ -1,6 +1,7 @@
 -- A listed resource as a record, which is how a state keeps its latest publication.
 use Rattle.std.specs.Prelude.{◌≡◌, ℕ, List, map}
 use Rattle.rs_record.specs.declared.record.Record.{Record}
+use Rattle.rs_record.specs.Format.{facts_in}
 use Rattle.rs_model.specs.declared.value.Entry.{Entry}
 
 -- the record of a listed resource: a publication has no blocks of a disk, so its extent is empty
@@ -17,7 +18,7 @@ record_of e =
 
 -- the name of a record with its facts and moment
 abbrev pub entry_of : Record → List ℕ × Entry
-entry_of r = (r.name, record { facts = record { kind = r.kind; length = r.length; digests = r.digests }; moment = r.moment })
+entry_of r = (r.name, record { facts = facts_in r; moment = r.moment })
 
 -- each is the record of its entry, so that none has blocks
 abbrev pub AreListed : List Record → Type 0

@@ -5,19 +5,16 @@ use Rattle.rs_record.specs.declared.change.Change.{Change}
 use Rattle.rs_fixity.specs.Digests.{digests}
 use Rattle.rs_model.specs.declared.value.Entry.{Entry}
 use Rattle.rs_model.specs.declared.value.Held.{Held}
+use Rattle.rs_record.specs.Limits.{most_items}
 use Rattle.rs_model.specs.Names.{Names, value_of, map_values}
-
--- the greatest number of bytes of a body
-abbrev pub longest_body : ℕ
-longest_body = 16777216
 
 -- the greatest number of resources that are held
 abbrev pub most_resources : ℕ
-most_resources = 50000
+most_resources = most_items
 
 -- the greatest number of changes that are kept
 abbrev pub most_changes : ℕ
-most_changes = 50000
+most_changes = most_items
 
 -- A source: its base and item limit, the moments of its formatting and of its latest accepted command, what is
 -- held, the changes in the order in which they came, and its latest publication.

@@ -12,7 +12,8 @@ use Rattle.rs_model.specs.declared.command.Reply.TheVariants as replies
 use Rattle.rs_model.specs.declared.command.Refusal.{Refusal}
 use Rattle.rs_model.specs.declared.command.Refusal.TheVariants.{TooLong, NotHeld, TooManyResources, TooManyChanges, Exhausted}
 use Rattle.rs_model.specs.Names.{Names, value_of, bind, unbind}
-use Rattle.rs_model.specs.State.{Source, facts_of, entries, longest_body, most_resources, most_changes}
+use Rattle.rs_record.specs.Limits.{longest_body}
+use Rattle.rs_model.specs.State.{Source, facts_of, entries, most_resources, most_changes}
 
 -- the refusal of the first cause that is there
 abbrev pub first_cause : List (Bool × Refusal) → Option Refusal

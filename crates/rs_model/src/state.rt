@@ -1,7 +1,8 @@
 //! The state of a source, and the steps that commands make.
 
 ghost use Rattle.std.specs.Prelude.{◌≡◌, ℕ, ◌<◌, ◌≤◌, ◌↔◌, length, map, None, IfOk, OnOk, OnErr, IsErrOf};
-ghost use Rattle.rs_model.specs.State.{longest_body, start_of, facts_of, entries};
+ghost use Rattle.rs_record.specs.Limits.{longest_body};
+ghost use Rattle.rs_model.specs.State.{start_of, facts_of, entries};
 ghost use Rattle.rs_model.specs.Listed.{record_of};
 ghost use Rattle.rs_model.specs.Step.{step as step_of, state_after, fold_of, refusal_of, change_refusal, next_state, reply_to, moment_at, is_held};
 ghost use Rattle.rs_time.specs.Moment.{IsMoment, greatest};
@@ -14,19 +15,13 @@ use crate::names::{bind, place_in_order, unbind};
 use crate::{Body, Command, Entry, Held, Refusal, Reply, StepError};
 use rs_extent::Extent;
 use rs_fixity::digests_of;
-use rs_record::{Base, Change, Duplicate, Facts, MediaType, Name, Record, duplicate_all};
+use rs_record::{
+    Base, Change, Duplicate, Facts, LONGEST_BODY, MOST_ITEMS, MediaType, Name, Record,
+    duplicate_all,
+};
 use rs_time::Moment;
 use std::alloc::{AllocError, Global};
 use std::marker::Model;
-
-// The greatest number of bytes of a body.
-const LONGEST_BODY: usize = 16_777_216;
-
-// The greatest number of resources that are held.
-const MOST_RESOURCES: usize = 50_000;
-
-// The greatest number of changes that are kept.
-const MOST_CHANGES: usize = 50_000;
 
 /// The state of a source: its base and item limit, the resources that it holds, the changes that it
 /// keeps, and its latest publication. Contracts see it as a `Source`, which is a record of these.
@@ -53,11 +48,11 @@ impl Model for State {
 
     ghost Value = { Source };
 
-    ghost use Rattle.rs_model.specs.Inside.{source_of, IsKept};
+    ghost use Rattle.rs_model.specs.StateFields.{source_of, AreSoundFields};
 
     ghost view = { source_of };
 
-    ghost invariant = { IsKept };
+    ghost invariant = { AreSoundFields };
 }
 
 impl State {
@@ -113,7 +108,8 @@ impl State {
         now: Moment,
     ) -> Result<(State, Reply), StepError>
         ensures accepted { IfOk result (λ next. step_of self.now command.now now ≡ Ok next) }
-        ensures refused { (r : Refusal) → IsErrOf result (StepError.Refused r) ↔ (step_of self.now command.now now ≡ Err r) }
+        ensures refused { (r : Refusal) →
+            IsErrOf result (StepError.Refused r) ↔ (step_of self.now command.now now ≡ Err r) }
     {
         if let Some(refusal) = self.refusal(command) {
             return Err(StepError::Refused(refusal));
@@ -131,8 +127,10 @@ impl State {
         command: Command,
         now: Moment,
     ) -> Result<Reply, StepError>
-        ensures accepted { IfOk result (λ reply. step_of self.old command now ≡ Ok (self.new, reply)) }
-        ensures refused { (r : Refusal) → IsErrOf result (StepError.Refused r) ↔ (step_of self.old command now ≡ Err r) }
+        ensures accepted { IfOk result (λ reply.
+            step_of self.old command now ≡ Ok (self.new, reply)) }
+        ensures refused { (r : Refusal) →
+            IsErrOf result (StepError.Refused r) ↔ (step_of self.old command now ≡ Err r) }
         ensures unchanged { OnErr result (self.new ≡ self.old) }
     {
         if let Some(refusal) = self.refusal(&command) {
@@ -188,9 +186,9 @@ impl State {
     {
         match command {
             Command::Put { name, bytes, .. } => {
-                if bytes.bytes().len() > LONGEST_BODY {
+                if bytes.bytes().len() > LONGEST_BODY as usize {
                     Some(Refusal::TooLong)
-                } else if !self.holds(name) && self.held.len() >= MOST_RESOURCES {
+                } else if !self.holds(name) && self.held.len() >= MOST_ITEMS {
                     Some(Refusal::TooManyResources)
                 } else {
                     self.change_refusal()
@@ -217,7 +215,7 @@ impl State {
     fn change_refusal(&self) -> Option<Refusal>
         ensures { result ≡ change_refusal self.now }
     {
-        if self.changes.len() >= MOST_CHANGES {
+        if self.changes.len() >= MOST_ITEMS {
             Some(Refusal::TooManyChanges)
         } else if self.last.ms() >= Moment::GREATEST {
             Some(Refusal::Exhausted)
@@ -252,8 +250,10 @@ impl State {
     ) -> Result<Reply, AllocError>
         requires accepted { refusal_of self.old (Put name kind bytes) ≡ None }
         requires moment { IsMoment moment }
-        ensures state { IfOk result (λ reply. self.new ≡ next_state self.old (Put name kind bytes) moment) }
-        ensures reply { IfOk result (λ reply. reply ≡ reply_to self.old (Put name kind bytes) moment) }
+        ensures state { IfOk result (λ reply.
+            self.new ≡ next_state self.old (Put name kind bytes) moment) }
+        ensures reply { IfOk result (λ reply.
+            reply ≡ reply_to self.old (Put name kind bytes) moment) }
         ensures unchanged { OnErr result (self.new ≡ self.old) }
     {
         let again = self.holds(&name);

@@ -35,14 +35,6 @@ impl Body {
     {
         self.bytes.as_slice()
     }
-
-    /// Its bytes, taken out of it.
-    pub fn into_bytes(self) -> Vec<u8>
-        ensures { result.items ≡ self }
-    {
-        let Body { bytes } = self;
-        bytes
-    }
 }
 
 impl Duplicate for Body {

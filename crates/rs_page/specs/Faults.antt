@@ -7,10 +7,10 @@ use Rattle.rs_page.specs.declared.page.load.LoadFault.{LoadFault}
 use Rattle.rs_page.specs.declared.page.load.LoadFault.TheVariants.{Device, Damaged, NoMemory}
 
 -- a body that was not read
-abbrev pub of_body : BodyFault → LoadFault
-of_body NoDevice = Device
-of_body DamagedBody = Damaged
-of_body NoBodyMemory = NoMemory
+abbrev pub load_fault_of : BodyFault → LoadFault
+load_fault_of NoDevice = Device
+load_fault_of DamagedBody = Damaged
+load_fault_of NoBodyMemory = NoMemory
 
 -- items that were not read
 abbrev pub of_items : FieldFault → LoadFault

@@ -1,6 +1,7 @@
 -- How a page of a list is spelled on the disk.
 use Rattle.std.specs.Prelude.{◌≤◌, ℕ, List, ◌∷◌, ◌++◌, length, flat_map, All}
 use Rattle.std.specs.Int.{w32, to_be_bytes}
+use Rattle.rs_record.specs.Limits.{most_items}
 use Rattle.rs_page.specs.declared.kind.PageKind.{PageKind}
 use Rattle.rs_page.specs.declared.kind.PageKind.TheVariants.{Records, Changes}
 
@@ -26,5 +27,5 @@ page_bytes format items = kind_byte format.kind ∷ (to_be_bytes w32 (length ite
 -- The items that a page can have: 1 to 50,000 of them, each of them lawful.
 pub record ArePageItems {T : Type 0} (format : ItemFormat T) (items : List T) : Type 0 where
   pub some : 1 ≤ length items
-  pub most : length items ≤ 50000
+  pub most : length items ≤ most_items
   pub lawful : All format.IsLawful items

@@ -6,7 +6,7 @@ use Rattle.rs_record.specs.declared.facts.Facts.{Facts}
 use Rattle.rs_record.specs.declared.change.What.{What}
 use Rattle.rs_record.specs.declared.change.What.TheVariants.{Created, Updated, Deleted}
 use Rattle.rs_record.specs.declared.change.Change.{Change}
-use Rattle.rs_record.specs.What.{agree}
+use Rattle.rs_record.specs.ChangeKind.{agree}
 use Rattle.rs_record.specs.Format.{record_bytes, change_bytes}
 use Rattle.rs_record.specs.Lawful.{IsLawfulRecord, IsLawfulChange}
 use Rattle.rs_page.specs.declared.kind.PageKind.TheVariants.{Records, Changes}

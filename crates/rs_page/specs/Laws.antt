@@ -1,11 +1,11 @@
 -- What follows from the definitions of pages alone.
 use Rattle.std.specs.Prelude.{◌≡◌, ℕ, Bool, true, List, map, All}
-use Rattle.rs_body.specs.Blocks.{within, in_some}
+use Rattle.rs_extent.specs.Extents.{within, in_some}
 use Rattle.rs_body.specs.Outside.{Keeps}
 use Rattle.rs_page.specs.declared.place.PageRef.{PageRef}
 use Rattle.rs_page.specs.Format.{ItemFormat}
-use Rattle.rs_page.specs.Sheets.{Sheet, IsStored, extents_of, placed_extents, stored_refs, stored}
-use Rattle.rs_page.specs.Pages.{IsPage, ArePages, IsWritten, Stands}
+use Rattle.rs_page.specs.Pages.{Page, IsStored, extents_of, placed_extents, stored_refs, stored}
+use Rattle.rs_page.specs.DiskPages.{IsPage, ArePages, IsWritten, Stands}
 
 -- The bytes at a reference are a page of at most one list of items.
 abbrev pub PageHoldsOnce : {T : Type 0} → ItemFormat T → Type 0
@@ -26,28 +26,28 @@ PagesStay {T} format = (kept : ℕ → Bool) (refs : List PageRef) (old new : Li
     → ((b : ℕ) → in_some (extents_of refs) b ≡ true → kept b ≡ true) → Keeps kept old new → ArePages format refs old pages → ArePages format refs new pages
 
 -- Sheets that are stored stand where their blocks hold what they held, ..
-abbrev pub SheetsStay : {T : Type 0} → ItemFormat T → Type 0
-SheetsStay {T} format = (kept : ℕ → Bool) (sheets : List (Sheet T)) (old new : List ℕ)
-    → ((b : ℕ) → in_some (extents_of (stored_refs sheets)) b ≡ true → kept b ≡ true) → Keeps kept old new
-    → All (Stands format old) sheets → All (Stands format new) sheets
+abbrev pub StoredPagesStay : {T : Type 0} → ItemFormat T → Type 0
+StoredPagesStay {T} format = (kept : ℕ → Bool) (pages : List (Page T)) (old new : List ℕ)
+    → ((b : ℕ) → in_some (extents_of (stored_refs pages)) b ≡ true → kept b ≡ true) → Keeps kept old new
+    → All (Stands format old) pages → All (Stands format new) pages
 
 -- .. and so do those that were written into the blocks that they were given.
 abbrev pub WrittenStay : {T : Type 0} → ItemFormat T → Type 0
-WrittenStay {T} format = (kept : ℕ → Bool) (sheets : List (Sheet T)) (old new : List ℕ)
-    → ((b : ℕ) → in_some (placed_extents sheets) b ≡ true → kept b ≡ true) → Keeps kept old new
-    → All (IsWritten format old) sheets → All (IsWritten format new) sheets
+WrittenStay {T} format = (kept : ℕ → Bool) (pages : List (Page T)) (old new : List ℕ)
+    → ((b : ℕ) → in_some (placed_extents pages) b ≡ true → kept b ≡ true) → Keeps kept old new
+    → All (IsWritten format old) pages → All (IsWritten format new) pages
 
--- Where the stored sheets stand and the placed ones are written, all of them stand once they are stored.
+-- Where the stored pages stand and the placed ones are written, all of them stand once they are stored.
 abbrev pub WrittenStand : {T : Type 0} → ItemFormat T → Type 0
-WrittenStand {T} format = (sheets : List (Sheet T)) (image : List ℕ)
-    → All (Stands format image) sheets → All (IsWritten format image) sheets → All (Stands format image) (stored format sheets)
+WrittenStand {T} format = (pages : List (Page T)) (image : List ℕ)
+    → All (Stands format image) pages → All (IsWritten format image) pages → All (Stands format image) (stored format pages)
 
--- Where all sheets are stored and stand, the references to them are references to pages of their items, ..
+-- Where all pages are stored and stand, the references to them are references to pages of their items, ..
 abbrev pub StandingArePages : {T : Type 0} → ItemFormat T → Type 0
-StandingArePages {T} format = (sheets : List (Sheet T)) (image : List ℕ) → All IsStored sheets
-    → All (Stands format image) sheets → ArePages format (stored_refs sheets) image (map (λ sheet. sheet.items) sheets)
+StandingArePages {T} format = (pages : List (Page T)) (image : List ℕ) → All IsStored pages
+    → All (Stands format image) pages → ArePages format (stored_refs pages) image (map (λ page. page.items) pages)
 
--- .. and where they are, the sheets stand.
+-- .. and where they are, the pages stand.
 abbrev pub PagesStand : {T : Type 0} → ItemFormat T → Type 0
-PagesStand {T} format = (sheets : List (Sheet T)) (image : List ℕ) → All IsStored sheets
-    → ArePages format (stored_refs sheets) image (map (λ sheet. sheet.items) sheets) → All (Stands format image) sheets
+PagesStand {T} format = (pages : List (Page T)) (image : List ℕ) → All IsStored pages
+    → ArePages format (stored_refs pages) image (map (λ page. page.items) pages) → All (Stands format image) pages

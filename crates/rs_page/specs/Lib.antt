@@ -1,9 +1,10 @@
 pub mod Format
 pub mod Items
-pub mod Apart
-pub mod Sheets
+pub mod FormatsApart
 pub mod Pages
-pub mod Kept
+pub mod DiskPages
+pub mod SharedPages
 pub mod Placing
 pub mod Faults
 pub mod Laws
+pub mod HeldItems

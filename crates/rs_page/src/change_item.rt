@@ -1,6 +1,6 @@
 //! Changes as the items of a page.
 ghost use Rattle.rs_page.specs.Items.{change_format};
-ghost use Rattle.rs_page.specs.Apart.{changes_apart};
+ghost use Rattle.rs_page.specs.FormatsApart.{changes_apart};
 
 use crate::{PageItem, PageKind};
 use rs_record::{Change, FieldFault, change_size, read_change, write_change};

@@ -1,5 +1,6 @@
 //! A page as bytes.
 ghost use Rattle.std.specs.Prelude.{ℕ, ◌≡◌, ◌≤◌, ◌+◌, ◌*◌, length, vec_len, All, IfOk};
+ghost use Rattle.rs_record.specs.Limits.{most_items};
 ghost use Rattle.rs_page.specs.Format.{page_bytes as bytes_of, items_bytes};
 
 use crate::PageItem;
@@ -7,7 +8,7 @@ use std::alloc::{AllocError, Global};
 
 /// How many bytes a page of these items has: at most 5 and 410 for each item.
 pub(crate) fn page_size<T: PageItem>(items: &[T]) -> u32
-    requires { length items.now ≤ 50000 }
+    requires { length items.now ≤ most_items }
     ensures size { result ≡ length (bytes_of T.format items.now) }
     ensures bound { result ≤ 5 + 410 * length items.now }
 {
@@ -20,7 +21,7 @@ pub(crate) fn page_size<T: PageItem>(items: &[T]) -> u32
 
 /// The bytes of a page of these items.
 pub(crate) fn page_bytes<T: PageItem>(alloc: Global, items: &[T]) -> Result<Vec<u8>, AllocError>
-    requires { length items.now ≤ 50000 }
+    requires { length items.now ≤ most_items }
     ensures bytes { IfOk result (λ page. page.items ≡ bytes_of T.format items.now) }
     ensures bound { IfOk result (λ page. vec_len page ≤ 5 + 410 * length items.now) }
     ensures lawful { IfOk result (λ _. All T.format.IsLawful items.now) }

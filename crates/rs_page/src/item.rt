@@ -28,7 +28,8 @@ pub trait PageItem: Drop {
     fn write(&self, out: &mut Vec<u8>) -> Result<(), AllocError>
         ensures ok { OnOk result (out.new.items ≡ out.old.items ++ format.bytes self.now) }
         ensures err { OnErr result (out.new.items ≡ out.old.items) }
-        ensures full { OnErr result (vec_capacity out.old < vec_len out.old + length (format.bytes self.now)) }
+        ensures full { OnErr result (vec_capacity out.old < vec_len out.old
+            + length (format.bytes self.now)) }
 
         // So what was written is read again.
         ensures lawful { format.IsLawful self.now };
@@ -40,10 +41,15 @@ pub trait PageItem: Drop {
     /// `Malformed` exactly where the bytes begin with no format of a lawful item; `NoMemory` where
     /// the memory for the item was refused.
     fn read(alloc: Global, bytes: &[u8]) -> Result<(Self, usize), FieldFault>
-        ensures found { IfOk result (λ read. format.IsLawful read.0 × BeginsWith bytes.now (format.bytes read.0)) }
+        ensures found { IfOk result (λ read. format.IsLawful read.0
+            × BeginsWith bytes.now (format.bytes read.0)) }
         ensures size { IfOk result (λ read. read.1 ≡ length (format.bytes read.0)) }
-        ensures only { (item : Self) → format.IsLawful item → BeginsWith bytes.now (format.bytes item) → IfOk result (λ read. read.0 ≡ item) }
-        ensures malformed { IsErrOf result FieldFault.Malformed ↔ ((item : Self) → format.IsLawful item → ¬ BeginsWith bytes.now (format.bytes item)) };
+        ensures only { (item : Self)
+            → format.IsLawful item
+            → BeginsWith bytes.now (format.bytes item)
+            → IfOk result (λ read. read.0 ≡ item) }
+        ensures malformed { IsErrOf result FieldFault.Malformed
+            ↔ ((item : Self) → format.IsLawful item → ¬ BeginsWith bytes.now (format.bytes item)) };
 
     // No format begins another, so a list of formats one after the other is read in one way.
     ghost apart: { (a b : Self) (x y : List ℕ) → format.IsLawful a → format.IsLawful b → format.bytes a ++ x ≡ format.bytes b ++ y → (a ≡ b) × (x ≡ y) };

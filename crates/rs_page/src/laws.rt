@@ -2,7 +2,7 @@
 //!
 //! Each function here does nothing: its contract is the law, which the check proves. Proofs cite
 //! the lemmas behind them, in `proofs/OneList.antt` and `proofs/Standing.antt`.
-ghost use Rattle.rs_page.specs.Laws.{PageHoldsOnce, PagesHoldOnce, PageStays, PagesStay, SheetsStay, WrittenStay, WrittenStand, StandingArePages, PagesStand};
+ghost use Rattle.rs_page.specs.Laws.{PageHoldsOnce, PagesHoldOnce, PageStays, PagesStay, StoredPagesStay, WrittenStay, WrittenStand, StandingArePages, PagesStand};
 
 use crate::PageItem;
 
@@ -17,7 +17,7 @@ pub fn pages_hold_once<T: PageItem>()
 pub fn pages_stay<T: PageItem>()
     ensures page { PageStays T.format }
     ensures pages { PagesStay T.format }
-    ensures stored { SheetsStay T.format }
+    ensures stored { StoredPagesStay T.format }
     ensures written { WrittenStay T.format }
 {}
 

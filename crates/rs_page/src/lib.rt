@@ -18,11 +18,13 @@ mod page;
 mod place;
 mod reading;
 mod record_item;
+mod shared;
 
 pub use fill::Fill;
 pub use item::PageItem;
 pub use kind::PageKind;
 pub use page::load::LoadFault;
 pub use page::store::StoreFault;
-pub use page::{Full, MOST_ITEMS, Page};
+pub use page::{Full, Page};
 pub use place::{PageRef, Place};
+pub use rs_record::MOST_ITEMS;

@@ -4,21 +4,19 @@ pub(crate) mod store;
 
 ghost use Rattle.std.specs.Prelude.{ℕ, ◌≡◌, ◌<◌, ◌≤◌, length, slice_get, slice_set, IfOk, IfSome, OnOk, OnErr};
 ghost use Rattle.rs_extent.specs.Blocks.{IsFreeRun};
-ghost use Rattle.rs_page.specs.Sheets.{stored_ref};
-ghost use Rattle.rs_page.specs.Placing.{PlacesOne, HasNoRun};
+ghost use Rattle.rs_page.specs.Pages.{stored_ref};
+ghost use Rattle.rs_page.specs.Placing.{PlacesOne, PageHasNoRun};
 
 use crate::format::page_size;
+use crate::shared::SharedItems;
 use crate::{Fill, PageItem, Place};
 use rs_body::blocks_for;
 use rs_extent::Used;
 use rs_fixity::Digests;
-use rs_record::{Duplicate, duplicate_all};
+use rs_record::{Duplicate, MOST_ITEMS};
 use std::alloc::{AllocError, Global};
 use std::marker::Model;
 use thiserror::Error;
-
-/// The most items that a page has.
-pub const MOST_ITEMS: usize = 50_000;
 
 /// No run of free blocks is long enough for a page.
 #[derive(Clone, Copy, Debug, PartialEq, Eq, Error)]
@@ -30,18 +28,21 @@ pub struct Full;
 /// It has 1 to [`MOST_ITEMS`] items.
 #[derive(Debug, Drop)]
 pub struct Page<T: PageItem> {
-    items: Vec<T>,
+    items: SharedItems<T>,
     place: Place,
 }
 
 impl<T: PageItem> Model for Page<T> {
-    ghost use Rattle.rs_page.specs.Sheets.{Sheet, IsKept};
+    ghost use Rattle.std.specs.Prelude.{◌≡◌, None, IsTrue};
+    ghost use Rattle.rs_page.specs.Pages.{Page, IsSoundPage, stored_ref};
 
-    ghost Value = { Sheet T };
+    ghost Value = { Page T };
 
     ghost view = { λ page. record { items = page.items.items; place = page.place } };
 
-    ghost invariant = { λ page. IsKept T.format page.items.items page.place };
+    // A page that is not on the disk yet has its items alone, so it is changed where it is.
+    ghost invariant = { λ page. IsSoundPage T.format page.items.items page.place
+        × (stored_ref page.place ≡ None → IsTrue page.items.own) };
 }
 
 impl<T: PageItem> Page<T> {
@@ -53,7 +54,7 @@ impl<T: PageItem> Page<T> {
         ensures place { result.place ≡ Place.Touched }
     {
         Page {
-            items,
+            items: SharedItems::new(items),
             place: Place::Touched,
         }
     }
@@ -64,7 +65,7 @@ impl<T: PageItem> Page<T> {
         ensures some { 1 ≤ length result.now }
         ensures most { length result.now ≤ MOST_ITEMS }
     {
-        &self.items
+        self.items.as_slice()
     }
 
     /// Where it stands.
@@ -78,12 +79,13 @@ impl<T: PageItem> Page<T> {
     /// bytes. The page has not been stored, and stays where it is. It takes no memory.
     pub fn replace(&mut self, i: usize, item: T)
         requires within { i < length self.old.items }
-        requires fits { IfSome (slice_get self.old.items i) (λ old. length (T.format.bytes item) ≡ length (T.format.bytes old)) }
+        requires fits { IfSome (slice_get self.old.items i) (λ old. length (T.format.bytes item)
+            ≡ length (T.format.bytes old)) }
         requires not_stored { stored_ref self.old.place ≡ None }
         ensures items { self.new.items ≡ slice_set self.old.items i item }
         ensures place { self.new.place ≡ self.old.place }
     {
-        self.items[i] = item;
+        self.items.replace(i, item);
     }
 
     /// Gives the page the lowest run of free blocks of its size, where it has no blocks yet. It
@@ -93,14 +95,14 @@ impl<T: PageItem> Page<T> {
     /// [`Full`] where there is no such run; nothing has changed then.
     pub fn place_in(&mut self, used: &mut Used) -> Result<(), Full>
         ensures ok { OnOk result (PlacesOne T.format used.old self.old used.new self.new) }
-        ensures full { OnErr result (HasNoRun T.format used.old self.old) }
+        ensures full { OnErr result (PageHasNoRun T.format used.old self.old) }
         ensures used { OnErr result (used.new ≡ used.old) }
         ensures err { OnErr result (self.new ≡ self.old) }
     {
         match self.place {
             Place::Placed(_) | Place::Stored(_) => Ok(()),
             Place::Touched => {
-                let Some(extent) = used.find(blocks_for(page_size(&self.items))) else {
+                let Some(extent) = used.find(blocks_for(page_size(self.items.as_slice()))) else {
                     return Err(Full);
                 };
                 used.take(extent);
@@ -117,15 +119,17 @@ impl<T: Fill> Page<T> {
     pub fn fill(&mut self, i: usize, digests: Digests)
         requires within { i < length self.old.items }
         requires not_stored { stored_ref self.old.place ≡ None }
-        ensures items { IfSome (slice_get self.old.items i) (λ item. self.new.items ≡ slice_set self.old.items i (T.filled digests item)) }
+        ensures items { IfSome (slice_get self.old.items i)
+            (λ item. self.new.items ≡ slice_set self.old.items i (T.filled digests item)) }
         ensures place { self.new.place ≡ self.old.place }
     {
-        self.items[i].fill(digests);
+        self.items.fill(i, digests);
     }
 }
 
 impl<T: PageItem + Duplicate> Page<T> {
-    /// The same page once more, at the same place.
+    /// The same page once more, at the same place. A page that is on the disk shares its items with
+    /// the copy; the items of any other page are copied.
     ///
     /// # Errors
     /// [`AllocError`] where the memory for the copy is refused.
@@ -133,7 +137,7 @@ impl<T: PageItem + Duplicate> Page<T> {
         ensures { IfOk result (λ copied. copied ≡ self.now) }
     {
         Ok(Page {
-            items: duplicate_all(alloc, &self.items)?,
+            items: self.items.copy(alloc)?,
             place: self.place,
         })
     }

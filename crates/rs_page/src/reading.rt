@@ -4,8 +4,7 @@ ghost use Rattle.std.specs.Int.{w32, to_be_bytes};
 ghost use Rattle.rs_page.specs.Format.{ArePageItems, page_bytes, items_bytes};
 
 use crate::PageItem;
-use crate::page::MOST_ITEMS;
-use rs_record::FieldFault;
+use rs_record::{FieldFault, MOST_ITEMS};
 use std::alloc::Global;
 
 /// The items of which these bytes are a page.
@@ -16,7 +15,10 @@ use std::alloc::Global;
 pub(crate) fn read_items<T: PageItem>(alloc: Global, bytes: &[u8]) -> Result<Vec<T>, FieldFault>
     ensures lawful { IfOk result (λ read. ArePageItems T.format read.items) }
     ensures found { IfOk result (λ read. bytes.now ≡ page_bytes T.format read.items) }
-    ensures malformed { IsErrOf result FieldFault.Malformed → (items : List T) → ArePageItems T.format items → ¬ (bytes.now ≡ page_bytes T.format items) }
+    ensures malformed { IsErrOf result FieldFault.Malformed
+        → (items : List T)
+        → ArePageItems T.format items
+        → ¬ (bytes.now ≡ page_bytes T.format items) }
 {
     let Some((kind, count, rest)) = head_of(bytes) else {
         return Err(FieldFault::Malformed);
@@ -33,7 +35,8 @@ pub(crate) fn read_items<T: PageItem>(alloc: Global, bytes: &[u8]) -> Result<Vec
 
 // The kind and the number of items that the bytes begin with, and the bytes after them.
 fn head_of(bytes: &[u8]) -> Option<(u8, usize, &[u8])>
-    ensures { MatchOption result (length bytes.now < 5) (λ head. (head.1 < 2 ^ 32) × (bytes.now ≡ head.0 ∷ (to_be_bytes w32 head.1 ++ head.2.now))) }
+    ensures { MatchOption result (length bytes.now < 5) (λ head. (head.1 < 2 ^ 32)
+        × (bytes.now ≡ head.0 ∷ (to_be_bytes w32 head.1 ++ head.2.now))) }
 {
     let (kind, rest) = bytes.split_first()?;
     let (count, rest) = rest.split_first_chunk::<4>()?;
@@ -48,8 +51,13 @@ fn read_first<T: PageItem>(
 ) -> Result<(Vec<T>, &[u8]), FieldFault>
     ensures count { IfOk result (λ read. length read.0.items ≡ count) }
     ensures lawful { IfOk result (λ read. All T.format.IsLawful read.0.items) }
-    ensures found { IfOk result (λ read. bytes.now ≡ items_bytes T.format read.0.items ++ read.1.now) }
-    ensures malformed { IsErrOf result FieldFault.Malformed → (items : List T) (rest : List ℕ) → length items ≡ count → All T.format.IsLawful items → ¬ (bytes.now ≡ items_bytes T.format items ++ rest) }
+    ensures found { IfOk result (λ read. bytes.now ≡ items_bytes T.format read.0.items
+        ++ read.1.now) }
+    ensures malformed { IsErrOf result FieldFault.Malformed
+        → (items : List T) (rest : List ℕ)
+        → length items ≡ count
+        → All T.format.IsLawful items
+        → ¬ (bytes.now ≡ items_bytes T.format items ++ rest) }
 {
     let mut items = Vec::new(alloc);
     let mut rest = bytes;

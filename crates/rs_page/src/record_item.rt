@@ -1,6 +1,6 @@
 //! Records as the items of a page.
 ghost use Rattle.rs_page.specs.Items.{record_format};
-ghost use Rattle.rs_page.specs.Apart.{records_apart};
+ghost use Rattle.rs_page.specs.FormatsApart.{records_apart};
 
 use crate::{PageItem, PageKind};
 use rs_record::{FieldFault, Record, read_record, record_size, write_record};

@@ -1,6 +1,6 @@
 //! Catalogues and histories on a device that fails, and the parts of a history.
 ghost use Rattle.std.specs.Prelude.{◌≡◌, []};
-ghost use Rattle.rs_page.specs.Sheets.{placed_extents};
+ghost use Rattle.rs_page.specs.Pages.{placed_extents};
 
 use crate::values::deletion;
 use rs_catalogue::{Catalogue, LoadFault, StoreFault};

@@ -5,14 +5,15 @@ use Rattle.std.specs.declared.cmp.Ordering.{Ordering}
 use Rattle.std.specs.declared.cmp.Ordering.TheVariants.{Less, Equal, Greater}
 use Rattle.std.proofs.lemmas.List.Elements.{All-nil, All-cons, All-head, All-tail}
 use Rattle.rs_extent.specs.declared.Extent.{Extent}
-use Rattle.rs_body.specs.Blocks.{in_some}
-use Rattle.rs_body.proofs.Sets.{some_first, some_rest, some_split}
+use Rattle.rs_extent.specs.Extents.{in_some, AreApart}
+use Rattle.rs_extent.proofs.Sets.{some_first, some_rest, some_split}
 use Rattle.rs_record.specs.declared.record.Record.{Record}
 use Rattle.rs_model.specs.Names.{Names, by_bytes, by_order, bind, unbind}
-use Rattle.rs_page.specs.Kept.{IsSublist, AreApart}
+use Rattle.rs_page.specs.SharedPages.{IsSublist}
 use Rattle.rs_catalogue.specs.Named.{named}
 use Rattle.rs_image.specs.Reach.{bodies_of}
-use Rattle.rs_plan.proofs.Extents.{Disjoint, not_true, not_both}
+use Rattle.rs_extent.specs.Extents.{AreDisjoint}
+use Rattle.rs_extent.proofs.Sets.{not_true, not_both}
 use Rattle.rs_plan.proofs.Sublists.{skipped, mapped, all_of, some_of, apart_of}
 
 -- the records of a map
@@ -82,7 +83,7 @@ bound_some : (name : List ℕ) (v : Record) (m : Names Record) (b : ℕ) → in_
 bound_some name v [] b is = inr is
 bound_some name v (e ∷ m) b is = bound_some_by name v e m (by_bytes name e.0) b (bound_some name v m b) is
 
-bound_apart_by : (name : List ℕ) (v : Record) (e : List ℕ × Record) (m : Names Record) (r : Ordering) → Disjoint (in_some (v.extent ∷ [])) (in_some (bodies_of (values (e ∷ m))))
+bound_apart_by : (name : List ℕ) (v : Record) (e : List ℕ × Record) (m : Names Record) (r : Ordering) → AreDisjoint (in_some (v.extent ∷ [])) (in_some (bodies_of (values (e ∷ m))))
     → AreApart (bodies_of (values (e ∷ m))) → AreApart (bodies_of (values (bind name v m))) → AreApart (bodies_of (values (by_order r ((name, v) ∷ e ∷ m) ((name, v) ∷ m) (e ∷ bind name v m))))
 bound_apart_by name v e m Less beside apart next = (λ b here. beside b (some_first v.extent [] b here), apart)
 bound_apart_by name v e m Equal beside apart next = (
@@ -98,7 +99,7 @@ bound_apart_by name v e m Greater beside apart next = (
   next,
 )
 
-bound_apart : (name : List ℕ) (v : Record) (m : Names Record) → Disjoint (in_some (v.extent ∷ [])) (in_some (bodies_of (values m))) → AreApart (bodies_of (values m))
+bound_apart : (name : List ℕ) (v : Record) (m : Names Record) → AreDisjoint (in_some (v.extent ∷ [])) (in_some (bodies_of (values m))) → AreApart (bodies_of (values m))
     → AreApart (bodies_of (values (bind name v m)))
 bound_apart name v [] beside apart = (λ b here. refl, tt)
 bound_apart name v (e ∷ m) beside apart =
@@ -110,7 +111,7 @@ bound_apart name v (e ∷ m) beside apart =
 -- What is known of the bodies after a command: each block is an old body's or the new one's, and they are apart where the new one is apart from the old ones.
 pub record AreBodies (body : Extent) (old new : List Record) : Type 0 where
   pub comes : (b : ℕ) → in_some (bodies_of new) b ≡ true → (in_some (bodies_of old) b ≡ true) ⊎ (in_some (body ∷ []) b ≡ true)
-  pub apart : AreApart (bodies_of old) → Disjoint (in_some (body ∷ [])) (in_some (bodies_of old)) → AreApart (bodies_of new)
+  pub apart : AreApart (bodies_of old) → AreDisjoint (in_some (body ∷ [])) (in_some (bodies_of old)) → AreApart (bodies_of new)
 
 pub bodies_bound : (name : List ℕ) (v : Record) (old new : List Record) → named new ≡ bind name v (named old) → AreBodies v.extent old new
 bodies_bound name v old new is =

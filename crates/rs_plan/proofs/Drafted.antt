@@ -14,12 +14,12 @@ use Rattle.rs_record.specs.Changes.{bound}
 use Rattle.rs_page.specs.declared.place.Place.{Place}
 use Rattle.rs_page.specs.declared.place.Place.TheVariants.{Touched, Placed, Stored}
 use Rattle.rs_page.specs.Items.{record_format, change_format, record_filled, change_filled}
-use Rattle.rs_page.specs.Sheets.{Sheet, IsTouched, placed_extents, stored_ref, blocks_needed}
+use Rattle.rs_page.specs.Pages.{Page, IsTouched, placed_extents, stored_ref, blocks_needed}
 use Rattle.rs_page.specs.Placing.{Places}
-use Rattle.rs_page.specs.Kept.{stored_sheets}
+use Rattle.rs_page.specs.SharedPages.{stored_pages}
 use Rattle.rs_catalogue.specs.Catalogue.{records_of, StandsUnstored}
 use Rattle.rs_catalogue.specs.Named.{named}
-use Rattle.rs_catalogue.specs.Filled.{fill_in, sheets_filled}
+use Rattle.rs_catalogue.specs.Filled.{fill_in, pages_filled}
 use Rattle.rs_catalogue.proofs.FilledIn.{filled-some}
 use Rattle.rs_changes.specs.History.{changes_of, EndsUnstored}
 use Rattle.rs_changes.specs.Filled.{fill_end, history_filled}
@@ -30,7 +30,8 @@ use Rattle.rs_body.specs.Blocks.{blocks_of}
 use Rattle.rs_page.specs.Items.{facts_filled}
 use Rattle.rs_page.specs.Format.{ItemFormat}
 use Rattle.rs_record.proofs.Changes.{same_change}
-use Rattle.rs_page.specs.Kept.{IsSublist, AreTaken}
+use Rattle.rs_extent.specs.Extents.{AreTaken}
+use Rattle.rs_page.specs.SharedPages.{IsSublist}
 use Rattle.rs_directory.specs.Directory.{directory_length}
 use Rattle.rs_image.specs.declared.contents.Contents.{Contents}
 use Rattle.rs_model.specs.State.{facts_of}
@@ -49,25 +50,25 @@ pub digests_long : (bytes : List ℕ) → AreLong (digests bytes)
 digests_long bytes = record { md5 = (md5-bytes bytes).0; sha256 = (sha256-bytes bytes).0 }
 
 -- What the pages of a list are once they got digests, as before they did.
-pub record IsAlike {T : Type 0} (needs : List (Sheet T) → List ℕ) (filled sheets : List (Sheet T)) : Type 0 where
-  pub stored : stored_sheets filled ≡ []
-  pub extents : placed_extents filled ≡ placed_extents sheets
-  pub count : length filled ≡ length sheets
-  pub needed : needs filled ≡ needs sheets
-  pub some : All HasItems sheets → All HasItems filled
+pub record IsAlike {T : Type 0} (needs : List (Page T) → List ℕ) (filled pages : List (Page T)) : Type 0 where
+  pub stored : stored_pages filled ≡ []
+  pub extents : placed_extents filled ≡ placed_extents pages
+  pub count : length filled ≡ length pages
+  pub needed : needs filled ≡ needs pages
+  pub some : All HasItems pages → All HasItems filled
 
 -- the same of pages that were placed
-pub record IsPlacedAlike {T : Type 0} (R : List (Sheet T) → List (Sheet T) → Type 0) (filled sheets placed_filled placed : List (Sheet T)) : Type 0 where
+pub record IsPlacedAlike {T : Type 0} (R : List (Page T) → List (Page T) → Type 0) (filled pages placed_filled placed : List (Page T)) : Type 0 where
   pub places : R filled placed_filled
   pub extents : placed_extents placed_filled ≡ placed_extents placed
-  pub untouched : All (λ sheet. ¬ IsTouched sheet.place) placed_filled
+  pub untouched : All (λ page. ¬ IsTouched page.place) placed_filled
 
 -- a page that is not stored is left out of those that are
-none_stored : {T : Type 0} (sheet : Sheet T) → is_some (stored_ref sheet.place) ≡ false → stored_sheets (sheet ∷ []) ≡ []
-none_stored sheet is = ap (λ b. if b then sheet ∷ [] else []) is
+none_stored : {T : Type 0} (page : Page T) → is_some (stored_ref page.place) ≡ false → stored_pages (page ∷ []) ≡ []
+none_stored page is = ap (λ b. if b then page ∷ [] else []) is
 
-stands_here : (name : List ℕ) (sheet : Sheet Record) → StandsUnstored name (sheet ∷ []) → is_some (stored_ref sheet.place) ≡ false
-stands_here name sheet h = elim h [ inl here ↦ here.1 | inr other ↦ absurd other ]
+stands_here : (name : List ℕ) (page : Page Record) → StandsUnstored name (page ∷ []) → is_some (stored_ref page.place) ≡ false
+stands_here name page h = elim h [ inl here ↦ here.1 | inr other ↦ absurd other ]
 
 -- one page needs as many blocks
 needed_by : {T : Type 0} (format : ItemFormat T) (items next : List T) (place : Place) → blocks_needed format next ≡ blocks_needed format items
@@ -77,102 +78,102 @@ needed_by format items next (Placed e) same = ap (λ (n : ℕ). n ∷ []) same
 needed_by format items next (Stored ref) same = refl
 
 -- one page alone is untouched
-one_untouched : {T : Type 0} (items next : List T) (place : Place) → All (λ (sheet : Sheet T). ¬ IsTouched sheet.place) (record { items = items; place = place } ∷ [])
-    → All (λ (sheet : Sheet T). ¬ IsTouched sheet.place) (record { items = next; place = place } ∷ [])
+one_untouched : {T : Type 0} (items next : List T) (place : Place) → All (λ (page : Page T). ¬ IsTouched page.place) (record { items = items; place = place } ∷ [])
+    → All (λ (page : Page T). ¬ IsTouched page.place) (record { items = next; place = place } ∷ [])
 one_untouched {T} items next place all =
-    All-cons (λ (sheet : Sheet T). ¬ IsTouched sheet.place) (record { items = next; place = place }) [] (All-head (λ (sheet : Sheet T). ¬ IsTouched sheet.place) (record { items = items; place = place }) [] all) (All-nil (λ (sheet : Sheet T). ¬ IsTouched sheet.place))
+    All-cons (λ (page : Page T). ¬ IsTouched page.place) (record { items = next; place = place }) [] (All-head (λ (page : Page T). ¬ IsTouched page.place) (record { items = items; place = place }) [] all) (All-nil (λ (page : Page T). ¬ IsTouched page.place))
 
 module _ (name : List ℕ) (digests : Digests) (blank : Record) (long : AreLong digests) (blank_long : AreLong blank.digests) (old : Names Record) where
   -- the records, with the digests
-  pub records_filled : (sheets : List (Sheet Record)) → length sheets ≤ 1 → named (records_of sheets) ≡ bind name blank old
-      → named (records_of (sheets_filled name digests sheets)) ≡ bind name (record_filled digests blank) old
+  pub records_filled : (pages : List (Page Record)) → length pages ≤ 1 → named (records_of pages) ≡ bind name blank old
+      → named (records_of (pages_filled name digests pages)) ≡ bind name (record_filled digests blank) old
   records_filled [] few is = absurd (let none : None ≡ Some blank = ap (value_of name) is ∙ value-bind name blank old in cc)
-  records_filled (sheet ∷ []) few is =
-      let items : named sheet.items ≡ bind name blank old = ap named (sym (append-nil sheet.items)) ∙ is in
-      let at : value_of name (named sheet.items) ≡ Some blank = ap (value_of name) items ∙ value-bind name blank old in
-      ap named (append-nil (fill_in name digests sheet.items)) ∙ (filled-some name digests sheet.items blank at ∙ (ap (bind name (record_filled digests blank)) items ∙ bound_twice name (record_filled digests blank) blank old))
-  records_filled (sheet ∷ next ∷ sheets) few is = absurd (omega arith)
+  records_filled (page ∷ []) few is =
+      let items : named page.items ≡ bind name blank old = ap named (sym (append-nil page.items)) ∙ is in
+      let at : value_of name (named page.items) ≡ Some blank = ap (value_of name) items ∙ value-bind name blank old in
+      ap named (append-nil (fill_in name digests page.items)) ∙ (filled-some name digests page.items blank at ∙ (ap (bind name (record_filled digests blank)) items ∙ bound_twice name (record_filled digests blank) blank old))
+  records_filled (page ∷ next ∷ pages) few is = absurd (omega arith)
 
-  blocks_of_records : (sheet : Sheet Record) → named (records_of (sheet ∷ [])) ≡ bind name blank old → blocks_needed record_format (fill_in name digests sheet.items) ≡ blocks_needed record_format sheet.items
-  blocks_of_records sheet is =
-      let items : named sheet.items ≡ bind name blank old = ap named (sym (append-nil sheet.items)) ∙ is in
-      catalogue_blocks name digests sheet.items blank long blank_long (ap (value_of name) items ∙ value-bind name blank old)
+  blocks_of_records : (page : Page Record) → named (records_of (page ∷ [])) ≡ bind name blank old → blocks_needed record_format (fill_in name digests page.items) ≡ blocks_needed record_format page.items
+  blocks_of_records page is =
+      let items : named page.items ≡ bind name blank old = ap named (sym (append-nil page.items)) ∙ is in
+      catalogue_blocks name digests page.items blank long blank_long (ap (value_of name) items ∙ value-bind name blank old)
 
-  pub catalogue_alike : (sheets : List (Sheet Record)) → length sheets ≤ 1 → named (records_of sheets) ≡ bind name blank old → StandsUnstored name sheets
-      → IsAlike (pages_needed record_format) (sheets_filled name digests sheets) sheets
+  pub catalogue_alike : (pages : List (Page Record)) → length pages ≤ 1 → named (records_of pages) ≡ bind name blank old → StandsUnstored name pages
+      → IsAlike (pages_needed record_format) (pages_filled name digests pages) pages
   catalogue_alike [] few is stands = absurd stands
-  catalogue_alike (sheet ∷ []) few is stands =
-      let filled : Sheet Record = record { items = fill_in name digests sheet.items; place = sheet.place } in
+  catalogue_alike (page ∷ []) few is stands =
+      let filled : Page Record = record { items = fill_in name digests page.items; place = page.place } in
       record {
-        stored = none_stored filled (stands_here name sheet stands);
+        stored = none_stored filled (stands_here name page stands);
         extents = refl;
         count = refl;
-        needed = needed_by record_format sheet.items (fill_in name digests sheet.items) sheet.place (blocks_of_records sheet is);
-        some = λ all. All-cons HasItems filled [] (omega (arith, records_many name digests sheet.items, All-head HasItems sheet [] all)) (All-nil HasItems);
+        needed = needed_by record_format page.items (fill_in name digests page.items) page.place (blocks_of_records page is);
+        some = λ all. All-cons HasItems filled [] (omega (arith, records_many name digests page.items, All-head HasItems page [] all)) (All-nil HasItems);
       }
-  catalogue_alike (sheet ∷ next ∷ sheets) few is stands = absurd (omega arith)
+  catalogue_alike (page ∷ next ∷ pages) few is stands = absurd (omega arith)
 
-  pub catalogue_placed : (used used' : List Bool) (sheets placed : List (Sheet Record)) → length sheets ≤ 1 → named (records_of sheets) ≡ bind name blank old
-      → Places record_format used sheets used' placed → All (λ sheet. ¬ IsTouched sheet.place) placed
-      → IsPlacedAlike (λ xs ys. Places record_format used xs used' ys) (sheets_filled name digests sheets) sheets (sheets_filled name digests placed) placed
+  pub catalogue_placed : (used used' : List Bool) (pages placed : List (Page Record)) → length pages ≤ 1 → named (records_of pages) ≡ bind name blank old
+      → Places record_format used pages used' placed → All (λ page. ¬ IsTouched page.place) placed
+      → IsPlacedAlike (λ xs ys. Places record_format used xs used' ys) (pages_filled name digests pages) pages (pages_filled name digests placed) placed
   catalogue_placed used used' [] placed few is h all = absurd (let none : None ≡ Some blank = ap (value_of name) is ∙ value-bind name blank old in cc)
-  catalogue_placed used used' (sheet ∷ []) [] few is h all = absurd h
-  catalogue_placed used used' (sheet ∷ []) (y ∷ []) few is h all =
-      let same : y.items ≡ sheet.items = h.1.0 in
+  catalogue_placed used used' (page ∷ []) [] few is h all = absurd h
+  catalogue_placed used used' (page ∷ []) (y ∷ []) few is h all =
+      let same : y.items ≡ page.items = h.1.0 in
       record {
-        places = subst (λ (items : List Record). Places record_format used (record { items = fill_in name digests sheet.items; place = sheet.place } ∷ []) used' (record { items = fill_in name digests items; place = y.place } ∷ []))
-            (sym same) (refilled record_format used used' sheet y (fill_in name digests sheet.items) (blocks_of_records sheet is) h);
+        places = subst (λ (items : List Record). Places record_format used (record { items = fill_in name digests page.items; place = page.place } ∷ []) used' (record { items = fill_in name digests items; place = y.place } ∷ []))
+            (sym same) (refilled record_format used used' page y (fill_in name digests page.items) (blocks_of_records page is) h);
         extents = refl;
         untouched = one_untouched y.items (fill_in name digests y.items) y.place all;
       }
-  catalogue_placed used used' (sheet ∷ []) (y ∷ z ∷ placed) few is h all = absurd h.2
-  catalogue_placed used used' (sheet ∷ next ∷ sheets) placed few is h all = absurd (omega arith)
+  catalogue_placed used used' (page ∷ []) (y ∷ z ∷ placed) few is h all = absurd h.2
+  catalogue_placed used used' (page ∷ next ∷ pages) placed few is h all = absurd (omega arith)
 
 module _ (digests : Digests) (name : List ℕ) (again : Bool) (moment : ℕ) (facts : Facts) (long : AreLong digests) (facts_long : AreLong facts.digests) (before : List Change) where
   abbrev pub last : Change
   last = bound name again moment facts
 
   -- the changes, with the digests
-  pub changes_filled : (sheets : List (Sheet Change)) → length sheets ≤ 1 → changes_of sheets ≡ before ++ last ∷ []
-      → changes_of (history_filled digests sheets) ≡ before ++ change_filled digests last ∷ []
+  pub changes_filled : (pages : List (Page Change)) → length pages ≤ 1 → changes_of pages ≡ before ++ last ∷ []
+      → changes_of (history_filled digests pages) ≡ before ++ change_filled digests last ∷ []
   changes_filled [] few is = absurd (let some = length-append before (last ∷ []) in let none : 0 ≡ length (before ++ last ∷ []) = ap length is in omega (arith, some, none))
-  changes_filled (sheet ∷ []) few is =
-      let items : sheet.items ≡ before ++ last ∷ [] = sym (append-nil sheet.items) ∙ is in
-      append-nil (fill_end digests sheet.items) ∙ (ap (fill_end digests) items ∙ filled_behind digests before last)
-  changes_filled (sheet ∷ next ∷ sheets) few is = absurd (omega arith)
+  changes_filled (page ∷ []) few is =
+      let items : page.items ≡ before ++ last ∷ [] = sym (append-nil page.items) ∙ is in
+      append-nil (fill_end digests page.items) ∙ (ap (fill_end digests) items ∙ filled_behind digests before last)
+  changes_filled (page ∷ next ∷ pages) few is = absurd (omega arith)
 
-  blocks_of_changes : (sheet : Sheet Change) → changes_of (sheet ∷ []) ≡ before ++ last ∷ [] → blocks_needed change_format (fill_end digests sheet.items) ≡ blocks_needed change_format sheet.items
-  blocks_of_changes sheet is = history_blocks digests before sheet.items name again moment facts long facts_long (sym (append-nil sheet.items) ∙ is)
+  blocks_of_changes : (page : Page Change) → changes_of (page ∷ []) ≡ before ++ last ∷ [] → blocks_needed change_format (fill_end digests page.items) ≡ blocks_needed change_format page.items
+  blocks_of_changes page is = history_blocks digests before page.items name again moment facts long facts_long (sym (append-nil page.items) ∙ is)
 
-  pub history_alike : (sheets : List (Sheet Change)) → length sheets ≤ 1 → changes_of sheets ≡ before ++ last ∷ [] → EndsUnstored sheets
-      → IsAlike (pages_needed change_format) (history_filled digests sheets) sheets
+  pub history_alike : (pages : List (Page Change)) → length pages ≤ 1 → changes_of pages ≡ before ++ last ∷ [] → EndsUnstored pages
+      → IsAlike (pages_needed change_format) (history_filled digests pages) pages
   history_alike [] few is ends = absurd ends
-  history_alike (sheet ∷ []) few is ends =
-      let filled : Sheet Change = record { items = fill_end digests sheet.items; place = sheet.place } in
+  history_alike (page ∷ []) few is ends =
+      let filled : Page Change = record { items = fill_end digests page.items; place = page.place } in
       record {
         stored = none_stored filled ends;
         extents = refl;
         count = refl;
-        needed = needed_by change_format sheet.items (fill_end digests sheet.items) sheet.place (blocks_of_changes sheet is);
-        some = λ all. All-cons HasItems filled [] (omega (arith, changes_many digests sheet.items, All-head HasItems sheet [] all)) (All-nil HasItems);
+        needed = needed_by change_format page.items (fill_end digests page.items) page.place (blocks_of_changes page is);
+        some = λ all. All-cons HasItems filled [] (omega (arith, changes_many digests page.items, All-head HasItems page [] all)) (All-nil HasItems);
       }
-  history_alike (sheet ∷ next ∷ sheets) few is ends = absurd (omega arith)
+  history_alike (page ∷ next ∷ pages) few is ends = absurd (omega arith)
 
-  pub history_placed : (used used' : List Bool) (sheets placed : List (Sheet Change)) → length sheets ≤ 1 → changes_of sheets ≡ before ++ last ∷ []
-      → Places change_format used sheets used' placed → All (λ sheet. ¬ IsTouched sheet.place) placed
-      → IsPlacedAlike (λ xs ys. Places change_format used xs used' ys) (history_filled digests sheets) sheets (history_filled digests placed) placed
+  pub history_placed : (used used' : List Bool) (pages placed : List (Page Change)) → length pages ≤ 1 → changes_of pages ≡ before ++ last ∷ []
+      → Places change_format used pages used' placed → All (λ page. ¬ IsTouched page.place) placed
+      → IsPlacedAlike (λ xs ys. Places change_format used xs used' ys) (history_filled digests pages) pages (history_filled digests placed) placed
   history_placed used used' [] placed few is h all = absurd (let some = length-append before (last ∷ []) in let none : 0 ≡ length (before ++ last ∷ []) = ap length is in omega (arith, some, none))
-  history_placed used used' (sheet ∷ []) [] few is h all = absurd h
-  history_placed used used' (sheet ∷ []) (y ∷ []) few is h all =
-      let same : y.items ≡ sheet.items = h.1.0 in
+  history_placed used used' (page ∷ []) [] few is h all = absurd h
+  history_placed used used' (page ∷ []) (y ∷ []) few is h all =
+      let same : y.items ≡ page.items = h.1.0 in
       record {
-        places = subst (λ (items : List Change). Places change_format used (record { items = fill_end digests sheet.items; place = sheet.place } ∷ []) used' (record { items = fill_end digests items; place = y.place } ∷ []))
-            (sym same) (refilled change_format used used' sheet y (fill_end digests sheet.items) (blocks_of_changes sheet is) h);
+        places = subst (λ (items : List Change). Places change_format used (record { items = fill_end digests page.items; place = page.place } ∷ []) used' (record { items = fill_end digests items; place = y.place } ∷ []))
+            (sym same) (refilled change_format used used' page y (fill_end digests page.items) (blocks_of_changes page is) h);
         extents = refl;
         untouched = one_untouched y.items (fill_end digests y.items) y.place all;
       }
-  history_placed used used' (sheet ∷ []) (y ∷ z ∷ placed) few is h all = absurd h.2
-  history_placed used used' (sheet ∷ next ∷ sheets) placed few is h all = absurd (omega arith)
+  history_placed used used' (page ∷ []) (y ∷ z ∷ placed) few is h all = absurd h.2
+  history_placed used used' (page ∷ next ∷ pages) placed few is h all = absurd (omega arith)
 
 -- a change that binds a name, with other digests
 filled_bound : (digests : Digests) (name : List ℕ) (again : Bool) (moment : ℕ) (facts : Facts) → change_filled digests (bound name again moment facts) ≡ bound name again moment (facts_filled digests facts)
@@ -201,7 +202,7 @@ module _ (old c : Contents) (name kind bytes : List ℕ) (blank : Digests) (body
   abbrev pub blank_facts : Facts
   blank_facts = facts_of_body kind (length bytes) blank
 
-  pub catalogue_is : IsAlike (pages_needed record_format) (sheets_filled name (digests bytes) c.catalogue) c.catalogue
+  pub catalogue_is : IsAlike (pages_needed record_format) (pages_filled name (digests bytes) c.catalogue) c.catalogue
   catalogue_is = catalogue_alike name (digests bytes) blank_record (digests_long bytes) draft.long (named (records_of old.catalogue)) c.catalogue draft.few.count draft.records draft.stands
 
   pub history_is : IsAlike (pages_needed change_format) (history_filled (digests bytes) c.history) c.history
@@ -218,8 +219,8 @@ module _ (old c : Contents) (name kind bytes : List ℕ) (blank : Digests) (body
   pub next_is : IsNext old (Put name kind bytes) moment body (lists_filled name (digests bytes) c)
   next_is =
       put_next old (lists_filled name (digests bytes) c) name kind bytes body moment draft.header records_are changes_are draft.published
-      (subst (λ (l : List (Sheet Record)). IsSublist l (stored_sheets old.catalogue)) (sym catalogue_is.stored) tt)
-      (subst (λ (l : List (Sheet Change)). IsSublist l (stored_sheets old.history)) (sym history_is.stored) tt)
+      (subst (λ (l : List (Page Record)). IsSublist l (stored_pages old.catalogue)) (sym catalogue_is.stored) tt)
+      (subst (λ (l : List (Page Change)). IsSublist l (stored_pages old.history)) (sym history_is.stored) tt)
       (record { count = omega (arith, catalogue_is.count, draft.few.count); some = catalogue_is.some draft.few.some })
       (record { count = omega (arith, history_is.count, draft.few'.count); some = history_is.some draft.few'.some })
 

@@ -16,7 +16,7 @@ use Rattle.rs_page.specs.declared.place.Place.{Place}
 use Rattle.rs_page.specs.declared.place.Place.TheVariants.{Touched, Placed, Stored}
 use Rattle.rs_page.specs.Format.{ItemFormat, items_bytes, page_bytes}
 use Rattle.rs_page.specs.Items.{record_format, change_format, record_filled, change_filled}
-use Rattle.rs_page.specs.Sheets.{Sheet, blocks_needed}
+use Rattle.rs_page.specs.Pages.{Page, blocks_needed}
 use Rattle.rs_page.specs.Placing.{PlacesOne, Places}
 use Rattle.rs_catalogue.specs.Named.{named}
 use Rattle.rs_catalogue.specs.Filled.{fill_in}
@@ -95,7 +95,7 @@ history_blocks digests before changes name again moment facts a b is =
     ap blocks_of (page_long change_format (fill_end digests changes) changes long)
 
 -- A page that was placed is placed in the same way, where it has other items and needs as many blocks.
-abbrev pub at : {T : Type 0} → List T → Place → Sheet T
+abbrev pub at : {T : Type 0} → List T → Place → Page T
 at items place = record { items = items; place = place }
 
 refilled_by : {T : Type 0} (format : ItemFormat T) (used used' : List Bool) (items items' next : List T) (place place' : Place) → blocks_needed format next ≡ blocks_needed format items
@@ -112,7 +112,7 @@ refilled_by format used used' items items' next Touched place' same h = (
 refilled_by format used used' items items' next (Placed e) place' same h = (refl, h.1)
 refilled_by format used used' items items' next (Stored ref) place' same h = (refl, h.1)
 
-pub refilled : {T : Type 0} (format : ItemFormat T) (used used' : List Bool) (x y : Sheet T) (next : List T) → blocks_needed format next ≡ blocks_needed format x.items
+pub refilled : {T : Type 0} (format : ItemFormat T) (used used' : List Bool) (x y : Page T) (next : List T) → blocks_needed format next ≡ blocks_needed format x.items
     → Places format used (x ∷ []) used' (y ∷ []) → Places format used (at next x.place ∷ []) used' (at next y.place ∷ [])
 refilled format used used' x y next same h = (h.0, refilled_by format used h.0 x.items y.items next x.place y.place same h.1, h.2)
 

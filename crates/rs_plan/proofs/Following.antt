@@ -4,12 +4,11 @@ use Rattle.std.specs.Prelude.{All, IsSome, is_some}
 use Rattle.std.specs.List.{cons_option}
 use Rattle.std.proofs.lemmas.List.Elements.{All-head, All-tail}
 use Rattle.rs_extent.specs.declared.Extent.{Extent}
-use Rattle.rs_commit.specs.declared.root.Root.{Root}
 use Rattle.rs_record.specs.Changes.{bound, deleted}
 use Rattle.rs_page.specs.declared.place.Place.{Place}
 use Rattle.rs_page.specs.declared.place.Place.TheVariants.{Touched, Placed, Stored}
-use Rattle.rs_page.specs.Sheets.{Sheet, IsStored, placed_extent, placed_extents, stored_ref}
-use Rattle.rs_page.specs.Kept.{IsSublist, KeepsPages, stored_sheets}
+use Rattle.rs_page.specs.Pages.{Page, IsStored, placed_extent, placed_extents, stored_ref}
+use Rattle.rs_page.specs.SharedPages.{IsSublist, KeepsPages, stored_pages}
 use Rattle.rs_catalogue.specs.Catalogue.{records_of}
 use Rattle.rs_catalogue.specs.Named.{named}
 use Rattle.rs_changes.specs.History.{changes_of}
@@ -18,7 +17,8 @@ use Rattle.rs_model.specs.declared.command.Command.TheVariants.{Put, Delete, Pub
 use Rattle.rs_model.specs.Names.{value_of, bind, unbind}
 use Rattle.rs_model.specs.State.{facts_of}
 use Rattle.rs_image.specs.declared.contents.Contents.{Contents}
-use Rattle.rs_plan.specs.Room.{AreUsed, Takes, HasNoRoom, lists_needed, body_needed}
+use Rattle.rs_image.specs.Rooted.{Rooted, AreUsed}
+use Rattle.rs_plan.specs.Room.{Takes, HasNoRoom, lists_needed, body_needed}
 use Rattle.rs_plan.specs.Plans.{AreInOnePage, IsNext, LacksRoom}
 use Rattle.rs_plan.specs.Placed.{AreUnplaced, record_made}
 use Rattle.rs_plan.proofs.Turns.{put_turns, delete_turns, publish_turns}
@@ -50,8 +50,8 @@ delete_next old c name body moment header records changes published catalogue hi
 }
 
 -- a publish
-same_pages : {T : Type 0} (old new : List (Sheet T)) → new ≡ old → KeepsPages old new
-same_pages {T} old new same = subst (λ (l : List (Sheet T)). IsSublist (stored_sheets l) (stored_sheets old)) (sym same) (itself (stored_sheets old))
+same_pages : {T : Type 0} (old new : List (Page T)) → new ≡ old → KeepsPages old new
+same_pages {T} old new same = subst (λ (l : List (Page T)). IsSublist (stored_pages l) (stored_pages old)) (sym same) (itself (stored_pages old))
 
 pub publish_next : (old c : Contents) (body : Extent) (moment : ℕ) → c.header ≡ record old.header { last = moment; number = old.header.number + 1; at = moment }
     → c.catalogue ≡ old.catalogue → c.history ≡ old.history → c.published ≡ old.catalogue → IsNext old Publish moment body c
@@ -68,9 +68,9 @@ none_one Touched rest h none = none
 none_one (Placed e) rest h none = cc
 none_one (Stored ref) rest h none = none
 
-none_placed : {T : Type 0} (sheets : List (Sheet T)) → All IsStored sheets → placed_extents sheets ≡ []
+none_placed : {T : Type 0} (pages : List (Page T)) → All IsStored pages → placed_extents pages ≡ []
 none_placed [] h = refl
-none_placed (sheet ∷ sheets) h = none_one sheet.place (placed_extents sheets) (All-head IsStored sheet sheets h) (none_placed sheets (All-tail IsStored sheet sheets h))
+none_placed (page ∷ pages) h = none_one page.place (placed_extents pages) (All-head IsStored page pages h) (none_placed pages (All-tail IsStored page pages h))
 
 pub all_unplaced : (old c : Contents) → All IsStored old.catalogue → All IsStored old.history → c.catalogue ≡ old.catalogue → c.history ≡ old.history → AreUnplaced c
 all_unplaced old c of_catalogue of_history catalogue history = record {
@@ -93,7 +93,7 @@ takes_none used = record {
 }
 
 -- There is no room for lists where the body took its place.
-pub lacking : (size : ℕ) (root : Root) (old : Contents) (command : Command) (moment : ℕ) (used used' : List Bool) (body : Extent) (c : Contents) → AreUsed size root old used
-    → Takes used (body_needed command) body used' → IsNext old command moment body c → HasNoRoom used' (lists_needed c) → LacksRoom size root old command moment
-lacking size root old command moment used used' body c are_used takes next none =
+pub lacking : (old : Rooted) (command : Command) (moment : ℕ) (used used' : List Bool) (body : Extent) (c : Contents) → AreUsed old used
+    → Takes used (body_needed command) body used' → IsNext old.contents command moment body c → HasNoRoom used' (lists_needed c) → LacksRoom old command moment
+lacking old command moment used used' body c are_used takes next none =
     record { used = used; are_used = are_used; fails = inr (used', body, c, takes, next, none) }

@@ -6,9 +6,11 @@ pub mod Stored
 pub mod Listing
 pub mod Separate
 pub mod Unshared
+pub mod Here
 pub mod Turns
 pub mod Bodies
 pub mod Rules
+pub mod Replies
 pub mod Parts
 pub mod Planned
 pub mod Following

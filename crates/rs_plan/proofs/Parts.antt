@@ -2,12 +2,13 @@
 use Rattle.std.proofs.Common.{true≢false, ◌≡◌, ◌⊎◌, inl, inr, ℕ, Bool, true, List, [], length, refl, sym, ◌∙◌, ap, subst}
 use Rattle.std.specs.Prelude.{All}
 use Rattle.rs_extent.specs.declared.Extent.{Extent}
-use Rattle.rs_body.specs.Blocks.{in_some, blocks_of, IsSized}
+use Rattle.rs_extent.specs.Extents.{in_some, AreApart}
+use Rattle.rs_body.specs.Blocks.{blocks_of, IsSized}
 use Rattle.rs_page.specs.declared.place.PageRef.{PageRef}
 use Rattle.rs_page.specs.Format.{ItemFormat}
 use Rattle.rs_page.specs.Placing.{Places}
-use Rattle.rs_page.specs.Sheets.{Sheet, IsStored, placed_extents, stored_ref, stored_refs, extents_of}
-use Rattle.rs_page.specs.Kept.{IsSublist, KeepsPages, AreApart, stored_sheets}
+use Rattle.rs_page.specs.Pages.{Page, IsStored, placed_extents, stored_ref, stored_refs, extents_of}
+use Rattle.rs_page.specs.SharedPages.{IsSublist, KeepsPages, stored_pages}
 use Rattle.rs_catalogue.specs.Catalogue.{records_of}
 use Rattle.rs_model.specs.declared.command.Command.{Command}
 use Rattle.rs_model.specs.declared.command.Command.TheVariants.{Put, Delete, Publish}
@@ -16,7 +17,7 @@ use Rattle.rs_image.specs.Reach.{unshared, bodies_of}
 use Rattle.rs_plan.specs.declared.plan.Plan.{Plan}
 use Rattle.rs_plan.specs.Room.{Takes, body_needed}
 use Rattle.rs_plan.specs.Plans.{body_of_command, AreInOnePage, ArePagesAfter, once_stored, places}
-use Rattle.rs_plan.proofs.Extents.{Disjoint}
+use Rattle.rs_extent.specs.Extents.{AreDisjoint}
 use Rattle.rs_plan.proofs.Sublists.{filter_mapped}
 use Rattle.rs_plan.proofs.Placing.{places_stored}
 use Rattle.rs_plan.proofs.Stored.{refs_kept}
@@ -56,19 +57,19 @@ sized_body command used used' body takes =
     (takes.blocks ∙ n, λ none. takes.nowhere (n ∙ ap blocks_of none))
 
 -- stored pages that are kept, as references
-pub kept_part : {T : Type 0} (format : ItemFormat T) (used used' : List Bool) (old xs ys : List (Sheet T)) → KeepsPages old xs → Places format used xs used' ys
+pub kept_part : {T : Type 0} (format : ItemFormat T) (used used' : List Bool) (old xs ys : List (Page T)) → KeepsPages old xs → Places format used xs used' ys
     → IsSublist (stored_refs ys) (stored_refs old)
 kept_part {T} format used used' old xs ys keeps places =
-    let sheets : IsSublist (stored_sheets ys) (stored_sheets old) =
-    subst (λ (l : List (Sheet T)). IsSublist l (stored_sheets old)) (sym (places_stored format used used' xs ys places)) keeps in
+    let pages : IsSublist (stored_pages ys) (stored_pages old) =
+    subst (λ (l : List (Page T)). IsSublist l (stored_pages old)) (sym (places_stored format used used' xs ys places)) keeps in
     subst (λ (l : List PageRef). IsSublist l (stored_refs old)) (refs_kept ys)
-    (subst (λ (l : List PageRef). IsSublist (stored_refs (stored_sheets ys)) l) (refs_kept old)
-    (filter_mapped (λ sheet. stored_ref sheet.place) (stored_sheets ys) (stored_sheets old) sheets))
+    (subst (λ (l : List PageRef). IsSublist (stored_refs (stored_pages ys)) l) (refs_kept old)
+    (filter_mapped (λ page. stored_ref page.place) (stored_pages ys) (stored_pages old) pages))
 
 -- What is published after a command, of which nothing was written.
 pub record IsUnshared (before kept after published : List PageRef) (old : List Extent) : Type 0 where
   pub comes : (b : ℕ) → in_some (extents_of (unshared published after)) b ≡ true → (in_some (extents_of before) b ≡ true) ⊎ (in_some old b ≡ true)
-  pub beside : Disjoint (in_some (extents_of kept)) (in_some (extents_of (unshared published after)))
+  pub beside : AreDisjoint (in_some (extents_of kept)) (in_some (extents_of (unshared published after)))
   pub apart : AreApart (extents_of (unshared published after))
 
 pub unshared_none : (before kept after published : List PageRef) (old : List Extent) → unshared published after ≡ [] → IsUnshared before kept after published old

@@ -8,32 +8,32 @@ use Rattle.rs_body.specs.Blocks.{blocks_of}
 use Rattle.rs_page.specs.declared.place.Place.{Place}
 use Rattle.rs_page.specs.declared.place.Place.TheVariants.{Touched, Placed, Stored}
 use Rattle.rs_page.specs.Format.{ItemFormat, page_bytes}
-use Rattle.rs_page.specs.Sheets.{Sheet, IsStored, placed_extent, stored_ref, blocks_needed, items_of, placed_extents}
-use Rattle.rs_page.specs.Placing.{PlacesOne, Places, HasNoPlace, HasNoRun as HasNoPageRun}
-use Rattle.rs_page.specs.Kept.{stored_sheets}
+use Rattle.rs_page.specs.Pages.{Page, IsStored, placed_extent, stored_ref, blocks_needed, items_of, placed_extents}
+use Rattle.rs_page.specs.Placing.{PlacesOne, Places, HasNoPlace, PageHasNoRun as HasNoPageRun}
+use Rattle.rs_page.specs.SharedPages.{stored_pages}
 use Rattle.rs_plan.specs.Room.{HasNoRoom, pages_needed}
 use Rattle.rs_plan.specs.Plans.{AreInOnePage}
 use Rattle.rs_plan.proofs.Pages.{HasItems}
 
 -- a page of these items, at this place
-abbrev at : {T : Type 0} → List T → Place → Sheet T
+abbrev at : {T : Type 0} → List T → Place → Page T
 at items place = record { items = items; place = place }
 
 -- the items stay
-pub places_items : {T : Type 0} (format : ItemFormat T) (used used' : List Bool) (xs ys : List (Sheet T)) → Places format used xs used' ys → items_of ys ≡ items_of xs
+pub places_items : {T : Type 0} (format : ItemFormat T) (used used' : List Bool) (xs ys : List (Page T)) → Places format used xs used' ys → items_of ys ≡ items_of xs
 places_items format used used' [] [] h = refl
 places_items format used used' [] (y ∷ ys) h = absurd h
 places_items format used used' (x ∷ xs) [] h = absurd h
 places_items format used used' (x ∷ xs) (y ∷ ys) h = ap₂ ◌++◌ h.1.0 (places_items format h.0 used' xs ys h.2)
 
-pub places_length : {T : Type 0} (format : ItemFormat T) (used used' : List Bool) (xs ys : List (Sheet T)) → Places format used xs used' ys → length ys ≡ length xs
+pub places_length : {T : Type 0} (format : ItemFormat T) (used used' : List Bool) (xs ys : List (Page T)) → Places format used xs used' ys → length ys ≡ length xs
 places_length format used used' [] [] h = refl
 places_length format used used' [] (y ∷ ys) h = absurd h
 places_length format used used' (x ∷ xs) [] h = absurd h
 places_length format used used' (x ∷ xs) (y ∷ ys) h = omega (arith, places_length format h.0 used' xs ys h.2)
 
 -- so does the page rule
-places_some : {T : Type 0} (format : ItemFormat T) (used used' : List Bool) (xs ys : List (Sheet T)) → Places format used xs used' ys → All HasItems xs → All HasItems ys
+places_some : {T : Type 0} (format : ItemFormat T) (used used' : List Bool) (xs ys : List (Page T)) → Places format used xs used' ys → All HasItems xs → All HasItems ys
 places_some format used used' [] [] h some = All-nil HasItems
 places_some format used used' [] (y ∷ ys) h some = absurd h
 places_some format used used' (x ∷ xs) [] h some = absurd h
@@ -41,34 +41,34 @@ places_some {T} format used used' (x ∷ xs) (y ∷ ys) h some =
     All-cons HasItems y ys (subst (λ (items : List T). 1 ≤ length items) (sym h.1.0) (All-head HasItems x xs some))
     (places_some format h.0 used' xs ys h.2 (All-tail HasItems x xs some))
 
-pub places_one_page : {T : Type 0} (format : ItemFormat T) (used used' : List Bool) (xs ys : List (Sheet T)) → Places format used xs used' ys → AreInOnePage xs → AreInOnePage ys
+pub places_one_page : {T : Type 0} (format : ItemFormat T) (used used' : List Bool) (xs ys : List (Page T)) → Places format used xs used' ys → AreInOnePage xs → AreInOnePage ys
 places_one_page format used used' xs ys h one = record {
   count = omega (arith, places_length format used used' xs ys h, one.count);
   some = places_some format used used' xs ys h one.some;
 }
 
 -- so do the pages that are stored
-stored_one : {T : Type 0} (format : ItemFormat T) (used used' : List Bool) (items : List T) (place : Place) (y : Sheet T) (xs ys : List (Sheet T))
-    → PlacesOne format used (at items place) used' y → stored_sheets ys ≡ stored_sheets xs → stored_sheets (y ∷ ys) ≡ stored_sheets (at items place ∷ xs)
+stored_one : {T : Type 0} (format : ItemFormat T) (used used' : List Bool) (items : List T) (place : Place) (y : Page T) (xs ys : List (Page T))
+    → PlacesOne format used (at items place) used' y → stored_pages ys ≡ stored_pages xs → stored_pages (y ∷ ys) ≡ stored_pages (at items place ∷ xs)
 stored_one format used used' items Touched y xs ys h rest =
-    ap (λ (p : Place). cond (is_some (stored_ref p)) (y ∷ stored_sheets ys) (stored_sheets ys)) h.1.placed ∙ rest
+    ap (λ (p : Place). cond (is_some (stored_ref p)) (y ∷ stored_pages ys) (stored_pages ys)) h.1.placed ∙ rest
 stored_one format used used' items (Placed e) y xs ys h rest =
-    ap (λ (p : Place). cond (is_some (stored_ref p)) (y ∷ stored_sheets ys) (stored_sheets ys)) h.1.1 ∙ rest
+    ap (λ (p : Place). cond (is_some (stored_ref p)) (y ∷ stored_pages ys) (stored_pages ys)) h.1.1 ∙ rest
 stored_one {T} format used used' items (Stored ref) y xs ys h rest =
     let same : y ≡ at items (Stored ref) = ap₂ (λ (i : List T) (p : Place). at i p) h.0 h.1.1 in
-    ap (λ (p : Place). cond (is_some (stored_ref p)) (y ∷ stored_sheets ys) (stored_sheets ys)) h.1.1 ∙ ap₂ (λ (s : Sheet T) (l : List (Sheet T)). s ∷ l) same rest
+    ap (λ (p : Place). cond (is_some (stored_ref p)) (y ∷ stored_pages ys) (stored_pages ys)) h.1.1 ∙ ap₂ (λ (s : Page T) (l : List (Page T)). s ∷ l) same rest
 
-pub places_stored : {T : Type 0} (format : ItemFormat T) (used used' : List Bool) (xs ys : List (Sheet T)) → Places format used xs used' ys → stored_sheets ys ≡ stored_sheets xs
+pub places_stored : {T : Type 0} (format : ItemFormat T) (used used' : List Bool) (xs ys : List (Page T)) → Places format used xs used' ys → stored_pages ys ≡ stored_pages xs
 places_stored format used used' [] [] h = refl
 places_stored format used used' [] (y ∷ ys) h = absurd h
 places_stored format used used' (x ∷ xs) [] h = absurd h
 places_stored format used used' (x ∷ xs) (y ∷ ys) h = stored_one format used h.0 x.items x.place y xs ys h.1 (places_stored format h.0 used' xs ys h.2)
 
 -- the blocks that a page was given are as many as it needs
-abbrev pub IsFitted : {T : Type 0} → ItemFormat T → Sheet T → Type 0
-IsFitted format sheet = IfSome (placed_extent sheet.place) (λ extent. extent.blocks ≡ blocks_needed format sheet.items)
+abbrev pub IsFitted : {T : Type 0} → ItemFormat T → Page T → Type 0
+IsFitted format page = IfSome (placed_extent page.place) (λ extent. extent.blocks ≡ blocks_needed format page.items)
 
-fitted_one : {T : Type 0} (format : ItemFormat T) (used used' : List Bool) (items : List T) (place : Place) (y : Sheet T) (rest : List Extent)
+fitted_one : {T : Type 0} (format : ItemFormat T) (used used' : List Bool) (items : List T) (place : Place) (y : Page T) (rest : List Extent)
     → PlacesOne format used (at items place) used' y → cons_option (placed_extent place) rest ≡ [] → IsFitted format y
 fitted_one {T} format used used' items Touched y rest h none =
     subst (λ (p : Place). IfSome (placed_extent p) (λ extent. extent.blocks ≡ blocks_needed format y.items)) (sym h.1.placed)
@@ -81,7 +81,7 @@ rest_none : {A : Type 0} (o : Option A) (rest : List A) → cons_option o rest �
 rest_none None rest h = h
 rest_none (Some a) rest h = cc
 
-pub places_fitted : {T : Type 0} (format : ItemFormat T) (used used' : List Bool) (xs ys : List (Sheet T)) → Places format used xs used' ys → placed_extents xs ≡ [] → All (IsFitted format) ys
+pub places_fitted : {T : Type 0} (format : ItemFormat T) (used used' : List Bool) (xs ys : List (Page T)) → Places format used xs used' ys → placed_extents xs ≡ [] → All (IsFitted format) ys
 places_fitted format used used' [] [] h none = All-nil (IsFitted format)
 places_fitted format used used' [] (y ∷ ys) h none = absurd h
 places_fitted format used used' (x ∷ xs) [] h none = absurd h
@@ -97,7 +97,7 @@ pub needed : {T : Type 0} (format : ItemFormat T) (items : List T) → 1 ≤ blo
 needed format items = some_needed (length (page_bytes format items)) (omega arith)
 
 -- Where later things have no room after the pages of a list, they have none beside them.
-room_one : {T : Type 0} (format : ItemFormat T) (used used' : List Bool) (items : List T) (place : Place) (y : Sheet T) (xs : List (Sheet T)) (rest : List ℕ)
+room_one : {T : Type 0} (format : ItemFormat T) (used used' : List Bool) (items : List T) (place : Place) (y : Page T) (xs : List (Page T)) (rest : List ℕ)
     → PlacesOne format used (at items place) used' y → cons_option (placed_extent place) (placed_extents xs) ≡ []
     → HasNoRoom used' (pages_needed format xs ++ rest) → HasNoRoom used (pages_needed format (at items place ∷ xs) ++ rest)
 room_one format used used' items Touched y xs rest h none later =
@@ -105,7 +105,7 @@ room_one format used used' items Touched y xs rest h none later =
 room_one format used used' items (Placed e) y xs rest h none later = cc
 room_one format used used' items (Stored ref) y xs rest h none later = subst (λ (u : List Bool). HasNoRoom u (pages_needed format xs ++ rest)) h.1.0 later
 
-pub room_after : {T : Type 0} (format : ItemFormat T) (used used' : List Bool) (xs ys : List (Sheet T)) (rest : List ℕ) → Places format used xs used' ys → placed_extents xs ≡ []
+pub room_after : {T : Type 0} (format : ItemFormat T) (used used' : List Bool) (xs ys : List (Page T)) (rest : List ℕ) → Places format used xs used' ys → placed_extents xs ≡ []
     → HasNoRoom used' rest → HasNoRoom used (pages_needed format xs ++ rest)
 room_after format used used' [] [] rest h none later = subst (λ (u : List Bool). HasNoRoom u rest) h later
 room_after format used used' [] (y ∷ ys) rest h none later = absurd h
@@ -115,13 +115,13 @@ room_after format used used' (x ∷ xs) (y ∷ ys) rest h none later =
     (room_after format h.0 used' xs ys rest h.2 (rest_none (placed_extent x.place) (placed_extents xs) none) later)
 
 -- Where a page has no place, the pages have no room.
-run_none : {T : Type 0} (format : ItemFormat T) (used : List Bool) (items : List T) (place : Place) (xs : List (Sheet T)) (rest : List ℕ)
+run_none : {T : Type 0} (format : ItemFormat T) (used : List Bool) (items : List T) (place : Place) (xs : List (Page T)) (rest : List ℕ)
     → HasNoPageRun format used (at items place) → HasNoRoom used (pages_needed format (at items place ∷ xs) ++ rest)
 run_none format used items Touched xs rest h = inl (needed format items, h)
 run_none format used items (Placed e) xs rest h = absurd h
 run_none format used items (Stored ref) xs rest h = absurd h
 
-pub room_none : {T : Type 0} (format : ItemFormat T) (used : List Bool) (xs : List (Sheet T)) (rest : List ℕ) → HasNoPlace format used xs → placed_extents xs ≡ []
+pub room_none : {T : Type 0} (format : ItemFormat T) (used : List Bool) (xs : List (Page T)) (rest : List ℕ) → HasNoPlace format used xs → placed_extents xs ≡ []
     → HasNoRoom used (pages_needed format xs ++ rest)
 room_none format used [] rest h none = absurd h
 room_none format used (x ∷ xs) rest h none = elim h [
@@ -131,16 +131,16 @@ room_none format used (x ∷ xs) rest h none = elim h [
 ]
 
 -- Pages that are stored stay as they are.
-same_one : {T : Type 0} (format : ItemFormat T) (used used' : List Bool) (items : List T) (place : Place) (y : Sheet T) → IsSome (stored_ref place)
+same_one : {T : Type 0} (format : ItemFormat T) (used used' : List Bool) (items : List T) (place : Place) (y : Page T) → IsSome (stored_ref place)
     → PlacesOne format used (at items place) used' y → y ≡ at items place
 same_one format used used' items Touched y some h = cc
 same_one format used used' items (Placed e) y some h = cc
 same_one {T} format used used' items (Stored ref) y some h = ap₂ (λ (i : List T) (p : Place). at i p) h.0 h.1.1
 
-pub places_same : {T : Type 0} (format : ItemFormat T) (used used' : List Bool) (xs ys : List (Sheet T)) → All IsStored xs → Places format used xs used' ys → ys ≡ xs
+pub places_same : {T : Type 0} (format : ItemFormat T) (used used' : List Bool) (xs ys : List (Page T)) → All IsStored xs → Places format used xs used' ys → ys ≡ xs
 places_same format used used' [] [] some h = refl
 places_same format used used' [] (y ∷ ys) some h = absurd h
 places_same format used used' (x ∷ xs) [] some h = absurd h
 places_same {T} format used used' (x ∷ xs) (y ∷ ys) some h =
-    ap₂ (λ (s : Sheet T) (l : List (Sheet T)). s ∷ l) (same_one format used h.0 x.items x.place y (All-head IsStored x xs some) h.1)
+    ap₂ (λ (s : Page T) (l : List (Page T)). s ∷ l) (same_one format used h.0 x.items x.place y (All-head IsStored x xs some) h.1)
     (places_same format h.0 used' xs ys (All-tail IsStored x xs some) h.2)

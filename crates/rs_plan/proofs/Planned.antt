@@ -3,31 +3,35 @@ use Rattle.std.proofs.Common.{◌≡◌, inl, inr, ℕ, ◌+◌, ◌<◌, ◌≤
 use Rattle.std.specs.Prelude.{All, MatchOption}
 use Rattle.std.proofs.lemmas.Bool.Decides.{nat_tests}
 use Rattle.rs_extent.specs.declared.Extent.{Extent}
-use Rattle.rs_body.specs.Blocks.{in_some, blocks_of, part, IsSized}
-use Rattle.rs_body.specs.Outside.{AreBeside}
+use Rattle.rs_extent.specs.Extents.{in_some, AreBeside, AreApart, AreTaken}
+use Rattle.rs_body.specs.Blocks.{blocks_of, part, IsSized}
 use Rattle.rs_commit.specs.declared.root.Root.{Root}
 use Rattle.rs_record.specs.declared.record.Record.{Record}
 use Rattle.rs_record.specs.declared.change.Change.{Change}
 use Rattle.rs_page.specs.declared.place.PageRef.{PageRef}
 use Rattle.rs_page.specs.Items.{record_format, change_format}
-use Rattle.rs_page.specs.Sheets.{Sheet, IsStored, stored_refs, stored}
-use Rattle.rs_page.specs.Kept.{IsSublist, AreApart, AreTaken, stored_sheets}
+use Rattle.rs_page.specs.Pages.{Page, IsStored, stored_refs, stored}
+use Rattle.rs_page.specs.SharedPages.{IsSublist, stored_pages}
 use Rattle.rs_catalogue.specs.Catalogue.{records_of}
 use Rattle.rs_changes.specs.History.{changes_of, last_of}
 use Rattle.rs_directory.specs.declared.header.Header.{Header}
 use Rattle.rs_directory.specs.Directory.{directory_length, IsLawfulHeader, IsLawfulRef, AreLawfulRefs}
 use Rattle.rs_model.specs.declared.command.Command.{Command}
-use Rattle.rs_model.specs.Step.{next_state}
+use Rattle.rs_model.specs.Step.{next_state, reply_to}
 use Rattle.rs_model.specs.Listed.{entry_of}
 use Rattle.rs_image.specs.declared.contents.Contents.{Contents}
 use Rattle.rs_image.specs.Reach.{blocks_of_disk, reach, is_kept, unshared, AreInside}
 use Rattle.rs_image.specs.Whole.{IsWhole, AreMoments, IsSoundRecord, IsSoundChange}
-use Rattle.rs_image.specs.Tells.{held_in, state_in, AreListable}
+use Rattle.rs_image.specs.StateOfImage.{held_in, state_in, AreListable}
 use Rattle.rs_plan.specs.declared.plan.Plan.{Plan}
-use Rattle.rs_plan.specs.Room.{AreUsed, Takes, body_needed}
+use Rattle.rs_image.specs.Rooted.{rooted, AreUsed, IsRooted}
+use Rattle.rs_plan.specs.Room.{Takes, body_needed}
 use Rattle.rs_plan.specs.Plans.{body_of_command, ArePagesAfter, IsNext, places, planned_listing, planned_root, TakesInTurn, IsPlanned}
 use Rattle.rs_plan.specs.Placed.{AreUnplaced, IsPlaced, directory_bytes_of}
-use Rattle.rs_plan.proofs.Extents.{Disjoint, Within, not_true, not_both, turned, some_front, some_behind, taken_lowest, taken_both}
+use Rattle.rs_extent.specs.Extents.{AreDisjoint, IsSubset}
+use Rattle.rs_extent.proofs.Sets.{not_true, not_both, turned, some_front, some_behind}
+use Rattle.rs_extent.proofs.Taken.{taken_both}
+use Rattle.rs_plan.proofs.Extents.{taken_lowest}
 use Rattle.rs_plan.proofs.Sublists.{mapped, all_of, some_of, apart_of}
 use Rattle.rs_plan.proofs.Placing.{places_items, places_length, places_stored, places_fitted, places_same, places_one_page}
 use Rattle.rs_plan.proofs.Stored.{stored_items, all_stored, count_refs, length_stored, same_refs, stored_some, stored_apart, lawful_refs, kept_refs}
@@ -51,10 +55,14 @@ or_right false b is = is
 not_low : (b : ℕ) → nat_lt b 2 ≡ false → 2 ≤ b
 not_low b is = grind (arith, nat_tests)
 
-module _ (size : ℕ) (root : Root) (old : Contents) (whole : IsWhole size root old) (listable : AreListable old) (command : Command) (moment : ℕ)
-    (used used₁ : List Bool) (are_used : AreUsed size root old used) (body : Extent) (takes : Takes used (body_needed command) body used₁)
+module _ (size : ℕ) (root : Root) (old : Contents) (sound : IsRooted (rooted size root old)) (command : Command) (moment : ℕ)
+    (used used₁ : List Bool) (are_used : AreUsed (rooted size root old) used) (body : Extent) (takes : Takes used (body_needed command) body used₁)
     (c : Contents) (next : IsNext old command moment body c) (rules : KeepsRules old body c) (unplaced : AreUnplaced c) (p : Plan) (placed : IsPlaced used₁ body c p)
+    (reply : (image : List ℕ) → p.reply ≡ reply_to (state_in image old) command moment)
     (few_old : length old.catalogue ≤ 1) (few_catalogue : length c.catalogue ≤ 1) (few_history : length c.history ≤ 1) (few_published : length c.published ≤ 1) where
+  whole : IsWhole size root old
+  whole = sound.whole
+
   -- what the plan writes to was taken
   taken : AreTaken used placed.after (places p)
   taken =
@@ -75,28 +83,28 @@ module _ (size : ℕ) (root : Root) (old : Contents) (whole : IsWhole size root 
   inside : AreInside size (places p)
   inside b is = (not_low b (or_left (nat_lt b 2) (in_some (reach root old) b) (free b is)), below b is)
 
-  reached : Within (in_some (reach root old)) (is_kept root old)
+  reached : IsSubset (in_some (reach root old)) (is_kept root old)
   reached b is = or_right (nat_lt b 2) (in_some (reach root old) b) is
 
   -- the parts of the plan
-  in_body : Within (in_some (p.body ∷ [])) (in_some (places p))
+  in_body : IsSubset (in_some (p.body ∷ [])) (in_some (places p))
   in_body b is =
       some_front (p.body ∷ given_pages p ++ given_changes p) (p.directory ∷ []) b
       (some_front (p.body ∷ given_pages p) (given_changes p) b
       (some_front (p.body ∷ []) (given_pages p) b is))
 
-  in_catalogue : Within (in_some (given_pages p)) (in_some (places p))
+  in_catalogue : IsSubset (in_some (given_pages p)) (in_some (places p))
   in_catalogue b is =
       some_front (p.body ∷ given_pages p ++ given_changes p) (p.directory ∷ []) b
       (some_front (p.body ∷ given_pages p) (given_changes p) b
       (some_behind (p.body ∷ []) (given_pages p) b is))
 
-  in_history : Within (in_some (given_changes p)) (in_some (places p))
+  in_history : IsSubset (in_some (given_changes p)) (in_some (places p))
   in_history b is =
       some_front (p.body ∷ given_pages p ++ given_changes p) (p.directory ∷ []) b
       (some_behind (p.body ∷ given_pages p) (given_changes p) b is)
 
-  in_directory : Within (in_some (p.directory ∷ [])) (in_some (places p))
+  in_directory : IsSubset (in_some (p.directory ∷ [])) (in_some (places p))
   in_directory b is = some_behind (p.body ∷ given_pages p ++ given_changes p) (p.directory ∷ []) b is
 
   -- the pages that are kept
@@ -146,15 +154,15 @@ module _ (size : ℕ) (root : Root) (old : Contents) (whole : IsWhole size root 
       same_state p.contents.header c.header (map (held_in image) (records_of p.contents.catalogue)) (map (held_in image) (records_of c.catalogue))
       (changes_of p.contents.history) (changes_of c.history) (map entry_of (records_of p.contents.published)) (map entry_of (records_of c.published))
       placed.header (ap (λ (rs : List Record). map (held_in image) rs) same_records) same_changes
-      (ap (λ (sheets : List (Sheet Record)). map entry_of (records_of sheets)) placed.published)
+      (ap (λ (pages : List (Page Record)). map entry_of (records_of pages)) placed.published)
       ∙ next.turns image (subst (λ (e : Extent). part e (length (body_of_command command)) image ≡ body_of_command command) placed.body_is there)
 
   next_placed : IsNext old command moment p.body p.contents
   next_placed = record {
     turns = turns;
-    catalogue = subst (λ (l : List (Sheet Record)). IsSublist l (stored_sheets old.catalogue))
+    catalogue = subst (λ (l : List (Page Record)). IsSublist l (stored_pages old.catalogue))
         (sym (places_stored record_format used₁ placed.after_catalogue c.catalogue p.contents.catalogue placed.catalogue)) next.catalogue;
-    history = subst (λ (l : List (Sheet Change)). IsSublist l (stored_sheets old.history))
+    history = subst (λ (l : List (Page Change)). IsSublist l (stored_pages old.history))
         (sym (places_stored change_format placed.after_catalogue placed.after_history c.history p.contents.history placed.history)) next.history;
     pages = pages;
   }
@@ -179,7 +187,7 @@ module _ (size : ℕ) (root : Root) (old : Contents) (whole : IsWhole size root 
   count_history = count_refs (stored change_format p.contents.history) stored_history ∙ length_stored change_format p.contents.history ∙ long_history
 
   count_published : length (stored_refs p.contents.published) ≡ length c.published
-  count_published = count_refs p.contents.published stored_published ∙ ap (λ (sheets : List (Sheet Record)). length sheets) placed.published
+  count_published = count_refs p.contents.published stored_published ∙ ap (λ (pages : List (Page Record)). length pages) placed.published
 
   -- the entries of a directory
   small_disk : blocks_of_disk size ≤ 8388608
@@ -189,20 +197,20 @@ module _ (size : ℕ) (root : Root) (old : Contents) (whole : IsWhole size root 
   lawful_catalogue =
       lawful_refs record_format p.contents.catalogue (blocks_of_disk size) small_disk
       (places_fitted record_format used₁ placed.after_catalogue c.catalogue p.contents.catalogue placed.catalogue unplaced.catalogue)
-      (all_of IsLawfulRef (stored_refs p.contents.catalogue) (stored_refs old.catalogue) kept_catalogue listable.catalogue.each)
+      (all_of IsLawfulRef (stored_refs p.contents.catalogue) (stored_refs old.catalogue) kept_catalogue sound.listable.catalogue.each)
       (λ b is. inside b (in_catalogue b is))
 
   lawful_history : All IsLawfulRef (stored_refs (written p).history)
   lawful_history =
       lawful_refs change_format p.contents.history (blocks_of_disk size) small_disk
       (places_fitted change_format placed.after_catalogue placed.after_history c.history p.contents.history placed.history unplaced.history)
-      (all_of IsLawfulRef (stored_refs p.contents.history) (stored_refs old.history) kept_history listable.history.each)
+      (all_of IsLawfulRef (stored_refs p.contents.history) (stored_refs old.history) kept_history sound.listable.history.each)
       (λ b is. inside b (in_history b is))
 
   lawful_published : AreLawfulRefs (stored_refs p.contents.published)
   lawful_published = elim published [
-    | inl same ↦ subst (λ (sheets : List (Sheet Record)). AreLawfulRefs (stored_refs sheets)) (sym same) listable.published
-    | inr listed ↦ subst (λ (sheets : List (Sheet Record)). AreLawfulRefs (stored_refs sheets)) (sym listed.0) listable.catalogue
+    | inl same ↦ subst (λ (pages : List (Page Record)). AreLawfulRefs (stored_refs pages)) (sym same) sound.listable.published
+    | inr listed ↦ subst (λ (pages : List (Page Record)). AreLawfulRefs (stored_refs pages)) (sym listed.0) sound.listable.catalogue
   ]
 
   listable_next : AreListable (written p)
@@ -237,7 +245,7 @@ module _ (size : ℕ) (root : Root) (old : Contents) (whole : IsWhole size root 
       (shown_in old)
   alone = elim published [
     | inl same ↦
-        let refs : stored_refs p.contents.published ≡ stored_refs old.published = ap (λ (sheets : List (Sheet Record)). stored_refs sheets) same in
+        let refs : stored_refs p.contents.published ≡ stored_refs old.published = ap (λ (pages : List (Page Record)). stored_refs pages) same in
         subst (λ (l : List PageRef). IsUnshared (stored_refs old.catalogue) (stored_refs p.contents.catalogue) (stored_refs (written p).catalogue) l
         (shown_in old)) (sym refs)
         (record {
@@ -249,9 +257,9 @@ module _ (size : ℕ) (root : Root) (old : Contents) (whole : IsWhole size root 
               (omega (arith, ap (λ (l : List PageRef). length l) refs, count_published, few_published));
         })
     | inr listed ↦
-        let shown : stored_refs p.contents.published ≡ stored_refs old.catalogue = ap (λ (sheets : List (Sheet Record)). stored_refs sheets) listed.0 in
+        let shown : stored_refs p.contents.published ≡ stored_refs old.catalogue = ap (λ (pages : List (Page Record)). stored_refs pages) listed.0 in
         let held : stored_refs (written p).catalogue ≡ stored_refs old.catalogue =
-        ap (λ (sheets : List (Sheet Record)). stored_refs (stored record_format sheets)) listed.1 ∙ same_refs record_format old.catalogue whole.catalogue in
+        ap (λ (pages : List (Page Record)). stored_refs (stored record_format pages)) listed.1 ∙ same_refs record_format old.catalogue whole.catalogue in
         unshared_none (stored_refs old.catalogue) (stored_refs p.contents.catalogue) (stored_refs (written p).catalogue) (stored_refs p.contents.published)
         (shown_in old)
         (ap (λ (l : List PageRef). unshared l (stored_refs (written p).catalogue)) shown
@@ -267,30 +275,30 @@ module _ (size : ℕ) (root : Root) (old : Contents) (whole : IsWhole size root 
       (subst (λ (rs : List Record). AreBodies body (records_of old.catalogue) rs) (sym same_stored_records) rules.bodies)
 
   -- no block of an old part is written
-  unwritten : (xs ys : List Extent) → Within (in_some xs) (in_some (reach root old)) → Within (in_some ys) (in_some (places p)) → Disjoint (in_some xs) (in_some ys)
+  unwritten : (xs ys : List Extent) → IsSubset (in_some xs) (in_some (reach root old)) → IsSubset (in_some ys) (in_some (places p)) → AreDisjoint (in_some xs) (in_some ys)
   unwritten xs ys of_old of_new b is = not_true (in_some ys b) (λ here. not_both (is_kept root old b) (reached b (of_old b is)) (free b (of_new b here)))
 
-  old_catalogue_in : Within (in_some (pages_in old)) (in_some (reach root old))
+  old_catalogue_in : IsSubset (in_some (pages_in old)) (in_some (reach root old))
   old_catalogue_in =
       a_in root.directory (pages_in old) (changes_in old) (shown_in old) (bodies_in old)
 
-  old_history_in : Within (in_some (changes_in old)) (in_some (reach root old))
+  old_history_in : IsSubset (in_some (changes_in old)) (in_some (reach root old))
   old_history_in =
       b_in root.directory (pages_in old) (changes_in old) (shown_in old) (bodies_in old)
 
-  old_published_in : Within (in_some (shown_in old)) (in_some (reach root old))
+  old_published_in : IsSubset (in_some (shown_in old)) (in_some (reach root old))
   old_published_in =
       c_in root.directory (pages_in old) (changes_in old) (shown_in old) (bodies_in old)
 
-  old_bodies_in : Within (in_some (bodies_in old)) (in_some (reach root old))
+  old_bodies_in : IsSubset (in_some (bodies_in old)) (in_some (reach root old))
   old_bodies_in =
       e_in root.directory (pages_in old) (changes_in old) (shown_in old) (bodies_in old)
 
-  some_kept_catalogue : Within (in_some (pages_in p.contents)) (in_some (pages_in old))
+  some_kept_catalogue : IsSubset (in_some (pages_in p.contents)) (in_some (pages_in old))
   some_kept_catalogue =
       some_of (pages_in p.contents) (pages_in old) (mapped (λ ref. ref.extent) (stored_refs p.contents.catalogue) (stored_refs old.catalogue) kept_catalogue)
 
-  some_kept_history : Within (in_some (changes_in p.contents)) (in_some (changes_in old))
+  some_kept_history : IsSubset (in_some (changes_in p.contents)) (in_some (changes_in old))
   some_kept_history =
       some_of (changes_in p.contents) (changes_in old) (mapped (λ ref. ref.extent) (stored_refs p.contents.history) (stored_refs old.history) kept_history)
 
@@ -361,7 +369,7 @@ module _ (size : ℕ) (root : Root) (old : Contents) (whole : IsWhole size root 
     changes = subst (λ (h : Header). All (IsSoundChange h.start h.last) (changes_of (stored change_format p.contents.history))) (sym placed.header)
         (subst (All (IsSoundChange c.header.start c.header.last)) (sym same_stored_changes) rules.changes);
     listed = subst (λ (h : Header). All (IsSoundRecord h.start h.at) (records_of p.contents.published)) (sym placed.header)
-        (subst (λ (sheets : List (Sheet Record)). All (IsSoundRecord c.header.start c.header.at) (records_of sheets)) (sym placed.published) rules.listed);
+        (subst (λ (pages : List (Page Record)). All (IsSoundRecord c.header.start c.header.at) (records_of pages)) (sym placed.published) rules.listed);
     directory = sized_directory;
     apart = apart_again p.directory (pages_in (written p)) (changes_in (written p))
         (shown_in (written p)) (bodies_in (written p)) separate;
@@ -369,7 +377,7 @@ module _ (size : ℕ) (root : Root) (old : Contents) (whole : IsWhole size root 
   }
 
   -- each part in its turn
-  in_turn : TakesInTurn size root old command p
+  in_turn : TakesInTurn (rooted size root old) command p
   in_turn = record {
     used = used;
     after_body = used₁;
@@ -380,9 +388,10 @@ module _ (size : ℕ) (root : Root) (old : Contents) (whole : IsWhole size root 
     placed = subst (λ (e : Extent). IsPlaced used₁ e c p) (sym placed.body_is) placed;
   }
 
-  pub planned : IsPlanned size root old command moment p
+  pub planned : IsPlanned (rooted size root old) command moment p
   planned = record {
     next = next_placed;
+    reply = reply;
     in_turn = in_turn;
     free = free;
     apart = taken.apart;

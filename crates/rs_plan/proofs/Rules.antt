@@ -14,8 +14,9 @@ use Rattle.rs_catalogue.specs.Catalogue.{records_of}
 use Rattle.rs_catalogue.specs.Named.{named}
 use Rattle.rs_changes.specs.History.{changes_of, last_of}
 use Rattle.rs_model.specs.Names.{value_of, bind, unbind}
-use Rattle.rs_model.specs.State.{longest_body, facts_of}
-use Rattle.rs_page.specs.Sheets.{Sheet}
+use Rattle.rs_record.specs.Limits.{longest_body}
+use Rattle.rs_model.specs.State.{facts_of}
+use Rattle.rs_page.specs.Pages.{Page}
 use Rattle.rs_directory.specs.declared.header.Header.{Header}
 use Rattle.rs_directory.specs.Directory.{IsLawfulHeader}
 use Rattle.rs_image.specs.declared.contents.Contents.{Contents}
@@ -49,7 +50,7 @@ at_end : (changes : List Change) (c : Change) → slice_get (changes ++ c ∷ []
 at_end [] c = refl
 at_end (x ∷ changes) c = at_end changes c
 
-last_pushed : (changes : List Change) (c : Change) → last_of (changes ++ c ∷ []) ≡ Some c
+pub last_pushed : (changes : List Change) (c : Change) → last_of (changes ++ c ∷ []) ≡ Some c
 last_pushed changes c =
     let place : length (changes ++ c ∷ []) - 1 ≡ length changes = omega (arith, length-append changes (c ∷ [])) in
     ap (λ (n : ℕ). slice_get (changes ++ c ∷ []) n) place ∙ at_end changes c
@@ -86,7 +87,7 @@ changed size root old c body change moment whole lawful is later here long heade
     subst (All (IsSoundChange old.header.start moment)) (sym changes)
     (All-push (IsSoundChange old.header.start moment) (changes_of old.history) change (later_changes old.header.start old.header.last moment (changes_of old.history) (omega arith) whole.changes) sound) in
     let listed : All (IsSoundRecord old.header.start old.header.at) (records_of c.published) =
-    subst (λ (sheets : List (Sheet Record)). All (IsSoundRecord old.header.start old.header.at) (records_of sheets)) (sym published) whole.listed in
+    subst (λ (pages : List (Page Record)). All (IsSoundRecord old.header.start old.header.at) (records_of pages)) (sym published) whole.listed in
     record {
       header = subst IsLawfulHeader (sym header) (lawful_at old.header moment lawful is);
       moments = subst (λ (h : Header). AreMoments h c) (sym header) (moments_after old c change moment whole.moments later here changes);
@@ -128,7 +129,7 @@ publish_rules size root old c body moment whole lawful is later number header ca
     let moments : AreMoments h c = record {
       start = omega (arith, whole.moments.start, whole.moments.at);
       at = omega arith;
-      last = subst (λ (sheets : List (Sheet Change)). MatchOption (last_of (changes_of sheets)) (moment ≡ moment) (λ x. moment ≡ max moment x.moment)) (sym history)
+      last = subst (λ (pages : List (Page Change)). MatchOption (last_of (changes_of pages)) (moment ≡ moment) (λ x. moment ≡ max moment x.moment)) (sym history)
           (last_published (last_of (changes_of old.history)) old.header.last old.header.at moment later whole.moments.last);
     } in
     let records : All (IsSoundRecord old.header.start moment) (records_of old.catalogue) = later_records old.header.start old.header.last moment (records_of old.catalogue) (omega arith) whole.records in
@@ -136,11 +137,11 @@ publish_rules size root old c body moment whole lawful is later number header ca
       header = subst IsLawfulHeader (sym header) lawful_next;
       moments = subst (λ (h : Header). AreMoments h c) (sym header) moments;
       records = subst (λ (h : Header). All (IsSoundRecord h.start h.last) (records_of c.catalogue)) (sym header)
-          (subst (λ (sheets : List (Sheet Record)). All (IsSoundRecord old.header.start moment) (records_of sheets)) (sym catalogue) records);
+          (subst (λ (pages : List (Page Record)). All (IsSoundRecord old.header.start moment) (records_of pages)) (sym catalogue) records);
       changes = subst (λ (h : Header). All (IsSoundChange h.start h.last) (changes_of c.history)) (sym header)
-          (subst (λ (sheets : List (Sheet Change)). All (IsSoundChange old.header.start moment) (changes_of sheets)) (sym history)
+          (subst (λ (pages : List (Page Change)). All (IsSoundChange old.header.start moment) (changes_of pages)) (sym history)
           (later_changes old.header.start old.header.last moment (changes_of old.history) (omega arith) whole.changes));
       listed = subst (λ (h : Header). All (IsSoundRecord h.start h.at) (records_of c.published)) (sym header)
-          (subst (λ (sheets : List (Sheet Record)). All (IsSoundRecord old.header.start moment) (records_of sheets)) (sym published) records);
-      bodies = subst (λ (sheets : List (Sheet Record)). AreBodies body (records_of old.catalogue) (records_of sheets)) (sym catalogue) (bodies_same body (records_of old.catalogue));
+          (subst (λ (pages : List (Page Record)). All (IsSoundRecord old.header.start moment) (records_of pages)) (sym published) records);
+      bodies = subst (λ (pages : List (Page Record)). AreBodies body (records_of old.catalogue) (records_of pages)) (sym catalogue) (bodies_same body (records_of old.catalogue));
     }

@@ -1,10 +1,10 @@
 -- The parts of what a root reaches, apart from one another: before a command and after it.
 use Rattle.std.proofs.Common.{true≢false, ◌≡◌, ◌⊎◌, inl, inr, ℕ, Bool, true, false, List, [], ◌∷◌, ◌++◌, refl, sym}
 use Rattle.rs_extent.specs.declared.Extent.{Extent}
-use Rattle.rs_body.specs.Blocks.{in_some}
-use Rattle.rs_body.proofs.Sets.{some_first}
-use Rattle.rs_page.specs.Kept.{AreApart}
-use Rattle.rs_plan.proofs.Extents.{Disjoint, Within, not_true, not_both, turned, narrowed, some_front, some_behind, some_of_both, apart_both, apart_front, apart_behind, apart_between}
+use Rattle.rs_extent.specs.Extents.{in_some, AreApart}
+use Rattle.rs_extent.proofs.Sets.{some_first}
+use Rattle.rs_extent.specs.Extents.{AreDisjoint, IsSubset}
+use Rattle.rs_extent.proofs.Sets.{not_true, not_both, turned, narrowed, some_front, some_behind, some_of_both, apart_both, apart_front, apart_behind, apart_between}
 
 -- the directory, the catalogue pages, the change pages, the published pages and the bodies
 abbrev pub joined : Extent → List Extent → List Extent → List Extent → List Extent → List Extent
@@ -16,25 +16,25 @@ pub record AreSeparate (d : Extent) (a b c e : List Extent) : Type 0 where
   pub in_b : AreApart b
   pub in_c : AreApart c
   pub in_e : AreApart e
-  pub da : Disjoint (in_some (d ∷ [])) (in_some a)
-  pub db : Disjoint (in_some (d ∷ [])) (in_some b)
-  pub dc : Disjoint (in_some (d ∷ [])) (in_some c)
-  pub de : Disjoint (in_some (d ∷ [])) (in_some e)
-  pub ab : Disjoint (in_some a) (in_some b)
-  pub ac : Disjoint (in_some a) (in_some c)
-  pub ae : Disjoint (in_some a) (in_some e)
-  pub bc : Disjoint (in_some b) (in_some c)
-  pub be : Disjoint (in_some b) (in_some e)
-  pub ce : Disjoint (in_some c) (in_some e)
+  pub da : AreDisjoint (in_some (d ∷ [])) (in_some a)
+  pub db : AreDisjoint (in_some (d ∷ [])) (in_some b)
+  pub dc : AreDisjoint (in_some (d ∷ [])) (in_some c)
+  pub de : AreDisjoint (in_some (d ∷ [])) (in_some e)
+  pub ab : AreDisjoint (in_some a) (in_some b)
+  pub ac : AreDisjoint (in_some a) (in_some c)
+  pub ae : AreDisjoint (in_some a) (in_some e)
+  pub bc : AreDisjoint (in_some b) (in_some c)
+  pub be : AreDisjoint (in_some b) (in_some e)
+  pub ce : AreDisjoint (in_some c) (in_some e)
 
 -- a set of two lists is disjoint from one where each list is
-both : (xs ys : List Extent) (other : ℕ → Bool) → Disjoint (in_some xs) other → Disjoint (in_some ys) other → Disjoint (in_some (xs ++ ys)) other
+both : (xs ys : List Extent) (other : ℕ → Bool) → AreDisjoint (in_some xs) other → AreDisjoint (in_some ys) other → AreDisjoint (in_some (xs ++ ys)) other
 both xs ys other one two b is = elim (some_of_both xs ys b is) [ inl front ↦ one b front | inr behind ↦ two b behind ]
 
-front : (xs ys : List Extent) (other : ℕ → Bool) → Disjoint (in_some (xs ++ ys)) other → Disjoint (in_some xs) other
+front : (xs ys : List Extent) (other : ℕ → Bool) → AreDisjoint (in_some (xs ++ ys)) other → AreDisjoint (in_some xs) other
 front xs ys other h b is = h b (some_front xs ys b is)
 
-behind : (xs ys : List Extent) (other : ℕ → Bool) → Disjoint (in_some (xs ++ ys)) other → Disjoint (in_some ys) other
+behind : (xs ys : List Extent) (other : ℕ → Bool) → AreDisjoint (in_some (xs ++ ys)) other → AreDisjoint (in_some ys) other
 behind xs ys other h b is = h b (some_behind xs ys b is)
 
 pub separated : (d : Extent) (a b c e : List Extent) → AreApart (joined d a b c e) → AreSeparate d a b c e
@@ -88,36 +88,36 @@ five_of d a b c e P k is of_d of_a of_b of_c of_e = elim (some_of_both (d ∷ a 
 ]
 
 -- and each part is in the whole
-pub a_in : (d : Extent) (a b c e : List Extent) → Within (in_some a) (in_some (joined d a b c e))
+pub a_in : (d : Extent) (a b c e : List Extent) → IsSubset (in_some a) (in_some (joined d a b c e))
 a_in d a b c e k is = some_front (d ∷ a ++ b ++ c) e k (some_front (d ∷ a ++ b) c k (some_front (d ∷ a) b k (some_behind (d ∷ []) a k is)))
 
-pub b_in : (d : Extent) (a b c e : List Extent) → Within (in_some b) (in_some (joined d a b c e))
+pub b_in : (d : Extent) (a b c e : List Extent) → IsSubset (in_some b) (in_some (joined d a b c e))
 b_in d a b c e k is = some_front (d ∷ a ++ b ++ c) e k (some_front (d ∷ a ++ b) c k (some_behind (d ∷ a) b k is))
 
-pub c_in : (d : Extent) (a b c e : List Extent) → Within (in_some c) (in_some (joined d a b c e))
+pub c_in : (d : Extent) (a b c e : List Extent) → IsSubset (in_some c) (in_some (joined d a b c e))
 c_in d a b c e k is = some_front (d ∷ a ++ b ++ c) e k (some_behind (d ∷ a ++ b) c k is)
 
-pub e_in : (d : Extent) (a b c e : List Extent) → Within (in_some e) (in_some (joined d a b c e))
+pub e_in : (d : Extent) (a b c e : List Extent) → IsSubset (in_some e) (in_some (joined d a b c e))
 e_in d a b c e k is = some_behind (d ∷ a ++ b ++ c) e k is
 
 -- A list of extents whose blocks are old ones, which are kept, or new ones, which are not.
 pub record IsMixed (kept : ℕ → Bool) (xs : List Extent) (old new : ℕ → Bool) : Type 0 where
   pub comes : (b : ℕ) → in_some xs b ≡ true → (old b ≡ true) ⊎ (new b ≡ true)
-  pub olds : Within old kept
+  pub olds : IsSubset old kept
   pub news : (b : ℕ) → new b ≡ true → kept b ≡ false
 
 -- no block at all
 abbrev pub none : ℕ → Bool
 none b = false
 
-pub none_left : (other : ℕ → Bool) → Disjoint none other
+pub none_left : (other : ℕ → Bool) → AreDisjoint none other
 none_left other b is = absurd (true≢false (sym is))
 
-pub none_right : (other : ℕ → Bool) → Disjoint other none
+pub none_right : (other : ℕ → Bool) → AreDisjoint other none
 none_right other b is = refl
 
 pub mixed_apart : (kept : ℕ → Bool) (xs ys : List Extent) (old new old' new' : ℕ → Bool) → IsMixed kept xs old new → IsMixed kept ys old' new'
-    → Disjoint old old' → Disjoint new new' → Disjoint (in_some xs) (in_some ys)
+    → AreDisjoint old old' → AreDisjoint new new' → AreDisjoint (in_some xs) (in_some ys)
 mixed_apart kept xs ys old new old' new' one other olds news b is = not_true (in_some ys b) (λ is'. elim (one.comes b is) [
   | inl o ↦ elim (other.comes b is') [ inl o' ↦ not_both (old' b) o' (olds b o) | inr n' ↦ not_both (kept b) (one.olds b o) (other.news b n') ]
   | inr n ↦ elim (other.comes b is') [ inl o' ↦ not_both (kept b) (other.olds b o') (one.news b n) | inr n' ↦ not_both (new' b) n' (news b n) ]
@@ -130,13 +130,13 @@ pub record AreNew (kept : ℕ → Bool) (body : Extent) (pa pb : List Extent) (d
 
 -- What a command leaves of the old parts and of what it writes is apart.
 pub separate_next : (kept : ℕ → Bool) (d d' body : Extent) (a b c e a' b' c' e' pa pb : List Extent) (ka kb : List Extent)
-    → AreSeparate d a b c e → Within (in_some (joined d a b c e)) kept → AreNew kept body pa pb d'
-    → Within (in_some ka) (in_some a) → Within (in_some kb) (in_some b)
+    → AreSeparate d a b c e → IsSubset (in_some (joined d a b c e)) kept → AreNew kept body pa pb d'
+    → IsSubset (in_some ka) (in_some a) → IsSubset (in_some kb) (in_some b)
     → ((k : ℕ) → in_some a' k ≡ true → (in_some ka k ≡ true) ⊎ (in_some pa k ≡ true))
     → ((k : ℕ) → in_some b' k ≡ true → (in_some kb k ≡ true) ⊎ (in_some pb k ≡ true))
     → ((k : ℕ) → in_some c' k ≡ true → (in_some a k ≡ true) ⊎ (in_some c k ≡ true))
     → ((k : ℕ) → in_some e' k ≡ true → (in_some e k ≡ true) ⊎ (in_some (body ∷ []) k ≡ true))
-    → Disjoint (in_some ka) (in_some c')
+    → AreDisjoint (in_some ka) (in_some c')
     → AreApart a' → AreApart b' → AreApart c' → AreApart e' → AreSeparate d' a' b' c' e'
 separate_next kept d d' body a b c e a' b' c' e' pa pb ka kb was reached new in_a in_b of_a of_b of_c of_e beside apart_a apart_b apart_c apart_e =
     let all = new.apart in
@@ -155,7 +155,7 @@ separate_next kept d d' body a b c e a' b' c' e' pa pb ka kb was reached new in_
     let free_pa : (k : ℕ) → in_some pa k ≡ true → kept k ≡ false = λ k is. new.beside k (some_front (body ∷ pa ++ pb) (d' ∷ []) k (some_front (body ∷ pa) pb k (some_behind (body ∷ []) pa k is))) in
     let free_pb : (k : ℕ) → in_some pb k ≡ true → kept k ≡ false = λ k is. new.beside k (some_front (body ∷ pa ++ pb) (d' ∷ []) k (some_behind (body ∷ pa) pb k is)) in
     let free_d : (k : ℕ) → in_some (d' ∷ []) k ≡ true → kept k ≡ false = λ k is. new.beside k (some_behind (body ∷ pa ++ pb) (d' ∷ []) k is) in
-    let c_a_c : (other : ℕ → Bool) → Disjoint (in_some a) other → Disjoint (in_some c) other → Disjoint (in_some c') other =
+    let c_a_c : (other : ℕ → Bool) → AreDisjoint (in_some a) other → AreDisjoint (in_some c) other → AreDisjoint (in_some c') other =
     λ other one two k is. elim (of_c k is) [ inl here ↦ one k here | inr there ↦ two k there ] in
     let mixed_d : IsMixed kept (d' ∷ []) none (in_some (d' ∷ [])) = record { comes = λ k is. inr is; olds = λ k is. absurd (true≢false (sym is)); news = free_d } in
     let mixed_a : IsMixed kept a' (in_some ka) (in_some pa) = record { comes = of_a; olds = λ k is. reached k (a_in d a b c e k (in_a k is)); news = free_pa } in

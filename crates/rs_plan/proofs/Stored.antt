@@ -5,23 +5,24 @@ use Rattle.std.specs.List.{cons_option}
 use Rattle.std.proofs.lemmas.List.Elements.{All-nil, All-cons, All-head, All-tail}
 use Rattle.rs_extent.specs.declared.Extent.{Extent}
 use Rattle.rs_fixity.proofs.DigestBytes.{sha256-bytes}
-use Rattle.rs_body.specs.Blocks.{within, in_some}
-use Rattle.rs_body.proofs.Sets.{within_true, some_first, some_rest, some_split}
+use Rattle.rs_extent.specs.Extents.{within, in_some, AreApart}
+use Rattle.rs_extent.proofs.Sets.{within_true, some_first, some_rest, some_split}
 use Rattle.rs_page.specs.declared.place.PageRef.{PageRef}
 use Rattle.rs_page.specs.declared.place.Place.{Place}
 use Rattle.rs_page.specs.declared.place.Place.TheVariants.{Touched, Placed, Stored}
 use Rattle.rs_page.specs.Format.{ItemFormat, page_bytes}
-use Rattle.rs_page.specs.Sheets.{Sheet, IsTouched, IsStored, placed_extent, stored_ref, blocks_needed, place_stored, items_of, placed_extents, stored_refs, extents_of, stored, ref_at}
-use Rattle.rs_page.specs.Kept.{IsSublist, AreApart, stored_sheets}
+use Rattle.rs_page.specs.Pages.{Page, IsTouched, IsStored, placed_extent, stored_ref, blocks_needed, place_stored, items_of, placed_extents, stored_refs, extents_of, stored, ref_at}
+use Rattle.rs_page.specs.SharedPages.{IsSublist, stored_pages}
 use Rattle.rs_directory.specs.Directory.{IsLawfulRef}
-use Rattle.rs_plan.proofs.Extents.{Disjoint, not_true, not_both}
+use Rattle.rs_extent.specs.Extents.{AreDisjoint}
+use Rattle.rs_extent.proofs.Sets.{not_true, not_both}
 use Rattle.rs_plan.proofs.Placing.{IsFitted, needed}
 use Rattle.rs_plan.proofs.Sublists.{skipped}
 
 -- the items stay
-pub stored_items : {T : Type 0} (format : ItemFormat T) (sheets : List (Sheet T)) → items_of (stored format sheets) ≡ items_of sheets
+pub stored_items : {T : Type 0} (format : ItemFormat T) (pages : List (Page T)) → items_of (stored format pages) ≡ items_of pages
 stored_items format [] = refl
-stored_items format (sheet ∷ sheets) = ap (λ rest. sheet.items ++ rest) (stored_items format sheets)
+stored_items format (page ∷ pages) = ap (λ rest. page.items ++ rest) (stored_items format pages)
 
 -- all of them are on the disk
 is_stored_one : {T : Type 0} (format : ItemFormat T) (items : List T) (place : Place) → ¬ IsTouched place → IsSome (stored_ref (place_stored format items place))
@@ -29,26 +30,26 @@ is_stored_one format items Touched h = absurd (h tt)
 is_stored_one format items (Placed e) h = refl
 is_stored_one format items (Stored ref) h = refl
 
-pub all_stored : {T : Type 0} (format : ItemFormat T) (sheets : List (Sheet T)) → All (λ sheet. ¬ IsTouched sheet.place) sheets → All IsStored (stored format sheets)
+pub all_stored : {T : Type 0} (format : ItemFormat T) (pages : List (Page T)) → All (λ page. ¬ IsTouched page.place) pages → All IsStored (stored format pages)
 all_stored format [] h = All-nil IsStored
-all_stored format (sheet ∷ sheets) h =
-    All-cons IsStored (record { items = sheet.items; place = place_stored format sheet.items sheet.place }) (stored format sheets)
-    (is_stored_one format sheet.items sheet.place (All-head (λ sheet. ¬ IsTouched sheet.place) sheet sheets h))
-    (all_stored format sheets (All-tail (λ sheet. ¬ IsTouched sheet.place) sheet sheets h))
+all_stored format (page ∷ pages) h =
+    All-cons IsStored (record { items = page.items; place = place_stored format page.items page.place }) (stored format pages)
+    (is_stored_one format page.items page.place (All-head (λ page. ¬ IsTouched page.place) page pages h))
+    (all_stored format pages (All-tail (λ page. ¬ IsTouched page.place) page pages h))
 
 count_one : (o : Option PageRef) (refs : List PageRef) → IsSome o → length (cons_option o refs) ≡ 1 + length refs
 count_one None refs h = cc
 count_one (Some ref) refs h = omega arith
 
 -- as many references as pages
-pub count_refs : {T : Type 0} (sheets : List (Sheet T)) → All IsStored sheets → length (stored_refs sheets) ≡ length sheets
+pub count_refs : {T : Type 0} (pages : List (Page T)) → All IsStored pages → length (stored_refs pages) ≡ length pages
 count_refs [] h = refl
-count_refs (sheet ∷ sheets) h =
-    omega (arith, count_one (stored_ref sheet.place) (stored_refs sheets) (All-head IsStored sheet sheets h), count_refs sheets (All-tail IsStored sheet sheets h))
+count_refs (page ∷ pages) h =
+    omega (arith, count_one (stored_ref page.place) (stored_refs pages) (All-head IsStored page pages h), count_refs pages (All-tail IsStored page pages h))
 
-pub length_stored : {T : Type 0} (format : ItemFormat T) (sheets : List (Sheet T)) → length (stored format sheets) ≡ length sheets
+pub length_stored : {T : Type 0} (format : ItemFormat T) (pages : List (Page T)) → length (stored format pages) ≡ length pages
 length_stored format [] = refl
-length_stored format (sheet ∷ sheets) = omega (arith, length_stored format sheets)
+length_stored format (page ∷ pages) = omega (arith, length_stored format pages)
 
 -- Pages that were stored before stay, and the others are given no reference.
 same_one : {T : Type 0} (format : ItemFormat T) (items : List T) (place : Place) (refs refs' : List PageRef) → IsSome (stored_ref place) → refs' ≡ refs
@@ -57,21 +58,21 @@ same_one format items Touched refs refs' h same = cc
 same_one format items (Placed e) refs refs' h same = cc
 same_one format items (Stored ref) refs refs' h same = ap (λ l. ref ∷ l) same
 
-pub same_refs : {T : Type 0} (format : ItemFormat T) (sheets : List (Sheet T)) → All IsStored sheets → stored_refs (stored format sheets) ≡ stored_refs sheets
+pub same_refs : {T : Type 0} (format : ItemFormat T) (pages : List (Page T)) → All IsStored pages → stored_refs (stored format pages) ≡ stored_refs pages
 same_refs format [] h = refl
-same_refs format (sheet ∷ sheets) h =
-    same_one format sheet.items sheet.place (stored_refs sheets) (stored_refs (stored format sheets)) (All-head IsStored sheet sheets h) (same_refs format sheets (All-tail IsStored sheet sheets h))
+same_refs format (page ∷ pages) h =
+    same_one format page.items page.place (stored_refs pages) (stored_refs (stored format pages)) (All-head IsStored page pages h) (same_refs format pages (All-tail IsStored page pages h))
 
 -- the references of the pages that are stored
-ref_kept : {T : Type 0} (items : List T) (place : Place) (rest : List PageRef) (sheets : List (Sheet T)) → stored_refs (stored_sheets sheets) ≡ rest
-    → stored_refs (stored_sheets (record { items = items; place = place } ∷ sheets)) ≡ cons_option (stored_ref place) rest
-ref_kept items Touched rest sheets h = h
-ref_kept items (Placed e) rest sheets h = h
-ref_kept items (Stored ref) rest sheets h = ap (λ l. ref ∷ l) h
+ref_kept : {T : Type 0} (items : List T) (place : Place) (rest : List PageRef) (pages : List (Page T)) → stored_refs (stored_pages pages) ≡ rest
+    → stored_refs (stored_pages (record { items = items; place = place } ∷ pages)) ≡ cons_option (stored_ref place) rest
+ref_kept items Touched rest pages h = h
+ref_kept items (Placed e) rest pages h = h
+ref_kept items (Stored ref) rest pages h = ap (λ l. ref ∷ l) h
 
-pub refs_kept : {T : Type 0} (sheets : List (Sheet T)) → stored_refs (stored_sheets sheets) ≡ stored_refs sheets
+pub refs_kept : {T : Type 0} (pages : List (Page T)) → stored_refs (stored_pages pages) ≡ stored_refs pages
 refs_kept [] = refl
-refs_kept (sheet ∷ sheets) = ref_kept sheet.items sheet.place (stored_refs sheets) sheets (refs_kept sheets)
+refs_kept (page ∷ pages) = ref_kept page.items page.place (stored_refs pages) pages (refs_kept pages)
 
 -- Each block of the pages is one of the pages that were stored before or one that was given to a page.
 some_one : {T : Type 0} (format : ItemFormat T) (items : List T) (place : Place) (before after : List PageRef) (placed : List Extent) (b : ℕ)
@@ -88,18 +89,18 @@ some_one format items (Stored ref) before after placed b rest is = elim (some_sp
   | inr there ↦ elim (rest there) [ inl old ↦ inl (some_rest ref.extent (extents_of before) b old) | inr new ↦ inr new ]
 ]
 
-pub stored_some : {T : Type 0} (format : ItemFormat T) (sheets : List (Sheet T)) (b : ℕ) → in_some (extents_of (stored_refs (stored format sheets))) b ≡ true
-    → (in_some (extents_of (stored_refs sheets)) b ≡ true) ⊎ (in_some (placed_extents sheets) b ≡ true)
+pub stored_some : {T : Type 0} (format : ItemFormat T) (pages : List (Page T)) (b : ℕ) → in_some (extents_of (stored_refs (stored format pages))) b ≡ true
+    → (in_some (extents_of (stored_refs pages)) b ≡ true) ⊎ (in_some (placed_extents pages) b ≡ true)
 stored_some format [] b is = absurd (true≢false (sym is))
-stored_some format (sheet ∷ sheets) b is =
-    some_one format sheet.items sheet.place (stored_refs sheets) (stored_refs (stored format sheets)) (placed_extents sheets) b (stored_some format sheets b) is
+stored_some format (page ∷ pages) b is =
+    some_one format page.items page.place (stored_refs pages) (stored_refs (stored format pages)) (placed_extents pages) b (stored_some format pages b) is
 
 -- And where those are apart, so are the pages.
 apart_one : {T : Type 0} (format : ItemFormat T) (items : List T) (place : Place) (before after : List PageRef) (placed : List Extent)
     → ((b : ℕ) → in_some (extents_of after) b ≡ true → (in_some (extents_of before) b ≡ true) ⊎ (in_some placed b ≡ true))
-    → (AreApart (extents_of before) → AreApart placed → Disjoint (in_some (extents_of before)) (in_some placed) → AreApart (extents_of after))
+    → (AreApart (extents_of before) → AreApart placed → AreDisjoint (in_some (extents_of before)) (in_some placed) → AreApart (extents_of after))
     → AreApart (extents_of (cons_option (stored_ref place) before)) → AreApart (cons_option (placed_extent place) placed)
-    → Disjoint (in_some (extents_of (cons_option (stored_ref place) before))) (in_some (cons_option (placed_extent place) placed))
+    → AreDisjoint (in_some (extents_of (cons_option (stored_ref place) before))) (in_some (cons_option (placed_extent place) placed))
     → AreApart (extents_of (cons_option (stored_ref (place_stored format items place)) after))
 apart_one format items Touched before after placed comes rest one other between = rest one other between
 apart_one format items (Placed e) before after placed comes rest one other between = (
@@ -117,12 +118,12 @@ apart_one format items (Stored ref) before after placed comes rest one other bet
   rest one.1 other (λ b old. between b (some_rest ref.extent (extents_of before) b old)),
 )
 
-pub stored_apart : {T : Type 0} (format : ItemFormat T) (sheets : List (Sheet T)) → AreApart (extents_of (stored_refs sheets)) → AreApart (placed_extents sheets)
-    → Disjoint (in_some (extents_of (stored_refs sheets))) (in_some (placed_extents sheets)) → AreApart (extents_of (stored_refs (stored format sheets)))
+pub stored_apart : {T : Type 0} (format : ItemFormat T) (pages : List (Page T)) → AreApart (extents_of (stored_refs pages)) → AreApart (placed_extents pages)
+    → AreDisjoint (in_some (extents_of (stored_refs pages))) (in_some (placed_extents pages)) → AreApart (extents_of (stored_refs (stored format pages)))
 stored_apart format [] one other between = tt
-stored_apart format (sheet ∷ sheets) one other between =
-    apart_one format sheet.items sheet.place (stored_refs sheets) (stored_refs (stored format sheets)) (placed_extents sheets)
-    (stored_some format sheets) (stored_apart format sheets) one other between
+stored_apart format (page ∷ pages) one other between =
+    apart_one format page.items page.place (stored_refs pages) (stored_refs (stored format pages)) (placed_extents pages)
+    (stored_some format pages) (stored_apart format pages) one other between
 
 -- The references are lawful.
 lawful_ref : {T : Type 0} (format : ItemFormat T) (e : Extent) (items : List T) (n : ℕ) → n ≤ 8388608 → e.blocks ≡ blocks_needed format items
@@ -151,12 +152,12 @@ lawful_one format items (Placed e) before after placed n most fitted rest old in
 lawful_one format items (Stored ref) before after placed n most fitted rest old inside =
     All-cons IsLawfulRef ref after (All-head IsLawfulRef ref before old) (rest (All-tail IsLawfulRef ref before old) inside)
 
-pub lawful_refs : {T : Type 0} (format : ItemFormat T) (sheets : List (Sheet T)) (n : ℕ) → n ≤ 8388608 → All (IsFitted format) sheets → All IsLawfulRef (stored_refs sheets)
-    → ((b : ℕ) → in_some (placed_extents sheets) b ≡ true → (2 ≤ b) × (b < n)) → All IsLawfulRef (stored_refs (stored format sheets))
+pub lawful_refs : {T : Type 0} (format : ItemFormat T) (pages : List (Page T)) (n : ℕ) → n ≤ 8388608 → All (IsFitted format) pages → All IsLawfulRef (stored_refs pages)
+    → ((b : ℕ) → in_some (placed_extents pages) b ≡ true → (2 ≤ b) × (b < n)) → All IsLawfulRef (stored_refs (stored format pages))
 lawful_refs format [] n most fitted old inside = All-nil IsLawfulRef
-lawful_refs format (sheet ∷ sheets) n most fitted old inside =
-    lawful_one format sheet.items sheet.place (stored_refs sheets) (stored_refs (stored format sheets)) (placed_extents sheets) n most
-    (All-head (IsFitted format) sheet sheets fitted) (lawful_refs format sheets n most (All-tail (IsFitted format) sheet sheets fitted)) old inside
+lawful_refs format (page ∷ pages) n most fitted old inside =
+    lawful_one format page.items page.place (stored_refs pages) (stored_refs (stored format pages)) (placed_extents pages) n most
+    (All-head (IsFitted format) page pages fitted) (lawful_refs format pages n most (All-tail (IsFitted format) page pages fitted)) old inside
 
 -- The pages that were stored before are some of them.
 kept_one : {T : Type 0} (format : ItemFormat T) (items : List T) (place : Place) (before after : List PageRef) → IsSublist before after
@@ -165,6 +166,6 @@ kept_one format items Touched before after h = h
 kept_one format items (Placed e) before after h = skipped before after (ref_at format e items) h
 kept_one format items (Stored ref) before after h = inl (refl, h)
 
-pub kept_refs : {T : Type 0} (format : ItemFormat T) (sheets : List (Sheet T)) → IsSublist (stored_refs sheets) (stored_refs (stored format sheets))
+pub kept_refs : {T : Type 0} (format : ItemFormat T) (pages : List (Page T)) → IsSublist (stored_refs pages) (stored_refs (stored format pages))
 kept_refs format [] = tt
-kept_refs format (sheet ∷ sheets) = kept_one format sheet.items sheet.place (stored_refs sheets) (stored_refs (stored format sheets)) (kept_refs format sheets)
+kept_refs format (page ∷ pages) = kept_one format page.items page.place (stored_refs pages) (stored_refs (stored format pages)) (kept_refs format pages)

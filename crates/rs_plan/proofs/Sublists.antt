@@ -4,10 +4,10 @@ use Rattle.std.specs.Prelude.{All, filter_map}
 use Rattle.std.specs.List.{cons_option}
 use Rattle.std.proofs.lemmas.List.Elements.{All-nil, All-cons, All-head, All-tail}
 use Rattle.rs_extent.specs.declared.Extent.{Extent}
-use Rattle.rs_body.specs.Blocks.{within, in_some}
-use Rattle.rs_body.proofs.Sets.{some_first, some_rest, some_split}
-use Rattle.rs_page.specs.Kept.{IsSublist, AreApart}
-use Rattle.rs_plan.proofs.Extents.{not_true, not_both}
+use Rattle.rs_extent.specs.Extents.{within, in_some, AreApart}
+use Rattle.rs_extent.proofs.Sets.{some_first, some_rest, some_split}
+use Rattle.rs_page.specs.SharedPages.{IsSublist}
+use Rattle.rs_extent.proofs.Sets.{not_true, not_both}
 
 pub skipped : {A : Type 0} (xs ys : List A) (y : A) → IsSublist xs ys → IsSublist xs (y ∷ ys)
 skipped [] ys y h = tt

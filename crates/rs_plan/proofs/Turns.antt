@@ -18,9 +18,9 @@ use Rattle.rs_model.specs.State.{Source, facts_of, entries}
 use Rattle.rs_model.specs.Step.{next_state}
 use Rattle.rs_model.specs.Names.{Names, value_of, bind, unbind, map_values}
 use Rattle.rs_model.specs.Listed.{entry_of}
-use Rattle.rs_page.specs.Sheets.{Sheet}
+use Rattle.rs_page.specs.Pages.{Page}
 use Rattle.rs_image.specs.declared.contents.Contents.{Contents}
-use Rattle.rs_image.specs.Tells.{held_in, state_in}
+use Rattle.rs_image.specs.StateOfImage.{held_in, state_in}
 use Rattle.rs_plan.specs.Placed.{record_made}
 
 -- what is held of a record in an image
@@ -83,7 +83,7 @@ put_turns old c name kind bytes body moment header records changes published ima
     (changes_of c.history) (changes_of old.history ++ bound name (is_some (value_of name (map (held_in image) rs))) moment (facts_of kind bytes) ∷ [])
     (map entry_of (records_of c.published)) (map entry_of (records_of old.published)) header held
     (changes ∙ ap (λ (again : Bool). changes_of old.history ++ bound name again moment (facts_of kind bytes) ∷ []) (sym (held_named image name rs)))
-    (ap (λ (sheets : List (Sheet Record)). map entry_of (records_of sheets)) published)
+    (ap (λ (pages : List (Page Record)). map entry_of (records_of pages)) published)
 
 -- a delete
 pub delete_turns : (old c : Contents) (name : List ℕ) (moment : ℕ) → c.header ≡ record old.header { last = moment }
@@ -97,7 +97,7 @@ delete_turns old c name moment header records changes published image =
     same_state c.header (record old.header { last = moment }) (map (held_in image) (records_of c.catalogue)) (unbind name (map (held_in image) rs))
     (changes_of c.history) (changes_of old.history ++ deleted name moment ∷ [])
     (map entry_of (records_of c.published)) (map entry_of (records_of old.published)) header held changes
-    (ap (λ (sheets : List (Sheet Record)). map entry_of (records_of sheets)) published)
+    (ap (λ (pages : List (Page Record)). map entry_of (records_of pages)) published)
 
 -- a publish
 pub publish_turns : (old c : Contents) (moment : ℕ) → c.header ≡ record old.header { last = moment; number = old.header.number + 1; at = moment }
@@ -107,5 +107,5 @@ publish_turns old c moment header catalogue history published image =
     let rs : List Record = records_of old.catalogue in
     same_state c.header (record old.header { last = moment; number = old.header.number + 1; at = moment }) (map (held_in image) (records_of c.catalogue)) (map (held_in image) rs)
     (changes_of c.history) (changes_of old.history) (map entry_of (records_of c.published)) (entries (map (held_in image) rs)) header
-    (ap (λ (sheets : List (Sheet Record)). map (held_in image) (records_of sheets)) catalogue) (ap (λ (sheets : List (Sheet Change)). changes_of sheets) history)
-    (ap (λ (sheets : List (Sheet Record)). map entry_of (records_of sheets)) published ∙ entries_shown image rs)
+    (ap (λ (pages : List (Page Record)). map (held_in image) (records_of pages)) catalogue) (ap (λ (pages : List (Page Change)). changes_of pages) history)
+    (ap (λ (pages : List (Page Record)). map entry_of (records_of pages)) published ∙ entries_shown image rs)

@@ -7,13 +7,13 @@ use Rattle.std.proofs.lemmas.Bool.{and_from}
 use Rattle.std.proofs.lemmas.Bool.Decides.{nat_tests}
 use Rattle.std.proofs.lemmas.Slice.Eq.{bytes_eq-Decides}
 use Rattle.rs_extent.specs.declared.Extent.{Extent}
-use Rattle.rs_body.specs.Blocks.{within, in_some}
-use Rattle.rs_body.proofs.Sets.{some_first, some_rest, some_split}
+use Rattle.rs_extent.specs.Extents.{within, in_some, AreApart}
+use Rattle.rs_extent.proofs.Sets.{some_first, some_rest, some_split}
 use Rattle.rs_page.specs.declared.place.PageRef.{PageRef}
-use Rattle.rs_page.specs.Sheets.{extents_of}
-use Rattle.rs_page.specs.Kept.{IsSublist, AreApart}
+use Rattle.rs_page.specs.Pages.{extents_of}
+use Rattle.rs_page.specs.SharedPages.{IsSublist}
 use Rattle.rs_image.specs.Reach.{same_page, unshared}
-use Rattle.rs_plan.proofs.Extents.{Disjoint}
+use Rattle.rs_extent.specs.Extents.{AreDisjoint}
 
 same_number : (m n : ℕ) → nat_eq m n ≡ true → m ≡ n
 same_number m n h = grind (arith, nat_tests)
@@ -100,8 +100,8 @@ unshared_itself (ref ∷ x ∷ refs) few = absurd (omega arith)
 
 -- Where a catalogue of one page at most keeps its page, it has that page alone; so what is not shared is apart from it.
 pub beside_kept : (refs before after : List PageRef) (kept : List PageRef) → length before ≤ 1 → length after ≤ 1 → IsSublist kept before → IsSublist kept after
-    → Disjoint (in_some (extents_of before)) (in_some (extents_of (unshared refs before)))
-    → Disjoint (in_some (extents_of kept)) (in_some (extents_of (unshared refs after)))
+    → AreDisjoint (in_some (extents_of before)) (in_some (extents_of (unshared refs before)))
+    → AreDisjoint (in_some (extents_of kept)) (in_some (extents_of (unshared refs after)))
 beside_kept refs before after [] few few' of_before of_after apart = λ b is. absurd (true≢false (sym is))
 beside_kept refs [] after (k ∷ kept) few few' of_before of_after apart = absurd of_before
 beside_kept refs (x ∷ before) [] (k ∷ kept) few few' of_before of_after apart = absurd of_after

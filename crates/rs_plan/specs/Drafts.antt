@@ -2,7 +2,7 @@
 use Rattle.std.specs.Prelude.{ℕ, List}
 use Rattle.rs_fixity.specs.declared.Digests.{Digests}
 use Rattle.rs_catalogue.specs.Catalogue.{StandsUnstored}
-use Rattle.rs_catalogue.specs.Filled.{sheets_filled}
+use Rattle.rs_catalogue.specs.Filled.{pages_filled}
 use Rattle.rs_changes.specs.History.{EndsUnstored}
 use Rattle.rs_changes.specs.Filled.{history_filled}
 use Rattle.rs_image.specs.declared.contents.Contents.{Contents}
@@ -13,14 +13,15 @@ abbrev pub lists_filled : List ℕ → Digests → Contents → Contents
 lists_filled name digests c =
     record {
       header = c.header;
-      catalogue = sheets_filled name digests c.catalogue;
+      catalogue = pages_filled name digests c.catalogue;
       history = history_filled digests c.history;
       published = c.published;
     }
 
 -- the plan with these lists
 abbrev pub plan_filled : List ℕ → Digests → Plan → Plan
-plan_filled name digests p = record { contents = lists_filled name digests p.contents; body = p.body; directory = p.directory }
+plan_filled name digests p =
+    record { contents = lists_filled name digests p.contents; body = p.body; directory = p.directory; reply = p.reply }
 
 -- The record of a name and the last change stand in pages that are not stored, so that both may still get digests.
 pub record AwaitsBody (name : List ℕ) (p : Plan) : Type 0 where

@@ -1,3 +1,5 @@
+pub mod Allowed
+pub mod Replies
 pub mod Room
 pub mod Plans
 pub mod Placed

@@ -7,9 +7,9 @@ use Rattle.rs_record.specs.declared.facts.Facts.{Facts}
 use Rattle.rs_record.specs.declared.record.Record.{Record}
 use Rattle.rs_body.specs.Blocks.{blocks_of}
 use Rattle.rs_page.specs.Items.{record_format, change_format}
-use Rattle.rs_page.specs.Sheets.{IsTouched, placed_extents}
+use Rattle.rs_page.specs.Pages.{IsTouched, placed_extents}
 use Rattle.rs_page.specs.Placing.{Places}
-use Rattle.rs_page.specs.Kept.{AreTaken}
+use Rattle.rs_extent.specs.Extents.{AreTaken}
 use Rattle.rs_directory.specs.Directory.{directory_length}
 use Rattle.rs_image.specs.declared.contents.Contents.{Contents}
 use Rattle.rs_plan.specs.declared.plan.Plan.{Plan}
@@ -47,8 +47,8 @@ pub record IsPlaced (used : List Bool) (body : Extent) (c : Contents) (p : Plan)
   pub history : Places change_format after_catalogue c.history after_history p.contents.history
   pub takes_catalogue : AreTaken used after_catalogue (placed_extents p.contents.catalogue)
   pub takes_history : AreTaken after_catalogue after_history (placed_extents p.contents.history)
-  pub untouched_catalogue : All (λ sheet. ¬ IsTouched sheet.place) p.contents.catalogue
-  pub untouched_history : All (λ sheet. ¬ IsTouched sheet.place) p.contents.history
+  pub untouched_catalogue : All (λ page. ¬ IsTouched page.place) p.contents.catalogue
+  pub untouched_history : All (λ page. ¬ IsTouched page.place) p.contents.history
   pub directory : Takes after_history (blocks_of (directory_bytes_of c)) p.directory after
   pub header : p.contents.header ≡ c.header
   pub published : p.contents.published ≡ c.published

@@ -3,22 +3,23 @@ use Rattle.std.specs.Prelude.{◌≡◌, ◌⊎◌, ◌≤◌, ℕ, Bool, List, 
 use Rattle.rs_extent.specs.declared.Extent.{Extent}
 use Rattle.rs_fixity.specs.Digests.{digests}
 use Rattle.rs_body.specs.Blocks.{part, IsSized}
-use Rattle.rs_body.specs.Outside.{AreBeside}
+use Rattle.rs_extent.specs.Extents.{AreBeside, AreApart}
 use Rattle.rs_commit.specs.declared.root.Root.{Root}
 use Rattle.rs_commit.specs.Commit.{next}
-use Rattle.rs_model.specs.Step.{next_state}
+use Rattle.rs_model.specs.Step.{next_state, reply_to}
 use Rattle.rs_model.specs.declared.command.Command.{Command}
 use Rattle.rs_model.specs.declared.command.Command.TheVariants.{Put, Delete, Publish}
 use Rattle.rs_page.specs.Items.{record_format, change_format}
-use Rattle.rs_page.specs.Sheets.{Sheet, IsTouched, placed_extents, stored}
-use Rattle.rs_page.specs.Pages.{IsWritten}
-use Rattle.rs_page.specs.Kept.{KeepsPages, AreApart}
+use Rattle.rs_page.specs.Pages.{Page, IsTouched, placed_extents, stored}
+use Rattle.rs_page.specs.DiskPages.{IsWritten}
+use Rattle.rs_page.specs.SharedPages.{KeepsPages}
 use Rattle.rs_image.specs.declared.contents.Contents.{Contents}
 use Rattle.rs_image.specs.Reach.{is_kept, AreInside}
 use Rattle.rs_image.specs.Whole.{IsWhole}
-use Rattle.rs_image.specs.Tells.{state_in, listing, AreListable}
+use Rattle.rs_image.specs.StateOfImage.{state_in, listing, AreListable}
+use Rattle.rs_image.specs.Rooted.{Rooted, AreUsed}
 use Rattle.rs_plan.specs.declared.plan.Plan.{Plan}
-use Rattle.rs_plan.specs.Room.{AreUsed, Takes, HasNoRun, HasNoRoom, lists_needed, body_needed}
+use Rattle.rs_plan.specs.Room.{Takes, HasNoRun, HasNoRoom, lists_needed, body_needed}
 use Rattle.rs_plan.specs.Placed.{AreUnplaced, IsPlaced}
 
 -- the body that a command writes
@@ -28,9 +29,9 @@ body_of_command (Delete name) = []
 body_of_command Publish = []
 
 -- The items of a list stand in one page, or in none where there are none.
-pub record AreInOnePage {T : Type 0} (sheets : List (Sheet T)) : Type 0 where
-  pub count : length sheets ≤ 1
-  pub some : All (λ sheet. 1 ≤ length sheet.items) sheets
+pub record AreInOnePage {T : Type 0} (pages : List (Page T)) : Type 0 where
+  pub count : length pages ≤ 1
+  pub some : All (λ page. 1 ≤ length page.items) pages
 
 -- The pages after a command: a publication lists the pages of the catalogue, and touches none; any other command leaves what is
 -- published. A catalogue and a history have one page, or none where they are empty.
@@ -50,12 +51,12 @@ pub record IsNext (old : Contents) (command : Command) (moment : ℕ) (body : Ex
 
 -- A command lacks room: with those blocks used that the root reaches, its body has no run; or it takes the lowest, and then
 -- the pages that it touches and its directory have not all one, each being given the lowest of its own size in turn.
-pub record LacksRoom (size : ℕ) (root : Root) (old : Contents) (command : Command) (moment : ℕ) : Type 0 where
+pub record LacksRoom (old : Rooted) (command : Command) (moment : ℕ) : Type 0 where
   pub used : List Bool
-  pub are_used : AreUsed size root old used
+  pub are_used : AreUsed old used
   pub fails : HasNoRun used (body_needed command)
       ⊎ ((used' : List Bool) × (body : Extent) × (c : Contents) × Takes used (body_needed command) body used'
-      × IsNext old command moment body c × HasNoRoom used' (lists_needed c))
+      × IsNext old.contents command moment body c × HasNoRoom used' (lists_needed c))
 
 -- the lists once their pages are stored
 abbrev pub once_stored : Contents → Contents
@@ -83,30 +84,31 @@ planned_root root p = next root p.directory (length (planned_listing p)) (digest
 -- Each part of a plan is given the lowest run of its size, in the order of `places`: with those blocks used that the root
 -- reaches, first its body; then, of lists whose touched pages have no place yet, the catalogue pages and the change pages;
 -- then the directory.
-pub record TakesInTurn (size : ℕ) (root : Root) (old : Contents) (command : Command) (p : Plan) : Type 0 where
+pub record TakesInTurn (old : Rooted) (command : Command) (p : Plan) : Type 0 where
   pub used : List Bool
   pub after_body : List Bool
   pub lists : Contents
-  pub are_used : AreUsed size root old used
+  pub are_used : AreUsed old used
   pub body : Takes used (body_needed command) p.body after_body
   pub unplaced : AreUnplaced lists
   pub placed : IsPlaced after_body p.body lists p
 
--- A plan leads from these lists to those after a command: what it writes goes into blocks that the root does not reach, no two
--- parts of it into the same; each part has a place of its size, the lowest that there is in its turn; and what the next root
--- reaches keeps all rules.
-pub record IsPlanned (size : ℕ) (root : Root) (old : Contents) (command : Command) (moment : ℕ) (p : Plan) : Type 0 where
-  pub next : IsNext old command moment p.body p.contents
-  pub in_turn : TakesInTurn size root old command p
-  pub free : AreBeside (is_kept root old) (places p)
+-- A plan leads from these lists to those after a command, and has its reply: what it writes goes into blocks that the root does
+-- not reach, no two parts of it into the same; each part has a place of its size, the lowest that there is in its turn; and
+-- what the next root reaches keeps all rules.
+pub record IsPlanned (old : Rooted) (command : Command) (moment : ℕ) (p : Plan) : Type 0 where
+  pub next : IsNext old.contents command moment p.body p.contents
+  pub reply : (image : List ℕ) → p.reply ≡ reply_to (state_in image old.contents) command moment
+  pub in_turn : TakesInTurn old command p
+  pub free : AreBeside (is_kept old.root old.contents) (places p)
   pub apart : AreApart (places p)
-  pub inside : AreInside size (places p)
-  pub catalogue : All (λ sheet. ¬ IsTouched sheet.place) p.contents.catalogue
-  pub history : All (λ sheet. ¬ IsTouched sheet.place) p.contents.history
+  pub inside : AreInside old.size (places p)
+  pub catalogue : All (λ page. ¬ IsTouched page.place) p.contents.catalogue
+  pub history : All (λ page. ¬ IsTouched page.place) p.contents.history
   pub body : IsSized p.body (length (body_of_command command))
   pub directory : IsSized p.directory (length (planned_listing p))
   pub listable : AreListable (once_stored p.contents)
-  pub whole : IsWhole size (planned_root root p) (once_stored p.contents)
+  pub whole : IsWhole old.size (planned_root old.root p) (once_stored p.contents)
 
 -- All that a plan writes stands in an image.
 pub record AreWritten (p : Plan) (bytes image : List ℕ) : Type 0 where

@@ -1,22 +1,15 @@
 -- Which blocks a command has to find, and when there are none.
-use Rattle.std.specs.Prelude.{◌≡◌, ◌⊎◌, ◌<◌, ◌≤◌, ◌+◌, ◌++◌, ℕ, Bool, true, not, is_some, List, [], ◌∷◌, length, map, filter}
+use Rattle.std.specs.Prelude.{◌≡◌, ◌⊎◌, ◌≤◌, ◌+◌, ◌++◌, ℕ, Bool, true, not, is_some, List, [], ◌∷◌, length, map, filter}
 use Rattle.rs_extent.specs.declared.Extent.{Extent}
-use Rattle.rs_extent.specs.Blocks.{is_used, IsFreeRun, IsLowest, Sets}
+use Rattle.rs_extent.specs.Blocks.{IsFreeRun, IsLowest, Sets}
 use Rattle.rs_body.specs.Blocks.{blocks_of}
-use Rattle.rs_commit.specs.declared.root.Root.{Root}
 use Rattle.rs_model.specs.declared.command.Command.{Command}
 use Rattle.rs_model.specs.declared.command.Command.TheVariants.{Put, Delete, Publish}
 use Rattle.rs_page.specs.Format.{ItemFormat}
 use Rattle.rs_page.specs.Items.{record_format, change_format}
-use Rattle.rs_page.specs.Sheets.{Sheet, stored_ref, blocks_needed}
+use Rattle.rs_page.specs.Pages.{Page, stored_ref, blocks_needed}
 use Rattle.rs_directory.specs.Directory.{directory_length}
 use Rattle.rs_image.specs.declared.contents.Contents.{Contents}
-use Rattle.rs_image.specs.Reach.{blocks_of_disk, is_kept}
-
--- the blocks of a disk of this many bytes that a root reaches, and no others, are used
-pub record AreUsed (size : ℕ) (root : Root) (c : Contents) (used : List Bool) : Type 0 where
-  pub blocks : length used ≡ blocks_of_disk size
-  pub each : (b : ℕ) → b < blocks_of_disk size → is_used used b ≡ is_kept root c b
 
 -- n blocks, where there are some, take the lowest run of that many
 pub record Takes (used : List Bool) (n : ℕ) (extent : Extent) (used' : List Bool) : Type 0 where
@@ -35,8 +28,8 @@ HasNoRoom used [] = ⊥
 HasNoRoom used (n ∷ ns) = HasNoRun used n ⊎ ((used' : List Bool) × (extent : Extent) × Takes used n extent used' × HasNoRoom used' ns)
 
 -- how many blocks each page needs that is not stored
-abbrev pub pages_needed : {T : Type 0} → ItemFormat T → List (Sheet T) → List ℕ
-pages_needed format sheets = map (λ sheet. blocks_needed format sheet.items) (filter (λ sheet. not (is_some (stored_ref sheet.place))) sheets)
+abbrev pub pages_needed : {T : Type 0} → ItemFormat T → List (Page T) → List ℕ
+pages_needed format pages = map (λ page. blocks_needed format page.items) (filter (λ page. not (is_some (stored_ref page.place))) pages)
 
 -- how many blocks the pages and the directory of these lists need, in the order in which they are found
 abbrev pub lists_needed : Contents → List ℕ

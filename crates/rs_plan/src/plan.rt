@@ -3,6 +3,7 @@
 use rs_extent::Extent;
 use rs_fixity::Digests;
 use rs_image::Contents;
+use rs_model::Reply;
 use rs_record::Name;
 
 /// What a command is about to write, and where.
@@ -14,6 +15,8 @@ pub struct Plan {
     pub body: Extent,
     /// The blocks of the directory.
     pub directory: Extent,
+    /// The reply to the command.
+    pub reply: Reply,
 }
 
 impl Plan {

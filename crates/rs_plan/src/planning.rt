@@ -1,15 +1,9 @@
 //! How a command is planned: which lists it leads to, and which blocks its writes take.
 
-ghost use Rattle.std.specs.Prelude.{◌≡◌, ◌<◌, ◌≤◌, ◌+◌, ◌^◌, ℕ, List, length, IfOk, IsErrOf, IsNone, IsSome};
-ghost use Rattle.rs_image.specs.Tells.{AreListable};
-ghost use Rattle.rs_image.specs.Whole.{IsWhole};
-ghost use Rattle.rs_catalogue.specs.Catalogue.{records_of};
-ghost use Rattle.rs_catalogue.specs.Named.{named};
-ghost use Rattle.rs_changes.specs.History.{changes_of};
-ghost use Rattle.rs_model.specs.Names.{value_of};
-ghost use Rattle.rs_model.specs.State.{longest_body, most_resources, most_changes};
+ghost use Rattle.std.specs.Prelude.{◌≡◌, ℕ, List, length, IfOk, IsErrOf};
 ghost use Rattle.rs_model.specs.declared.command.Command.TheVariants.{Put, Delete, Publish};
 ghost use Rattle.rs_fixity.specs.Digests.{digests};
+ghost use Rattle.rs_plan.specs.Allowed.{MayPut, MayDelete, MayPublish};
 ghost use Rattle.rs_plan.specs.Plans.{IsPlanned, LacksRoom};
 ghost use Rattle.rs_plan.specs.Drafts.{AwaitsBody, plan_filled};
 
@@ -17,12 +11,12 @@ mod lists;
 mod placing;
 
 use crate::plan::Plan;
-use lists::{lists_after_delete, lists_after_publish, lists_after_put};
+use lists::{lists_after_delete, lists_after_publish, lists_after_put, reply_told};
 use placing::{place_lists, take_lowest};
-use rs_commit::Root;
 use rs_extent::Extent;
 use rs_fixity::{Digests, digests_of};
-use rs_image::{Contents, used_of};
+use rs_image::{Rooted, used_of};
+use rs_model::Reply;
 use rs_page::Full;
 use rs_record::{MediaType, Name};
 use rs_time::Moment;
@@ -61,8 +55,8 @@ impl From<AllocError> for PlanFault {
 }
 
 /// Plans to bind a name to a body of this media type, of `body_length` bytes, whose digests are not
-/// known yet, at this moment: [`Plan::fill`] gives them to the plan. The root and its lists are whole on a disk
-/// of `size` bytes, and the command is one that a source accepts.
+/// known yet, at this moment: [`Plan::fill`] gives them to the plan. The command is one that a
+/// source accepts.
 ///
 /// # Errors
 ///
@@ -70,28 +64,22 @@ impl From<AllocError> for PlanFault {
 /// - [`PlanFault::NoMemory`] where a growth of memory is refused.
 pub fn draft_put(
     alloc: Global,
-    size: u64,
-    root: &Root,
-    contents: &Contents,
+    old: &Rooted<'_>,
     name: &Name,
     kind: &MediaType,
     body_length: u32,
     moment: Moment,
 ) -> Result<Plan, PlanFault>
-    requires room { 1024 ≤ size }
-    requires whole { IsWhole size root.now contents.now }
-    requires listable { AreListable contents.now }
-    requires body { body_length ≤ longest_body }
-    requires resources { IsNone (value_of name.now (named (records_of contents.now.catalogue))) → length (records_of contents.now.catalogue) < most_resources }
-    requires changes { length (changes_of contents.now.history) < most_changes }
-    requires later { contents.now.header.last < moment }
+    requires { MayPut old.now.contents name.now body_length moment }
     ensures awaits { IfOk result (AwaitsBody name.now) }
     ensures planned { IfOk result (λ plan. (bytes : List ℕ) → length bytes ≡ body_length
-        → IsPlanned size root.now contents.now (Put name.now kind.now bytes) moment (plan_filled name.now (digests bytes) plan)) }
+        → IsPlanned old.now (Put name.now kind.now bytes) moment
+        (plan_filled name.now (digests bytes) plan)) }
     ensures full { IsErrOf result PlanFault.Full → (bytes : List ℕ) → length bytes ≡ body_length
-        → LacksRoom size root.now contents.now (Put name.now kind.now bytes) moment }
+        → LacksRoom old.now (Put name.now kind.now bytes) moment }
 {
-    let mut used = used_of(alloc, size, root, contents)?;
+    let contents = old.contents();
+    let mut used = used_of(alloc, old)?;
     let Some(body) = take_lowest(&mut used, body_length) else {
         return Err(PlanFault::Full);
     };
@@ -105,7 +93,8 @@ pub fn draft_put(
         body,
         moment,
     )?;
-    let plan = place_lists(used, body, lists)?;
+    let reply = reply_told(&lists.history);
+    let plan = place_lists(used, body, lists, reply)?;
     Ok(plan)
 }
 
@@ -115,8 +104,8 @@ const UNKNOWN: Digests = Digests {
     sha256: [0; 32],
 };
 
-/// Plans to bind a name to these bytes, of this media type, at this moment. The root and its lists are
-/// whole on a disk of `size` bytes, and the command is one that a source accepts.
+/// Plans to bind a name to these bytes, of this media type, at this moment. The command is one that
+/// a source accepts.
 ///
 /// # Errors
 ///
@@ -124,32 +113,24 @@ const UNKNOWN: Digests = Digests {
 /// - [`PlanFault::NoMemory`] where a growth of memory is refused.
 pub fn plan_put(
     alloc: Global,
-    size: u64,
-    root: &Root,
-    contents: &Contents,
+    old: &Rooted<'_>,
     name: &Name,
     kind: &MediaType,
     bytes: &[u8],
     moment: Moment,
 ) -> Result<Plan, PlanFault>
-    requires room { 1024 ≤ size }
-    requires whole { IsWhole size root.now contents.now }
-    requires listable { AreListable contents.now }
-    requires body { length bytes.now ≤ longest_body }
-    requires resources { IsNone (value_of name.now (named (records_of contents.now.catalogue))) → length (records_of contents.now.catalogue) < most_resources }
-    requires changes { length (changes_of contents.now.history) < most_changes }
-    requires later { contents.now.header.last < moment }
-    ensures planned { IfOk result (IsPlanned size root.now contents.now (Put name.now kind.now bytes.now) moment) }
-    ensures full { IsErrOf result PlanFault.Full → LacksRoom size root.now contents.now (Put name.now kind.now bytes.now) moment }
+    requires { MayPut old.now.contents name.now (length bytes.now) moment }
+    ensures planned { IfOk result (IsPlanned old.now (Put name.now kind.now bytes.now) moment) }
+    ensures full { IsErrOf result PlanFault.Full
+        → LacksRoom old.now (Put name.now kind.now bytes.now) moment }
 {
     let body_length = bytes.len() as u32;
-    let mut plan = draft_put(alloc, size, root, contents, name, kind, body_length, moment)?;
+    let mut plan = draft_put(alloc, old, name, kind, body_length, moment)?;
     plan.fill(name, digests_of(bytes));
     Ok(plan)
 }
 
-/// Plans to unbind a name that is held, at this moment. The root and its lists are whole on a disk
-/// of `size` bytes, and the command is one that a source accepts.
+/// Plans to unbind a name that is held, at this moment. The command is one that a source accepts.
 ///
 /// # Errors
 ///
@@ -157,52 +138,38 @@ pub fn plan_put(
 /// - [`PlanFault::NoMemory`] where a growth of memory is refused.
 pub fn plan_delete(
     alloc: Global,
-    size: u64,
-    root: &Root,
-    contents: &Contents,
+    old: &Rooted<'_>,
     name: &Name,
     moment: Moment,
 ) -> Result<Plan, PlanFault>
-    requires room { 1024 ≤ size }
-    requires whole { IsWhole size root.now contents.now }
-    requires listable { AreListable contents.now }
-    requires held { IsSome (value_of name.now (named (records_of contents.now.catalogue))) }
-    requires changes { length (changes_of contents.now.history) < most_changes }
-    requires later { contents.now.header.last < moment }
-    ensures planned { IfOk result (IsPlanned size root.now contents.now (Delete name.now) moment) }
-    ensures full { IsErrOf result PlanFault.Full → LacksRoom size root.now contents.now (Delete name.now) moment }
+    requires { MayDelete old.now.contents name.now moment }
+    ensures planned { IfOk result (IsPlanned old.now (Delete name.now) moment) }
+    ensures full { IsErrOf result PlanFault.Full → LacksRoom old.now (Delete name.now) moment }
 {
-    let used = used_of(alloc, size, root, contents)?;
+    let contents = old.contents();
+    let used = used_of(alloc, old)?;
     let lists = lists_after_delete(alloc, contents, name, moment)?;
-    let plan = place_lists(used, NO_BODY, lists)?;
+    let plan = place_lists(used, NO_BODY, lists, Reply::Deleted(moment))?;
     Ok(plan)
 }
 
-/// Plans to list all resources that are held, at this moment. The root and its lists are whole on a
-/// disk of `size` bytes, and the command is one that a source accepts.
+/// Plans to list all resources that are held, at this moment. The command is one that a source
+/// accepts.
 ///
 /// # Errors
 ///
 /// - [`PlanFault::Full`] where the directory has no run of free blocks.
 /// - [`PlanFault::NoMemory`] where a growth of memory is refused.
-pub fn plan_publish(
-    alloc: Global,
-    size: u64,
-    root: &Root,
-    contents: &Contents,
-    moment: Moment,
-) -> Result<Plan, PlanFault>
-    requires room { 1024 ≤ size }
-    requires whole { IsWhole size root.now contents.now }
-    requires listable { AreListable contents.now }
-    requires numbers { contents.now.header.number + 1 < 2 ^ 64 }
-    requires later { contents.now.header.last < moment }
-    ensures planned { IfOk result (IsPlanned size root.now contents.now Publish moment) }
-    ensures full { IsErrOf result PlanFault.Full → LacksRoom size root.now contents.now Publish moment }
+pub fn plan_publish(alloc: Global, old: &Rooted<'_>, moment: Moment) -> Result<Plan, PlanFault>
+    requires { MayPublish old.now.contents moment }
+    ensures planned { IfOk result (IsPlanned old.now Publish moment) }
+    ensures full { IsErrOf result PlanFault.Full → LacksRoom old.now Publish moment }
 {
-    let used = used_of(alloc, size, root, contents)?;
+    let contents = old.contents();
+    let used = used_of(alloc, old)?;
     let lists = lists_after_publish(alloc, contents, moment)?;
-    let plan = place_lists(used, NO_BODY, lists)?;
+    let reply = Reply::Published(lists.header.number, moment);
+    let plan = place_lists(used, NO_BODY, lists, reply)?;
     Ok(plan)
 }
 

@@ -6,11 +6,11 @@ use Rattle.std.specs.Int.{w64, to_be_bytes}
 use Rattle.std.proofs.lemmas.Bool.{eqb-true}
 use Rattle.rs_time.specs.Moment.{IsMoment}
 use Rattle.rs_record.specs.Name.{is_name}
-use Rattle.rs_record.specs.What.{agree}
+use Rattle.rs_record.specs.ChangeKind.{agree}
 use Rattle.rs_record.specs.Changes.{bound, deleted, binding}
-use Rattle.rs_record.specs.Format.{counted, facts_bytes, what_byte, known_bytes, change_bytes}
+use Rattle.rs_record.specs.Format.{counted_text, facts_bytes, what_byte, known_bytes, change_bytes}
 use Rattle.rs_record.specs.Lawful.{IsLawfulFacts, IsLawfulChange}
-use Rattle.rs_record.specs.Reading.{◌>>=◌, text_at, moment_at, facts_at, bound_at, change_after, change_at}
+use Rattle.rs_record.specs.Reading.{◌>>=◌, text_at, moment_in, facts_at, bound_at, change_after, change_at}
 use Rattle.rs_record.specs.declared.facts.Facts.{Facts}
 use Rattle.rs_record.specs.declared.change.What.{What}
 use Rattle.rs_record.specs.declared.change.What.TheVariants.{Created, Updated, Deleted}
@@ -27,7 +27,7 @@ binding_byte what false false e f h = absurd cc
 
 -- what a change begins with
 abbrev head : ℕ → List ℕ → ℕ → List (List ℕ)
-head what name m = (what ∷ []) ∷ counted name ∷ to_be_bytes w64 m ∷ []
+head what name m = (what ∷ []) ∷ counted_text name ∷ to_be_bytes w64 m ∷ []
 
 -- what follows a name that was bound
 bound_takes : (what : ℕ) (name : List ℕ) (m : ℕ) (bytes rest : List ℕ) (x : Change × List ℕ) (again : Bool) → what ≡ what_byte (binding again)
@@ -39,7 +39,7 @@ bound_takes what name m bytes rest x again is lawful low fits e h =
     let whole = one_more (head what name m) bytes (facts_bytes b.0.0) rest b.0.1 e t.parts in
     takes_as (bound name again m b.0.0, b.0.1) x b.2
     (record {
-      parts = whole ∙ ap (λ w. concat ((w ∷ []) ∷ counted name ∷ to_be_bytes w64 m ∷ facts_bytes b.0.0 ∷ []) ++ b.0.1) is;
+      parts = whole ∙ ap (λ w. concat ((w ∷ []) ∷ counted_text name ∷ to_be_bytes w64 m ∷ facts_bytes b.0.0 ∷ []) ++ b.0.1) is;
       rest = t.rest;
       lawful = record { name = lawful; moment = low; facts = t.lawful };
     })
@@ -53,7 +53,7 @@ by_byte what name m bytes rest x true one two is-3 is-1 is-2 lawful low fits e h
     let whole = one_more (head what name m) bytes [] rest rest e refl in
     takes_as (deleted name m, rest) x h
     (record {
-      parts = whole ∙ ap (λ w. concat ((w ∷ []) ∷ counted name ∷ to_be_bytes w64 m ∷ [] ∷ []) ++ rest) (eqb-true what 3 is-3);
+      parts = whole ∙ ap (λ w. concat ((w ∷ []) ∷ counted_text name ∷ to_be_bytes w64 m ∷ [] ∷ []) ++ rest) (eqb-true what 3 is-3);
       rest = fits;
       lawful = record { name = lawful; moment = low; facts = tt };
     })
@@ -65,11 +65,11 @@ change_takes : (bytes : List ℕ) (x : Change × List ℕ) → AreBytes bytes �
 unfolding change_at change_after
 change_takes [] x fits e = absurd cc
 change_takes (what ∷ bytes) x fits e =
-    let a = bind_some (text_at is_name bytes) (λ name. moment_at name.1 >>= λ m. change_after what name.0 m.0 m.1) x e in
-    let b = bind_some (moment_at a.0.1) (λ m. change_after what a.0.0 m.0 m.1) x a.2 in
+    let a = bind_some (text_at is_name bytes) (λ name. moment_in name.1 >>= λ m. change_after what name.0 m.0 m.1) x e in
+    let b = bind_some (moment_in a.0.1) (λ m. change_after what a.0.0 m.0 m.1) x a.2 in
     let ta = (text is_name).takes bytes a.0 (bytes-rest what bytes fits) a.1 in
     let tb = moment.takes a.0.1 b.0 ta.rest b.1 in
-    let N = counted a.0.0 in
+    let N = counted_text a.0.0 in
     let two = one_more ((what ∷ []) ∷ []) (what ∷ bytes) N bytes a.0.1 refl ta.parts in
     let three = one_more ((what ∷ []) ∷ N ∷ []) (what ∷ bytes) (to_be_bytes w64 b.0.0) a.0.1 b.0.1 two tb.parts in
     by_byte what a.0.0 b.0.0 (what ∷ bytes) b.0.1 x (what == 3) (what == 1) (what == 2) refl refl refl ta.lawful tb.lawful tb.rest three b.2
@@ -89,7 +89,7 @@ change_again : (c : Change) (rest : List ℕ) → IsLawfulChange c → change_at
 unfolding change_at
 change_again c rest h =
     let known = known_bytes c.facts ++ rest in
-    ap change_at (concat-onto ((what_byte c.what ∷ []) ∷ counted c.name ∷ to_be_bytes w64 c.moment ∷ known_bytes c.facts ∷ []) rest)
+    ap change_at (concat-onto ((what_byte c.what ∷ []) ∷ counted_text c.name ∷ to_be_bytes w64 c.moment ∷ known_bytes c.facts ∷ []) rest)
     ∙ rw ((text is_name).again c.name (to_be_bytes w64 c.moment ++ known) h.name, moment.again c.moment known h.moment) (again_by c.name c.what c.moment c.facts c.agreed rest h.facts)
 
 pub a_change : IsFormat change_at change_bytes IsLawfulChange

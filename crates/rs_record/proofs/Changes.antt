@@ -1,7 +1,7 @@
 -- Changes are equal where their fields are.
 use Rattle.std.proofs.Common.{◌≡◌, ℕ, List, Option, IsTrue, ap, subst}
 use Rattle.std.proofs.Props.{props}
-use Rattle.rs_record.specs.What.{agree}
+use Rattle.rs_record.specs.ChangeKind.{agree}
 use Rattle.rs_record.specs.declared.facts.Facts.{Facts}
 use Rattle.rs_record.specs.declared.change.What.{What}
 use Rattle.rs_record.specs.declared.change.Change.{Change}

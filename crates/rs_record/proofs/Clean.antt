@@ -8,7 +8,7 @@ use Rattle.rs_record.specs.Bytes.{is_between}
 use Rattle.rs_record.specs.Name.{is_name, is_segment, segments, is_plain, two_hex, are_pchars, is_dots}
 use Rattle.rs_record.specs.MediaType.{is_media_type, begins_token, begins_subtype, after_token}
 use Rattle.rs_record.specs.Base.{is_base, is_base_char, has_scheme}
-use Rattle.rs_record.specs.Lacks.{lacks, is_clean, clean}
+use Rattle.rs_record.specs.CleanBytes.{lacks, is_clean, clean}
 
 -- a byte with a property that the mark has not is another byte
 unlike : (p : ℕ → Bool) (mark c : ℕ) (b : Bool) → (c == mark) ≡ b → p mark ≡ false → IsTrue (p c) → IsTrue (not b)

@@ -1,15 +1,15 @@
 -- What is read is what was written, and what was written is read: pieces, numbers, texts and moments.
-use Rattle.std.proofs.Common.{◌≡◌, ℕ, suc, ◌+◌, ◌^◌, ◌<◌, ◌≤◌, Bool, true, false, cond, leb, List, [], ◌∷◌, ◌++◌, length, get_or, take, drop, Option, Some, None, refl, sym, ap, subst, ◌∙◌, append_assoc, arith, inl, inr}
+use Rattle.std.proofs.Common.{◌≡◌, ℕ, suc, ◌+◌, ◌^◌, ◌<◌, ◌≤◌, Bool, true, false, cond, leb, List, [], ◌∷◌, ◌++◌, length, get_or, take, drop, Option, Some, None, refl, sym, ap, subst, ◌∙◌, append_assoc, ◌⊎◌, arith, inl, inr}
 use Rattle.std.specs.Prelude.{IsTrue}
 use Rattle.std.specs.List.{concat}
-use Rattle.std.specs.Int.{Width, w32, w64, byte_len, from_be_bytes, to_be_bytes}
+use Rattle.std.specs.Int.{Width, w16, w32, w64, byte_len, from_be_bytes, to_be_bytes}
 use Rattle.std.proofs.lemmas.Bool.{cases_lt}
 use Rattle.std.proofs.lemmas.Bool.Decides.{nat_tests}
 use Rattle.std.proofs.lemmas.List.{take_at, drop_at, take-append-drop, length-append, length-take, get_or-drop, get_or-take, get_or_past}
-use Rattle.std.proofs.lemmas.Nat.{be_bytes_4, be_bytes_8, from_be_bytes-to_be_bytes_4, from_be_bytes-to_be_bytes_8}
+use Rattle.std.proofs.lemmas.Nat.{be_bytes_2, be_bytes_4, be_bytes_8, from_be_bytes-to_be_bytes_2, from_be_bytes-to_be_bytes_4, from_be_bytes-to_be_bytes_8}
 use Rattle.rs_time.specs.Moment.{IsMoment, moment_of}
-use Rattle.rs_record.specs.Format.{counted}
-use Rattle.rs_record.specs.Reading.{◌>>=◌, piece_at, number_at, counted_at, text_at, moment_at}
+use Rattle.rs_record.specs.Format.{counted_text}
+use Rattle.rs_record.specs.Reading.{◌>>=◌, piece_at, number_in, counted_at, text_at, moment_in}
 
 -- each is a byte
 abbrev pub AreBytes : List ℕ → Type 0
@@ -113,7 +113,7 @@ record IsWide (w : Width) (limit : ℕ) : Type 0 where
   again : (n : ℕ) → n < limit → from_be_bytes w (to_be_bytes w n) ≡ n
   below : (xs : List ℕ) → AreBytes xs → from_be_bytes w xs < limit
 
-number_takes : (w : Width) (limit : ℕ) → IsWide w limit → (bytes : List ℕ) (x : ℕ × List ℕ) → AreBytes bytes → number_at w bytes ≡ Some x → Takes (to_be_bytes w) (λ n. n < limit) bytes x
+number_takes : (w : Width) (limit : ℕ) → IsWide w limit → (bytes : List ℕ) (x : ℕ × List ℕ) → AreBytes bytes → number_in w bytes ≡ Some x → Takes (to_be_bytes w) (λ n. n < limit) bytes x
 number_takes w limit wide bytes x fits e =
     let b = bind_some (piece_at (byte_len w) bytes) (λ front. Some (from_be_bytes w front.0, front.1)) x e in
     let t = (piece (byte_len w)).takes bytes b.0 fits b.1 in
@@ -124,12 +124,20 @@ number_takes w limit wide bytes x fits e =
       lawful = wide.below b.0.0 t.lawful.bytes;
     })
 
-number_again : (w : Width) (limit : ℕ) → IsWide w limit → (n : ℕ) (rest : List ℕ) → n < limit → number_at w (to_be_bytes w n ++ rest) ≡ Some (n, rest)
+number_again : (w : Width) (limit : ℕ) → IsWide w limit → (n : ℕ) (rest : List ℕ) → n < limit → number_in w (to_be_bytes w n ++ rest) ≡ Some (n, rest)
 number_again w limit wide n rest lt =
     rw (piece_read (byte_len w) (to_be_bytes w n) rest (wide.len n), wide.again n lt) refl
 
-number : (w : Width) (limit : ℕ) → IsWide w limit → IsFormat (number_at w) (to_be_bytes w) (λ n. n < limit)
+number : (w : Width) (limit : ℕ) → IsWide w limit → IsFormat (number_in w) (to_be_bytes w) (λ n. n < limit)
 number w limit wide = record { takes = number_takes w limit wide; again = number_again w limit wide }
+
+wide_2 : IsWide w16 (2 ^ 16)
+wide_2 = record {
+  len = λ n. refl;
+  back = λ xs h. be_bytes_2 xs _ h.length h.bytes refl;
+  again = λ n lt. from_be_bytes-to_be_bytes_2 n lt;
+  below = λ xs fits. omega (arith, fits 0, fits 1);
+}
 
 wide_4 : IsWide w32 (2 ^ 32)
 wide_4 = record {
@@ -147,36 +155,46 @@ wide_8 = record {
   below = λ xs fits. omega (arith, fits 0, fits 1, fits 2, fits 3, fits 4, fits 5, fits 6, fits 7);
 }
 
-pub number_4 : IsFormat (number_at w32) (to_be_bytes w32) (λ n. n < 2 ^ 32)
+pub number_2 : IsFormat (number_in w16) (to_be_bytes w16) (λ n. n < 2 ^ 16)
+number_2 = number w16 (2 ^ 16) wide_2
+
+pub number_4 : IsFormat (number_in w32) (to_be_bytes w32) (λ n. n < 2 ^ 32)
 number_4 = number w32 (2 ^ 32) wide_4
 
-pub number_8 : IsFormat (number_at w64) (to_be_bytes w64) (λ n. n < 2 ^ 64)
+pub number_8 : IsFormat (number_in w64) (to_be_bytes w64) (λ n. n < 2 ^ 64)
 number_8 = number w64 (2 ^ 64) wide_8
 
 -- ---- texts
 
-counted_takes : (bytes : List ℕ) (x : List ℕ × List ℕ) → AreBytes bytes → counted_at bytes ≡ Some x → Takes counted (λ xs. Unit {0}) bytes x
+counted_takes : (bytes : List ℕ) (x : List ℕ × List ℕ) → AreBytes bytes → counted_at bytes ≡ Some x → Takes counted_text (λ xs. Unit {0}) bytes x
 unfolding counted_at
 counted_takes [] x fits e = absurd cc
 counted_takes (n ∷ bytes) x fits e =
     let t = (piece n).takes bytes x (bytes-rest n bytes fits) e in
     record { parts = ap (λ xs. n ∷ xs) t.parts ∙ ap (λ k. k ∷ (x.0 ++ x.1)) (sym t.lawful.length); rest = t.rest; lawful = tt }
 
-text_takes : (is_lawful : List ℕ → Bool) (bytes : List ℕ) (x : List ℕ × List ℕ) → AreBytes bytes → text_at is_lawful bytes ≡ Some x → Takes counted (λ text. IsTrue (is_lawful text)) bytes x
+counted_again : (text rest : List ℕ) → Unit {0} → counted_at (counted_text text ++ rest) ≡ Some (text, rest)
+unfolding counted_at
+counted_again text rest h = piece_read (length text) text rest refl
+
+pub counted : IsFormat counted_at counted_text (λ text. Unit {0})
+counted = record { takes = counted_takes; again = counted_again }
+
+text_takes : (is_lawful : List ℕ → Bool) (bytes : List ℕ) (x : List ℕ × List ℕ) → AreBytes bytes → text_at is_lawful bytes ≡ Some x → Takes counted_text (λ text. IsTrue (is_lawful text)) bytes x
 unfolding text_at
 text_takes is_lawful bytes x fits e =
     let b = bind_some (counted_at bytes) (λ text. cond (is_lawful text.0) (Some text) None) x e in
     let g = guard_some (is_lawful b.0.0) b.0 x b.2 in
     let t = counted_takes bytes b.0 fits b.1 in
-    subst (Takes counted (λ text. IsTrue (is_lawful text)) bytes) g.1 (record { parts = t.parts; rest = t.rest; lawful = g.0 })
+    subst (Takes counted_text (λ text. IsTrue (is_lawful text)) bytes) g.1 (record { parts = t.parts; rest = t.rest; lawful = g.0 })
 
-text_again : (is_lawful : List ℕ → Bool) (text rest : List ℕ) → IsTrue (is_lawful text) → text_at is_lawful (counted text ++ rest) ≡ Some (text, rest)
+text_again : (is_lawful : List ℕ → Bool) (text rest : List ℕ) → IsTrue (is_lawful text) → text_at is_lawful (counted_text text ++ rest) ≡ Some (text, rest)
 unfolding text_at counted_at
 text_again is_lawful text rest h =
     let long : leb (length text) (length (text ++ rest)) ≡ true = grind (arith, nat_tests, length-append text rest) in
     rw (long, take_at text rest (length text) refl, drop_at text rest (length text) refl, h) refl
 
-pub text : (is_lawful : List ℕ → Bool) → IsFormat (text_at is_lawful) counted (λ text. IsTrue (is_lawful text))
+pub text : (is_lawful : List ℕ → Bool) → IsFormat (text_at is_lawful) counted_text (λ text. IsTrue (is_lawful text))
 text is_lawful = record { takes = text_takes is_lawful; again = text_again is_lawful }
 
 -- ---- moments
@@ -187,21 +205,61 @@ moment_is ms m e =
     let low : ms ≤ 253402300799999 = grind (arith, nat_tests, g.0) in
     (g.1, subst IsMoment g.1 low)
 
-moment_takes : (bytes : List ℕ) (x : ℕ × List ℕ) → AreBytes bytes → moment_at bytes ≡ Some x → Takes (to_be_bytes w64) IsMoment bytes x
-unfolding moment_at
+moment_takes : (bytes : List ℕ) (x : ℕ × List ℕ) → AreBytes bytes → moment_in bytes ≡ Some x → Takes (to_be_bytes w64) IsMoment bytes x
+unfolding moment_in
 moment_takes bytes x fits e =
-    let a = bind_some (number_at w64 bytes) (λ ms. moment_of ms.0 >>= λ moment. Some (moment, ms.1)) x e in
+    let a = bind_some (number_in w64 bytes) (λ ms. moment_of ms.0 >>= λ moment. Some (moment, ms.1)) x e in
     let b = bind_some (moment_of a.0.0) (λ moment. Some (moment, a.0.1)) x a.2 in
     let t = number_8.takes bytes a.0 fits a.1 in
     let is = moment_is a.0.0 b.0 b.1 in
     subst (Takes (to_be_bytes w64) IsMoment bytes) (some_is (b.0, a.0.1) x b.2)
     (record { parts = t.parts ∙ ap (λ m. to_be_bytes w64 m ++ a.0.1) is.0; rest = t.rest; lawful = is.1 })
 
-moment_again : (m : ℕ) (rest : List ℕ) → IsMoment m → moment_at (to_be_bytes w64 m ++ rest) ≡ Some (m, rest)
-unfolding moment_at
+moment_again : (m : ℕ) (rest : List ℕ) → IsMoment m → moment_in (to_be_bytes w64 m ++ rest) ≡ Some (m, rest)
+unfolding moment_in
 moment_again m rest h =
     let is : leb m 253402300799999 ≡ true = grind (arith, nat_tests) in
     rw (number_8.again m rest (omega arith), is) refl
 
-pub moment : IsFormat moment_at (to_be_bytes w64) IsMoment
+pub moment : IsFormat moment_in (to_be_bytes w64) IsMoment
 moment = record { takes = moment_takes; again = moment_again }
+
+-- ---- too few bytes
+
+piece_none : (n : ℕ) (bytes : List ℕ) → piece_at n bytes ≡ None → length bytes < n
+piece_none n bytes e = guard_none (leb n (length bytes)) refl e
+  where
+    guard_none : (b : Bool) → leb n (length bytes) ≡ b → cond {A = Option (List ℕ × List ℕ)} b (Some (take n bytes, drop n bytes)) None ≡ None
+        → length bytes < n
+    guard_none true is e = absurd cc
+    guard_none false is e = grind (arith, nat_tests, is)
+
+-- a step that gave nothing
+bind_none : {A B : Type 0} (o : Option A) (f : A → Option B) → (o >>= f) ≡ None → (o ≡ None) ⊎ ((x : A) × (o ≡ Some x) × (f x ≡ None))
+bind_none None f e = inl refl
+bind_none (Some x) f e = inr (x, refl, e)
+
+some_is_none : {A : Type 0} (x : A) → Some x ≡ None → ⊥
+some_is_none x e = absurd cc
+
+-- where four bytes and k more are not there
+pub number_none : {B : Type 0} (k : ℕ) (bytes : List ℕ) (f : ℕ × List ℕ → Option B) → AreBytes bytes → (number_in w32 bytes >>= f) ≡ None
+    → ((x : ℕ × List ℕ) → AreBytes x.1 → f x ≡ None → length x.1 < k) → length bytes < 4 + k
+number_none k bytes f fits e more = elim (bind_none (number_in w32 bytes) f e) [
+  | inl none ↦ elim (bind_none (piece_at 4 bytes) (λ front. Some (from_be_bytes w32 front.0, front.1)) none) [
+    | inl short ↦ omega (arith, piece_none 4 bytes short)
+    | inr w ↦ absurd (some_is_none _ w.2)
+  ]
+  | inr w ↦
+      let b = bind_some (piece_at 4 bytes) (λ front. Some (from_be_bytes w32 front.0, front.1)) w.0 w.1 in
+      let t = (piece 4).takes bytes b.0 fits b.1 in
+      let same : b.0.1 ≡ w.0.1 = ap (λ x. x.1) (some_is _ w.0 b.2) in
+      let rest : length w.0.1 < k = more w.0 (subst AreBytes same t.rest) w.2 in
+      omega (arith, rest, ap length same, t.lawful.length, ap length t.parts, length-append b.0.0 b.0.1)
+]
+
+pub piece_none_of : {B : Type 0} (n : ℕ) (bytes : List ℕ) (f : List ℕ × List ℕ → B) → (piece_at n bytes >>= λ x. Some (f x)) ≡ None → length bytes < n
+piece_none_of n bytes f e = elim (bind_none (piece_at n bytes) (λ x. Some (f x)) e) [
+  | inl none ↦ piece_none n bytes none
+  | inr w ↦ absurd (some_is_none _ w.2)
+]

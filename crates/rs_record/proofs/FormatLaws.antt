@@ -3,9 +3,9 @@ use Rattle.std.proofs.Common.{◌≡◌, ℕ, List, [], ◌∷◌, ◌++◌, Som
 use Rattle.std.specs.Int.{w32, w64, to_be_bytes}
 use Rattle.rs_record.specs.Name.{is_name}
 use Rattle.rs_record.specs.MediaType.{is_media_type}
-use Rattle.rs_record.specs.Format.{counted, facts_bytes, facts_of, record_bytes}
+use Rattle.rs_record.specs.Format.{counted_text, facts_bytes, facts_in, record_bytes}
 use Rattle.rs_record.specs.Lawful.{IsLawfulFacts, IsLawfulRecord}
-use Rattle.rs_record.specs.Reading.{◌>>=◌, piece_at, number_at, text_at, moment_at, facts_at, record_at}
+use Rattle.rs_record.specs.Reading.{◌>>=◌, piece_at, number_in, text_at, moment_in, facts_at, record_at}
 use Rattle.rs_record.specs.declared.facts.Facts.{Facts}
 use Rattle.rs_record.specs.declared.record.Record.{Record}
 use Rattle.rs_record.proofs.FieldLaws.{AreBytes, Takes, IsFormat, bind_some, takes_as, one_more, concat-onto, piece, piece_read, number_4, text, moment}
@@ -16,15 +16,15 @@ facts_takes : (bytes : List ℕ) (x : Facts × List ℕ) → AreBytes bytes → 
 unfolding facts_at
 facts_takes bytes x fits e =
     let made : List ℕ → ℕ → List ℕ → List ℕ → Facts = λ kind len md5 sha256. record { kind = kind; length = len; digests = record { md5 = md5; sha256 = sha256 } } in
-    let a = bind_some (text_at is_media_type bytes) (λ kind. number_at w32 kind.1 >>= λ len. piece_at 16 len.1 >>= λ md5. piece_at 32 md5.1 >>= λ sha256. Some (made kind.0 len.0 md5.0 sha256.0, sha256.1)) x e in
-    let b = bind_some (number_at w32 a.0.1) (λ len. piece_at 16 len.1 >>= λ md5. piece_at 32 md5.1 >>= λ sha256. Some (made a.0.0 len.0 md5.0 sha256.0, sha256.1)) x a.2 in
+    let a = bind_some (text_at is_media_type bytes) (λ kind. number_in w32 kind.1 >>= λ len. piece_at 16 len.1 >>= λ md5. piece_at 32 md5.1 >>= λ sha256. Some (made kind.0 len.0 md5.0 sha256.0, sha256.1)) x e in
+    let b = bind_some (number_in w32 a.0.1) (λ len. piece_at 16 len.1 >>= λ md5. piece_at 32 md5.1 >>= λ sha256. Some (made a.0.0 len.0 md5.0 sha256.0, sha256.1)) x a.2 in
     let d = bind_some (piece_at 16 b.0.1) (λ md5. piece_at 32 md5.1 >>= λ sha256. Some (made a.0.0 b.0.0 md5.0 sha256.0, sha256.1)) x b.2 in
     let f = bind_some (piece_at 32 d.0.1) (λ sha256. Some (made a.0.0 b.0.0 d.0.0 sha256.0, sha256.1)) x d.2 in
     let ta = (text is_media_type).takes bytes a.0 fits a.1 in
     let tb = number_4.takes a.0.1 b.0 ta.rest b.1 in
     let td = (piece 16).takes b.0.1 d.0 tb.rest d.1 in
     let tf = (piece 32).takes d.0.1 f.0 td.rest f.1 in
-    let K = counted a.0.0 in
+    let K = counted_text a.0.0 in
     let L = to_be_bytes w32 b.0.0 in
     let one = one_more [] bytes K bytes a.0.1 refl ta.parts in
     let two = one_more (K ∷ []) bytes L a.0.1 b.0.1 one tb.parts in
@@ -36,7 +36,7 @@ facts_takes bytes x fits e =
 facts_again : (f : Facts) (rest : List ℕ) → IsLawfulFacts f → facts_at (facts_bytes f ++ rest) ≡ Some (f, rest)
 unfolding facts_at
 facts_again f rest h =
-    ap facts_at (concat-onto (counted f.kind ∷ to_be_bytes w32 f.length ∷ f.digests.md5 ∷ f.digests.sha256 ∷ []) rest)
+    ap facts_at (concat-onto (counted_text f.kind ∷ to_be_bytes w32 f.length ∷ f.digests.md5 ∷ f.digests.sha256 ∷ []) rest)
     ∙ rw (
       (text is_media_type).again f.kind (to_be_bytes w32 f.length ++ (f.digests.md5 ++ (f.digests.sha256 ++ rest))) h.kind,
       number_4.again f.length (f.digests.md5 ++ (f.digests.sha256 ++ rest)) h.len,
@@ -53,17 +53,17 @@ record_takes : (bytes : List ℕ) (x : Record × List ℕ) → AreBytes bytes �
 unfolding record_at
 record_takes bytes x fits e =
     let made : List ℕ → Facts → ℕ → ℕ → ℕ → Record = λ name known t first blocks. record { name = name; kind = known.kind; length = known.length; digests = known.digests; moment = t; extent = record { first = first; blocks = blocks } } in
-    let a = bind_some (text_at is_name bytes) (λ name. facts_at name.1 >>= λ known. moment_at known.1 >>= λ t. number_at w32 t.1 >>= λ first. number_at w32 first.1 >>= λ blocks. Some (made name.0 known.0 t.0 first.0 blocks.0, blocks.1)) x e in
-    let b = bind_some (facts_at a.0.1) (λ known. moment_at known.1 >>= λ t. number_at w32 t.1 >>= λ first. number_at w32 first.1 >>= λ blocks. Some (made a.0.0 known.0 t.0 first.0 blocks.0, blocks.1)) x a.2 in
-    let d = bind_some (moment_at b.0.1) (λ t. number_at w32 t.1 >>= λ first. number_at w32 first.1 >>= λ blocks. Some (made a.0.0 b.0.0 t.0 first.0 blocks.0, blocks.1)) x b.2 in
-    let f = bind_some (number_at w32 d.0.1) (λ first. number_at w32 first.1 >>= λ blocks. Some (made a.0.0 b.0.0 d.0.0 first.0 blocks.0, blocks.1)) x d.2 in
-    let g = bind_some (number_at w32 f.0.1) (λ blocks. Some (made a.0.0 b.0.0 d.0.0 f.0.0 blocks.0, blocks.1)) x f.2 in
+    let a = bind_some (text_at is_name bytes) (λ name. facts_at name.1 >>= λ known. moment_in known.1 >>= λ t. number_in w32 t.1 >>= λ first. number_in w32 first.1 >>= λ blocks. Some (made name.0 known.0 t.0 first.0 blocks.0, blocks.1)) x e in
+    let b = bind_some (facts_at a.0.1) (λ known. moment_in known.1 >>= λ t. number_in w32 t.1 >>= λ first. number_in w32 first.1 >>= λ blocks. Some (made a.0.0 known.0 t.0 first.0 blocks.0, blocks.1)) x a.2 in
+    let d = bind_some (moment_in b.0.1) (λ t. number_in w32 t.1 >>= λ first. number_in w32 first.1 >>= λ blocks. Some (made a.0.0 b.0.0 t.0 first.0 blocks.0, blocks.1)) x b.2 in
+    let f = bind_some (number_in w32 d.0.1) (λ first. number_in w32 first.1 >>= λ blocks. Some (made a.0.0 b.0.0 d.0.0 first.0 blocks.0, blocks.1)) x d.2 in
+    let g = bind_some (number_in w32 f.0.1) (λ blocks. Some (made a.0.0 b.0.0 d.0.0 f.0.0 blocks.0, blocks.1)) x f.2 in
     let ta = (text is_name).takes bytes a.0 fits a.1 in
     let tb = facts.takes a.0.1 b.0 ta.rest b.1 in
     let td = moment.takes b.0.1 d.0 tb.rest d.1 in
     let tf = number_4.takes d.0.1 f.0 td.rest f.1 in
     let tg = number_4.takes f.0.1 g.0 tf.rest g.1 in
-    let N = counted a.0.0 in
+    let N = counted_text a.0.0 in
     let F = facts_bytes b.0.0 in
     let M = to_be_bytes w64 d.0.0 in
     let first = to_be_bytes w32 f.0.0 in
@@ -81,10 +81,10 @@ record_again r rest h =
     let blocks = to_be_bytes w32 r.extent.blocks ++ rest in
     let first = to_be_bytes w32 r.extent.first ++ blocks in
     let M = to_be_bytes w64 r.moment ++ first in
-    ap record_at (concat-onto (counted r.name ∷ facts_bytes (facts_of r) ∷ to_be_bytes w64 r.moment ∷ to_be_bytes w32 r.extent.first ∷ to_be_bytes w32 r.extent.blocks ∷ []) rest)
+    ap record_at (concat-onto (counted_text r.name ∷ facts_bytes (facts_in r) ∷ to_be_bytes w64 r.moment ∷ to_be_bytes w32 r.extent.first ∷ to_be_bytes w32 r.extent.blocks ∷ []) rest)
     ∙ rw (
-      (text is_name).again r.name (facts_bytes (facts_of r) ++ M) h.name,
-      facts.again (facts_of r) M h.facts,
+      (text is_name).again r.name (facts_bytes (facts_in r) ++ M) h.name,
+      facts.again (facts_in r) M h.facts,
       moment.again r.moment first h.moment,
       number_4.again r.extent.first blocks h.first,
       number_4.again r.extent.blocks rest h.blocks,

@@ -7,3 +7,4 @@ pub mod FormatLaws
 pub mod ChangeLaws
 pub mod Answered
 pub mod Grammars
+pub mod Digits

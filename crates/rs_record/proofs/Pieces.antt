@@ -3,7 +3,7 @@ use Rattle.std.proofs.Common.{◌≡◌, ℕ, ◌≤◌, ◌+◌, List, ◌++◌
 use Rattle.std.specs.List.{concat}
 use Rattle.std.proofs.lemmas.List.{length-append, append-nil}
 use Rattle.std.specs.Int.{w32, w64, to_be_bytes}
-use Rattle.rs_record.specs.Format.{counted, record_bytes}
+use Rattle.rs_record.specs.Format.{counted_text, record_bytes}
 use Rattle.rs_record.specs.declared.record.Record.{Record}
 
 -- with the rest it is the whole, for which there is room
@@ -24,4 +24,4 @@ pub record_pieces : (r : Record) (name kind len md5 sha256 moment first blocks :
     → concat ((length name ∷ []) ∷ name ∷ (length kind ∷ []) ∷ kind ∷ len ∷ md5 ∷ sha256 ∷ moment ∷ first ∷ blocks ∷ []) ≡ record_bytes r
 record_pieces r name kind len md5 sha256 moment first blocks e f g h i j k l =
     rw (e, f, g, h, i, j, k, l)
-    (ap (λ x. counted r.name ++ x) (sym (facts_joined (length r.kind ∷ []) r.kind (to_be_bytes w32 r.length) r.digests.md5 r.digests.sha256 (to_be_bytes w64 r.moment ++ (to_be_bytes w32 r.extent.first ++ (to_be_bytes w32 r.extent.blocks ++ []))))))
+    (ap (λ x. counted_text r.name ++ x) (sym (facts_joined (length r.kind ∷ []) r.kind (to_be_bytes w32 r.length) r.digests.md5 r.digests.sha256 (to_be_bytes w64 r.moment ++ (to_be_bytes w32 r.extent.first ++ (to_be_bytes w32 r.extent.blocks ++ []))))))

@@ -1,6 +1,6 @@
 -- Changes of each kind.
 use Rattle.std.specs.Prelude.{ℕ, List, Bool, true, false, if◌then◌else◌, IsTrue, Some, None, refl}
-use Rattle.rs_record.specs.What.{agree}
+use Rattle.rs_record.specs.ChangeKind.{agree}
 use Rattle.rs_record.specs.declared.facts.Facts.{Facts}
 use Rattle.rs_record.specs.declared.change.What.{What}
 use Rattle.rs_record.specs.declared.change.What.TheVariants.{Created, Updated, Deleted}

@@ -9,22 +9,22 @@ use Rattle.rs_record.specs.declared.change.What.TheVariants.{Created, Updated, D
 use Rattle.rs_record.specs.declared.change.Change.{Change}
 
 -- a text of at most 255 bytes: one byte of length, and the bytes
-abbrev pub counted : List ℕ → List ℕ
-counted text = length text ∷ text
+abbrev pub counted_text : List ℕ → List ℕ
+counted_text text = length text ∷ text
 
 -- what is known of a body: media type, length in 4 bytes, MD5, SHA-256
 abbrev pub facts_bytes : Facts → List ℕ
-facts_bytes f = concat (counted f.kind ∷ to_be_bytes w32 f.length ∷ f.digests.md5 ∷ f.digests.sha256 ∷ [])
+facts_bytes f = concat (counted_text f.kind ∷ to_be_bytes w32 f.length ∷ f.digests.md5 ∷ f.digests.sha256 ∷ [])
 
 -- what a record knows of its body
-abbrev pub facts_of : Record → Facts
-facts_of r = record { kind = r.kind; length = r.length; digests = r.digests }
+abbrev pub facts_in : Record → Facts
+facts_in r = record { kind = r.kind; length = r.length; digests = r.digests }
 
 -- a record: name, what is known of its body, moment in 8 bytes, first block and number of blocks in 4 bytes each
 abbrev pub record_bytes : Record → List ℕ
 record_bytes r =
     concat
-    (counted r.name ∷ facts_bytes (facts_of r) ∷ to_be_bytes w64 r.moment ∷ to_be_bytes w32 r.extent.first
+    (counted_text r.name ∷ facts_bytes (facts_in r) ∷ to_be_bytes w64 r.moment ∷ to_be_bytes w32 r.extent.first
     ∷ to_be_bytes w32 r.extent.blocks ∷ [])
 
 -- what happened
@@ -41,7 +41,7 @@ known_bytes (Some f) = facts_bytes f
 -- a change: what happened, name, moment in 8 bytes, and what is known of the body unless the name was unbound
 abbrev pub change_bytes : Change → List ℕ
 change_bytes c =
-    concat ((what_byte c.what ∷ []) ∷ counted c.name ∷ to_be_bytes w64 c.moment ∷ known_bytes c.facts ∷ [])
+    concat ((what_byte c.what ∷ []) ∷ counted_text c.name ∷ to_be_bytes w64 c.moment ∷ known_bytes c.facts ∷ [])
 
 -- the bytes begin with this text
 abbrev pub BeginsWith : List ℕ → List ℕ → Type 0

@@ -3,7 +3,7 @@ use Rattle.std.specs.Prelude.{◌≡◌, ◌<◌, ◌^◌, length, IsTrue, IfSom
 use Rattle.rs_time.specs.Moment.{IsMoment}
 use Rattle.rs_record.specs.Name.{is_name}
 use Rattle.rs_record.specs.MediaType.{is_media_type}
-use Rattle.rs_record.specs.Format.{facts_of}
+use Rattle.rs_record.specs.Format.{facts_in}
 use Rattle.rs_record.specs.declared.facts.Facts.{Facts}
 use Rattle.rs_record.specs.declared.record.Record.{Record}
 use Rattle.rs_record.specs.declared.change.Change.{Change}
@@ -18,7 +18,7 @@ pub record IsLawfulFacts (f : Facts) : Type 0 where
 -- the fields of a record
 pub record IsLawfulRecord (r : Record) : Type 0 where
   pub name : IsTrue (is_name r.name)
-  pub facts : IsLawfulFacts (facts_of r)
+  pub facts : IsLawfulFacts (facts_in r)
   pub moment : IsMoment r.moment
   pub first : r.extent.first < 2 ^ 32
   pub blocks : r.extent.blocks < 2 ^ 32

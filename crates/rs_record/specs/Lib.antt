@@ -2,11 +2,13 @@ pub mod Bytes
 pub mod Name
 pub mod MediaType
 pub mod Base
-pub mod Lacks
-pub mod What
+pub mod CleanBytes
+pub mod ChangeKind
 pub mod Changes
 pub mod Format
 pub mod Lawful
 pub mod Reading
 pub mod Borrowed
 pub mod Grammar
+pub mod Limits
+pub mod Decimal

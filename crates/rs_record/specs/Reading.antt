@@ -4,6 +4,8 @@ use Rattle.std.specs.Prelude.{◌≡◌, ℕ, List, [], ◌∷◌, length, take,
 use Rattle.std.specs.Option.{option_map}
 use Rattle.std.specs.Int.{Width, w32, w64, byte_len, from_be_bytes}
 use Rattle.rs_time.specs.Moment.{moment_of}
+-- the next step, where there was a value
+pub use Rattle.rs_fixity.specs.Cut.{◌>>=◌}
 use Rattle.rs_record.specs.Name.{is_name}
 use Rattle.rs_record.specs.MediaType.{is_media_type}
 use Rattle.rs_record.specs.Changes.{bound, deleted}
@@ -13,30 +15,24 @@ use Rattle.rs_record.specs.declared.facts.Facts.{Facts}
 use Rattle.rs_record.specs.declared.record.Record.{Record}
 use Rattle.rs_record.specs.declared.change.Change.{Change}
 
--- the next step, where there was a value
-infixl 10 ◌>>=◌
-abbrev pub ◌>>=◌ : {A B : Type 0} → Option A → (A → Option B) → Option B
-None >>= f = None
-(Some x) >>= f = f x
-
 -- What a reader returned, seen by view, is what reading gives.
-abbrev pub Gives : {X Y : Type 0} → (X → Y) → Option X → Option Y → Type 0
-Gives view None read = read ≡ None
-Gives view (Some x) read = read ≡ Some (view x)
+abbrev pub IsSeenAs : {X Y : Type 0} → (X → Y) → Option X → Option Y → Type 0
+IsSeenAs view None read = read ≡ None
+IsSeenAs view (Some x) read = read ≡ Some (view x)
 
 -- What a reader returned is the value at the front and the length of its format. Memory is wanting only where there is a value.
-abbrev pub Answers : {A : Type 0} → (A → List ℕ) → Result (A × ℕ) FieldFault → Option (A × List ℕ) → Type 0
-Answers write (Ok x) read = (option_map (λ y. y.0) read ≡ Some x.0) × (x.1 ≡ length (write x.0))
-Answers write (Err Malformed) read = read ≡ None
-Answers write (Err NoMemory) read = IsSome read
+abbrev pub IsValueAt : {A : Type 0} → (A → List ℕ) → Result (A × ℕ) FieldFault → Option (A × List ℕ) → Type 0
+IsValueAt write (Ok x) read = (option_map (λ y. y.0) read ≡ Some x.0) × (x.1 ≡ length (write x.0))
+IsValueAt write (Err Malformed) read = read ≡ None
+IsValueAt write (Err NoMemory) read = IsSome read
 
 -- so many bytes
 abbrev pub piece_at : ℕ → List ℕ → Option (List ℕ × List ℕ)
 piece_at n bytes = if nat_le n (length bytes) then Some (take n bytes, drop n bytes) else None
 
 -- a number, big endian
-abbrev pub number_at : Width → List ℕ → Option (ℕ × List ℕ)
-number_at w bytes = piece_at (byte_len w) bytes >>= λ piece. Some (from_be_bytes w piece.0, piece.1)
+abbrev pub number_in : Width → List ℕ → Option (ℕ × List ℕ)
+number_in w bytes = piece_at (byte_len w) bytes >>= λ piece. Some (from_be_bytes w piece.0, piece.1)
 
 -- a byte of length and a text of that length
 unfoldable pub counted_at : List ℕ → Option (List ℕ × List ℕ)
@@ -50,9 +46,9 @@ text_at is_lawful bytes = do
   if is_lawful text.0 then Some text else None
 
 -- a moment
-unfoldable pub moment_at : List ℕ → Option (ℕ × List ℕ)
-moment_at bytes = do
-  ms ← number_at w64 bytes
+unfoldable pub moment_in : List ℕ → Option (ℕ × List ℕ)
+moment_in bytes = do
+  ms ← number_in w64 bytes
   moment ← moment_of ms.0
   Some (moment, ms.1)
 
@@ -60,7 +56,7 @@ moment_at bytes = do
 unfoldable pub facts_at : List ℕ → Option (Facts × List ℕ)
 facts_at bytes = do
   kind ← text_at is_media_type bytes
-  len ← number_at w32 kind.1
+  len ← number_in w32 kind.1
   md5 ← piece_at 16 len.1
   sha256 ← piece_at 32 md5.1
   Some (record { kind = kind.0; length = len.0; digests = record { md5 = md5.0; sha256 = sha256.0 } }, sha256.1)
@@ -70,9 +66,9 @@ unfoldable pub record_at : List ℕ → Option (Record × List ℕ)
 record_at bytes = do
   name ← text_at is_name bytes
   facts ← facts_at name.1
-  moment ← moment_at facts.1
-  first ← number_at w32 moment.1
-  blocks ← number_at w32 first.1
+  moment ← moment_in facts.1
+  first ← number_in w32 moment.1
+  blocks ← number_in w32 first.1
   Some (
     record {
       name = name.0;
@@ -102,5 +98,5 @@ unfoldable pub change_at : List ℕ → Option (Change × List ℕ)
 change_at [] = None
 change_at (what ∷ rest) = do
   name ← text_at is_name rest
-  moment ← moment_at name.1
+  moment ← moment_in name.1
   change_after what name.0 moment.0 moment.1

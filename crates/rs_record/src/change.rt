@@ -1,7 +1,7 @@
 //! What happened to a resource.
 
 ghost use Rattle.std.specs.Prelude.{◌≡◌, IfOk, IsTrue};
-ghost use Rattle.rs_record.specs.What.{agree};
+ghost use Rattle.rs_record.specs.ChangeKind.{agree};
 
 use crate::{Facts, Name};
 use rs_time::Moment;

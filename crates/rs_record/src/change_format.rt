@@ -5,7 +5,7 @@ ghost use Rattle.rs_record.specs.declared.change.Change.{Change};
 ghost use Rattle.rs_record.specs.Format.{change_bytes, what_byte as byte_of, BeginsWith};
 ghost use Rattle.rs_record.specs.Lawful.{IsLawfulChange};
 ghost use Rattle.rs_record.specs.Borrowed.{change_seen, AreLawfulTexts};
-ghost use Rattle.rs_record.specs.Reading.{Gives, Answers, change_at as change_read};
+ghost use Rattle.rs_record.specs.Reading.{IsSeenAs, IsValueAt, change_at as change_read};
 
 use crate::borrowed::ChangeFields;
 use crate::fields::{FieldFault, append, facts_at, facts_size, name_at, u64_at};
@@ -39,7 +39,8 @@ pub fn change_size(change: &Change) -> usize
 pub fn write_change(change: &Change, out: &mut Vec<u8>) -> Result<(), AllocError>
     ensures ok { OnOk result (out.new.items ≡ out.old.items ++ change_bytes change.now) }
     ensures err { OnErr result (out.new.items ≡ out.old.items) }
-    ensures full { OnErr result (vec_capacity out.old < vec_len out.old + length (change_bytes change.now)) }
+    ensures full { OnErr result (vec_capacity out.old
+        < vec_len out.old + length (change_bytes change.now)) }
 
     // So what was written is read again.
     ensures lawful { IsLawfulChange change.now }
@@ -81,17 +82,20 @@ pub fn write_change(change: &Change, out: &mut Vec<u8>) -> Result<(), AllocError
 /// `Malformed` exactly where the bytes begin with no format of a lawful change; `NoMemory` where
 /// the memory for the name or the media type was refused.
 pub fn read_change(alloc: Global, bytes: &[u8]) -> Result<(Change, usize), FieldFault>
-    ensures found { IfOk result (λ read. IsLawfulChange read.0 × BeginsWith bytes.now (change_bytes read.0)) }
+    ensures found { IfOk result (λ read. IsLawfulChange read.0
+        × BeginsWith bytes.now (change_bytes read.0)) }
     ensures size { IfOk result (λ read. read.1 ≡ length (change_bytes read.0)) }
-    ensures only { (c : Change) → IsLawfulChange c → BeginsWith bytes.now (change_bytes c) → IfOk result (λ read. read.0 ≡ c) }
-    ensures malformed { IsErrOf result FieldFault.Malformed ↔ ((c : Change) → IsLawfulChange c → ¬ BeginsWith bytes.now (change_bytes c)) }
+    ensures only { (c : Change) → IsLawfulChange c → BeginsWith bytes.now (change_bytes c)
+        → IfOk result (λ read. read.0 ≡ c) }
+    ensures malformed { IsErrOf result FieldFault.Malformed
+        ↔ ((c : Change) → IsLawfulChange c → ¬ BeginsWith bytes.now (change_bytes c)) }
 {
     change_of(alloc, bytes)
 }
 
 // Reads a change as a function on lists reads it.
 fn change_of(alloc: Global, bytes: &[u8]) -> Result<(Change, usize), FieldFault>
-    ensures { Answers change_bytes result (change_read bytes.now) }
+    ensures { IsValueAt change_bytes result (change_read bytes.now) }
 {
     let Some((fields, _)) = change_at(bytes) else {
         return Err(FieldFault::Malformed);
@@ -102,9 +106,9 @@ fn change_of(alloc: Global, bytes: &[u8]) -> Result<(Change, usize), FieldFault>
 }
 
 // A change, and the bytes after it.
-#[tactic(auto, unfolding(crate::specs::Reading::change_at, crate::specs::Reading::moment_at, crate::specs::Reading::change_after, crate::specs::Reading::bound_at))]
+#[tactic(auto, unfolding(crate::specs::Reading::change_at, crate::specs::Reading::moment_in, crate::specs::Reading::change_after, crate::specs::Reading::bound_at))]
 fn change_at(bytes: &[u8]) -> Option<(ChangeFields<'_>, &[u8])>
-    ensures read { Gives (λ x. (change_seen x.0, x.1.now)) result (change_read bytes.now) }
+    ensures read { IsSeenAs (λ x. (change_seen x.0, x.1.now)) result (change_read bytes.now) }
     ensures lawful { IfSome result (λ x. AreLawfulTexts x.0) }
 {
     let (what, rest) = bytes.split_first()?;

@@ -1,12 +1,15 @@
-//! Fields of a format, read off the front of some bytes and appended to others.
+//! Fields of the formats of the disk, read off the front of some bytes and appended to others.
+//!
+//! Each reader gives the field and the bytes after it, or `None` where the bytes do not begin with
+//! one. A number stands with its highest byte first.
 
 ghost use Rattle.std.specs.Prelude.{◌≡◌, ◌<◌, ◌≤◌, ◌+◌, ◌++◌, vec_len, vec_capacity, IsTrue, OnOk, OnErr, IfSome, length, map};
-ghost use Rattle.std.specs.Int.{w32, w64};
+ghost use Rattle.std.specs.Int.{w16, w32, w64};
 ghost use Rattle.std.specs.List.{concat};
 ghost use Rattle.rs_record.specs.Name.{is_name};
 ghost use Rattle.rs_record.specs.MediaType.{is_media_type};
 ghost use Rattle.rs_record.specs.Borrowed.{facts_seen};
-ghost use Rattle.rs_record.specs.Reading.{Gives, number_at, counted_at as counted_read, text_at, facts_at as facts_read};
+ghost use Rattle.rs_record.specs.Reading.{IsSeenAs, number_in, counted_at as counted_read, text_at, facts_at as facts_read};
 
 use crate::borrowed::FactsFields;
 use crate::{MediaType, media_type, name};
@@ -25,9 +28,17 @@ pub enum FieldFault {
     NoMemory,
 }
 
+/// A number of 2 bytes.
+pub fn u16_at(bytes: &[u8]) -> Option<(u16, &[u8])>
+    ensures { IsSeenAs (λ x. (x.0, x.1.now)) result (number_in w16 bytes.now) }
+{
+    let (number, rest) = bytes.split_first_chunk::<2>()?;
+    Some((u16::from_be_bytes(*number), rest))
+}
+
 /// A number of 4 bytes.
 pub fn u32_at(bytes: &[u8]) -> Option<(u32, &[u8])>
-    ensures { Gives (λ x. (x.0, x.1.now)) result (number_at w32 bytes.now) }
+    ensures { IsSeenAs (λ x. (x.0, x.1.now)) result (number_in w32 bytes.now) }
 {
     let (number, rest) = bytes.split_first_chunk::<4>()?;
     Some((u32::from_be_bytes(*number), rest))
@@ -35,16 +46,16 @@ pub fn u32_at(bytes: &[u8]) -> Option<(u32, &[u8])>
 
 /// A number of 8 bytes.
 pub fn u64_at(bytes: &[u8]) -> Option<(u64, &[u8])>
-    ensures { Gives (λ x. (x.0, x.1.now)) result (number_at w64 bytes.now) }
+    ensures { IsSeenAs (λ x. (x.0, x.1.now)) result (number_in w64 bytes.now) }
 {
     let (number, rest) = bytes.split_first_chunk::<8>()?;
     Some((u64::from_be_bytes(*number), rest))
 }
 
-/// A byte of length, and that many bytes.
+/// A byte of length, and that many bytes: 0 to 255.
 #[tactic(auto, unfolding(crate::specs::Reading::counted_at))]
-fn counted_at(bytes: &[u8]) -> Option<(&[u8], &[u8])>
-    ensures { Gives (λ x. (x.0.now, x.1.now)) result (counted_read bytes.now) }
+pub fn counted_at(bytes: &[u8]) -> Option<(&[u8], &[u8])>
+    ensures { IsSeenAs (λ x. (x.0.now, x.1.now)) result (counted_read bytes.now) }
 {
     let (length, rest) = bytes.split_first()?;
     rest.split_at_checked(*length as usize)
@@ -52,8 +63,8 @@ fn counted_at(bytes: &[u8]) -> Option<(&[u8], &[u8])>
 
 /// A byte of length, and a lawful name of that length.
 #[tactic(auto, unfolding(crate::specs::Reading::text_at))]
-pub fn name_at(bytes: &[u8]) -> Option<(&[u8], &[u8])>
-    ensures read { Gives (λ x. (x.0.now, x.1.now)) result (text_at is_name bytes.now) }
+pub(crate) fn name_at(bytes: &[u8]) -> Option<(&[u8], &[u8])>
+    ensures read { IsSeenAs (λ x. (x.0.now, x.1.now)) result (text_at is_name bytes.now) }
     ensures lawful { IfSome result (λ x. IsTrue (is_name x.0.now)) }
 {
     let (name, rest) = counted_at(bytes)?;
@@ -66,7 +77,7 @@ pub fn name_at(bytes: &[u8]) -> Option<(&[u8], &[u8])>
 /// A byte of length, and a lawful media type of that length.
 #[tactic(auto, unfolding(crate::specs::Reading::text_at))]
 fn media_type_at(bytes: &[u8]) -> Option<(&[u8], &[u8])>
-    ensures read { Gives (λ x. (x.0.now, x.1.now)) result (text_at is_media_type bytes.now) }
+    ensures read { IsSeenAs (λ x. (x.0.now, x.1.now)) result (text_at is_media_type bytes.now) }
     ensures lawful { IfSome result (λ x. IsTrue (is_media_type x.0.now)) }
 {
     let (kind, rest) = counted_at(bytes)?;
@@ -78,8 +89,8 @@ fn media_type_at(bytes: &[u8]) -> Option<(&[u8], &[u8])>
 
 /// What is known of a body.
 #[tactic(auto, unfolding(crate::specs::Reading::facts_at))]
-pub fn facts_at(bytes: &[u8]) -> Option<(FactsFields<'_>, &[u8])>
-    ensures read { Gives (λ x. (facts_seen x.0, x.1.now)) result (facts_read bytes.now) }
+pub(crate) fn facts_at(bytes: &[u8]) -> Option<(FactsFields<'_>, &[u8])>
+    ensures read { IsSeenAs (λ x. (facts_seen x.0, x.1.now)) result (facts_read bytes.now) }
     ensures lawful { IfSome result (λ x. IsTrue (is_media_type x.0.kind.now)) }
 {
     let (kind, rest) = media_type_at(bytes)?;
@@ -99,7 +110,7 @@ pub fn facts_at(bytes: &[u8]) -> Option<(FactsFields<'_>, &[u8])>
 }
 
 /// How many bytes the format of facts with this media type and these digests has: 56 to 153.
-pub fn facts_size(kind: &MediaType, digests: Digests) -> usize
+pub(crate) fn facts_size(kind: &MediaType, digests: Digests) -> usize
     ensures size { result ≡ 5 + length kind.now + length digests.md5 + length digests.sha256 }
     ensures bound { result ≤ 153 }
 {
@@ -107,9 +118,10 @@ pub fn facts_size(kind: &MediaType, digests: Digests) -> usize
 }
 
 /// Appends these pieces, which have so many bytes in all. On a refusal nothing is appended.
-pub fn append(size: usize, pieces: &[&[u8]], out: &mut Vec<u8>) -> Result<(), AllocError>
+pub(crate) fn append(size: usize, pieces: &[&[u8]], out: &mut Vec<u8>) -> Result<(), AllocError>
     requires { size ≡ length (concat (map (λ piece. piece.now) pieces.now)) }
-    ensures ok { OnOk result (out.new.items ≡ out.old.items ++ concat (map (λ piece. piece.now) pieces.now)) }
+    ensures ok { OnOk result (out.new.items
+        ≡ out.old.items ++ concat (map (λ piece. piece.now) pieces.now)) }
     ensures err { OnErr result (out.new.items ≡ out.old.items) }
     ensures full { OnErr result (vec_capacity out.old < vec_len out.old + size) }
 {

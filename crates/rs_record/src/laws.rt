@@ -4,7 +4,7 @@ ghost use Rattle.std.specs.Prelude.{◌≡◌, ◌++◌, ◌↔◌, ℕ, List, I
 ghost use Rattle.rs_record.specs.Name.{is_name};
 ghost use Rattle.rs_record.specs.MediaType.{is_media_type};
 ghost use Rattle.rs_record.specs.Base.{is_base};
-ghost use Rattle.rs_record.specs.Lacks.{lacks, clean};
+ghost use Rattle.rs_record.specs.CleanBytes.{lacks, clean};
 ghost use Rattle.rs_record.specs.Grammar.{IsNameText, IsMediaTypeText};
 ghost use Rattle.rs_record.specs.Format.{record_bytes, change_bytes};
 ghost use Rattle.rs_record.specs.Lawful.{IsLawfulRecord, IsLawfulChange};
@@ -32,6 +32,8 @@ pub fn lawful_values_are_clean()
 /// or of two lawful changes, they are the same value, and the same bytes follow. So a list of
 /// formats one after the other is read in one way.
 pub fn formats_stand_alone()
-    ensures records { (a b : Record) (x y : List ℕ) → IsLawfulRecord a → IsLawfulRecord b → record_bytes a ++ x ≡ record_bytes b ++ y → (a ≡ b) × (x ≡ y) }
-    ensures changes { (a b : Change) (x y : List ℕ) → IsLawfulChange a → IsLawfulChange b → change_bytes a ++ x ≡ change_bytes b ++ y → (a ≡ b) × (x ≡ y) }
+    ensures records { (a b : Record) (x y : List ℕ) → IsLawfulRecord a → IsLawfulRecord b
+        → record_bytes a ++ x ≡ record_bytes b ++ y → (a ≡ b) × (x ≡ y) }
+    ensures changes { (a b : Change) (x y : List ℕ) → IsLawfulChange a → IsLawfulChange b
+        → change_bytes a ++ x ≡ change_bytes b ++ y → (a ≡ b) × (x ≡ y) }
 {}

@@ -1,5 +1,5 @@
-//! Names, media types, bases, what is kept of a resource and of a change to it, and how these are
-//! spelled on the disk.
+//! Names, media types, bases, decimal numbers, what is kept of a resource and of a change to it, and how
+//! these are spelled on the disk. [`fields`] reads what every format of the disk is made of.
 #![tactic(auto)]
 
 mod base;
@@ -7,10 +7,12 @@ mod borrowed;
 mod bytes;
 mod change;
 mod change_format;
+mod decimal;
 mod duplicate;
 mod facts;
-mod fields;
+pub mod fields;
 mod laws;
+mod limits;
 mod media_type;
 mod name;
 mod record;
@@ -19,10 +21,12 @@ mod record_format;
 pub use base::{Base, BaseError};
 pub use change::{Change, What};
 pub use change_format::{change_size, read_change, write_change};
+pub use decimal::{count_digits, number};
 pub use duplicate::{Duplicate, duplicate_all};
 pub use facts::Facts;
 pub use fields::FieldFault;
 pub use laws::{formats_stand_alone, grammars_are_the_standards, lawful_values_are_clean};
+pub use limits::{LONGEST_BODY, MOST_ITEMS};
 pub use media_type::{MediaType, MediaTypeError};
 pub use name::{Name, NameError};
 pub use record::Record;

@@ -52,7 +52,8 @@ impl MediaType {
     pub fn new(alloc: Global, bytes: &[u8]) -> Result<MediaType, MediaTypeError>
         ensures value { IfOk result (λ kind. kind ≡ bytes.now) }
         ensures lawful { OnOk result (IsTrue (is_media_type bytes.now)) }
-        ensures bad_type { IsErrOf result MediaTypeError.BadType ↔ (is_media_type bytes.now ≡ false) }
+        ensures bad_type { IsErrOf result MediaTypeError.BadType
+            ↔ (is_media_type bytes.now ≡ false) }
     {
         if !is_lawful(bytes) {
             return Err(MediaTypeError::BadType);

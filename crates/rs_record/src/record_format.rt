@@ -7,7 +7,7 @@ ghost use Rattle.rs_record.specs.MediaType.{is_media_type};
 ghost use Rattle.rs_record.specs.Format.{record_bytes, BeginsWith};
 ghost use Rattle.rs_record.specs.Lawful.{IsLawfulRecord};
 ghost use Rattle.rs_record.specs.Borrowed.{record_seen};
-ghost use Rattle.rs_record.specs.Reading.{Gives, Answers, record_at as record_read};
+ghost use Rattle.rs_record.specs.Reading.{IsSeenAs, IsValueAt, record_at as record_read};
 
 use crate::Record;
 use crate::borrowed::RecordFields;
@@ -32,7 +32,8 @@ pub fn record_size(record: &Record) -> usize
 pub fn write_record(record: &Record, out: &mut Vec<u8>) -> Result<(), AllocError>
     ensures ok { OnOk result (out.new.items ≡ out.old.items ++ record_bytes «record».now) }
     ensures err { OnErr result (out.new.items ≡ out.old.items) }
-    ensures full { OnErr result (vec_capacity out.old < vec_len out.old + length (record_bytes «record».now)) }
+    ensures full { OnErr result (vec_capacity out.old
+        < vec_len out.old + length (record_bytes «record».now)) }
 
     // So what was written is read again.
     ensures lawful { IsLawfulRecord «record».now }
@@ -67,17 +68,20 @@ pub fn write_record(record: &Record, out: &mut Vec<u8>) -> Result<(), AllocError
 /// `Malformed` exactly where the bytes begin with no format of a lawful record; `NoMemory` where
 /// the memory for the name or the media type was refused.
 pub fn read_record(alloc: Global, bytes: &[u8]) -> Result<(Record, usize), FieldFault>
-    ensures found { IfOk result (λ read. IsLawfulRecord read.0 × BeginsWith bytes.now (record_bytes read.0)) }
+    ensures found { IfOk result (λ read. IsLawfulRecord read.0
+        × BeginsWith bytes.now (record_bytes read.0)) }
     ensures size { IfOk result (λ read. read.1 ≡ length (record_bytes read.0)) }
-    ensures only { (r : Record) → IsLawfulRecord r → BeginsWith bytes.now (record_bytes r) → IfOk result (λ read. read.0 ≡ r) }
-    ensures malformed { IsErrOf result FieldFault.Malformed ↔ ((r : Record) → IsLawfulRecord r → ¬ BeginsWith bytes.now (record_bytes r)) }
+    ensures only { (r : Record) → IsLawfulRecord r → BeginsWith bytes.now (record_bytes r)
+        → IfOk result (λ read. read.0 ≡ r) }
+    ensures malformed { IsErrOf result FieldFault.Malformed
+        ↔ ((r : Record) → IsLawfulRecord r → ¬ BeginsWith bytes.now (record_bytes r)) }
 {
     record_of(alloc, bytes)
 }
 
 // Reads a record as a function on lists reads it.
 fn record_of(alloc: Global, bytes: &[u8]) -> Result<(Record, usize), FieldFault>
-    ensures { Answers record_bytes result (record_read bytes.now) }
+    ensures { IsValueAt record_bytes result (record_read bytes.now) }
 {
     let Some((fields, _)) = record_at(bytes) else {
         return Err(FieldFault::Malformed);
@@ -88,9 +92,9 @@ fn record_of(alloc: Global, bytes: &[u8]) -> Result<(Record, usize), FieldFault>
 }
 
 // A record, and the bytes after it.
-#[tactic(auto, unfolding(crate::specs::Reading::record_at, crate::specs::Reading::moment_at))]
+#[tactic(auto, unfolding(crate::specs::Reading::record_at, crate::specs::Reading::moment_in))]
 fn record_at(bytes: &[u8]) -> Option<(RecordFields<'_>, &[u8])>
-    ensures read { Gives (λ x. (record_seen x.0, x.1.now)) result (record_read bytes.now) }
+    ensures read { IsSeenAs (λ x. (record_seen x.0, x.1.now)) result (record_read bytes.now) }
     ensures name { IfSome result (λ x. IsTrue (is_name x.0.name.now)) }
     ensures kind { IfSome result (λ x. IsTrue (is_media_type x.0.facts.kind.now)) }
 {

@@ -3,9 +3,7 @@ use Rattle.std.proofs.Common.{ℕ, Bool, List, cond}
 use Rattle.rs_disk.specs.Medium.{DiskState}
 use Rattle.rs_disk.specs.Leaves.{Leaves}
 use Rattle.rs_model.specs.declared.command.Command.{Command}
-use Rattle.rs_image.specs.Laws.{StandsOnce}
 use Rattle.rs_store.specs.declared.running.Ack.{Ack}
-use Rattle.rs_store.specs.Laws.{ClosedStays, ClosedCountNone, DeviceOrNoDoubt, RefusedIsNotDone, RunsLeavePrefixes, OpenHoldsAll}
 
 abbrev pub Commands : Type 0
 Commands = List (Command × ℕ)
@@ -15,16 +13,6 @@ Acks = List Ack
 
 abbrev pub one : Bool → ℕ
 one b = cond b 1 0
-
--- the laws that sessions rest on
-pub record Below {D : Type 0} (device : D → DiskState) : Type 0 where
-  pub stands_once : StandsOnce
-  pub closed : ClosedStays device
-  pub none_counts : ClosedCountNone
-  pub kinds : DeviceOrNoDoubt
-  pub kept : RefusedIsNotDone device
-  pub moments : RunsLeavePrefixes device
-  pub end : OpenHoldsAll device
 
 -- what is left leaves what follows from it
 pub weaker : (old new : DiskState) (P Q : ℕ → List ℕ → Type 0) → ((m : ℕ) (image : List ℕ) → P m image → Q m image) → Leaves old new P → Leaves old new Q

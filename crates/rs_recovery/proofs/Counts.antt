@@ -10,16 +10,17 @@ use Rattle.rs_model.specs.declared.command.Command.{Command}
 use Rattle.rs_model.specs.declared.command.Command.TheVariants.{Put, Delete, Publish}
 use Rattle.rs_model.specs.declared.command.Reply.{Reply}
 use Rattle.rs_model.specs.declared.command.Refusal as model
-use Rattle.rs_image.specs.Tells.{StandsFor}
+use Rattle.rs_image.specs.StateOfImage.{StandsFor}
 use Rattle.rs_store.specs.declared.refusal.Refusal.{Refusal}
 use Rattle.rs_store.specs.declared.refusal.Refusal.TheVariants.{Closed, Device}
 use Rattle.rs_store.specs.Source.{Stored, Holds, state_of}
 use Rattle.rs_store.specs.Refusals.{decided, or_spent, is_spent}
 use Rattle.rs_store.specs.Answered.{Answers}
 use Rattle.rs_store.specs.declared.running.Ack.{Ack}
-use Rattle.rs_store.specs.Counted.{is_accepted, is_in_doubt, answered, counted, begun}
+use Rattle.rs_store.specs.Counted.{is_accepted, is_in_doubt, answered, counted_commands, begun}
 use Rattle.rs_store.specs.Runs.{InTurn}
-use Rattle.rs_recovery.proofs.Below.{Commands, Acks, one, Below}
+use Rattle.rs_recovery.specs.Below.{Below}
+use Rattle.rs_recovery.proofs.Below.{Commands, Acks, one}
 
 -- how many commands were accepted
 pub commands_behind : Source → ℕ
@@ -73,10 +74,10 @@ begun_further : (b : Bool) (n : ℕ) → cond b n 0 ≤ n
 begun_further true n = omega arith
 begun_further false n = omega arith
 
-pub begun_counts : {D : Type 0} (device : D → DiskState) (m : ℕ) (old : Stored D) (cs : Commands) (acks : Acks) (new : Stored D) → InTurn device old cs acks new → begun m acks ≤ length (counted cs acks)
+pub begun_counts : {D : Type 0} (device : D → DiskState) (m : ℕ) (old : Stored D) (cs : Commands) (acks : Acks) (new : Stored D) → InTurn device old cs acks new → begun m acks ≤ length (counted_commands cs acks)
 begun_counts {D} device m old [] [] new turn = omega arith
 begun_counts {D} device m old (c ∷ cs) (a ∷ acks) new turn =
-    let rest : begun m acks ≤ length (counted cs acks) = begun_counts device m turn.2 cs acks new turn.5 in
+    let rest : begun m acks ≤ length (counted_commands cs acks) = begun_counts device m turn.2 cs acks new turn.5 in
     let both = length-append (answered is_accepted cs acks) (answered is_in_doubt cs acks) in
     let all = length-append (answered is_accepted (c ∷ cs) (a ∷ acks)) (answered is_in_doubt (c ∷ cs) (a ∷ acks)) in
     let oks = length_answered is_accepted c cs a acks in
@@ -95,9 +96,9 @@ module _ {D : Type 0} (device : D → DiskState) (sound : (disk : D) → IsMediu
       sym (ap (λ (b : Bool). cond b (Some Closed) (or_spent (refusal_of (state_of device old) command) (is_spent old))) holds.is_open) ∙ none in
       undecided (refusal_of s command) (is_spent old) (subst (λ (t : Source). or_spent (refusal_of t command) (is_spent old) ≡ None) same here)
 
-  -- each counted command is one more behind the state
+  -- each counted_commands command is one more behind the state
   pub each_behind : (s : Source) (old : Stored D) (cs : Commands) (acks : Acks) (new : Stored D) → Holds device old s → InTurn device old cs acks new
-      → (j : ℕ) → j ≤ length (counted cs acks) → commands_behind (fold_of s (take j (counted cs acks))) ≡ commands_behind s + j
+      → (j : ℕ) → j ≤ length (counted_commands cs acks) → commands_behind (fold_of s (take j (counted_commands cs acks))) ≡ commands_behind s + j
   each_behind s old [] [] new holds turn zero le = omega arith
   each_behind s old [] [] new holds turn (suc j) le = absurd (omega arith)
   each_behind s old (c ∷ cs) (a ∷ acks) new holds turn j le = after a.reply turn.3 (λ t held. each_behind t turn.2 cs acks new held turn.5) j le
@@ -106,7 +107,7 @@ module _ {D : Type 0} (device : D → DiskState) (sound : (disk : D) → IsMediu
       kept = (turn.1.holds s holds).0
 
       counted_with : Result Reply Refusal → Commands
-      counted_with reply = counted (c ∷ cs) (record { reply = reply; at_call = a.at_call } ∷ acks)
+      counted_with reply = counted_commands (c ∷ cs) (record { reply = reply; at_call = a.at_call } ∷ acks)
 
       goal_of : Result Reply Refusal → Type 0
       goal_of reply = (j : ℕ) → j ≤ length (counted_with reply) → commands_behind (fold_of s (take j (counted_with reply))) ≡ commands_behind s + j
@@ -123,19 +124,19 @@ module _ {D : Type 0} (device : D → DiskState) (sound : (disk : D) → IsMediu
       single more (suc (suc j)) le = absurd (omega arith)
 
       -- the commands after an accepted one
-      further : (t : Source) (reply : Reply) → step s c.0 c.1 ≡ Ok (t, reply) → ((j : ℕ) → j ≤ length (counted cs acks) → commands_behind (fold_of t (take j (counted cs acks))) ≡ commands_behind t + j)
+      further : (t : Source) (reply : Reply) → step s c.0 c.1 ≡ Ok (t, reply) → ((j : ℕ) → j ≤ length (counted_commands cs acks) → commands_behind (fold_of t (take j (counted_commands cs acks))) ≡ commands_behind t + j)
           → (j : ℕ) → j ≤ length (counted_with (Ok reply)) → commands_behind (fold_of s (take j (counted_with (Ok reply)))) ≡ commands_behind s + j
       further t reply steps rest zero le = omega arith
       further t reply steps rest (suc j) le =
           let more : commands_behind (state_after s (step s c.0 c.1)) ≡ commands_behind s + 1 =
           one_more s c.0 c.1 (unrefused (refusal_of s c.0) (next_state s c.0 (moment_at s c.1), reply_to s c.0 (moment_at s c.1)) (t, reply) steps) in
           let next : state_after s (step s c.0 c.1) ≡ t = ap (state_after s) steps in
-          let tail : commands_behind (fold_of (state_after s (step s c.0 c.1)) (take j (counted cs acks))) ≡ commands_behind (state_after s (step s c.0 c.1)) + j =
-          subst (λ (x : Source). commands_behind (fold_of x (take j (counted cs acks))) ≡ commands_behind x + j) (sym next) (rest j (omega (arith, le))) in
+          let tail : commands_behind (fold_of (state_after s (step s c.0 c.1)) (take j (counted_commands cs acks))) ≡ commands_behind (state_after s (step s c.0 c.1)) + j =
+          subst (λ (x : Source). commands_behind (fold_of x (take j (counted_commands cs acks))) ≡ commands_behind x + j) (sym next) (rest j (omega (arith, le))) in
           omega (arith, tail, more)
 
       after : (reply : Result Reply Refusal) → Answers device turn.0 turn.2 c.0 c.1 reply
-          → ((t : Source) → Holds device turn.2 t → (j : ℕ) → j ≤ length (counted cs acks) → commands_behind (fold_of t (take j (counted cs acks))) ≡ commands_behind t + j) → goal_of reply
+          → ((t : Source) → Holds device turn.2 t → (j : ℕ) → j ≤ length (counted_commands cs acks) → commands_behind (fold_of t (take j (counted_commands cs acks))) ≡ commands_behind t + j) → goal_of reply
       after (Ok reply) answers rest = let lead = answers.leads s kept in further lead.0 reply lead.1 (rest lead.0 lead.2)
       after (Err refusal) answers rest = ⊎_elim
           (λ is.
@@ -145,20 +146,20 @@ module _ {D : Type 0} (device : D → DiskState) (sound : (disk : D) → IsMediu
           (subst (λ (l : Commands). (j : ℕ) → j ≤ length l → commands_behind (fold_of s (take j l)) ≡ commands_behind s + j) (sym (alone refusal is answers)) (single more)))
           (λ other.
           let lead = below.kept turn.0 turn.2 s c.0 c.1 refusal other (answers.leads s kept) in
-          let same : counted_with (Err refusal) ≡ counted cs acks =
+          let same : counted_with (Err refusal) ≡ counted_commands cs acks =
           ap (λ (l : Commands). answered is_accepted cs acks ++ l) (ap (λ (b : Bool). cond b (c ∷ answered is_in_doubt cs acks) (answered is_in_doubt cs acks)) other) in
           subst (λ (l : Commands). (j : ℕ) → j ≤ length l → commands_behind (fold_of s (take j l)) ≡ commands_behind s + j) (sym same) (rest s lead.0))
           (below.kinds refusal)
   each_behind s old [] (a ∷ acks) new holds turn j le = absurd turn
   each_behind s old (c ∷ cs) [] new holds turn j le = absurd turn
 
-  -- an image stands for one number of a run's counted commands
+  -- an image stands for one number of a run's counted_commands commands
   pub one_number : (s : Source) (old : Stored D) (cs : Commands) (acks : Acks) (new : Stored D) → Holds device old s → InTurn device old cs acks new → (m : ℕ) (image : List ℕ) (j k : ℕ)
-      → j ≤ begun m acks → k ≤ begun m acks → StandsFor image (fold_of s (take j (counted cs acks))) → StandsFor image (fold_of s (take k (counted cs acks))) → k ≡ j
+      → j ≤ begun m acks → k ≤ begun m acks → StandsFor image (fold_of s (take j (counted_commands cs acks))) → StandsFor image (fold_of s (take k (counted_commands cs acks))) → k ≡ j
   one_number s old cs acks new holds turn m image j k most_j most_k stands also =
       let all = begun_counts device m old cs acks new turn in
       let first = each_behind s old cs acks new holds turn j (omega (arith, all, most_j)) in
       let second = each_behind s old cs acks new holds turn k (omega (arith, all, most_k)) in
-      let same : fold_of s (take k (counted cs acks)) ≡ fold_of s (take j (counted cs acks)) = below.stands_once image (fold_of s (take k (counted cs acks))) (fold_of s (take j (counted cs acks))) also stands in
+      let same : fold_of s (take k (counted_commands cs acks)) ≡ fold_of s (take j (counted_commands cs acks)) = below.stands_once image (fold_of s (take k (counted_commands cs acks))) (fold_of s (take j (counted_commands cs acks))) also stands in
       let one_count = ap commands_behind same in
       omega (arith, first, second, one_count)

@@ -1,6 +1,6 @@
 pub mod Below
 pub mod Opened
-pub mod Going
+pub mod TurnsJoined
 pub mod Counts
 pub mod Sessions
 pub mod OneSession

@@ -4,17 +4,17 @@ use Rattle.std.specs.List.{AllByRecursion}
 use Rattle.std.proofs.lemmas.List.{take_all}
 use Rattle.rs_disk.specs.declared.memory.MemoryDisk.{MemoryDisk}
 use Rattle.rs_disk.specs.Medium.{Medium, DiskState, IsImage, image_of, resting}
-use Rattle.rs_disk.specs.Memory.{state_of}
+use Rattle.rs_disk.specs.Memory.{memory_state}
 use Rattle.rs_model.specs.State.{start_of}
 use Rattle.rs_model.specs.Step.{fold_of}
-use Rattle.rs_image.specs.Tells.{StandsFor}
+use Rattle.rs_image.specs.StateOfImage.{StandsFor}
 use Rattle.rs_store.specs.declared.opening.OpenFault.{OpenFault}
 use Rattle.rs_store.specs.declared.opening.OpenFault.TheVariants as openings
 use Rattle.rs_store.specs.Source.{Stored, Holds}
 use Rattle.rs_recovery.specs.declared.surviving.Halt.TheVariants.{Opening}
-use Rattle.rs_store.specs.Counted.{is_accepted, answered, counted, acknowledged}
+use Rattle.rs_store.specs.Counted.{is_accepted, answered, counted_commands, acknowledged}
 use Rattle.rs_store.specs.Runs.{InTurn}
-use Rattle.rs_recovery.specs.Sessions.{Session, IsStopped, AreStanding, behind}
+use Rattle.rs_recovery.specs.Sessions.{Session, IsStopped, AreStanding, commands_standing}
 use Rattle.rs_recovery.specs.Recovered.{IsExcuse, YieldsHeld, Headline}
 use Rattle.rs_recovery.specs.Surviving.{Survives, IsLost}
 use Rattle.rs_store.specs.Laws.{CallsRise}
@@ -47,14 +47,14 @@ all_acknowledged {D} device rise old cs acks new turn =
     let these : answered is_accepted (take n cs) (take n acks) ≡ answered is_accepted cs acks = λ i. answered is_accepted (all_cs i) (all_acks i) in
     omega (arith, few, ap length these)
 
-module _ (rise : CallsRise state_of) (base : List ℕ) (limit moment : ℕ) (first last : Stored MemoryDisk) (cs : Commands) (acks : Acks) (image : List ℕ) (disk : MemoryDisk)
-    (made : Holds state_of first (start_of base limit moment)) (turn : InTurn state_of first cs acks last)
-    (is_image : IsImage (state_of last.disk).now image) (bytes : (state_of disk).now ≡ resting image) where
+module _ (rise : CallsRise memory_state) (base : List ℕ) (limit moment : ℕ) (first last : Stored MemoryDisk) (cs : Commands) (acks : Acks) (image : List ℕ) (disk : MemoryDisk)
+    (made : Holds memory_state first (start_of base limit moment)) (turn : InTurn memory_state first cs acks last)
+    (is_image : IsImage (memory_state last.disk).now image) (bytes : (memory_state disk).now ≡ resting image) where
   -- the one session
   abbrev session : Session MemoryDisk
-  session = record { first = first; commands = cs; acks = acks; last = last; stop = (state_of last.disk).calls; image = image }
+  session = record { first = first; commands = cs; acks = acks; last = last; stop = (memory_state last.disk).calls; image = image }
 
-  stopped : IsStopped state_of session
+  stopped : IsStopped memory_state session
   stopped = record {
     turn = turn;
     from = rise first cs acks last turn;
@@ -62,8 +62,8 @@ module _ (rise : CallsRise state_of) (base : List ℕ) (limit moment : ℕ) (fir
     image = record { past = λ lt. absurd (omega (arith, lt)); now = λ _. is_image };
   }
 
-  by_one : (left : MemoryDisk) → last.disk ≡ left → (choice : List ℕ) → image ≡ image_of choice (state_of left).now → (source : Stored MemoryDisk) (standing : List ℕ) → AreStanding (start_of base limit moment) (session ∷ []) standing
-      → Holds state_of source (fold_of (start_of base limit moment) (behind (session ∷ []) standing)) → YieldsHeld (fold_of (start_of base limit moment) (behind (session ∷ []) standing))
+  by_one : (left : MemoryDisk) → last.disk ≡ left → (choice : List ℕ) → image ≡ image_of choice (memory_state left).now → (source : Stored MemoryDisk) (standing : List ℕ) → AreStanding (start_of base limit moment) (session ∷ []) standing
+      → Holds memory_state source (fold_of (start_of base limit moment) (commands_standing (session ∷ []) standing)) → YieldsHeld (fold_of (start_of base limit moment) (commands_standing (session ∷ []) standing))
       → Survives (start_of base limit moment) cs acks left choice source
   by_one left is_left choice chosen source [] hold state yields = absurd hold
   by_one left is_left choice chosen source (j ∷ []) hold state yields =
@@ -74,15 +74,15 @@ module _ (rise : CallsRise state_of) (base : List ℕ) (limit moment : ℕ) (fir
         turn = turn;
         left_by = is_left;
         j = j;
-        image = subst (λ (l : List ℕ). StandsFor l (fold_of (start_of base limit moment) (take j (counted cs acks)))) chosen hold.2;
-        accepted = omega (arith, hold.0, all_acknowledged state_of rise first cs acks last turn);
+        image = subst (λ (l : List ℕ). StandsFor l (fold_of (start_of base limit moment) (take j (counted_commands cs acks)))) chosen hold.2;
+        accepted = omega (arith, hold.0, all_acknowledged memory_state rise first cs acks last turn);
         holds = state;
         yields = yields;
       }
   by_one left is_left choice chosen source (j ∷ k ∷ standing) hold state yields = absurd hold.3
 
-  pub survives : (left : MemoryDisk) → last.disk ≡ left → (choice : List ℕ) → image ≡ image_of choice (state_of left).now → (source : Stored MemoryDisk)
-      → Headline state_of disk (Ok source) → Survives (start_of base limit moment) cs acks left choice source
+  pub survives : (left : MemoryDisk) → last.disk ≡ left → (choice : List ℕ) → image ≡ image_of choice (memory_state left).now → (source : Stored MemoryDisk)
+      → Headline memory_state disk (Ok source) → Survives (start_of base limit moment) cs acks left choice source
   survives left is_left choice chosen source headline =
       let is = headline base limit moment (session ∷ []) (stopped, made) (ap (λ (m : Medium). m.seen) bytes) refl in
       by_one left is_left choice chosen source is.standing is.stand.holds is.state is.yields
@@ -93,6 +93,6 @@ module _ (rise : CallsRise state_of) (base : List ℕ) (limit moment : ℕ) (fir
   excused before after openings.Device excuse lost = absurd lost
   excused before after openings.NoMemory excuse lost = absurd lost
 
-  pub is_found : (back : MemoryDisk) (fault : OpenFault) → Headline state_of disk (Err (back, fault)) → IsLost (Opening fault) → ⊥
+  pub is_found : (back : MemoryDisk) (fault : OpenFault) → Headline memory_state disk (Err (back, fault)) → IsLost (Opening fault) → ⊥
   is_found back fault headline =
-      excused (state_of disk) (state_of back) fault (headline base limit moment (session ∷ []) (stopped, made) (ap (λ (m : Medium). m.seen) bytes) refl).state
+      excused (memory_state disk) (memory_state back) fault (headline base limit moment (session ∷ []) (stopped, made) (ap (λ (m : Medium). m.seen) bytes) refl).state

@@ -8,19 +8,20 @@ use Rattle.rs_model.specs.State.{Source}
 use Rattle.rs_model.specs.Regular.{IsRegular}
 use Rattle.rs_model.specs.Step.{step, state_after, fold_of}
 use Rattle.rs_model.specs.declared.command.Reply.{Reply}
-use Rattle.rs_image.specs.Tells.{StandsFor}
+use Rattle.rs_image.specs.StateOfImage.{StandsFor}
 use Rattle.rs_store.specs.declared.refusal.Refusal.{Refusal}
 use Rattle.rs_store.specs.declared.refusal.Refusal.TheVariants.{Device}
 use Rattle.rs_store.specs.Source.{Stored, Holds}
 use Rattle.rs_store.specs.Answered.{Answers}
 use Rattle.rs_store.specs.declared.running.Ack.{Ack}
-use Rattle.rs_store.specs.Counted.{is_accepted, is_in_doubt, is_device, answered, counted, acknowledged}
+use Rattle.rs_store.specs.Counted.{is_accepted, is_in_doubt, is_device, answered, counted_commands, acknowledged}
 use Rattle.rs_store.specs.Runs.{InTurn, StandsForPrefix}
-use Rattle.rs_recovery.specs.Sessions.{Session, IsStopped, IsOpenedOn, AreSessions, left_by, behind, AreStanding, OneStanding, OpeningsStopToo}
+use Rattle.rs_recovery.specs.Sessions.{Session, IsStopped, IsOpenedOn, AreSessions, last_image, commands_standing, AreStanding, OneStanding, OpeningsStopToo}
 use Rattle.rs_recovery.specs.Served.{Asking, CouldServe, HasServed, IsNoLater, IsPrefixOf, Stand, SessionsStand}
 use Rattle.rs_recovery.specs.Recovered.{YieldsHeld}
 use Rattle.rs_recovery.proofs.Counts.{one_number}
-use Rattle.rs_recovery.proofs.Below.{Commands, Acks, one, Below, weaker}
+use Rattle.rs_recovery.specs.Below.{Below}
+use Rattle.rs_recovery.proofs.Below.{Commands, Acks, one, weaker}
 
 pub fold_append : (s : Source) (a b : Commands) → fold_of s (a ++ b) ≡ fold_of (fold_of s a) b
 fold_append s [] b = refl
@@ -71,7 +72,7 @@ few_answered m (suc n) (c ∷ cs) (a ∷ acks) all =
       | false ↦ λ e. omega (arith, e, more)
     ] here
 
--- what stands behind a prefix of a front stands behind a prefix of the whole
+-- what stands commands_standing a prefix of a front stands commands_standing a prefix of the whole
 prefix_on : (front whole more : Commands) → IsPrefixOf front whole → IsPrefixOf front (whole ++ more)
 prefix_on front whole more (rest, is) = (rest ++ more, sym (append_assoc front rest more) ∙ ap (λ (l : Commands). l ++ more) is)
 
@@ -103,35 +104,35 @@ module _ {D : Type 0} (device : D → DiskState) (sound : (disk : D) → IsMediu
 
   -- what a session could serve
   serves : (start : Source) (before : Commands) (x : Session D) (j n : ℕ) (source : Stored D) → Holds device x.first (fold_of start before) → acknowledged x.stop x.acks ≤ j → CouldServe device x n source
-      → Holds device source (fold_of start (before ++ counted (take n x.commands) (take n x.acks))) × IsPrefixOf (before ++ counted (take n x.commands) (take n x.acks)) (before ++ take j (counted x.commands x.acks))
+      → Holds device source (fold_of start (before ++ counted_commands (take n x.commands) (take n x.acks))) × IsPrefixOf (before ++ counted_commands (take n x.commands) (take n x.acks)) (before ++ take j (counted_commands x.commands x.acks))
   serves start before x j n source holds least could =
       let cs = take n x.commands in
       let acks = take n x.acks in
       let none : answered is_in_doubt cs acks ≡ [] = none_in_doubt x.first cs acks source could.turn could.is_open in
-      let these : counted cs acks ≡ answered is_accepted cs acks = ap (λ (l : Commands). answered is_accepted cs acks ++ l) none ∙ append-nil (answered is_accepted cs acks) in
+      let these : counted_commands cs acks ≡ answered is_accepted cs acks = ap (λ (l : Commands). answered is_accepted cs acks ++ l) none ∙ append-nil (answered is_accepted cs acks) in
       let part = first_answered is_accepted n x.commands x.acks in
       let few : length (answered is_accepted cs acks) ≤ j = omega (arith, least, few_answered x.stop n x.commands x.acks could.before) in
       let doubt = answered is_in_doubt x.commands x.acks in
-      let whole : answered is_accepted cs acks ++ (part.0 ++ doubt) ≡ counted x.commands x.acks =
+      let whole : answered is_accepted cs acks ++ (part.0 ++ doubt) ≡ counted_commands x.commands x.acks =
       sym (append_assoc (answered is_accepted cs acks) part.0 doubt) ∙ ap (λ (l : Commands). l ++ doubt) part.1 in
-      let front : IsPrefixOf (answered is_accepted cs acks) (take j (counted x.commands x.acks)) =
+      let front : IsPrefixOf (answered is_accepted cs acks) (take j (counted_commands x.commands x.acks)) =
       subst (λ (l : Commands). IsPrefixOf (answered is_accepted cs acks) (take j l)) whole (front_of (answered is_accepted cs acks) (part.0 ++ doubt) j few) in (
-        subst (λ (t : Source). Holds device source t) (sym (fold_append start before (counted cs acks)))
+        subst (λ (t : Source). Holds device source t) (sym (fold_append start before (counted_commands cs acks)))
             (below.end (fold_of start before) x.first cs acks source holds could.turn could.is_open),
-        prefix_under before (counted cs acks) (take j (counted x.commands x.acks)) (subst (λ (l : Commands). IsPrefixOf l (take j (counted x.commands x.acks))) (sym these) front),
+        prefix_under before (counted_commands cs acks) (take j (counted_commands x.commands x.acks)) (subst (λ (l : Commands). IsPrefixOf l (take j (counted_commands x.commands x.acks))) (sym these) front),
       )
 
   -- what a session could serve, and then later
   serves_on : (x : Session D) (n m : ℕ) (source : Stored D) → n ≤ m → CouldServe device x n source
-      → IsPrefixOf (counted (take n x.commands) (take n x.acks)) (counted (take m x.commands) (take m x.acks))
+      → IsPrefixOf (counted_commands (take n x.commands) (take n x.acks)) (counted_commands (take m x.commands) (take m x.acks))
   serves_on x n m source le could =
       let cs = take n x.commands in
       let acks = take n x.acks in
       let none : answered is_in_doubt cs acks ≡ [] = none_in_doubt x.first cs acks source could.turn could.is_open in
-      let these : counted cs acks ≡ answered is_accepted cs acks = ap (λ (l : Commands). answered is_accepted cs acks ++ l) none ∙ append-nil (answered is_accepted cs acks) in
+      let these : counted_commands cs acks ≡ answered is_accepted cs acks = ap (λ (l : Commands). answered is_accepted cs acks ++ l) none ∙ append-nil (answered is_accepted cs acks) in
       let front = prefix_on (answered is_accepted cs acks) (answered is_accepted (take m x.commands) (take m x.acks)) (answered is_in_doubt (take m x.commands) (take m x.acks))
       (first_of_more is_accepted n m x.commands x.acks le) in
-      subst (λ (l : Commands). IsPrefixOf l (counted (take m x.commands) (take m x.acks))) (sym these) front
+      subst (λ (l : Commands). IsPrefixOf l (counted_commands (take m x.commands) (take m x.acks))) (sym these) front
 
   -- what was served was served in one of the sessions
   served_in : (sessions : List (Session D)) (standing : List ℕ) (asking : Asking D) (commands : Commands) → HasServed device sessions standing asking commands → asking.sessions < length sessions
@@ -142,7 +143,7 @@ module _ {D : Type 0} (device : D → DiskState) (sound : (disk : D) → IsMediu
 
   abbrev AreServed : Source → List (Session D) → List ℕ → Type 0
   AreServed start sessions standing = (asking : Asking D) (commands : Commands) → HasServed device sessions standing asking commands
-      → Holds device asking.source (fold_of start commands) × IsPrefixOf commands (behind sessions standing)
+      → Holds device asking.source (fold_of start commands) × IsPrefixOf commands (commands_standing sessions standing)
 
   abbrev AreOrdered : List (Session D) → List ℕ → Type 0
   AreOrdered sessions standing = (asking later : Asking D) (commands more : Commands) → IsNoLater asking later
@@ -156,9 +157,9 @@ module _ {D : Type 0} (device : D → DiskState) (sound : (disk : D) → IsMediu
   order_on start x past j standing served ordered asking later commands more (inr same) (inl first) (inl then) =
       let n = asking.commands in
       let m = later.commands in
-      let front = prefix_under (behind past standing) (counted (take n x.commands) (take n x.acks)) (counted (take m x.commands) (take m x.acks)) (serves_on x n m asking.source same.1 first.1) in
+      let front = prefix_under (commands_standing past standing) (counted_commands (take n x.commands) (take n x.acks)) (counted_commands (take m x.commands) (take m x.acks)) (serves_on x n m asking.source same.1 first.1) in
       subst (λ (l : Commands). IsPrefixOf commands l) (sym then.2)
-      (subst (λ (l : Commands). IsPrefixOf l (behind past standing ++ counted (take m x.commands) (take m x.acks))) (sym first.2) front)
+      (subst (λ (l : Commands). IsPrefixOf l (commands_standing past standing ++ counted_commands (take m x.commands) (take m x.acks))) (sym first.2) front)
   order_on start x past j standing served ordered asking later commands more (inl earlier) (inl first) (inr older) =
       let one : asking.sessions ≡ length past = first.0 in
       absurd (omega (arith, earlier, one, served_in past standing later more older))
@@ -169,40 +170,40 @@ module _ {D : Type 0} (device : D → DiskState) (sound : (disk : D) → IsMediu
   order_on start x past j standing served ordered asking later commands more no_later (inr older) (inl then) =
       let m = later.commands in
       subst (λ (l : Commands). IsPrefixOf commands l) (sym then.2)
-      (prefix_on commands (behind past standing) (counted (take m x.commands) (take m x.acks)) (served asking commands older).1)
+      (prefix_on commands (commands_standing past standing) (counted_commands (take m x.commands) (take m x.acks)) (served asking commands older).1)
   order_on start x past j standing served ordered asking later commands more no_later (inr older) (inr then) = ordered asking later commands more no_later older then
 
   -- one session more
-  one_more : (start : Source) (x : Session D) (past : List (Session D)) (standing : List ℕ) → IsStopped device x → Holds device x.first (fold_of start (behind past standing))
+  one_more : (start : Source) (x : Session D) (past : List (Session D)) (standing : List ℕ) → IsStopped device x → Holds device x.first (fold_of start (commands_standing past standing))
       → AreStanding start past standing → AreServed start past standing → AreOrdered past standing
       → (more : List ℕ) × Stand device start (x ∷ past) more
   one_more start x past standing stopped holds held served ordered =
-      let before = behind past standing in
+      let before = commands_standing past standing in
       let p = stopped_at (fold_of start before) x holds stopped in
-      let image : StandsFor x.image (fold_of start (before ++ take p.j (counted x.commands x.acks))) =
-      subst (λ (t : Source). StandsFor x.image t) (sym (fold_append start before (take p.j (counted x.commands x.acks)))) p.stands in (
+      let image : StandsFor x.image (fold_of start (before ++ take p.j (counted_commands x.commands x.acks))) =
+      subst (λ (t : Source). StandsFor x.image t) (sym (fold_append start before (take p.j (counted_commands x.commands x.acks)))) p.stands in (
         p.j ∷ standing,
         record {
           holds = (p.least, p.most, image, held);
           ordered = order_on start x past p.j standing served ordered;
           served = λ asking commands has. ⊎_elim
-              (λ here. subst (λ (l : Commands). Holds device asking.source (fold_of start l) × IsPrefixOf l (behind (x ∷ past) (p.j ∷ standing))) (sym here.2)
+              (λ here. subst (λ (l : Commands). Holds device asking.source (fold_of start l) × IsPrefixOf l (commands_standing (x ∷ past) (p.j ∷ standing))) (sym here.2)
               (serves start before x p.j asking.commands asking.source holds p.least here.1))
-              (λ older. let found = served asking commands older in (found.0, prefix_on commands before (take p.j (counted x.commands x.acks)) found.1))
+              (λ older. let found = served asking commands older in (found.0, prefix_on commands before (take p.j (counted_commands x.commands x.acks)) found.1))
               has;
         },
       )
 
   -- what the latest stop left
-  pub left_stands : (start : Source) (x : Session D) (past : List (Session D)) (standing : List ℕ) → AreStanding start (x ∷ past) standing → StandsFor x.image (fold_of start (behind (x ∷ past) standing))
+  pub left_stands : (start : Source) (x : Session D) (past : List (Session D)) (standing : List ℕ) → AreStanding start (x ∷ past) standing → StandsFor x.image (fold_of start (commands_standing (x ∷ past) standing))
   left_stands start x past [] stands = absurd stands
   left_stands start x past (j ∷ standing) stands = stands.2
 
   -- a source that was opened on it holds the same
   opened_holds : (start : Source) (x : Session D) (past : List (Session D)) (standing : List ℕ) (source : Stored D) → AreStanding start (x ∷ past) standing → IsOpenedOn device x.image source
-      → Holds device source (fold_of start (behind (x ∷ past) standing))
+      → Holds device source (fold_of start (commands_standing (x ∷ past) standing))
   opened_holds start x past standing source stands (s, image, holds) =
-      subst (Holds device source) (below.stands_once x.image s (fold_of start (behind (x ∷ past) standing)) image (left_stands start x past standing stands)) holds
+      subst (Holds device source) (below.stands_once x.image s (fold_of start (commands_standing (x ∷ past) standing)) image (left_stands start x past standing stands)) holds
 
   pub sessions_stand : SessionsStand device
   sessions_stand start [] are = absurd are
@@ -213,15 +214,15 @@ module _ {D : Type 0} (device : D → DiskState) (sound : (disk : D) → IsMediu
       one_more start x (y ∷ past) past_stand.0 are.0 (opened_holds start y past past_stand.0 x.first stand.holds are.1) stand.holds stand.served stand.ordered
 
   -- two numbers of standing commands of the latest session, where those of the sessions before are the same
-  same_latest : (start : Source) (x : Session D) (past : List (Session D)) (standing : List ℕ) (j k : ℕ) → IsStopped device x → Holds device x.first (fold_of start (behind past standing))
+  same_latest : (start : Source) (x : Session D) (past : List (Session D)) (standing : List ℕ) (j k : ℕ) → IsStopped device x → Holds device x.first (fold_of start (commands_standing past standing))
       → AreStanding start (x ∷ past) (j ∷ standing) → AreStanding start (x ∷ past) (k ∷ standing) → k ≡ j
   same_latest start x past standing j k stopped holds stands also =
-      let before = behind past standing in
+      let before = commands_standing past standing in
       let cs = x.commands in
       let acks = x.acks in
       one_number device sound below (fold_of start before) x.first cs acks x.last holds stopped.turn x.stop x.image j k stands.1 also.1
-      (subst (λ (t : Source). StandsFor x.image t) (fold_append start before (take j (counted cs acks))) stands.2)
-      (subst (λ (t : Source). StandsFor x.image t) (fold_append start before (take k (counted cs acks))) also.2)
+      (subst (λ (t : Source). StandsFor x.image t) (fold_append start before (take j (counted_commands cs acks))) stands.2)
+      (subst (λ (t : Source). StandsFor x.image t) (fold_append start before (take k (counted_commands cs acks))) also.2)
 
   pub one_standing : OneStanding device
   one_standing start [] standing others are stands also = absurd are
@@ -247,7 +248,7 @@ openings_stop_too {D} device start x past before after are as_left opening =
 
 -- what the latest stop left, of any sessions
 pub left_standing : {D : Type 0} (device : D → DiskState) (start : Source) (sessions : List (Session D)) (standing : List ℕ) → AreSessions device start sessions → AreStanding start sessions standing
-    → StandsFor (left_by sessions) (fold_of start (behind sessions standing))
+    → StandsFor (last_image sessions) (fold_of start (commands_standing sessions standing))
 left_standing device start [] standing are stands = absurd are
 left_standing device start (x ∷ past) [] are stands = absurd stands
 left_standing device start (x ∷ past) (j ∷ standing) are stands = stands.2

@@ -1,4 +1,5 @@
-pub mod Going
+pub mod Below
+pub mod Turns
 pub mod Sessions
 pub mod Served
 pub mod Recovered

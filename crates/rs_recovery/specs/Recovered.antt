@@ -12,8 +12,8 @@ use Rattle.rs_store.specs.Source.{Stored, Holds}
 use Rattle.rs_store.specs.declared.running.Ack.{Ack}
 use Rattle.rs_disk.specs.Leaves.{HasFailed}
 use Rattle.rs_store.specs.Opening.{disk_of}
-use Rattle.rs_store.specs.Counted.{counted, acknowledged, begun}
-use Rattle.rs_recovery.specs.Sessions.{Session, AreSessions, left_by, behind}
+use Rattle.rs_store.specs.Counted.{counted_commands, acknowledged, begun}
+use Rattle.rs_recovery.specs.Sessions.{Session, AreSessions, last_image, commands_standing}
 use Rattle.rs_recovery.specs.Served.{Stand}
 
 -- Why a source is not opened where there is one: a call of the device failed, or memory was refused.
@@ -28,14 +28,14 @@ abbrev pub GivesBack : {D : Type 0} → (D → DiskState) → D → Result (Stor
 GivesBack device disk (Ok source) s = Holds device source s
 GivesBack device disk (Err refused) s = IsExcuse (device disk) (device refused.0) refused.1
 
--- After a stop of one run, when m calls were counted, an opening gives back the state after the first j counted commands, for
+-- After a stop of one run, when m calls were counted_commands, an opening gives back the state after the first j counted_commands commands, for
 -- some j: no command that was acknowledged by then is left out, and none is in that had not begun.
 pub record GivesBackPrefix {D : Type 0} (device : D → DiskState) (disk : D) (result : Result (Stored D) (D × OpenFault))
     (s : Source) (commands : List (Command × ℕ)) (acks : List Ack) (m : ℕ) : Type 0 where
   pub j : ℕ
   pub least : acknowledged m acks ≤ j
   pub most : j ≤ begun m acks
-  pub state : GivesBack device disk result (fold_of s (take j (counted commands acks)))
+  pub state : GivesBack device disk result (fold_of s (take j (counted_commands commands acks)))
 
 -- The latest Resource List, followed by the changes recorded after its at-moment in their order, yields exactly the resources
 -- held; and the length, the hashes and the type of each are those of its bytes.
@@ -48,10 +48,10 @@ pub record IsRecovered {D : Type 0} (device : D → DiskState) (disk : D) (resul
     (start : Source) (sessions : List (Session D)) : Type 0 where
   pub standing : List ℕ
   pub stand : Stand device start sessions standing
-  pub state : GivesBack device disk result (fold_of start (behind sessions standing))
-  pub regular : IsRegular (fold_of start (behind sessions standing))
-  pub timely : IsTimely (fold_of start (behind sessions standing))
-  pub yields : YieldsHeld (fold_of start (behind sessions standing))
+  pub state : GivesBack device disk result (fold_of start (commands_standing sessions standing))
+  pub regular : IsRegular (fold_of start (commands_standing sessions standing))
+  pub timely : IsTimely (fold_of start (commands_standing sessions standing))
+  pub yields : YieldsHeld (fold_of start (commands_standing sessions standing))
 
 -- Stopped before or within any disk call, during a command or between two, recovery gives exactly the resources and published
 -- documents of a prefix of the accepted commands that holds every acknowledged one; and in every recovered state the latest
@@ -59,5 +59,5 @@ pub record IsRecovered {D : Type 0} (device : D → DiskState) (disk : D) (resul
 -- their lengths, hashes and types.
 abbrev pub Headline : {D : Type 0} → (D → DiskState) → D → Result (Stored D) (D × OpenFault) → Type 0
 Headline {D} device disk result = (base : List ℕ) (limit moment : ℕ) (sessions : List (Session D))
-    → AreSessions device (start_of base limit moment) sessions → (device disk).now.seen ≡ left_by sessions
+    → AreSessions device (start_of base limit moment) sessions → (device disk).now.seen ≡ last_image sessions
     → IsTrue (device (disk_of result)).honest → IsRecovered device disk result (start_of base limit moment) sessions

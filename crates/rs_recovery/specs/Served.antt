@@ -1,4 +1,4 @@
--- What was served in a session is behind every later state.
+-- What was served in a session is commands_standing every later state.
 use Rattle.std.specs.Prelude.{◌≡◌, ◌⊎◌, ℕ, ◌<◌, ◌≤◌, false, List, [], ◌∷◌, ◌++◌, length, take}
 use Rattle.std.specs.List.{AllByRecursion}
 use Rattle.rs_disk.specs.Medium.{DiskState}
@@ -6,9 +6,9 @@ use Rattle.rs_model.specs.State.{Source}
 use Rattle.rs_model.specs.Step.{fold_of}
 use Rattle.rs_model.specs.declared.command.Command.{Command}
 use Rattle.rs_store.specs.Source.{Stored, Holds}
-use Rattle.rs_store.specs.Counted.{counted}
+use Rattle.rs_store.specs.Counted.{counted_commands}
 use Rattle.rs_store.specs.Runs.{InTurn}
-use Rattle.rs_recovery.specs.Sessions.{Session, AreSessions, behind, AreStanding}
+use Rattle.rs_recovery.specs.Sessions.{Session, AreSessions, commands_standing, AreStanding}
 
 -- When a source is asked: in the session after so many sessions, after so many of its commands; and the source then.
 pub record Asking (D : Type 0) : Type 0 where
@@ -22,14 +22,14 @@ pub record CouldServe {D : Type 0} (device : D → DiskState) (x : Session D) (n
   pub is_open : source.is_closed ≡ false
   pub before : AllByRecursion (λ a. a.at_call ≤ x.stop) (take n x.acks)
 
--- It could be asked then, and these are the commands behind it: those that stand of the sessions before, and then those of its
+-- It could be asked then, and these are the commands commands_standing it: those that stand of the sessions before, and then those of its
 -- own session that count.
 abbrev pub HasServed : {D : Type 0} → (D → DiskState) → List (Session D) → List ℕ → Asking D → List (Command × ℕ) → Type 0
 HasServed device [] standing asking commands = ⊥
 HasServed device (x ∷ past) [] asking commands = ⊥
 HasServed device (x ∷ past) (j ∷ standing) asking commands =
     ((asking.sessions ≡ length past) × CouldServe device x asking.commands asking.source
-    × (commands ≡ behind past standing ++ counted (take asking.commands x.commands) (take asking.commands x.acks)))
+    × (commands ≡ commands_standing past standing ++ counted_commands (take asking.commands x.commands) (take asking.commands x.acks)))
     ⊎ HasServed device past standing asking commands
 
 -- in an earlier session, or in the same one after no more commands
@@ -40,14 +40,14 @@ abbrev pub IsPrefixOf : List (Command × ℕ) → List (Command × ℕ) → Type
 IsPrefixOf front whole = (rest : List (Command × ℕ)) × (front ++ rest ≡ whole)
 
 -- Some commands of these sessions stand, in their order.
--- `holds`: of each session its first counted ones, each acknowledged one among them.
--- `served`: a source that could be asked, in whatever session, held the state that the commands behind it make, and they are the
+-- `holds`: of each session its first counted_commands ones, each acknowledged one among them.
+-- `served`: a source that could be asked, in whatever session, held the state that the commands commands_standing it make, and they are the
 -- first of those that stand.
--- `ordered`: the commands behind a source that could be asked are the first of those behind every later one.
+-- `ordered`: the commands commands_standing a source that could be asked are the first of those commands_standing every later one.
 pub record Stand {D : Type 0} (device : D → DiskState) (start : Source) (sessions : List (Session D)) (standing : List ℕ) : Type 0 where
   pub holds : AreStanding start sessions standing
   pub served : (asking : Asking D) (commands : List (Command × ℕ)) → HasServed device sessions standing asking commands
-      → Holds device asking.source (fold_of start commands) × IsPrefixOf commands (behind sessions standing)
+      → Holds device asking.source (fold_of start commands) × IsPrefixOf commands (commands_standing sessions standing)
   pub ordered : (asking later : Asking D) (commands more : List (Command × ℕ)) → IsNoLater asking later
       → HasServed device sessions standing asking commands → HasServed device sessions standing later more → IsPrefixOf commands more
 

@@ -5,14 +5,14 @@ use Rattle.rs_disk.specs.Leaves.{Leaves}
 use Rattle.rs_model.specs.State.{Source}
 use Rattle.rs_model.specs.Step.{fold_of}
 use Rattle.rs_model.specs.declared.command.Command.{Command}
-use Rattle.rs_image.specs.Tells.{StandsFor}
+use Rattle.rs_image.specs.StateOfImage.{StandsFor}
 use Rattle.rs_store.specs.Source.{Stored, Holds}
 use Rattle.rs_store.specs.declared.running.Ack.{Ack}
-use Rattle.rs_store.specs.Counted.{counted, acknowledged, begun}
+use Rattle.rs_store.specs.Counted.{counted_commands, acknowledged, begun}
 use Rattle.rs_store.specs.Runs.{InTurn}
 
 -- A session: the source as it was made or opened, the commands that it was given with their answers, and the source after
--- them; and its stop: after how many counted calls it came, and which image of the disk it left.
+-- them; and its stop: after how many counted_commands calls it came, and which image of the disk it left.
 pub record Session (D : Type 0) : Type 0 where
   pub first : Stored D
   pub commands : List (Command × ℕ)
@@ -41,23 +41,23 @@ AreSessions device start (x ∷ []) = IsStopped device x × Holds device x.first
 AreSessions device start (x ∷ y ∷ past) = IsStopped device x × IsOpenedOn device y.image x.first × AreSessions device start (y ∷ past)
 
 -- the image that the latest stop left
-abbrev pub left_by : {D : Type 0} → List (Session D) → List ℕ
-left_by [] = []
-left_by (x ∷ past) = x.image
+abbrev pub last_image : {D : Type 0} → List (Session D) → List ℕ
+last_image [] = []
+last_image (x ∷ past) = x.image
 
--- the commands behind what the latest stop left, where of each session this many of its counted commands stand
-abbrev pub behind : {D : Type 0} → List (Session D) → List ℕ → List (Command × ℕ)
-behind [] standing = []
-behind (x ∷ past) [] = []
-behind (x ∷ past) (j ∷ standing) = behind past standing ++ take j (counted x.commands x.acks)
+-- the commands commands_standing what the latest stop left, where of each session this many of its counted_commands commands stand
+abbrev pub commands_standing : {D : Type 0} → List (Session D) → List ℕ → List (Command × ℕ)
+commands_standing [] standing = []
+commands_standing (x ∷ past) [] = []
+commands_standing (x ∷ past) (j ∷ standing) = commands_standing past standing ++ take j (counted_commands x.commands x.acks)
 
--- Of each session this many of its counted commands stand: no command that was acknowledged by the stop is left out, none is in
+-- Of each session this many of its counted_commands commands stand: no command that was acknowledged by the stop is left out, none is in
 -- that had not begun, and what the stop left stands for the state that they make, after those of the sessions before.
 abbrev pub AreStanding : {D : Type 0} → Source → List (Session D) → List ℕ → Type 0
 AreStanding start [] [] = Unit {0}
 AreStanding start (x ∷ past) (j ∷ standing) =
     (acknowledged x.stop x.acks ≤ j) × (j ≤ begun x.stop x.acks)
-    × StandsFor x.image (fold_of start (behind (x ∷ past) (j ∷ standing))) × AreStanding start past standing
+    × StandsFor x.image (fold_of start (commands_standing (x ∷ past) (j ∷ standing))) × AreStanding start past standing
 AreStanding start [] (j ∷ standing) = ⊥
 AreStanding start (x ∷ past) [] = ⊥
 

@@ -2,33 +2,33 @@
 use Rattle.std.specs.Prelude.{◌≡◌, ℕ, ◌≤◌, List, length, take}
 use Rattle.rs_disk.specs.declared.memory.MemoryDisk.{MemoryDisk}
 use Rattle.rs_disk.specs.Medium.{image_of}
-use Rattle.rs_disk.specs.Memory.{state_of}
+use Rattle.rs_disk.specs.Memory.{memory_state}
 use Rattle.rs_model.specs.State.{Source}
 use Rattle.rs_model.specs.Step.{fold_of}
 use Rattle.rs_model.specs.declared.command.Command.{Command}
-use Rattle.rs_image.specs.Tells.{StandsFor}
+use Rattle.rs_image.specs.StateOfImage.{StandsFor}
 use Rattle.rs_store.specs.declared.opening.OpenFault.TheVariants as openings
 use Rattle.rs_store.specs.declared.running.Ack.{Ack}
 use Rattle.rs_store.specs.Source.{Stored, Holds}
-use Rattle.rs_store.specs.Counted.{is_accepted, answered, counted}
+use Rattle.rs_store.specs.Counted.{is_accepted, answered, counted_commands}
 use Rattle.rs_store.specs.Runs.{InTurn}
 use Rattle.rs_recovery.specs.declared.surviving.Halt.{Halt}
 use Rattle.rs_recovery.specs.declared.surviving.Halt.TheVariants.{Formatting, Running, Imaging, Opening}
 use Rattle.rs_recovery.specs.Recovered.{YieldsHeld}
 
 -- The commands were answered in their turn, from the start on, and the run left this disk. Its image of this choice stands for the
--- state after the first j counted commands, for some j: the source holds it, and each accepted command is among them.
+-- state after the first j counted_commands commands, for some j: the source holds it, and each accepted command is among them.
 pub record Survives (start : Source) (commands : List (Command × ℕ)) (acks : List Ack) (left : MemoryDisk) (choice : List ℕ) (source : Stored MemoryDisk) : Type 0 where
   pub first : Stored MemoryDisk
   pub last : Stored MemoryDisk
-  pub began : Holds state_of first start
-  pub turn : InTurn state_of first commands acks last
+  pub began : Holds memory_state first start
+  pub turn : InTurn memory_state first commands acks last
   pub left_by : last.disk ≡ left
   pub j : ℕ
-  pub image : StandsFor (image_of choice (state_of left).now) (fold_of start (take j (counted commands acks)))
+  pub image : StandsFor (image_of choice (memory_state left).now) (fold_of start (take j (counted_commands commands acks)))
   pub accepted : length (answered is_accepted commands acks) ≤ j
-  pub holds : Holds state_of source (fold_of start (take j (counted commands acks)))
-  pub yields : YieldsHeld (fold_of start (take j (counted commands acks)))
+  pub holds : Holds memory_state source (fold_of start (take j (counted_commands commands acks)))
+  pub yields : YieldsHeld (fold_of start (take j (counted_commands commands acks)))
 
 -- The disk was told to hold no source, or a damaged one.
 abbrev pub IsLost : Halt → Type 0

@@ -6,11 +6,12 @@ ghost use Rattle.std.specs.Prelude.{ℕ, List};
 ghost use Rattle.rs_model.specs.State.{Source};
 ghost use Rattle.rs_model.specs.Regular.{IsRegular};
 ghost use Rattle.rs_model.specs.declared.command.Command.{Command};
-ghost use Rattle.rs_image.specs.Tells.{StandsFor};
+ghost use Rattle.rs_image.specs.StateOfImage.{StandsFor};
 ghost use Rattle.rs_store.specs.declared.running.Ack.{Ack};
 ghost use Rattle.rs_store.specs.Runs.{StandsForPrefix};
 ghost use Rattle.rs_store.specs.Laws.{TurnsGoOn};
-ghost use Rattle.rs_recovery.specs.Going.{CommandsAreTurns, BodiesIdle, CutPutsIdle};
+ghost use Rattle.rs_recovery.specs.Below.{Below};
+ghost use Rattle.rs_recovery.specs.Turns.{CommandsAreTurns, BodiesIdle, CutPutsIdle};
 ghost use Rattle.rs_recovery.specs.Sessions.{OneStanding, OpeningsStopToo};
 ghost use Rattle.rs_recovery.specs.Served.{SessionsStand};
 ghost use Rattle.rs_recovery.specs.Recovered.{YieldsHeld};
@@ -34,10 +35,9 @@ pub fn runs_go_on<D: Disk>()
     held_sources_rest::<D>();
 }
 
-/// Whatever the stops, commands of each session stand, and those behind a source that could be asked
-/// are the first of those behind every later one.
-pub fn sessions_stand<D: Disk>()
-    ensures { SessionsStand D.state }
+// What sessions rest on of the crates below.
+fn laws_below<D: Disk>()
+    ensures { Below D.state }
 {
     stands_once();
     closed_sources_stay::<D>();
@@ -45,14 +45,19 @@ pub fn sessions_stand<D: Disk>()
     runs_leave_prefixes::<D>();
 }
 
+/// Whatever the stops, commands of each session stand, and those behind a source that could be asked
+/// are the first of those behind every later one.
+pub fn sessions_stand<D: Disk>()
+    ensures { SessionsStand D.state }
+{
+    laws_below::<D>();
+}
+
 /// What the stops left determines how many commands of each session stand.
 pub fn one_standing<D: Disk>()
     ensures { OneStanding D.state }
 {
-    stands_once();
-    closed_sources_stay::<D>();
-    refused_is_not_done::<D>();
-    runs_leave_prefixes::<D>();
+    laws_below::<D>();
 }
 
 /// A stop within an opening is a stop of the session before it.
@@ -63,9 +68,11 @@ pub fn openings_stop_too<D: Disk>()
 /// Each state that a stop within a run of a regular source may leave is regular: what was published,
 /// followed by the changes after its moment, is what is held.
 pub fn stops_leave_regular()
-    ensures regular { (s t : Source) (commands : List (Command × ℕ)) (acks : List Ack) (m : ℕ) (image : List ℕ)
+    ensures regular { (s t : Source) (commands : List (Command × ℕ)) (acks : List Ack)
+        (m : ℕ) (image : List ℕ)
         → IsRegular s → StandsForPrefix s commands acks m image → StandsFor image t → IsRegular t }
-    ensures yields { (s t : Source) (commands : List (Command × ℕ)) (acks : List Ack) (m : ℕ) (image : List ℕ)
+    ensures yields { (s t : Source) (commands : List (Command × ℕ)) (acks : List Ack)
+        (m : ℕ) (image : List ℕ)
         → IsRegular s → StandsForPrefix s commands acks m image → StandsFor image t → YieldsHeld t }
 {
     stands_once();

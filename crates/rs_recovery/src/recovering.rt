@@ -1,12 +1,11 @@
 //! What is recovered after a stop.
 
-ghost use Rattle.std.specs.Prelude.{◌≡◌, ℕ, List, false, IfOk, IsTrue};
+ghost use Rattle.std.specs.Prelude.{ℕ, List, IfOk, IsTrue};
 ghost use Rattle.rs_disk.specs.Leaves.{WritesNothing};
 ghost use Rattle.rs_model.specs.State.{Source as State};
 ghost use Rattle.rs_model.specs.declared.command.Command.{Command};
-ghost use Rattle.rs_image.specs.Tells.{StandsFor};
-ghost use Rattle.rs_store.specs.Source.{Holds, state_of};
-ghost use Rattle.rs_store.specs.Opening.{disk_of};
+ghost use Rattle.rs_image.specs.StateOfImage.{StandsFor};
+ghost use Rattle.rs_store.specs.Opening.{disk_of, IsOpened};
 ghost use Rattle.rs_store.specs.declared.running.Ack.{Ack};
 ghost use Rattle.rs_store.specs.Runs.{StandsForPrefix};
 ghost use Rattle.rs_recovery.specs.Sessions.{IsOpenedOn};
@@ -37,14 +36,17 @@ use std::alloc::Global;
 /// failed, and [`OpenFault::NoMemory`]; no other.
 pub fn recover<D: Disk>(alloc: Global, disk: D) -> Result<Source<D>, (D, OpenFault)>
     // Where the disk's bytes stand for a state, it is given back; and a source that is opened may begin a session more.
-    ensures recovers { IsTrue (D.state (disk_of result)).honest → (s : State) → StandsFor (D.state disk).now.seen s → GivesBack D.state disk result s }
-    ensures holds { IfOk result (λ source. IsTrue (D.state source.disk).honest → Holds D.state source (state_of D.state source) × StandsFor (D.state disk).now.seen (state_of D.state source)) }
-    ensures is_open { IfOk result (λ source. source.is_closed ≡ false) }
-    ensures opened { IfOk result (λ source. IsTrue (D.state source.disk).honest → IsOpenedOn D.state (D.state disk).now.seen source) }
+    ensures recovers { IsTrue (D.state (disk_of result)).honest
+        → (s : State) → StandsFor (D.state disk).now.seen s → GivesBack D.state disk result s }
+    ensures found { IfOk result (IsOpened D.state (D.state disk)) }
+    ensures opened { IfOk result (λ source. IsTrue (D.state source.disk).honest
+        → IsOpenedOn D.state (D.state disk).now.seen source) }
 
     // After a stop of one run, and after those of any number of sessions.
-    ensures after_a_run { IsTrue (D.state (disk_of result)).honest → (s : State) (commands : List (Command × ℕ)) (acks : List Ack) (m : ℕ)
-        → StandsForPrefix s commands acks m (D.state disk).now.seen → GivesBackPrefix D.state disk result s commands acks m }
+    ensures after_a_run { IsTrue (D.state (disk_of result)).honest
+        → (s : State) (commands : List (Command × ℕ)) (acks : List Ack) (m : ℕ)
+        → StandsForPrefix s commands acks m (D.state disk).now.seen
+        → GivesBackPrefix D.state disk result s commands acks m }
     ensures headline { Headline D.state disk result }
 
     // What a read gives is as it was; a stop within it leaves an image of its entry; and a device that has followed the model

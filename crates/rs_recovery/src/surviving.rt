@@ -43,7 +43,8 @@ pub fn format_run_recover(
     commands: &[(Command, Moment)],
     choice: &[u8],
 ) -> Result<(Vec<Ack>, MemoryDisk, Source<MemoryDisk>), Halt>
-    ensures survives { IfOk result (λ x. Survives (start_of base.now limit now) commands.now x.0.items x.1 choice.now x.2) }
+    ensures survives { IfOk result
+        (λ x. Survives (start_of base.now limit now) commands.now x.0.items x.1 choice.now x.2) }
     ensures found { IfErr result (λ halt. ¬ IsLost halt) }
 {
     turns_go_on::<MemoryDisk>();

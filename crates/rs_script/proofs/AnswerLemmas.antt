@@ -20,20 +20,20 @@ use Rattle.rs_script.specs.declared.request.Request.{Request}
 use Rattle.rs_script.specs.declared.request.Request.TheVariants.{At, Run, Document, Body, Status}
 use Rattle.rs_script.specs.Answers.{outcome_text, shown_text}
 use Rattle.rs_store.specs.AnswersBody.{AnswersBody}
-use Rattle.rs_script.specs.Gives.{replied_as, counted_as, shown_as}
+use Rattle.rs_script.specs.Outcomes.{outcome_of_reply, counted_as, shown_as}
 use Rattle.rs_script.specs.Lines.{line_limit}
 use Rattle.rs_script.specs.Model.{shown_or}
 use Rattle.rs_script.specs.Progress.{RequestAnswers, LineAnswers}
 use Rattle.rs_script.specs.Requests.{request_of}
-use Rattle.rs_script.specs.Session.{Session, session, Outcome, moment_set, counted, refused, unchanged}
+use Rattle.rs_script.specs.Session.{ScriptState, script_state, LineOutcome, moment_set, counted, refused, unchanged}
 use Rattle.rs_script.proofs.Documents.{one_text}
 
 -- a command was asked of the source
 pub ran : {D : Type 0} (device : D → DiskState) (old new : Stored D) (command : Command) (now : ℕ) (result : Result Reply denials.Refusal) (P : List ℕ → Type 0)
-    → stored.Answers device old new command now result → P (outcome_text (replied_as result))
-    → RequestAnswers device (session old now) (Ok (Run command)) (session new now) P
+    → stored.Answers device old new command now result → P (outcome_text (outcome_of_reply result))
+    → RequestAnswers device (script_state old now) (Ok (Run command)) (script_state new now) P
 ran device old new command now result P a w = record {
-  answer = record { outcome = replied_as result; commands = counted_as command now result; session = session new now };
+  answer = record { outcome = outcome_of_reply result; commands = counted_as command now result; session = script_state new now };
   gives = inl (record { result = result; answers = a; outcome = refl; commands = refl; now = refl });
   session_is = refl;
   written = w;
@@ -42,9 +42,9 @@ ran device old new command now result P a w = record {
 -- a body was asked of the source
 pub was_read : {D : Type 0} (device : D → DiskState) (old new : Stored D) (name : List ℕ) (now : ℕ) (result : Result (Vec ℕ Global) denials.Refusal) (P : List ℕ → Type 0)
     → AnswersBody device old new name result → P (outcome_text (shown_as result))
-    → RequestAnswers device (session old now) (Ok (Body name)) (session new now) P
+    → RequestAnswers device (script_state old now) (Ok (Body name)) (script_state new now) P
 was_read device old new name now result P a w = record {
-  answer = record { outcome = shown_as result; commands = []; session = session new now };
+  answer = record { outcome = shown_as result; commands = []; session = script_state new now };
   gives = inl (record { result = result; answers = a; outcome = refl; commands = refl; now = refl });
   session_is = refl;
   written = w;
@@ -52,28 +52,28 @@ was_read device old new name now result P a w = record {
 
 -- the moment is set
 pub moment_answered : {D : Type 0} (device : D → DiskState) (s : Stored D) (now t : ℕ) (P : List ℕ → Type 0)
-    → P (outcome_text moment_set) → RequestAnswers device (session s now) (Ok (At t)) (session s t) P
+    → P (outcome_text moment_set) → RequestAnswers device (script_state s now) (Ok (At t)) (script_state s t) P
 moment_answered device s now t P w = record {
-  answer = record { outcome = moment_set; commands = []; session = session s t };
+  answer = record { outcome = moment_set; commands = []; session = script_state s t };
   gives = inl refl;
   session_is = refl;
   written = w;
 }
 
 -- an open source answers
-when_open : (closed : Bool) (outcome : Outcome) → closed ≡ false → (if closed then refused (Source Closed) else outcome) ≡ outcome
+when_open : (closed : Bool) (outcome : LineOutcome) → closed ≡ false → (if closed then refused (Source Closed) else outcome) ≡ outcome
 when_open closed outcome opened = ap (λ b. if b then refused (Source Closed) else outcome) opened
 
 -- a document is shown, or there is none
-pub document_answered : {D : Type 0} (device : D → DiskState) (s : Stored D) (now : ℕ) (doc : Doc) (view : Shown) (outcome : Outcome) (P : List ℕ → Type 0)
-    → s.is_closed ≡ false → view ≡ views.shown_of s.contents → shown_or NoSuchDocument (document_text view doc) ≡ outcome
-    → P (outcome_text outcome) → RequestAnswers device (session s now) (Ok (Document doc)) (session s now) P
+pub document_answered : {D : Type 0} (device : D → DiskState) (s : Stored D) (now : ℕ) (doc : Doc) (view : Shown) (outcome : LineOutcome) (P : List ℕ → Type 0)
+    → s.is_closed ≡ false → view ≡ views.shown_in s.contents → shown_or NoSuchDocument (document_text view doc) ≡ outcome
+    → P (outcome_text outcome) → RequestAnswers device (script_state s now) (Ok (Document doc)) (script_state s now) P
 document_answered device s now doc view outcome P opened is e w =
     let text = ap (λ v. document_text v doc) is ∙ one_text (device s.disk).now.seen s.contents doc in
     let found = sym e ∙ ap (shown_or NoSuchDocument) text in
     record {
-      answer = unchanged (session s now) outcome;
-      gives = inl (ap (unchanged (session s now)) (found ∙ sym (when_open s.is_closed (shown_or NoSuchDocument (document_text (shown_of (state_of device s)) doc)) opened)));
+      answer = unchanged (script_state s now) outcome;
+      gives = inl (ap (unchanged (script_state s now)) (found ∙ sym (when_open s.is_closed (shown_or NoSuchDocument (document_text (shown_of (state_of device s)) doc)) opened)));
       session_is = refl;
       written = w;
     }
@@ -81,9 +81,9 @@ document_answered device s now doc view outcome P opened is e w =
 -- a closed source shows no document
 pub document_closed : {D : Type 0} (device : D → DiskState) (s : Stored D) (now : ℕ) (doc : Doc) (refusal : denials.Refusal) (P : List ℕ → Type 0)
     → refusal ≡ Closed → s.is_closed ≡ true → P (outcome_text (refused (Source refusal)))
-    → RequestAnswers device (session s now) (Ok (Document doc)) (session s now) P
+    → RequestAnswers device (script_state s now) (Ok (Document doc)) (script_state s now) P
 document_closed device s now doc refusal P same closed w = record {
-  answer = unchanged (session s now) (refused (Source Closed));
+  answer = unchanged (script_state s now) (refused (Source Closed));
   gives = inl (rw closed refl);
   session_is = refl;
   written = subst (λ r. P (outcome_text (refused (Source r)))) same w;
@@ -92,10 +92,10 @@ document_closed device s now doc refusal P same closed w = record {
 -- what is held is counted
 pub counted_answered : {D : Type 0} (device : D → DiskState) (s : Stored D) (now : ℕ) (status : counts.Status) (P : List ℕ → Type 0)
     → s.is_closed ≡ false → status ≡ status_of (state_of device s) → P (outcome_text (counted status))
-    → RequestAnswers device (session s now) (Ok Status) (session s now) P
+    → RequestAnswers device (script_state s now) (Ok Status) (script_state s now) P
 counted_answered device s now status P opened e w = record {
-  answer = unchanged (session s now) (counted status);
-  gives = inl (ap (unchanged (session s now)) (ap counted e ∙ sym (when_open s.is_closed (counted (status_of (state_of device s))) opened)));
+  answer = unchanged (script_state s now) (counted status);
+  gives = inl (ap (unchanged (script_state s now)) (ap counted e ∙ sym (when_open s.is_closed (counted (status_of (state_of device s))) opened)));
   session_is = refl;
   written = w;
 }
@@ -103,9 +103,9 @@ counted_answered device s now status P opened e w = record {
 -- and nothing of a closed source
 pub counted_closed : {D : Type 0} (device : D → DiskState) (s : Stored D) (now : ℕ) (refusal : denials.Refusal) (P : List ℕ → Type 0)
     → refusal ≡ Closed → s.is_closed ≡ true → P (outcome_text (refused (Source refusal)))
-    → RequestAnswers device (session s now) (Ok Status) (session s now) P
+    → RequestAnswers device (script_state s now) (Ok Status) (script_state s now) P
 counted_closed device s now refusal P same closed w = record {
-  answer = unchanged (session s now) (refused (Source Closed));
+  answer = unchanged (script_state s now) (refused (Source Closed));
   gives = inl (rw closed refl);
   session_is = refl;
   written = subst (λ r. P (outcome_text (refused (Source r)))) same w;
@@ -116,7 +116,7 @@ abbrev denied : Refusal → Result Request Refusal
 denied refusal = Err refusal
 
 -- the line asks for nothing, or room for what it asks was refused
-pub refused_answered : {D : Type 0} (device : D → DiskState) (s : Session (Stored D)) (found : Result Request Refusal) (refusal : Refusal) (P : List ℕ → Type 0)
+pub refused_answered : {D : Type 0} (device : D → DiskState) (s : ScriptState (Stored D)) (found : Result Request Refusal) (refusal : Refusal) (P : List ℕ → Type 0)
     → (Err refusal ≡ found) ⊎ (denied refusal ≡ denied NoMemory) → P (outcome_text (refused refusal)) → RequestAnswers device s found s P
 refused_answered device s found refusal P (inl e) w = record {
   answer = unchanged s (refused refusal);
@@ -135,13 +135,13 @@ abbrev asked : Request → Result Request Refusal
 asked request = Ok request
 
 -- the line asks for something
-pub understood : {D : Type 0} (device : D → DiskState) (s new : Session (Stored D)) (found : Result Request Refusal) (request : Request) (P : List ℕ → Type 0)
+pub understood : {D : Type 0} (device : D → DiskState) (s new : ScriptState (Stored D)) (found : Result Request Refusal) (request : Request) (P : List ℕ → Type 0)
     → (Ok request ≡ found) ⊎ (asked request ≡ denied NoMemory) → RequestAnswers device s (Ok request) new P → RequestAnswers device s found new P
 understood device s new found request P (inl e) given = subst (λ r. RequestAnswers device s r new P) e given
 understood device s new found request P (inr e) given = absurd cc
 
 -- a line that asks for nothing
-pub foreign_answered : {D : Type 0} (device : D → DiskState) (s : Session (Stored D)) (line : List ℕ) (P : List ℕ → Type 0)
+pub foreign_answered : {D : Type 0} (device : D → DiskState) (s : ScriptState (Stored D)) (line : List ℕ) (P : List ℕ → Type 0)
     → (length line ≤ line_limit) × (request_of line ≡ Err BadLine) → P (outcome_text (refused BadLine)) → LineAnswers device s line s P
 foreign_answered device s line P h w = record {
   answer = unchanged s (refused BadLine);
@@ -151,7 +151,7 @@ foreign_answered device s line P h w = record {
 }
 
 -- a line past the limit
-pub long_answered : {D : Type 0} (device : D → DiskState) (s : Session (Stored D)) (line : List ℕ) (P : List ℕ → Type 0)
+pub long_answered : {D : Type 0} (device : D → DiskState) (s : ScriptState (Stored D)) (line : List ℕ) (P : List ℕ → Type 0)
     → line_limit < length line → P (outcome_text (refused LongLine)) → LineAnswers device s line s P
 long_answered device s line P h w = record {
   answer = unchanged s (refused LongLine);
@@ -161,7 +161,7 @@ long_answered device s line P h w = record {
 }
 
 -- room for a line was refused
-pub no_room_for_line : {D : Type 0} (device : D → DiskState) (s : Session (Stored D)) (line : List ℕ) (P : List ℕ → Type 0)
+pub no_room_for_line : {D : Type 0} (device : D → DiskState) (s : ScriptState (Stored D)) (line : List ℕ) (P : List ℕ → Type 0)
     → length line ≤ line_limit → P (outcome_text (refused NoMemory)) → LineAnswers device s line s P
 no_room_for_line device s line P le w = record {
   answer = unchanged s (refused NoMemory);
@@ -171,7 +171,7 @@ no_room_for_line device s line P le w = record {
 }
 
 -- a line of these bytes
-pub bytes_answered : {D : Type 0} (device : D → DiskState) (s new : Session (Stored D)) (bytes line : List ℕ) (P : List ℕ → Type 0)
+pub bytes_answered : {D : Type 0} (device : D → DiskState) (s new : ScriptState (Stored D)) (bytes line : List ℕ) (P : List ℕ → Type 0)
     → (bytes ≡ line) × (length line ≤ line_limit)
     → RequestAnswers device s (request_of bytes) new P → LineAnswers device s line new P
 bytes_answered device s new bytes line P h given = record {
@@ -184,7 +184,7 @@ bytes_answered device s new bytes line P h given = record {
 -- the body that was asked of the source is shown
 pub body_shown : {D : Type 0} (device : D → DiskState) (old new : Stored D) (name : List ℕ) (now : ℕ) (bytes : Vec ℕ Global) (written : List ℕ) (P : List ℕ → Type 0)
     → AnswersBody device old new name (Ok bytes) → written ≡ bytes.items → P (shown_text written)
-    → RequestAnswers device (session old now) (Ok (Body name)) (session new now) P
+    → RequestAnswers device (script_state old now) (Ok (Body name)) (script_state new now) P
 body_shown device old new name now bytes written P a same w = was_read device old new name now (Ok bytes) P a (subst (λ b. P (shown_text b)) same w)
 
 -- a source that refuses nothing is open

@@ -8,7 +8,7 @@ use Rattle.rs_model.specs.Step.{state_after, fold_of}
 use Rattle.rs_model.specs.declared.command.Command.{Command}
 use Rattle.rs_model.specs.declared.command.Reply.{Reply}
 use Rattle.rs_image.specs.declared.contents.Contents.{Contents}
-use Rattle.rs_image.specs.Tells.{Tells, state_in}
+use Rattle.rs_image.specs.StateOfImage.{Tells, state_in}
 use Rattle.rs_store.specs.Answered.{Answers}
 use Rattle.rs_store.specs.Source.{Stored, Holds, state_of}
 use Rattle.rs_store.specs.declared.refusal.Refusal as stored
@@ -17,10 +17,10 @@ use Rattle.rs_script.specs.declared.refusal.Refusal.{Refusal}
 use Rattle.rs_script.specs.declared.request.Request.{Request}
 use Rattle.rs_script.specs.declared.request.Request.TheVariants.{At, Run, Document, Body, Status}
 use Rattle.rs_store.specs.AnswersBody.{AnswersBody}
-use Rattle.rs_script.specs.Gives.{replied_as, counted_as, RequestGives, LineGives}
+use Rattle.rs_script.specs.Outcomes.{outcome_of_reply, counted_as, RequestGives, LineGives}
 use Rattle.rs_script.specs.Requests.{request_of}
 use Rattle.rs_script.specs.Script.{IsMachine}
-use Rattle.rs_script.specs.Session.{Session, Answer}
+use Rattle.rs_script.specs.Session.{ScriptState, Answer}
 
 -- the source after a line, which may be as it was
 pub record Follows {D : Type 0} (device : D → DiskState) (old new : Stored D) (commands : List (Command × ℕ)) : Type 0 where
@@ -100,7 +100,7 @@ module _ {D : Type 0} (device : D → DiskState) (old : Stored D) where
         };
       }
 
-module _ {D : Type 0} (device : D → DiskState) (old : Session (Stored D)) (answer : Answer (Stored D)) where
+module _ {D : Type 0} (device : D → DiskState) (old : ScriptState (Stored D)) (answer : Answer (Stored D)) where
   AnswerFollows : Answer (Stored D) → Type 0
   AnswerFollows a = Follows device old.source a.session.source a.commands
 
@@ -120,7 +120,7 @@ module _ {D : Type 0} (device : D → DiskState) (old : Session (Stored D)) (ans
   line_follows line (inr (within, inr e)) = subst AnswerFollows (sym e) (stays device old.source)
 
 -- the generation does not fall, where the device did not fail
-module _ {D : Type 0} (device : D → DiskState) (old : Session (Stored D)) (answer : Answer (Stored D)) (models : ¬ IsMachine answer.outcome) where
+module _ {D : Type 0} (device : D → DiskState) (old : ScriptState (Stored D)) (answer : Answer (Stored D)) (models : ¬ IsMachine answer.outcome) where
   Rises : Answer (Stored D) → Type 0
   Rises a = old.source.slots.root.generation ≤ a.session.source.slots.root.generation
 
@@ -128,7 +128,7 @@ module _ {D : Type 0} (device : D → DiskState) (old : Session (Stored D)) (ans
   alike_rises new e = rw e (omega arith)
 
   run_rises : (command : Command) (result : Result Reply stored.Refusal) → Answers device old.source answer.session.source command old.now result
-      → answer.outcome ≡ replied_as result → Rises answer
+      → answer.outcome ≡ outcome_of_reply result → Rises answer
   unfolding Rises
   run_rises command (Ok reply) a o = omega (arith, a.generation)
   run_rises command (Err Device) a o = absurd (models (subst IsMachine (sym o) tt))

@@ -8,3 +8,4 @@ pub mod Models
 pub mod Chains
 pub mod Transcripts
 pub mod Documents
+pub mod Known

@@ -9,7 +9,7 @@ use Rattle.rs_model.specs.declared.command.Command.{Command}
 use Rattle.rs_model.specs.declared.command.Reply.{Reply}
 use Rattle.rs_model.specs.declared.value.Held.{Held}
 use Rattle.rs_model.specs.declared.command.Refusal as model
-use Rattle.rs_image.specs.Tells.{state_in}
+use Rattle.rs_image.specs.StateOfImage.{state_in}
 use Rattle.rs_store.specs.Answered.{Answers}
 use Rattle.rs_store.specs.Refusals.{decided, or_spent, named_as}
 use Rattle.rs_store.specs.Shows.{status_of}
@@ -23,12 +23,12 @@ use Rattle.rs_script.specs.declared.refusal.Refusal.TheVariants as refusals
 use Rattle.rs_script.specs.declared.request.Request.{Request}
 use Rattle.rs_script.specs.declared.request.Request.TheVariants.{At, Run, Document, Body, Status}
 use Rattle.rs_store.specs.AnswersBody.{AnswersBody}
-use Rattle.rs_script.specs.Gives.{replied_as, counted_as, shown_as, if_open, RequestGives, LineGives}
+use Rattle.rs_script.specs.Outcomes.{outcome_of_reply, counted_as, shown_as, if_open, RequestGives, LineGives}
 use Rattle.rs_script.specs.Lines.{line_limit}
-use Rattle.rs_script.specs.Model.{stepped, shown_or, answer_to, answered}
+use Rattle.rs_script.specs.Model.{stepped, shown_or, answer_to, line_answer}
 use Rattle.rs_script.specs.Requests.{request_of}
 use Rattle.rs_script.specs.Script.{IsOfMachine, IsMachine, told}
-use Rattle.rs_script.specs.Session.{Session, session, Outcome, refused, counted, Answer, unchanged}
+use Rattle.rs_script.specs.Session.{ScriptState, script_state, LineOutcome, refused, counted, Answer, unchanged}
 
 -- an answer of a stored source is this one of the model
 pub record IsSame {D : Type 0} (device : D → DiskState) (answer : Answer (Stored D)) (expected : Answer Source) : Type 0 where
@@ -52,7 +52,7 @@ missing : {X : Type 0} (f : X → List ℕ) (found : Option X) → is_some found
 missing f None e = refl
 missing f (Some x) e = absurd cc
 
-module _ {D : Type 0} (device : D → DiskState) (old : Session (Stored D)) (answer : Answer (Stored D)) (models : ¬ IsMachine answer.outcome) where
+module _ {D : Type 0} (device : D → DiskState) (old : ScriptState (Stored D)) (answer : Answer (Stored D)) (models : ¬ IsMachine answer.outcome) where
   abbrev state : Source
   state = state_of device old.source
 
@@ -74,19 +74,19 @@ module _ {D : Type 0} (device : D → DiskState) (old : Session (Stored D)) (ans
       rw steps record {
         outcome = o ∙ ap (λ x. refused (refusals.Source x)) (sym m.2);
         commands = c;
-        session = ap (λ s. session s answer.session.now) same ∙ ap (session state) n;
+        session = ap (λ s. script_state s answer.session.now) same ∙ ap (script_state state) n;
       }
 
   -- a command is asked
   run_same : (command : Command) (result : Result Reply stored.Refusal) → Answers device old.source answer.session.source command old.now result
       → old.source.slots.root.generation + 1 < 2 ^ 64
-      → answer.outcome ≡ replied_as result → answer.commands ≡ counted_as command old.now result → answer.session.now ≡ old.now
+      → answer.outcome ≡ outcome_of_reply result → answer.commands ≡ counted_as command old.now result → answer.session.now ≡ old.now
       → IsSame device answer (stepped (told device old) command (step state command old.now))
   run_same command (Ok reply) a left o c n =
       rw a.accepted record {
         outcome = o;
         commands = c;
-        session = ap (session (state_of device answer.session.source)) n;
+        session = ap (script_state (state_of device answer.session.source)) n;
       }
   run_same command (Err Closed) a left o c n = machine_refused Closed tt o
   run_same command (Err Full) a left o c n = machine_refused Full tt o
@@ -106,13 +106,13 @@ module _ {D : Type 0} (device : D → DiskState) (old : Session (Stored D)) (ans
   run_same command (Err Exhausted) a left o c n =
       run_refused command Exhausted (λ e. absurd cc) left (a.refused Exhausted refl) o c n (a.unchanged Exhausted refl (λ e. absurd cc)).state
 
-  -- the session after a reading tells what it told
+  -- the script_state after a reading tells what it told
   read_session : (name : List ℕ) (result : Result (Vec ℕ Global) stored.Refusal) → AnswersBody device old.source answer.session.source name result
       → answer.session.now ≡ old.now → told device answer.session ≡ told device old
   read_session name result a n =
-      ap (λ held. session (state_in held.seen answer.session.source.contents) answer.session.now) a.rests.now
-      ∙ ap (λ c. session (state_in (device old.source.disk).now.seen c) answer.session.now) a.contents
-      ∙ ap (session state) n
+      ap (λ held. script_state (state_in held.seen answer.session.source.contents) answer.session.now) a.rests.now
+      ∙ ap (λ c. script_state (state_in (device old.source.disk).now.seen c) answer.session.now) a.contents
+      ∙ ap (script_state state) n
 
   -- a body is asked
   read_same : (name : List ℕ) (result : Result (Vec ℕ Global) stored.Refusal) → AnswersBody device old.source answer.session.source name result
@@ -136,20 +136,20 @@ module _ {D : Type 0} (device : D → DiskState) (old : Session (Stored D)) (ans
   read_same name (Err Exhausted) a honest o c n = absurd a.others
 
   -- the source was open, where its answer is the model's
-  open_same : (outcome : Outcome) (closed : Bool) → old.source.is_closed ≡ closed → answer ≡ unchanged old (if_open old outcome)
+  open_same : (outcome : LineOutcome) (closed : Bool) → old.source.is_closed ≡ closed → answer ≡ unchanged old (if_open old outcome)
       → answer ≡ unchanged old outcome
   open_same outcome true is e = machine_refused Closed tt (ap (λ (a : Answer (Stored D)). a.outcome) e ∙ ap (λ b. if b then refused (refusals.Source Closed) else outcome) is)
   open_same outcome false is e = e ∙ ap (λ b. unchanged old (if b then refused (refusals.Source Closed) else outcome)) is
 
   -- nothing changed, and this came of it
-  left_same : (outcome : Outcome) → answer ≡ unchanged old outcome → IsSame device answer (unchanged (told device old) outcome)
+  left_same : (outcome : LineOutcome) → answer ≡ unchanged old outcome → IsSame device answer (unchanged (told device old) outcome)
   left_same outcome e = record {
     outcome = ap (λ (a : Answer (Stored D)). a.outcome) e;
     commands = ap (λ (a : Answer (Stored D)). a.commands) e;
     session = ap (λ (a : Answer (Stored D)). told device a.session) e;
   }
 
-  -- a request is answered as the model answers it
+  -- a request is line_answer as the model answers it
   request_same : (request : Result Request Refusal) → RequestGives device old request answer
       → IsTrue (device answer.session.source.disk).honest → old.source.slots.root.generation + 1 < 2 ^ 64
       → IsSame device answer (answer_to (told device old) request)
@@ -171,7 +171,7 @@ module _ {D : Type 0} (device : D → DiskState) (old : Session (Stored D)) (ans
   -- and so is a line
   pub line_same : (line : List ℕ) → LineGives device old line answer
       → IsTrue (device answer.session.source.disk).honest → old.source.slots.root.generation + 1 < 2 ^ 64
-      → IsSame device answer (answered (told device old) line)
+      → IsSame device answer (line_answer (told device old) line)
   line_same line (inl long) honest left =
       let past : nat_lt line_limit (length line) ≡ true = grind (arith, nat_tests, long.0) in
       rw past (left_same (refused refusals.LongLine) long.1)

@@ -15,22 +15,22 @@ use Rattle.rs_model.specs.declared.command.Command.{Command}
 use Rattle.rs_store.specs.Source.{Stored}
 use Rattle.rs_script.specs.declared.line.Line.{Line}
 use Rattle.rs_script.specs.Answers.{outcome_text, output_of}
-use Rattle.rs_script.specs.Kept.{Keeps}
-use Rattle.rs_script.specs.Lines.{Splits, AreWholeLines, HasNoBreak, with_break, cut_return, last_line, script_lines}
-use Rattle.rs_script.specs.Progress.{LineAnswers, Progress, Answered, Gave}
-use Rattle.rs_script.specs.Gives.{LineGives}
-use Rattle.rs_script.specs.Script.{Transcript, ScriptGives}
-use Rattle.rs_script.specs.Session.{Session, Outcome, Answer}
+use Rattle.rs_script.specs.PartialLine.{KeepsLine}
+use Rattle.rs_script.specs.Lines.{Splits, HasNoBreak, with_break, cut_return, last_line, script_lines}
+use Rattle.rs_script.specs.Progress.{LineAnswers, Progress, Answered, Gave, ComesTo, StopsBy, GaveLines}
+use Rattle.rs_script.specs.Outcomes.{LineGives}
+use Rattle.rs_script.specs.Script.{Transcript, ScriptGives, Ran}
+use Rattle.rs_script.specs.Session.{ScriptState, script_state, LineOutcome, Answer}
 
 -- one more line is answered
-pub Transcript-more : {D : Type 0} (device : D → DiskState) (lines : List (List ℕ)) (old : Session (Stored D)) (outcomes : List Outcome) (commands : List (Command × ℕ)) (mid : Session (Stored D))
+pub Transcript-more : {D : Type 0} (device : D → DiskState) (lines : List (List ℕ)) (old : ScriptState (Stored D)) (outcomes : List LineOutcome) (commands : List (Command × ℕ)) (mid : ScriptState (Stored D))
     (line : List ℕ) (answer : Answer (Stored D)) → Transcript device old lines outcomes commands mid → LineGives device mid line answer
     → Transcript device old (lines ++ line ∷ []) (outcomes ++ answer.outcome ∷ []) (commands ++ answer.commands) answer.session
 Transcript-more {D = D} device [] old outcomes commands mid line answer h g = (
   answer,
   [],
   [],
-  subst (λ (s : Session (Stored D)). LineGives device s line answer) h.2 g,
+  subst (λ (s : ScriptState (Stored D)). LineGives device s line answer) h.2 g,
   ap (λ z. z ++ answer.outcome ∷ []) h.0,
   ap (λ z. z ++ answer.commands) h.1 ∙ sym (append-nil answer.commands),
   (refl, refl, refl),
@@ -46,7 +46,7 @@ Transcript-more device (l ∷ lines) old outcomes commands mid line answer h g =
 )
 
 -- what is written of one more outcome
-pub output-more : (outcomes : List Outcome) (outcome : Outcome) → output_of (outcomes ++ outcome ∷ []) ≡ output_of outcomes ++ outcome_text outcome
+pub output-more : (outcomes : List LineOutcome) (outcome : LineOutcome) → output_of (outcomes ++ outcome ∷ []) ≡ output_of outcomes ++ outcome_text outcome
 output-more outcomes outcome = flat_map-append outcome_text outcomes (outcome ∷ []) ∙ ap (λ z. output_of outcomes ++ z) (append-nil (outcome_text outcome))
 
 pub Splits-run : (input : List ℕ) (raws : List (List ℕ)) (rest run : List ℕ) → HasNoBreak run
@@ -68,8 +68,8 @@ Splits-break input raws rest run h s =
     }
 
 -- more bytes of the line
-pub Progress-run : {D W : Type 0} (device : D → DiskState) (contents : W → Option (List ℕ)) (start : Session (Stored D)) (before : Watched W) (input : List ℕ) (line : Line) (c : Watched W) (now : Session (Stored D))
-    (run : List ℕ) (next : Line) → HasNoBreak run → ((raw : List ℕ) → Keeps line raw → Keeps next (raw ++ run))
+pub Progress-run : {D W : Type 0} (device : D → DiskState) (contents : W → Option (List ℕ)) (start : ScriptState (Stored D)) (before : Watched W) (input : List ℕ) (line : Line) (c : Watched W) (now : ScriptState (Stored D))
+    (run : List ℕ) (next : Line) → HasNoBreak run → ((raw : List ℕ) → KeepsLine line raw → KeepsLine next (raw ++ run))
     → Progress device contents start before input line c now → Progress device contents start before (input ++ run) next c now
 Progress-run device contents start before input line c now run next h k p = record {
   raws = p.raws;
@@ -87,25 +87,25 @@ on_err (Ok x) p = tt
 on_err (Err e) p = p
 
 -- a line that came whole is answered
-whole_more : {D : Type 0} (device : D → DiskState) (start : Session (Stored D)) (raws : List (List ℕ)) (raw : List ℕ) (outcomes : List Outcome) (commands : List (Command × ℕ)) (now : Session (Stored D))
-    (answer : Answer (Stored D)) (new : Session (Stored D)) → answer.session ≡ new
+whole_more : {D : Type 0} (device : D → DiskState) (start : ScriptState (Stored D)) (raws : List (List ℕ)) (raw : List ℕ) (outcomes : List LineOutcome) (commands : List (Command × ℕ)) (now : ScriptState (Stored D))
+    (answer : Answer (Stored D)) (new : ScriptState (Stored D)) → answer.session ≡ new
     → Transcript device start (map cut_return raws) outcomes commands now → LineGives device now (cut_return raw) answer
     → Transcript device start (map cut_return (raws ++ raw ∷ [])) (outcomes ++ answer.outcome ∷ []) (commands ++ answer.commands) new
 whole_more {D = D} device start raws raw outcomes commands now answer new e t g =
     let P : List (List ℕ) → Type 0 = λ lines. Transcript device start lines (outcomes ++ answer.outcome ∷ []) (commands ++ answer.commands) answer.session in
-    let Q : Session (Stored D) → Type 0 = λ s. Transcript device start (map cut_return (raws ++ raw ∷ [])) (outcomes ++ answer.outcome ∷ []) (commands ++ answer.commands) s in
+    let Q : ScriptState (Stored D) → Type 0 = λ s. Transcript device start (map cut_return (raws ++ raw ∷ [])) (outcomes ++ answer.outcome ∷ []) (commands ++ answer.commands) s in
     subst Q e (subst P (sym (map-append cut_return raws (raw ∷ [])))
     (Transcript-more device (map cut_return raws) start outcomes commands now (cut_return raw) answer t g))
 
 -- a line feed has come, and the answer is written
-pub take_ok : {T E D W : Type 0} (device : D → DiskState) (contents : W → Option (List ℕ)) (r : Result T E) (line mid next : Line) (now new : Session (Stored D)) (c d : Watched W) (run : List ℕ)
-    → ((raw : List ℕ) → Keeps line raw → Keeps mid (raw ++ run))
-    → ((raw : List ℕ) → Keeps mid raw → LineAnswers device now (cut_return raw) new (λ text. OnOk r (Wrote contents c d text)))
-    → Keeps next []
-    → OnOk r ((start : Session (Stored D)) (before : Watched W) (input : List ℕ) → HasNoBreak run
-    → Progress device contents start before input line c now → Progress device contents start before (input ++ with_break run) next d new)
+pub take_ok : {T E D W : Type 0} (device : D → DiskState) (contents : W → Option (List ℕ)) (r : Result T E) (line mid next : Line) (now new : ScriptState (Stored D)) (c d : Watched W) (run : List ℕ)
+    → ((raw : List ℕ) → KeepsLine line raw → KeepsLine mid (raw ++ run))
+    → ((raw : List ℕ) → KeepsLine mid raw → LineAnswers device now (cut_return raw) new (λ text. OnOk r (Wrote contents c d text)))
+    → KeepsLine next []
+    → OnOk r (HasNoBreak run → ComesTo device contents (record { line = line; writer = c; session = now })
+    (record { line = next; writer = d; session = new }) (with_break run))
 take_ok device contents (Err e) line mid next now new c d run k given fresh = tt
-take_ok device contents (Ok x) line mid next now new c d run k given fresh = λ start before input h p.
+take_ok device contents (Ok x) line mid next now new c d run k given fresh = λ h start before input p.
     let e = given (p.rest ++ run) (k p.rest p.kept) in
     let Q : List ℕ → Type 0 = λ text. Wrote contents before d text in
     record {
@@ -121,13 +121,12 @@ take_ok device contents (Ok x) line mid next now new c d run k given fresh = λ 
     }
 
 -- and the answer is not written
-pub take_err : {T E D W : Type 0} (device : D → DiskState) (contents : W → Option (List ℕ)) (r : Result T E) (line mid : Line) (now new : Session (Stored D)) (c : Watched W) (run : List ℕ) (Written : List ℕ → Type 0)
-    → ((raw : List ℕ) → Keeps line raw → Keeps mid (raw ++ run))
-    → ((raw : List ℕ) → Keeps mid raw → LineAnswers device now (cut_return raw) new Written)
-    → OnErr r ((start : Session (Stored D)) (before : Watched W) (input : List ℕ) → HasNoBreak run
-    → Progress device contents start before input line c now → Answered device start (input ++ with_break run) new × AreWholeLines (input ++ with_break run))
+pub take_err : {T E D W : Type 0} (device : D → DiskState) (contents : W → Option (List ℕ)) (r : Result T E) (line mid : Line) (now new : ScriptState (Stored D)) (c : Watched W) (run : List ℕ) (Written : List ℕ → Type 0)
+    → ((raw : List ℕ) → KeepsLine line raw → KeepsLine mid (raw ++ run))
+    → ((raw : List ℕ) → KeepsLine mid raw → LineAnswers device now (cut_return raw) new Written)
+    → OnErr r (HasNoBreak run → StopsBy device contents (record { line = line; writer = c; session = now }) (with_break run) new)
 take_err device contents (Ok x) line mid now new c run Written k given = tt
-take_err device contents (Err e) line mid now new c run Written k given = λ start before input h p.
+take_err device contents (Err e) line mid now new c run Written k given = λ h start before input p.
     let e = given (p.rest ++ run) (k p.rest p.kept) in
     let splits = Splits-break input p.raws p.rest run h p.splits in
     let P : List (List ℕ) → Type 0 = λ lines. Transcript device start lines (p.outcomes ++ e.answer.outcome ∷ []) (p.commands ++ e.answer.commands) new in (
@@ -150,20 +149,20 @@ last_line-some [] h = absurd (omega arith)
 last_line-some (b ∷ rest) h = refl
 
 -- the last line, which no line feed ended
-last_more : {D : Type 0} (device : D → DiskState) (start : Session (Stored D)) (raws : List (List ℕ)) (rest : List ℕ) (outcomes : List Outcome) (commands : List (Command × ℕ)) (now : Session (Stored D))
-    (answer : Answer (Stored D)) (new : Session (Stored D)) → answer.session ≡ new → 0 < length rest
+last_more : {D : Type 0} (device : D → DiskState) (start : ScriptState (Stored D)) (raws : List (List ℕ)) (rest : List ℕ) (outcomes : List LineOutcome) (commands : List (Command × ℕ)) (now : ScriptState (Stored D))
+    (answer : Answer (Stored D)) (new : ScriptState (Stored D)) → answer.session ≡ new → 0 < length rest
     → Transcript device start (map cut_return raws) outcomes commands now → LineGives device now rest answer
     → Transcript device start (script_lines raws rest) (outcomes ++ answer.outcome ∷ []) (commands ++ answer.commands) new
 last_more {D = D} device start raws rest outcomes commands now answer new e some t g =
     let P : List (List ℕ) → Type 0 = λ lines. Transcript device start (map cut_return raws ++ lines) (outcomes ++ answer.outcome ∷ []) (commands ++ answer.commands) answer.session in
-    let Q : Session (Stored D) → Type 0 = λ s. Transcript device start (script_lines raws rest) (outcomes ++ answer.outcome ∷ []) (commands ++ answer.commands) s in
+    let Q : ScriptState (Stored D) → Type 0 = λ s. Transcript device start (script_lines raws rest) (outcomes ++ answer.outcome ∷ []) (commands ++ answer.commands) s in
     subst Q e (subst P (sym (last_line-some rest some)) (Transcript-more device (map cut_return raws) start outcomes commands now rest answer t g))
 
-pub end_ok : {T E D W : Type 0} (device : D → DiskState) (contents : W → Option (List ℕ)) (r : Result T E) (line : Line) (now new : Session (Stored D)) (c d : Watched W)
-    → ((raw : List ℕ) → Keeps line raw → 0 < length raw)
-    → ((raw : List ℕ) → Keeps line raw → LineAnswers device now raw new (λ text. OnOk r (Wrote contents c d text)))
-    → OnOk r ((start : Session (Stored D)) (before : Watched W) (input : List ℕ) → Progress device contents start before input line c now
-    → (outcomes : List Outcome) × (commands : List (Command × ℕ)) × ScriptGives device start input outcomes commands new × Wrote contents before d (output_of outcomes))
+pub end_ok : {T E D W : Type 0} (device : D → DiskState) (contents : W → Option (List ℕ)) (r : Result T E) (line : Line) (now new : ScriptState (Stored D)) (c d : Watched W)
+    → ((raw : List ℕ) → KeepsLine line raw → 0 < length raw)
+    → ((raw : List ℕ) → KeepsLine line raw → LineAnswers device now raw new (λ text. OnOk r (Wrote contents c d text)))
+    → OnOk r ((start : ScriptState (Stored D)) (before : Watched W) (input : List ℕ) → Progress device contents start before input line c now
+    → (outcomes : List LineOutcome) × (commands : List (Command × ℕ)) × ScriptGives device start input outcomes commands new × Wrote contents before d (output_of outcomes))
 end_ok device contents (Err e) line now new c d some given = tt
 end_ok device contents (Ok x) line now new c d some given = λ start before input p.
     let e = given p.rest p.kept in
@@ -175,10 +174,10 @@ end_ok device contents (Ok x) line now new c d some given = λ start before inpu
           (wrote_then contents before c d (output_of p.outcomes) (outcome_text e.answer.outcome) p.written e.written),
     )
 
-pub end_err : {T E D W : Type 0} (device : D → DiskState) (contents : W → Option (List ℕ)) (r : Result T E) (line : Line) (now new : Session (Stored D)) (c : Watched W) (Written : List ℕ → Type 0)
-    → ((raw : List ℕ) → Keeps line raw → 0 < length raw)
-    → ((raw : List ℕ) → Keeps line raw → LineAnswers device now raw new Written)
-    → OnErr r ((start : Session (Stored D)) (before : Watched W) (input : List ℕ) → Progress device contents start before input line c now → Answered device start input new)
+pub end_err : {T E D W : Type 0} (device : D → DiskState) (contents : W → Option (List ℕ)) (r : Result T E) (line : Line) (now new : ScriptState (Stored D)) (c : Watched W) (Written : List ℕ → Type 0)
+    → ((raw : List ℕ) → KeepsLine line raw → 0 < length raw)
+    → ((raw : List ℕ) → KeepsLine line raw → LineAnswers device now raw new Written)
+    → OnErr r ((start : ScriptState (Stored D)) (before : Watched W) (input : List ℕ) → Progress device contents start before input line c now → Answered device start input new)
 end_err device contents (Ok x) line now new c Written some given = tt
 end_err device contents (Err e) line now new c Written some given = λ start before input p.
     let e = given p.rest p.kept in (
@@ -188,9 +187,9 @@ end_err device contents (Err e) line now new c Written some given = λ start bef
     )
 
 -- the input ended right after a line feed, or is empty
-pub end_none : {D W : Type 0} (device : D → DiskState) (contents : W → Option (List ℕ)) (line : Line) (now : Session (Stored D)) (c : Watched W) → ((raw : List ℕ) → Keeps line raw → raw ≡ [])
-    → (start : Session (Stored D)) (before : Watched W) (input : List ℕ) → Progress device contents start before input line c now
-    → (outcomes : List Outcome) × (commands : List (Command × ℕ)) × ScriptGives device start input outcomes commands now × Wrote contents before c (output_of outcomes)
+pub end_none : {D W : Type 0} (device : D → DiskState) (contents : W → Option (List ℕ)) (line : Line) (now : ScriptState (Stored D)) (c : Watched W) → ((raw : List ℕ) → KeepsLine line raw → raw ≡ [])
+    → (start : ScriptState (Stored D)) (before : Watched W) (input : List ℕ) → Progress device contents start before input line c now
+    → (outcomes : List LineOutcome) × (commands : List (Command × ℕ)) × ScriptGives device start input outcomes commands now × Wrote contents before c (output_of outcomes)
 end_none device contents line now c none start before input p =
     let P : List (List ℕ) → Type 0 = λ lines. Transcript device start lines p.outcomes p.commands now in
     let Q : List ℕ → Type 0 = λ rest. Transcript device start (script_lines p.raws rest) p.outcomes p.commands now in (
@@ -201,7 +200,7 @@ end_none device contents line now c none start before input p =
     )
 
 -- nothing has come, and nothing was written
-pub Progress-none : {D W : Type 0} (device : D → DiskState) (contents : W → Option (List ℕ)) (start : Session (Stored D)) (a : Watched W) (line : Line) → Keeps line [] → Progress device contents start a [] line a start
+pub Progress-none : {D W : Type 0} (device : D → DiskState) (contents : W → Option (List ℕ)) (start : ScriptState (Stored D)) (a : Watched W) (line : Line) → KeepsLine line [] → Progress device contents start a [] line a start
 Progress-none device contents start a line k = record {
   raws = [];
   rest = [];
@@ -214,7 +213,7 @@ Progress-none device contents start a line k = record {
 }
 
 -- the writer was flushed
-pub Progress-kept : {D W : Type 0} (device : D → DiskState) (contents : W → Option (List ℕ)) (start : Session (Stored D)) (before : Watched W) (input : List ℕ) (line : Line) (c d : Watched W) (now : Session (Stored D))
+pub Progress-kept : {D W : Type 0} (device : D → DiskState) (contents : W → Option (List ℕ)) (start : ScriptState (Stored D)) (before : Watched W) (input : List ℕ) (line : Line) (c d : Watched W) (now : ScriptState (Stored D))
     → KnownKeeps (contents (watched c)) (contents (watched d)) → failures d ≡ failures c → Progress device contents start before input line c now → Progress device contents start before input line d now
 Progress-kept device contents start before input line c d now k sound p = record {
   raws = p.raws;
@@ -231,33 +230,29 @@ Progress-kept device contents start before input line c d now k sound p = record
 }
 
 -- the whole lines of what came, and the part of a line after them
-pub Progress-whole : {D W : Type 0} (device : D → DiskState) (contents : W → Option (List ℕ)) (start : Session (Stored D)) (before : Watched W) (input : List ℕ) (line : Line) (c : Watched W) (now : Session (Stored D))
-    (r s : Option (List ℕ)) (F : Type 0) → F ⊎ (2 ^ 40 ≤ length input) → Consumes r s input
-    → Progress device contents start before input line c now
-    → (lines : List ℕ) × (part : List ℕ) × (outcomes : List Outcome) × (commands : List (Command × ℕ)) × Consumes r s (lines ++ part) × HasNoBreak part
-    × Wrote contents before c (output_of outcomes) × ScriptGives device start lines outcomes commands now × (F ⊎ (2 ^ 40 ≤ length (lines ++ part)))
-    × AreWholeLines lines
-Progress-whole device contents start before input line c now r s F why gave p =
-    let Q : List ℕ → Type 0 = λ bytes. Consumes r s bytes in
-    let R : List ℕ → Type 0 = λ bytes. F ⊎ (2 ^ 40 ≤ length bytes) in
+pub Progress-whole : {D R W : Type 0} (device : D → DiskState) (contents : W → Option (List ℕ)) (remaining : R → Option (List ℕ)) (start : Stored D) (before : Watched W)
+    (input : List ℕ) (line : Line) (c : Watched W) (now : Stored D) (moment : ℕ) (r s : Watched R) (F : Type 0)
+    → F ⊎ (2 ^ 40 ≤ length input) → Consumes (remaining (watched r)) (remaining (watched s)) input
+    → Progress device contents (script_state start 0) before input line c (script_state now moment)
+    → (ran : Ran device start now) × (part : List ℕ) × GaveLines remaining r s ran.input part
+    × Wrote contents before c (output_of ran.outcomes) × (F ⊎ (2 ^ 40 ≤ length (ran.input ++ part)))
+Progress-whole device contents remaining start before input line c now moment r s F why gave p =
+    let Q : List ℕ → Type 0 = λ bytes. Consumes (remaining (watched r)) (remaining (watched s)) bytes in
+    let T : List ℕ → Type 0 = λ bytes. F ⊎ (2 ^ 40 ≤ length bytes) in
     let splits : Splits (flat_map with_break p.raws) p.raws [] =
     record { whole = sym (append-nil (flat_map with_break p.raws)); each = p.splits.each; partial = grind (arith, common_steps) } in
-    let P : List (List ℕ) → Type 0 = λ lines. Transcript device start lines p.outcomes p.commands now in (
-      flat_map with_break p.raws,
+    let P : List (List ℕ) → Type 0 = λ lines. Transcript device (script_state start 0) lines p.outcomes p.commands (script_state now moment) in (
+      record {
+        input = flat_map with_break p.raws;
+        outcomes = p.outcomes;
+        commands = p.commands;
+        last = moment;
+        gives = (p.raws, [], splits, subst P (sym (append-nil (map cut_return p.raws))) p.answered);
+      },
       p.rest,
-      p.outcomes,
-      p.commands,
-      subst Q p.splits.whole gave,
-      p.splits.partial,
+      (subst Q p.splits.whole gave, (p.raws, splits), p.splits.partial),
       p.written,
-      (
-        p.raws,
-        [],
-        splits,
-        subst P (sym (append-nil (map cut_return p.raws))) p.answered,
-      ),
-      subst R p.splits.whole why,
-      (p.raws, splits),
+      subst T p.splits.whole why,
     )
 
 -- the last read gave no byte

@@ -8,7 +8,7 @@ use Rattle.rs_store.specs.Refusals.{refusal_word}
 use Rattle.rs_store.specs.declared.reading.Status.{Status}
 use Rattle.rs_script.specs.declared.refusal.Refusal.{Refusal}
 use Rattle.rs_script.specs.declared.refusal.Refusal.TheVariants.{BadLine, LongLine, BadMoment, BadName, BadHex, BadType, NoSuchDocument, Source, NoMemory}
-use Rattle.rs_script.specs.Session.{Outcome, moment_set, replied, shown, counted, refused}
+use Rattle.rs_script.specs.Session.{LineOutcome, moment_set, replied, shown, counted, refused}
 
 -- a moment, and the end of the line
 abbrev pub moment_end : ℕ → List ℕ
@@ -42,7 +42,7 @@ status_text s =
     ++ moment_end s.last
 
 -- what is written of an outcome
-abbrev pub outcome_text : Outcome → List ℕ
+abbrev pub outcome_text : LineOutcome → List ℕ
 outcome_text moment_set = codes "ok\n"
 outcome_text (replied reply) = reply_text reply
 outcome_text (shown bytes) = shown_text bytes
@@ -50,5 +50,5 @@ outcome_text (counted status) = status_text status
 outcome_text (refused refusal) = codes "refused " ++ (word_of refusal ++ codes "\n")
 
 -- what is written of a run of them
-abbrev pub output_of : List Outcome → List ℕ
+abbrev pub output_of : List LineOutcome → List ℕ
 output_of outcomes = flat_map outcome_text outcomes

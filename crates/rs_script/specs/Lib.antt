@@ -1,11 +1,10 @@
 pub mod Lines
-pub mod Numbers
 pub mod Fields
 pub mod Requests
 pub mod Session
 pub mod Model
-pub mod Gives
+pub mod Outcomes
 pub mod Answers
 pub mod Script
-pub mod Kept
+pub mod PartialLine
 pub mod Progress

@@ -16,21 +16,21 @@ use Rattle.rs_caps.specs.DocumentTexts.{document_text}
 use Rattle.rs_caps.specs.Shows.{shown_of}
 use Rattle.rs_script.specs.Lines.{line_limit}
 use Rattle.rs_script.specs.Requests.{request_of}
-use Rattle.rs_script.specs.Session.{Session, Outcome, moment_set, replied, shown, counted, refused, Answer, unchanged}
+use Rattle.rs_script.specs.Session.{ScriptState, LineOutcome, moment_set, replied, shown, counted, refused, Answer, unchanged}
 
 -- a command was accepted, or not
-abbrev pub stepped : Session Source → Command → Result (Source × Reply) model.Refusal → Answer Source
+abbrev pub stepped : ScriptState Source → Command → Result (Source × Reply) model.Refusal → Answer Source
 stepped s command (Ok next) =
     record { outcome = replied next.1; commands = (command, s.now) ∷ []; session = record { source = next.0; now = s.now } }
 stepped s command (Err refusal) = unchanged s (refused (refusals.Source (named_as refusal)))
 
 -- these bytes, or this refusal where there are none
-abbrev pub shown_or : Refusal → Option (List ℕ) → Outcome
+abbrev pub shown_or : Refusal → Option (List ℕ) → LineOutcome
 shown_or refusal None = refused refusal
 shown_or refusal (Some bytes) = shown bytes
 
 -- what the model answers to a request
-abbrev pub answer_to : Session Source → Result Request Refusal → Answer Source
+abbrev pub answer_to : ScriptState Source → Result Request Refusal → Answer Source
 answer_to s (Ok (At t)) = record { outcome = moment_set; commands = []; session = record { source = s.source; now = t } }
 answer_to s (Ok (Run command)) = stepped s command (step s.source command s.now)
 answer_to s (Ok (Document doc)) = unchanged s (shown_or refusals.NoSuchDocument (document_text (shown_of s.source) doc))
@@ -39,10 +39,10 @@ answer_to s (Ok Status) = unchanged s (counted (status_of s.source))
 answer_to s (Err refusal) = unchanged s (refused refusal)
 
 -- what the model answers to a line, where one past the limit is refused whatever it says
-abbrev pub answered : Session Source → List ℕ → Answer Source
-answered s line = if nat_lt line_limit (length line) then unchanged s (refused refusals.LongLine) else answer_to s (request_of line)
+abbrev pub line_answer : ScriptState Source → List ℕ → Answer Source
+line_answer s line = if nat_lt line_limit (length line) then unchanged s (refused refusals.LongLine) else answer_to s (request_of line)
 
 -- what it answers to lines, one after another
-abbrev pub answers_of : Session Source → List (List ℕ) → List (Answer Source)
+abbrev pub answers_of : ScriptState Source → List (List ℕ) → List (Answer Source)
 answers_of s [] = []
-answers_of s (line ∷ lines) = answered s line ∷ answers_of (answered s line).session lines
+answers_of s (line ∷ lines) = line_answer s line ∷ answers_of (line_answer s line).session lines

@@ -1,30 +1,30 @@
 -- How far a script has come.
-use Rattle.std.specs.Prelude.{◌≡◌, ℕ, ◌⊎◌, List, ◌++◌, map, Option, Result}
+use Rattle.std.specs.Prelude.{◌≡◌, ◌≤◌, ◌^◌, ℕ, ◌⊎◌, true, List, ◌++◌, length, map, Option, Result}
 use Rattle.std.specs.Io.KnownBytes.{Consumes, IsAtEnd}
 use Rattle.rs_disk.specs.Medium.{DiskState}
 use Rattle.rs_io.specs.declared.watch.Watched.{Watched}
-use Rattle.rs_io.specs.Watch.{Wrote}
+use Rattle.rs_io.specs.Watch.{watched, is_flushed, EndFailed, Took, Wrote}
 use Rattle.rs_model.specs.declared.command.Command.{Command}
 use Rattle.rs_store.specs.Source.{Stored}
 use Rattle.rs_script.specs.declared.refusal.Refusal.{Refusal}
 use Rattle.rs_script.specs.declared.request.Request.{Request}
 use Rattle.rs_script.specs.declared.line.Line.{Line}
 use Rattle.rs_script.specs.Answers.{outcome_text, output_of}
-use Rattle.rs_script.specs.Kept.{Keeps}
-use Rattle.rs_script.specs.Lines.{Splits, AreWholeLines, cut_return}
-use Rattle.rs_script.specs.Gives.{Gives, LineGives}
+use Rattle.rs_script.specs.PartialLine.{KeepsLine}
+use Rattle.rs_script.specs.Lines.{Splits, AreWholeLines, HasNoBreak, cut_return}
+use Rattle.rs_script.specs.Outcomes.{AnswerGives, LineGives}
 use Rattle.rs_script.specs.Script.{Transcript, ScriptGives}
-use Rattle.rs_script.specs.Session.{Session, Answer, Outcome}
+use Rattle.rs_script.specs.Session.{ScriptState, script_state, Answer, LineOutcome}
 
 -- a request was answered, the session is the one after it, and this holds of the answer's text
-pub record RequestAnswers {D : Type 0} (device : D → DiskState) (old : Session (Stored D)) (request : Result Request Refusal) (new : Session (Stored D)) (Written : List ℕ → Type 0) : Type 0 where
+pub record RequestAnswers {D : Type 0} (device : D → DiskState) (old : ScriptState (Stored D)) (request : Result Request Refusal) (new : ScriptState (Stored D)) (Written : List ℕ → Type 0) : Type 0 where
   pub answer : Answer (Stored D)
-  pub gives : Gives device old request answer
+  pub gives : AnswerGives device old request answer
   pub session_is : answer.session ≡ new
   pub written : Written (outcome_text answer.outcome)
 
 -- a line was answered, the session is the one after it, and this holds of the answer's text
-pub record LineAnswers {D : Type 0} (device : D → DiskState) (old : Session (Stored D)) (line : List ℕ) (new : Session (Stored D)) (Written : List ℕ → Type 0) : Type 0 where
+pub record LineAnswers {D : Type 0} (device : D → DiskState) (old : ScriptState (Stored D)) (line : List ℕ) (new : ScriptState (Stored D)) (Written : List ℕ → Type 0) : Type 0 where
   pub answer : Answer (Stored D)
   pub gives : LineGives device old line answer
   pub session_is : answer.session ≡ new
@@ -32,25 +32,77 @@ pub record LineAnswers {D : Type 0} (device : D → DiskState) (old : Session (S
 
 -- these bytes came: whole lines, whose answers were written, and then what is kept of the next
 pub record Progress {D W : Type 0} (device : D → DiskState) (contents : W → Option (List ℕ))
-    (start : Session (Stored D)) (before : Watched W) (input : List ℕ) (line : Line)
-    (after : Watched W) (now : Session (Stored D)) : Type 0 where
+    (start : ScriptState (Stored D)) (before : Watched W) (input : List ℕ) (line : Line)
+    (after : Watched W) (now : ScriptState (Stored D)) : Type 0 where
   pub raws : List (List ℕ)
   pub rest : List ℕ
-  pub outcomes : List Outcome
+  pub outcomes : List LineOutcome
   pub commands : List (Command × ℕ)
   pub splits : Splits input raws rest
-  pub kept : Keeps line rest
+  pub kept : KeepsLine line rest
   pub answered : Transcript device start (map cut_return raws) outcomes commands now
   pub written : Wrote contents before after (output_of outcomes)
 
 -- the lines of this input were answered, whatever of the answers was written
-abbrev pub Answered : {D : Type 0} → (D → DiskState) → Session (Stored D) → List ℕ → Session (Stored D) → Type 0
-Answered device start input now = (outcomes : List Outcome) × (commands : List (Command × ℕ)) × ScriptGives device start input outcomes commands now
+abbrev pub Answered : {D : Type 0} → (D → DiskState) → ScriptState (Stored D) → List ℕ → ScriptState (Stored D) → Type 0
+Answered device start input now = (outcomes : List LineOutcome) × (commands : List (Command × ℕ)) × ScriptGives device start input outcomes commands now
+
+-- where a script stands: what is kept of a line, the writer, and the session
+pub record Stand (D W : Type 0) : Type 0 where
+  pub line : Line
+  pub writer : Watched W
+  pub session : ScriptState (Stored D)
+
+abbrev pub stand : {D W : Type 0} → Line → Watched W → Stored D → ℕ → Stand D W
+stand line writer source now = record { line = line; writer = writer; session = script_state source now }
+
+-- a script that had come to the one stand has come to the other with these bytes more
+abbrev pub ComesTo : {D W : Type 0} → (D → DiskState) → (W → Option (List ℕ)) → Stand D W → Stand D W → List ℕ → Type 0
+ComesTo {D} {W} device contents old new bytes =
+    (start : ScriptState (Stored D)) (before : Watched W) (input : List ℕ)
+    → Progress device contents start before input old.line old.writer old.session
+    → Progress device contents start before (input ++ bytes) new.line new.writer new.session
+
+-- of a script that had come to this stand, the lines up to these bytes more are answered: they end in a line feed
+abbrev pub StopsBy : {D W : Type 0} → (D → DiskState) → (W → Option (List ℕ)) → Stand D W → List ℕ → ScriptState (Stored D) → Type 0
+StopsBy {D} {W} device contents old bytes now =
+    (start : ScriptState (Stored D)) (before : Watched W) (input : List ℕ)
+    → Progress device contents start before input old.line old.writer old.session
+    → Answered device start (input ++ bytes) now × AreWholeLines (input ++ bytes)
+
+-- a script that had come to the one stand has ended at the other: all its lines are answered, and the answers written
+abbrev pub EndsAt : {D W : Type 0} → (D → DiskState) → (W → Option (List ℕ)) → Stand D W → Stand D W → Type 0
+EndsAt {D} {W} device contents old new =
+    (start : ScriptState (Stored D)) (before : Watched W) (input : List ℕ)
+    → Progress device contents start before input old.line old.writer old.session
+    → (outcomes : List LineOutcome) × (commands : List (Command × ℕ))
+    × ScriptGives device start input outcomes commands new.session × Wrote contents before new.writer (output_of outcomes)
+
+-- of a script that had come to this stand, and whose input ended there, all lines are answered
+abbrev pub StopsAt : {D W : Type 0} → (D → DiskState) → (W → Option (List ℕ)) → Stand D W → ScriptState (Stored D) → Type 0
+StopsAt {D} {W} device contents old now =
+    (start : ScriptState (Stored D)) (before : Watched W) (input : List ℕ)
+    → Progress device contents start before input old.line old.writer old.session → Answered device start input now
 
 -- the reader gave this input, and then a tail that was not looked at
 abbrev pub Gave : Option (List ℕ) → Option (List ℕ) → List ℕ → Type 0
 Gave old new input = (tail : List ℕ) × Consumes old new (input ++ tail)
 
 -- the reader gave whole lines, and then a tail that was not looked at; or this input, and nothing is left
-abbrev pub Came : Option (List ℕ) → Option (List ℕ) → List ℕ → Type 0
-Came old new input = (Gave old new input × AreWholeLines input) ⊎ (Consumes old new input × IsAtEnd new)
+abbrev pub Came : {R : Type 0} → (R → Option (List ℕ)) → Watched R → Watched R → List ℕ → Type 0
+Came remaining old new input =
+    (Gave (remaining (watched old)) (remaining (watched new)) input × AreWholeLines input)
+    ⊎ (Consumes (remaining (watched old)) (remaining (watched new)) input × IsAtEnd (remaining (watched new)))
+
+-- the reader gave this input, no call of it failed, and nothing is left
+abbrev pub TookAll : {R : Type 0} → (R → Option (List ℕ)) → Watched R → Watched R → List ℕ → Type 0
+TookAll remaining old new input = Took remaining old new input × IsAtEnd (remaining (watched new))
+
+-- the reader gave whole lines, and then a part of one
+abbrev pub GaveLines : {R : Type 0} → (R → Option (List ℕ)) → Watched R → Watched R → List ℕ → List ℕ → Type 0
+GaveLines remaining old new lines part =
+    Consumes (remaining (watched old)) (remaining (watched new)) (lines ++ part) × AreWholeLines lines × HasNoBreak part
+
+-- nothing more is read: the reader failed, and all that was written before was flushed; or it gave 2^40 bytes and more
+abbrev pub ReadsNoMore : {R W : Type 0} → Watched R → Watched R → Watched W → List ℕ → Type 0
+ReadsNoMore old new writer input = (EndFailed old new × (is_flushed writer ≡ true)) ⊎ (2 ^ 40 ≤ length input)

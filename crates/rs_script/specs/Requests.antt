@@ -6,6 +6,7 @@ use Rattle.hex.specs.Hex.{decode_of}
 use Rattle.rs_time.specs.Moment.{moment_of}
 use Rattle.rs_record.specs.Name.{is_name}
 use Rattle.rs_record.specs.MediaType.{is_media_type}
+use Rattle.rs_record.specs.Decimal.{number_in}
 use Rattle.rs_model.specs.declared.command.Command.TheVariants.{Put, Delete, Publish}
 use Rattle.rs_lists.specs.declared.doc.Doc.{Doc}
 use Rattle.rs_caps.specs.Paths.{doc_of}
@@ -14,7 +15,6 @@ use Rattle.rs_script.specs.declared.refusal.Refusal.TheVariants.{BadLine, BadMom
 use Rattle.rs_script.specs.declared.request.Request.{Request}
 use Rattle.rs_script.specs.declared.request.Request.TheVariants.{At, Run, Document, Body, Status}
 use Rattle.rs_script.specs.Fields.{fields}
-use Rattle.rs_script.specs.Numbers.{number_in}
 
 -- this request, or the refusal where there is none
 abbrev pub asked : Option Request → Refusal → Result Request Refusal

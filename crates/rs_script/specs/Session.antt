@@ -1,4 +1,4 @@
--- The session of a script, and what comes of a line.
+-- Where a script stands, and what comes of a line.
 use Rattle.std.specs.Prelude.{ℕ, List, []}
 use Rattle.rs_model.specs.declared.command.Command.{Command}
 use Rattle.rs_model.specs.declared.command.Reply.{Reply}
@@ -6,31 +6,31 @@ use Rattle.rs_store.specs.declared.reading.Status as counts
 use Rattle.rs_script.specs.declared.refusal.Refusal.{Refusal}
 
 -- the source, and the moment at which commands come
-pub record Session (S : Type 0) : Type 0 where
+pub record ScriptState (S : Type 0) : Type 0 where
   pub source : S
   pub now : ℕ
 
-abbrev pub session : {S : Type 0} → S → ℕ → Session S
-session source now = record { source = source; now = now }
+abbrev pub script_state : {S : Type 0} → S → ℕ → ScriptState S
+script_state source now = record { source = source; now = now }
 
 -- what comes of a line
-pub data Outcome : Type 0 where
+pub data LineOutcome : Type 0 where
   -- the moment is set
-  moment_set : Outcome
+  moment_set : LineOutcome
   -- the source accepted a command
-  replied : Reply → Outcome
+  replied : Reply → LineOutcome
   -- these are the bytes of a document or a resource
-  shown : List ℕ → Outcome
+  shown : List ℕ → LineOutcome
   -- so much is held
-  counted : counts.Status → Outcome
-  refused : Refusal → Outcome
+  counted : counts.Status → LineOutcome
+  refused : Refusal → LineOutcome
 
--- what comes of a line, the command that counts with its moment (one or none), and the session after it
+-- what comes of a line, the command that counts with its moment (one or none), and where the script stands after it
 pub record Answer (S : Type 0) : Type 0 where
-  pub outcome : Outcome
+  pub outcome : LineOutcome
   pub commands : List (Command × ℕ)
-  pub session : Session S
+  pub session : ScriptState S
 
 -- nothing changes
-abbrev pub unchanged : {S : Type 0} → Session S → Outcome → Answer S
+abbrev pub unchanged : {S : Type 0} → ScriptState S → LineOutcome → Answer S
 unchanged s outcome = record { outcome = outcome; commands = []; session = s }

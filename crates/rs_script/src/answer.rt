@@ -31,7 +31,8 @@ fn name_of(refusal: Refusal) -> &'static str
 
 /// Writes the answer `refused NAME`.
 pub fn write_refusal<W: Write>(refusal: Refusal, writer: &mut Watched<W>) -> Result<(), WriteFault>
-    ensures ok { OnOk result (Wrote W.contents writer.old writer.new (outcome_text (refused refusal))) }
+    ensures ok { OnOk result (Wrote W.contents writer.old writer.new
+        (outcome_text (refused refusal))) }
     ensures failed { OnErr result (EndFailed writer.old writer.new) }
 {
     let name = name_of(refusal);
@@ -53,7 +54,8 @@ fn write_word<W: Write>(
     moment: Moment,
     writer: &mut Watched<W>,
 ) -> Result<(), WriteFault>
-    ensures ok { OnOk result (Wrote W.contents writer.old writer.new (word.now ++ moment_end moment)) }
+    ensures ok { OnOk result (Wrote W.contents writer.old writer.new
+        (word.now ++ moment_end moment)) }
     ensures failed { OnErr result (EndFailed writer.old writer.new) }
 {
     writer.put(word)?;
@@ -66,7 +68,8 @@ fn write_published<W: Write>(
     moment: Moment,
     writer: &mut Watched<W>,
 ) -> Result<(), WriteFault>
-    ensures ok { OnOk result (Wrote W.contents writer.old writer.new (reply_text (Reply.Published number moment))) }
+    ensures ok { OnOk result (Wrote W.contents writer.old writer.new
+        (reply_text (Reply.Published number moment))) }
     ensures failed { OnErr result (EndFailed writer.old writer.new) }
 {
     writer.put_text(format_args!("published {number} "))?;

@@ -1,17 +1,14 @@
 //! The script engine: every line of an input is answered in turn.
 
-ghost use Rattle.std.specs.Prelude.{◌≡◌, ◌++◌, ◌≤◌, ◌^◌, ◌*◌, ◌⊎◌, true, length, ℕ, List, OnOk, OnErr, IsErrOf};
-ghost use Rattle.std.specs.Io.KnownBytes.{Consumes, IsAtEnd};
-ghost use Rattle.rs_io.specs.Watch.{watched, failures, is_flushed, EndFailed, Took, Wrote};
-ghost use Rattle.rs_io.specs.declared.watch.Watched.{Watched as End};
-ghost use Rattle.rs_model.specs.declared.command.Command.{Command};
+ghost use Rattle.std.specs.Prelude.{◌≡◌, ◌++◌, ◌≤◌, ◌^◌, ◌*◌, true, length, ℕ, List, OnOk, OnErr, IsErrOf};
+ghost use Rattle.std.specs.Io.KnownBytes.{Consumes};
+ghost use Rattle.rs_io.specs.Watch.{watched, failures, is_flushed, EndFailed, Wrote};
 ghost use Rattle.rs_script.specs.Answers.{output_of};
-ghost use Rattle.rs_script.specs.Kept.{Keeps};
-ghost use Rattle.rs_script.specs.Lines.{AreWholeLines, HasNoBreak, line_of, with_break};
-ghost use Rattle.rs_script.specs.Progress.{LineAnswers, Progress, Answered, Came};
-ghost use Rattle.rs_script.specs.Script.{ScriptGives};
-ghost use Rattle.rs_script.specs.Session.{Session, session, Outcome};
-ghost use Rattle.rs_store.specs.Source.{Stored};
+ghost use Rattle.rs_script.specs.PartialLine.{KeepsLine};
+ghost use Rattle.rs_script.specs.Lines.{HasNoBreak, line_of, with_break};
+ghost use Rattle.rs_script.specs.Progress.{LineAnswers, stand, ComesTo, StopsBy, EndsAt, StopsAt, Came, TookAll, GaveLines, ReadsNoMore};
+ghost use Rattle.rs_script.specs.Script.{Ran};
+ghost use Rattle.rs_script.specs.Session.{script_state};
 
 use crate::answer::write_refusal;
 use crate::bytes::position_of;
@@ -46,8 +43,9 @@ fn answer_kept<D: Disk, W: Write>(
     has_break: bool,
     writer: &mut Watched<W>,
 ) -> Result<(), WriteFault>
-    ensures answered { (raw : List ℕ) → Keeps line.now raw
-        → LineAnswers D.state (session source.old now.old) (line_of has_break raw) (session source.new now.new)
+    ensures answered { (raw : List ℕ) → KeepsLine line.now raw
+        → LineAnswers D.state
+        (script_state source.old now.old) (line_of has_break raw) (script_state source.new now.new)
         (λ text. OnOk result (Wrote W.contents writer.old writer.new text)) }
     ensures sound { OnOk result (failures writer.new ≡ failures writer.old) }
     ensures failed { OnErr result (EndFailed writer.old writer.new) }
@@ -69,13 +67,12 @@ fn take_line<D: Disk, W: Write>(
     run: &[u8],
     writer: &mut Watched<W>,
 ) -> Result<(), WriteFault>
-    ensures ok { OnOk result ((start : Session (Stored D)) (before : End W) (input : List ℕ) → HasNoBreak run.now
-        → Progress D.state W.contents start before input line.old writer.old (session source.old now.old)
-        → Progress D.state W.contents start before (input ++ with_break run.now) line.new writer.new (session source.new now.new)) }
-    ensures err { OnErr result ((start : Session (Stored D)) (before : End W) (input : List ℕ) → HasNoBreak run.now
-        → Progress D.state W.contents start before input line.old writer.old (session source.old now.old)
-        → Answered D.state start (input ++ with_break run.now) (session source.new now.new)
-        × AreWholeLines (input ++ with_break run.now)) }
+    ensures ok { OnOk result (HasNoBreak run.now → ComesTo D.state W.contents
+        (stand line.old writer.old source.old now.old)
+        (stand line.new writer.new source.new now.new) (with_break run.now)) }
+    ensures err { OnErr result (HasNoBreak run.now → StopsBy D.state W.contents
+        (stand line.old writer.old source.old now.old) (with_break run.now)
+        (script_state source.new now.new)) }
     ensures sound { OnOk result (failures writer.new ≡ failures writer.old) }
     ensures failed { OnErr result (EndFailed writer.old writer.new) }
 {
@@ -94,14 +91,12 @@ fn take_piece<D: Disk, W: Write>(
     piece: &[u8],
     writer: &mut Watched<W>,
 ) -> Result<(), WriteFault>
-    ensures ok { OnOk result ((start : Session (Stored D)) (before : End W) (input : List ℕ)
-        → Progress D.state W.contents start before input line.old writer.old (session source.old now.old)
-        → Progress D.state W.contents start before (input ++ piece.now) line.new writer.new (session source.new now.new)) }
-    ensures err { OnErr result ((start : Session (Stored D)) (before : End W) (input : List ℕ)
-        → Progress D.state W.contents start before input line.old writer.old (session source.old now.old)
-        → (used : List ℕ) × (tail : List ℕ) × (piece.now ≡ used ++ tail)
-        × Answered D.state start (input ++ used) (session source.new now.new)
-        × AreWholeLines (input ++ used)) }
+    ensures ok { OnOk result (ComesTo D.state W.contents
+        (stand line.old writer.old source.old now.old)
+        (stand line.new writer.new source.new now.new) piece.now) }
+    ensures err { OnErr result ((used : List ℕ) × (tail : List ℕ) × (piece.now ≡ used ++ tail)
+        × StopsBy D.state W.contents
+        (stand line.old writer.old source.old now.old) used (script_state source.new now.new)) }
     ensures failed { OnErr result (EndFailed writer.old writer.new) }
 {
     let mut rest = piece;
@@ -121,14 +116,11 @@ fn take_end<D: Disk, W: Write>(
     line: &Line,
     writer: &mut Watched<W>,
 ) -> Result<(), WriteFault>
-    ensures ok { OnOk result ((start : Session (Stored D)) (before : End W) (input : List ℕ)
-        → Progress D.state W.contents start before input line.now writer.old (session source.old now.old)
-        → (outcomes : List Outcome) × (commands : List (Command × ℕ))
-        × ScriptGives D.state start input outcomes commands (session source.new now.new)
-        × Wrote W.contents before writer.new (output_of outcomes)) }
-    ensures err { OnErr result ((start : Session (Stored D)) (before : End W) (input : List ℕ)
-        → Progress D.state W.contents start before input line.now writer.old (session source.old now.old)
-        → Answered D.state start input (session source.new now.new)) }
+    ensures ok { OnOk result (EndsAt D.state W.contents
+        (stand line.now writer.old source.old now.old)
+        (stand line.now writer.new source.new now.new)) }
+    ensures err { OnErr result (StopsAt D.state W.contents
+        (stand line.now writer.old source.old now.old) (script_state source.new now.new)) }
     ensures failed { OnErr result (EndFailed writer.old writer.new) }
 {
     if line.is_empty() {
@@ -162,34 +154,30 @@ pub fn script<D: Disk, R: Read, W: Write>(
     writer: &mut Watched<W>,
 ) -> Result<(), ScriptFault>
     // All that the reader gave, up to its end, was answered.
-    ensures ok { OnOk result ((input : List ℕ) × (outcomes : List Outcome) × (commands : List (Command × ℕ)) × (last : ℕ)
-        × Took R.remaining reader.old reader.new input
-        × IsAtEnd (R.remaining (watched reader.new))
-        × Wrote W.contents writer.old writer.new (output_of outcomes)
-        × ScriptGives D.state (session source.old 0) input outcomes commands (session source.new last)) }
+    ensures ok { OnOk result ((ran : Ran D.state source.old source.new)
+        × TookAll R.remaining reader.old reader.new ran.input
+        × Wrote W.contents writer.old writer.new (output_of ran.outcomes)) }
 
-    // A read failed, and all answers were flushed before it; or the reader gave 2^40 bytes and more.
+    // A read failed, and all answers were flushed before it; or the reader gave 2^40 bytes or more.
     // The whole lines were answered, and a part of a line after them was not.
-    ensures read { IsErrOf result ScriptFault.Read → (input : List ℕ) × (part : List ℕ)
-        × (outcomes : List Outcome) × (commands : List (Command × ℕ)) × (last : ℕ)
-        × Consumes (R.remaining (watched reader.old)) (R.remaining (watched reader.new)) (input ++ part)
-        × AreWholeLines input × HasNoBreak part
-        × Wrote W.contents writer.old writer.new (output_of outcomes)
-        × ScriptGives D.state (session source.old 0) input outcomes commands (session source.new last)
-        × ((EndFailed reader.old reader.new × (is_flushed writer.new ≡ true)) ⊎ (2 ^ 40 ≤ length (input ++ part))) }
+    ensures read { IsErrOf result ScriptFault.Read
+        → (ran : Ran D.state source.old source.new) × (part : List ℕ)
+        × GaveLines R.remaining reader.old reader.new ran.input part
+        × Wrote W.contents writer.old writer.new (output_of ran.outcomes)
+        × ReadsNoMore reader.old reader.new writer.new (ran.input ++ part) }
 
     // A call of the writer failed, and none of the reader: what the lines so far asked for is done.
     // They had come whole, or the input had ended.
-    ensures write { IsErrOf result ScriptFault.Write → (input : List ℕ) × (last : ℕ)
-        × Came (R.remaining (watched reader.old)) (R.remaining (watched reader.new)) input
-        × Answered D.state (session source.old 0) input (session source.new last)
+    ensures write { IsErrOf result ScriptFault.Write → (ran : Ran D.state source.old source.new)
+        × Came R.remaining reader.old reader.new ran.input
         × EndFailed writer.old writer.new × (failures reader.new ≡ failures reader.old) }
 
     // At the end all that was written is flushed.
     ensures flushed { OnOk result (is_flushed writer.new ≡ true) }
 
     // Whatever it answers, it read at most 2^40 times, 65,536 bytes each time.
-    ensures bound { (gave : List ℕ) × Consumes (R.remaining (watched reader.old)) (R.remaining (watched reader.new)) gave
+    ensures bound { (gave : List ℕ)
+        × Consumes (R.remaining (watched reader.old)) (R.remaining (watched reader.new)) gave
         × (length gave ≤ 2 ^ 40 * 65536) }
 {
     let mut line = Line::new(alloc);

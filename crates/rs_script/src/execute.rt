@@ -5,7 +5,7 @@ ghost use Rattle.rs_io.specs.Watch.{EndFailed, Wrote};
 ghost use Rattle.rs_store.specs.Answered.{Answers};
 ghost use Rattle.rs_script.specs.Progress.{RequestAnswers};
 ghost use Rattle.rs_script.specs.Requests.{request_of};
-ghost use Rattle.rs_script.specs.Session.{session};
+ghost use Rattle.rs_script.specs.Session.{script_state};
 ghost use Rattle.rs_script.specs.declared.request.Request.TheVariants.{Run, Document, Body as Shown, Status as Counted};
 
 use crate::answer::{write_refusal, write_reply, write_status};
@@ -45,7 +45,8 @@ fn run_command<D: Disk, W: Write>(
     now: Moment,
     writer: &mut Watched<W>,
 ) -> Result<(), WriteFault>
-    ensures answered { RequestAnswers D.state (session source.old now) (Ok (Run command.now)) (session source.new now)
+    ensures answered { RequestAnswers D.state
+        (script_state source.old now) (Ok (Run command.now)) (script_state source.new now)
         (λ text. OnOk result (Wrote W.contents writer.old writer.new text)) }
     ensures failed { OnErr result (EndFailed writer.old writer.new) }
 {
@@ -62,7 +63,8 @@ fn show_document<D: Disk, W: Write>(
     now: Moment,
     writer: &mut Watched<W>,
 ) -> Result<(), WriteFault>
-    ensures answered { RequestAnswers D.state (session source.now now) (Ok (Document doc)) (session source.now now)
+    ensures answered { RequestAnswers D.state
+        (script_state source.now now) (Ok (Document doc)) (script_state source.now now)
         (λ text. OnOk result (Wrote W.contents writer.old writer.new text)) }
     ensures failed { OnErr result (EndFailed writer.old writer.new) }
 {
@@ -83,7 +85,8 @@ fn show_body<D: Disk, W: Write>(
     now: Moment,
     writer: &mut Watched<W>,
 ) -> Result<(), WriteFault>
-    ensures answered { RequestAnswers D.state (session source.old now) (Ok (Shown name.now)) (session source.new now)
+    ensures answered { RequestAnswers D.state
+        (script_state source.old now) (Ok (Shown name.now)) (script_state source.new now)
         (λ text. OnOk result (Wrote W.contents writer.old writer.new text)) }
     ensures failed { OnErr result (EndFailed writer.old writer.new) }
 {
@@ -99,7 +102,8 @@ fn show_status<D: Disk, W: Write>(
     now: Moment,
     writer: &mut Watched<W>,
 ) -> Result<(), WriteFault>
-    ensures answered { RequestAnswers D.state (session source.now now) (Ok Counted) (session source.now now)
+    ensures answered { RequestAnswers D.state
+        (script_state source.now now) (Ok Counted) (script_state source.now now)
         (λ text. OnOk result (Wrote W.contents writer.old writer.new text)) }
     ensures failed { OnErr result (EndFailed writer.old writer.new) }
 {
@@ -116,7 +120,8 @@ fn answer_request<D: Disk, W: Write>(
     request: Request,
     writer: &mut Watched<W>,
 ) -> Result<(), WriteFault>
-    ensures answered { RequestAnswers D.state (session source.old now.old) (Ok request) (session source.new now.new)
+    ensures answered { RequestAnswers D.state
+        (script_state source.old now.old) (Ok request) (script_state source.new now.new)
         (λ text. OnOk result (Wrote W.contents writer.old writer.new text)) }
     ensures failed { OnErr result (EndFailed writer.old writer.new) }
 {
@@ -145,7 +150,8 @@ pub fn answer_line<D: Disk, W: Write>(
     line: &[u8],
     writer: &mut Watched<W>,
 ) -> Result<(), WriteFault>
-    ensures answered { RequestAnswers D.state (session source.old now.old) (request_of line.now) (session source.new now.new)
+    ensures answered { RequestAnswers D.state
+        (script_state source.old now.old) (request_of line.now) (script_state source.new now.new)
         (λ text. OnOk result (Wrote W.contents writer.old writer.new text)) }
     ensures failed { OnErr result (EndFailed writer.old writer.new) }
 {

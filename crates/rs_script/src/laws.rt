@@ -9,34 +9,41 @@ ghost use Rattle.rs_store.specs.Source.{Stored, Holds, state_of};
 ghost use Rattle.rs_script.specs.Lines.{Splits, script_lines};
 ghost use Rattle.rs_script.specs.Model.{answers_of};
 ghost use Rattle.rs_script.specs.Script.{ScriptGives, AreDecided, told};
-ghost use Rattle.rs_script.specs.Session.{Session, Outcome};
+ghost use Rattle.rs_script.specs.Session.{ScriptState, LineOutcome};
 
 use rs_disk::Disk;
 
 /// An input is cut into lines in one way.
 pub fn one_cut()
-    ensures { (input : List ℕ) (raws others : List (List ℕ)) (rest tail : List ℕ) → Splits input raws rest
-        → Splits input others tail → (raws ≡ others) × (rest ≡ tail) }
+    ensures { (input : List ℕ) (raws others : List (List ℕ)) (rest tail : List ℕ)
+        → Splits input raws rest → Splits input others tail → (raws ≡ others) × (rest ≡ tail) }
 {}
 
 /// Where no refusal is the machine's, generations are left and the device has followed the model, what
 /// comes of a script is a function of its input and of the state and the moment at which it begins:
 /// each line is answered as the model answers it.
 pub fn one_transcript<D: Disk>()
-    ensures { (old new : Session (Stored D)) (input : List ℕ) (outcomes : List Outcome) (commands : List (Command × ℕ)) (raws : List (List ℕ)) (rest : List ℕ)
+    ensures { (old new : ScriptState (Stored D)) (input : List ℕ)
+        (outcomes : List LineOutcome) (commands : List (Command × ℕ))
+        (raws : List (List ℕ)) (rest : List ℕ)
         → ScriptGives D.state old input outcomes commands new → AreDecided outcomes
-        → IsTrue (D.state new.source.disk).honest → new.source.slots.root.generation + 1 < 2 ^ 64 → Splits input raws rest
+        → IsTrue (D.state new.source.disk).honest
+        → new.source.slots.root.generation + 1 < 2 ^ 64 → Splits input raws rest
         → (outcomes ≡ map (λ a. a.outcome) (answers_of (told D.state old) (script_lines raws rest)))
-        × (commands ≡ flat_map (λ a. a.commands) (answers_of (told D.state old) (script_lines raws rest))) }
+        × (commands
+        ≡ flat_map (λ a. a.commands) (answers_of (told D.state old) (script_lines raws rest))) }
 {}
 
 /// The commands that a script counts, each at its moment, make the state that it leaves, unless the
 /// device failed and the source is closed.
 pub fn transcript_folds<D: Disk>()
-    ensures told { (old new : Session (Stored D)) (input : List ℕ) (outcomes : List Outcome) (commands : List (Command × ℕ))
+    ensures told { (old new : ScriptState (Stored D)) (input : List ℕ)
+        (outcomes : List LineOutcome) (commands : List (Command × ℕ))
         → ScriptGives D.state old input outcomes commands new → new.source.is_closed ≡ false
         → state_of D.state new.source ≡ fold_of (state_of D.state old.source) commands }
-    ensures held { (old new : Session (Stored D)) (input : List ℕ) (outcomes : List Outcome) (commands : List (Command × ℕ)) (s : Source)
-        → ScriptGives D.state old input outcomes commands new → Holds D.state old.source s → new.source.is_closed ≡ false
+    ensures held { (old new : ScriptState (Stored D)) (input : List ℕ)
+        (outcomes : List LineOutcome) (commands : List (Command × ℕ)) (s : Source)
+        → ScriptGives D.state old input outcomes commands new
+        → Holds D.state old.source s → new.source.is_closed ≡ false
         → Holds D.state new.source (fold_of s commands) }
 {}

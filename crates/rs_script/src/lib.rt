@@ -5,7 +5,6 @@
 
 mod answer;
 mod bytes;
-mod decimal;
 mod engine;
 mod execute;
 pub mod laws;
@@ -15,7 +14,6 @@ mod refusal;
 mod request;
 mod show;
 
-pub use decimal::number;
 pub use engine::{ScriptFault, script};
 pub use memory::script_bytes;
 pub use refusal::Refusal;

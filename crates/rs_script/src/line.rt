@@ -54,11 +54,11 @@ pub struct Line {
 
 impl Line {
     ghost use Rattle.std.specs.Prelude.{length, slice_index};
-    ghost use Rattle.rs_script.specs.Kept.{Keeps, KeepsAs, Counts, IsContent};
+    ghost use Rattle.rs_script.specs.PartialLine.{KeepsLine, KeepsLineAs, CountsLine, IsContent};
 
     /// A line of which nothing has come.
     pub fn new(alloc: Global) -> Line
-        ensures { Keeps result [] }
+        ensures { KeepsLine result [] }
     {
         Line {
             bytes: Vec::new(alloc),
@@ -70,15 +70,15 @@ impl Line {
 
     /// Whether no byte has come.
     pub fn is_empty(&self) -> bool
-        ensures empty { IsTrue result → (raw : List ℕ) → Keeps self.now raw → raw ≡ [] }
-        ensures some { IsFalse result → (raw : List ℕ) → Keeps self.now raw → 0 < length raw }
+        ensures empty { IsTrue result → (raw : List ℕ) → KeepsLine self.now raw → raw ≡ [] }
+        ensures some { IsFalse result → (raw : List ℕ) → KeepsLine self.now raw → 0 < length raw }
     {
         self.kept == Kept::Whole && self.bytes.is_empty()
     }
 
     /// The line begins anew: a line feed has come.
     pub fn clear(&mut self)
-        ensures { Keeps self.new [] }
+        ensures { KeepsLine self.new [] }
     {
         self.bytes.clear();
         self.count = 0;
@@ -88,7 +88,7 @@ impl Line {
 
     /// More bytes of the line, without a line feed.
     pub fn extend(&mut self, run: &[u8])
-        ensures { (raw : List ℕ) → Keeps self.old raw → Keeps self.new (raw ++ run.now) }
+        ensures { (raw : List ℕ) → KeepsLine self.old raw → KeepsLine self.new (raw ++ run.now) }
     {
         let Some(last) = run.last() else {
             return;
@@ -113,7 +113,8 @@ impl Line {
         requires room { self.old.count + length run.now ≤ line_limit + 1 }
         requires some { 0 < length run.now }
         requires last { last ≡ slice_index run.now (length run.now - 1) }
-        ensures { (raw : List ℕ) → KeepsAs self.old Kept.Whole raw → Keeps self.new (raw ++ run.now) }
+        ensures { (raw : List ℕ) → KeepsLineAs self.old Kept.Whole raw
+            → KeepsLine self.new (raw ++ run.now) }
     {
         self.count += run.len();
         self.last = last;
@@ -133,7 +134,8 @@ impl Line {
     /// What the line is, `has_break` where a line feed ended it: a carriage return before that is
     /// dropped.
     pub fn content(&self, has_break: bool) -> Content<'_>
-        ensures { (raw : List ℕ) → Keeps self.now raw → IsContent result (line_of has_break raw) }
+        ensures { (raw : List ℕ) → KeepsLine self.now raw
+            → IsContent result (line_of has_break raw) }
     {
         match self.kept {
             Kept::Whole => {
@@ -152,7 +154,8 @@ impl Line {
 
     /// How many bytes the line has, `has_break` where a line feed ended it.
     fn len(&self, has_break: bool) -> usize
-        ensures { (raw : List ℕ) → Counts self.now raw → result ≡ length (line_of has_break raw) }
+        ensures { (raw : List ℕ) → CountsLine self.now raw
+            → result ≡ length (line_of has_break raw) }
     {
         if has_break && self.last == b'\r' && self.count > 0 {
             self.count - 1

@@ -1,11 +1,8 @@
 //! Scripts that lie in memory.
 
 ghost use Rattle.std.specs.Prelude.{◌≡◌, ◌++◌, ℕ, List, IfOk, OnErr};
-ghost use Rattle.rs_model.specs.declared.command.Command.{Command};
 ghost use Rattle.rs_script.specs.Answers.{output_of};
-ghost use Rattle.rs_script.specs.Progress.{Answered};
-ghost use Rattle.rs_script.specs.Script.{ScriptGives};
-ghost use Rattle.rs_script.specs.Session.{session, Outcome};
+ghost use Rattle.rs_script.specs.Script.{Ran};
 
 use crate::engine::{ScriptFault, script};
 use rs_disk::Disk;
@@ -24,11 +21,10 @@ pub fn script_bytes<D: Disk>(
     source: &mut Source<D>,
     input: &[u8],
 ) -> Result<Vec<u8>, ScriptFault>
-    ensures ok { IfOk result (λ output. (outcomes : List Outcome) × (commands : List (Command × ℕ)) × (last : ℕ)
-        × (output.items ≡ output_of outcomes)
-        × ScriptGives D.state (session source.old 0) input.now outcomes commands (session source.new last)) }
-    ensures err { OnErr result ((used : List ℕ) × (tail : List ℕ) × (last : ℕ) × (input.now ≡ used ++ tail)
-        × Answered D.state (session source.old 0) used (session source.new last)) }
+    ensures ok { IfOk result (λ output. (ran : Ran D.state source.old source.new)
+        × (ran.input ≡ input.now) × (output.items ≡ output_of ran.outcomes)) }
+    ensures err { OnErr result ((ran : Ran D.state source.old source.new) × (tail : List ℕ)
+        × (input.now ≡ ran.input ++ tail)) }
 {
     let mut reader = Watched::new(input);
     let mut writer = Watched::new(Vec::new(alloc));

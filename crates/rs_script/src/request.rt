@@ -5,13 +5,12 @@ ghost use Rattle.rs_script.specs.Fields.{fields as fields_of};
 ghost use Rattle.rs_script.specs.Requests.{request_of, request_alone as alone, request_with as with_argument, at_request as at, delete_request as delete, put_request as put, show_request as show, bytes_of, of_fields, begins_request as begins};
 
 use crate::bytes::position_of;
-use crate::decimal::number;
 use crate::refusal::Refusal;
 use hex::FromHexError;
 use rs_caps::doc_of;
 use rs_lists::Doc;
 use rs_model::{Body, Command};
-use rs_record::{MediaType, MediaTypeError, Name, NameError};
+use rs_record::{MediaType, MediaTypeError, Name, NameError, number};
 use rs_time::Moment;
 use std::alloc::Global;
 
@@ -33,8 +32,10 @@ pub enum Request {
 /// The first field of `bytes`, and what follows the space after it, or `None` where no space stands
 /// in them.
 fn split_field(bytes: &[u8]) -> Option<(&[u8], &[u8])>
-    ensures none { IfNone result ((spaces : ℕ) → fields_of (suc spaces) bytes.now ≡ bytes.now ∷ []) }
-    ensures some { IfSome result (λ parts. (spaces : ℕ) → fields_of (suc spaces) bytes.now ≡ parts.0.now ∷ fields_of spaces parts.1.now) }
+    ensures none { IfNone result ((spaces : ℕ)
+        → fields_of (suc spaces) bytes.now ≡ bytes.now ∷ []) }
+    ensures some { IfSome result (λ parts. (spaces : ℕ)
+        → fields_of (suc spaces) bytes.now ≡ parts.0.now ∷ fields_of spaces parts.1.now) }
 {
     match position_of(b' ', bytes) {
         Some(i) => Some((&bytes[..i], &bytes[i + 1..])),
@@ -149,7 +150,8 @@ fn show_request(alloc: Global, path: &[u8]) -> Result<Request, Refusal>
 
 /// What `put` asks for, from its fields after the first: NAME, HEX and TYPE, which is the rest.
 fn put_fields(alloc: Global, fields: &[u8]) -> Result<Request, Refusal>
-    ensures { (result ≡ of_fields (codes "put" ∷ fields_of 2 fields.now)) ⊎ (result ≡ Err Refusal.NoMemory) }
+    ensures { (result ≡ of_fields (codes "put" ∷ fields_of 2 fields.now))
+        ⊎ (result ≡ Err Refusal.NoMemory) }
 {
     let Some((name, rest)) = split_field(fields) else {
         return Err(Refusal::BadLine);
@@ -183,7 +185,8 @@ fn put_request(alloc: Global, name: &[u8], hex: &[u8], kind: &[u8]) -> Result<Re
 /// The bytes of a HEX, in one buffer of their number.
 fn decoded(alloc: Global, hex: &[u8]) -> Result<Vec<u8>, Refusal>
     ensures ok { IfOk result (λ bytes. bytes_of hex.now ≡ Some bytes.items) }
-    ensures err { IfErr result (λ refusal. (refusal ≡ Refusal.NoMemory) ⊎ ((refusal ≡ Refusal.BadHex) × (bytes_of hex.now ≡ None))) }
+    ensures err { IfErr result (λ refusal. (refusal ≡ Refusal.NoMemory)
+        ⊎ ((refusal ≡ Refusal.BadHex) × (bytes_of hex.now ≡ None))) }
 {
     if hex.is_empty() {
         return Err(Refusal::BadHex);

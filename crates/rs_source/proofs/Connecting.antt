@@ -9,7 +9,7 @@ use Rattle.rs_store.specs.Source.{Stored, Holds, state_of}
 use Rattle.rs_http.specs.declared.fault.FrontFault.{FrontFault}
 use Rattle.rs_http.specs.declared.fault.FrontFault.TheVariants.{Read, Write}
 use Rattle.rs_http.specs.declared.serve.Served.{Served}
-use Rattle.rs_store.specs.GoesOn.{GoesOnBy, GoesOnOnce}
+use Rattle.rs_store.specs.Advancing.{GoesOnBy, GoesOnOnce}
 use Rattle.rs_http.specs.Serving.{Serves, Breaks, Halts}
 use Rattle.rs_source.specs.Serving.{Connects, Connections}
 

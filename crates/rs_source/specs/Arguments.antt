@@ -3,6 +3,7 @@ use Rattle.std.specs.Prelude.{ℕ, ◌&&◌, min, nat_le, if◌then◌else◌, L
 use Rattle.std.specs.Option.{option_or}
 use Rattle.std.specs.declared.io.ErrorKind.{ErrorKind}
 use Rattle.std.specs.declared.io.ErrorKind.TheVariants.{OutOfMemory}
+use Rattle.rs_record.specs.Decimal.{number_in}
 use Rattle.rs_file.specs.declared.fault.FileFault.{FileFault}
 use Rattle.rs_file.specs.declared.fault.FileFault.TheVariants as file
 use Rattle.rs_source.specs.declared.command.Invocation.{Invocation}
@@ -17,7 +18,6 @@ use Rattle.rs_store.specs.declared.opening.OpenFault.{OpenFault}
 use Rattle.rs_store.specs.declared.opening.OpenFault.TheVariants as opening
 use Rattle.rs_script.specs.declared.engine.ScriptFault.{ScriptFault}
 use Rattle.rs_script.specs.declared.engine.ScriptFault.TheVariants as fault
-use Rattle.rs_script.specs.Numbers.{number_in}
 
 -- how a source is made: the bytes of its disk, its base, and its item limit
 pub record Made : Type 0 where
@@ -102,18 +102,18 @@ asked_by (Run file) = run file.now
 asked_by (Serve file serving) = serve file.now (served_by serving)
 
 -- wrong arguments end the program with status 2, all else that ends it early with status 1
-abbrev pub status_of : ProgramError → ℕ
-status_of Usage = 2
-status_of Exists = 1
-status_of BadBase = 1
-status_of BadLimit = 1
-status_of TooSmall = 1
-status_of NotASource = 1
-status_of Damaged = 1
-status_of Device = 1
-status_of NoMemory = 1
-status_of Read = 1
-status_of Write = 1
+abbrev pub exit_status : ProgramError → ℕ
+exit_status Usage = 2
+exit_status Exists = 1
+exit_status BadBase = 1
+exit_status BadLimit = 1
+exit_status TooSmall = 1
+exit_status NotASource = 1
+exit_status Damaged = 1
+exit_status Device = 1
+exit_status NoMemory = 1
+exit_status Read = 1
+exit_status Write = 1
 
 -- words that cannot be read are wrong arguments, but for want of memory
 abbrev pub unread_of : ErrorKind → ProgramError

@@ -3,7 +3,7 @@ use Rattle.std.specs.Prelude.{◌≡◌, ◌⊎◌, ℕ, zero, suc, List, Option
 use Rattle.rs_disk.specs.Medium.{DiskState}
 use Rattle.rs_store.specs.Source.{Stored}
 use Rattle.rs_http.specs.declared.serve.Served.{Served}
-use Rattle.rs_store.specs.GoesOn.{GoesOnOnce}
+use Rattle.rs_store.specs.Advancing.{GoesOnOnce}
 use Rattle.rs_http.specs.Serving.{Serves, Breaks, Halts}
 
 -- what one request does that comes at this moment with this input, of a reader that had this left before and after: it was

@@ -4,7 +4,7 @@ ghost use Rattle.std.specs.Prelude.{◌≡◌, map, option_map};
 ghost use Rattle.std.specs.String.{string_bytes};
 ghost use Rattle.rs_source.specs.Arguments.{asked_by, asked_of, format_of, made_by, made_of, mem_of, run_of, serve_of, served_by, served_of};
 
-use rs_script::number;
+use rs_record::number;
 
 /// SIZE, BASE and LIMIT: how a source is made.
 #[derive(Clone, Copy, Debug, PartialEq, Eq)]

@@ -4,7 +4,7 @@ ghost use Rattle.std.specs.Prelude.{◌≡◌, ◌<◌, ◌≤◌, false, IfOk, 
 ghost use Rattle.rs_model.specs.State.{start_of};
 ghost use Rattle.rs_record.specs.Base.{is_base};
 ghost use Rattle.rs_directory.specs.Limit.{IsLimit};
-ghost use Rattle.rs_image.specs.Tells.{StandsFor};
+ghost use Rattle.rs_image.specs.StateOfImage.{StandsFor};
 ghost use Rattle.rs_file.specs.File.{state_of as device_of};
 ghost use Rattle.rs_store.specs.Source.{Holds, state_of};
 ghost use Rattle.rs_source.specs.Arguments.{IsOfFormat, IsOfOpen};
@@ -34,12 +34,16 @@ pub fn format_file<R: Files<File = File>, S: Start>(
     made: &SourceArguments<'_>,
     start: S,
 ) -> Result<Source<FileDisk<S>>, ProgramError>
-    ensures holds { IfOk result (λ source. Holds (device_of S.Start) source (start_of made.now.base.now made.now.limit 0)) }
+    ensures holds { IfOk result (λ source.
+        Holds (device_of S.Start) source (start_of made.now.base.now made.now.limit 0)) }
     ensures size { IfOk result (λ source. (device_of S.Start source.disk).size ≡ made.now.size) }
     ensures bad_base { IsErrOf result ProgramError.BadBase → is_base made.now.base.now ≡ false }
-    ensures bad_limit { IsErrOf result ProgramError.BadLimit → IsTrue (is_base made.now.base.now) × (¬ IsLimit made.now.limit) }
-    ensures too_small { IsErrOf result ProgramError.TooSmall → IsTrue (is_base made.now.base.now) × IsLimit made.now.limit × (made.now.size < 8192) }
-    ensures in_range { OnOk result (IsTrue (is_base made.now.base.now) × IsLimit made.now.limit × (8192 ≤ made.now.size)) }
+    ensures bad_limit { IsErrOf result ProgramError.BadLimit
+        → IsTrue (is_base made.now.base.now) × (¬ IsLimit made.now.limit) }
+    ensures too_small { IsErrOf result ProgramError.TooSmall
+        → IsTrue (is_base made.now.base.now) × IsLimit made.now.limit × (made.now.size < 8192) }
+    ensures in_range { OnOk result (IsTrue (is_base made.now.base.now)
+        × IsLimit made.now.limit × (8192 ≤ made.now.size)) }
     ensures err { IfErr result IsOfFormat }
 {
     let disk = FileDisk::create(rt, file, made.size, start)?;
@@ -65,8 +69,10 @@ pub fn open_file<R: Files<File = File>, S: Start>(
     ensures is_open { IfOk result (λ source. source.is_closed ≡ false) }
 
     // What the file held is said of a file that has followed the model.
-    ensures holds { IfOk result (λ source. IsTrue (device_of S.Start source.disk).honest → Holds (device_of S.Start) source (state_of (device_of S.Start) source)) }
-    ensures held { IfOk result (λ source. IsTrue (device_of S.Start source.disk).honest → StandsFor S.Start.first (state_of (device_of S.Start) source)) }
+    ensures holds { IfOk result (λ source. IsTrue (device_of S.Start source.disk).honest
+        → Holds (device_of S.Start) source (state_of (device_of S.Start) source)) }
+    ensures held { IfOk result (λ source. IsTrue (device_of S.Start source.disk).honest
+        → StandsFor S.Start.first (state_of (device_of S.Start) source)) }
 
     ensures err { IfErr result IsOfOpen }
 {

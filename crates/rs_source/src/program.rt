@@ -4,9 +4,9 @@ ghost use Rattle.std.specs.Prelude.{◌≡◌, ◌<◌, ◌≤◌, false, IfOk, 
 ghost use Rattle.rs_model.specs.State.{start_of};
 ghost use Rattle.rs_record.specs.Base.{is_base};
 ghost use Rattle.rs_directory.specs.Limit.{IsLimit};
-ghost use Rattle.rs_disk.specs.Memory.{state_of};
+ghost use Rattle.rs_disk.specs.Memory.{memory_state};
 ghost use Rattle.rs_store.specs.Source.{Holds};
-ghost use Rattle.rs_source.specs.Arguments.{error_of, error_of_file, error_of_format, error_of_opening, IsOfStart, status_of, unread_of};
+ghost use Rattle.rs_source.specs.Arguments.{error_of, error_of_file, error_of_format, error_of_opening, IsOfStart, exit_status, unread_of};
 
 use rs_disk::MemoryDisk;
 use rs_file::FileFault;
@@ -58,7 +58,7 @@ pub enum ProgramError {
 impl ProgramError {
     /// The status that the program ends with.
     pub fn status(self) -> u8
-        ensures { result ≡ status_of self }
+        ensures { result ≡ exit_status self }
     {
         match self {
             ProgramError::Usage => 2,
@@ -150,10 +150,12 @@ pub fn start(
     base: &[u8],
     limit: u16,
 ) -> Result<Source<MemoryDisk>, ProgramError>
-    ensures holds { IfOk result (λ source. Holds state_of source (start_of base.now limit 0)) }
+    ensures holds { IfOk result (λ source. Holds memory_state source (start_of base.now limit 0)) }
     ensures bad_base { IsErrOf result ProgramError.BadBase → is_base base.now ≡ false }
-    ensures bad_limit { IsErrOf result ProgramError.BadLimit → IsTrue (is_base base.now) × (¬ IsLimit limit) }
-    ensures too_small { IsErrOf result ProgramError.TooSmall → IsTrue (is_base base.now) × IsLimit limit × (size < 8192) }
+    ensures bad_limit { IsErrOf result ProgramError.BadLimit
+        → IsTrue (is_base base.now) × (¬ IsLimit limit) }
+    ensures too_small { IsErrOf result ProgramError.TooSmall
+        → IsTrue (is_base base.now) × IsLimit limit × (size < 8192) }
     ensures in_range { OnOk result (IsTrue (is_base base.now) × IsLimit limit × (8192 ≤ size)) }
     ensures err { IfErr result IsOfStart }
 {

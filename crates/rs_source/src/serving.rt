@@ -3,7 +3,7 @@
 ghost use Rattle.std.specs.Prelude.{◌≡◌, ◌≤◌, ◌/◌, ℕ, List, IfOk, OnErr, length, min};
 ghost use Rattle.std.specs.Duration.{as_nanos};
 ghost use Rattle.rs_model.specs.declared.command.Command.{Command};
-ghost use Rattle.rs_store.specs.GoesOn.{GoesOnBy};
+ghost use Rattle.rs_store.specs.Advancing.{GoesOnBy};
 ghost use Rattle.rs_source.specs.Serving.{Connects, Connections};
 
 use rs_disk::Disk;
@@ -38,7 +38,8 @@ fn moment_after(since_1970: Duration) -> Moment
 /// The moment of the time that a clock shows: the moment 0 before 1970, or where the clock cannot be read,
 /// and the last moment where it shows a later time.
 pub fn moment_of(since_1970: io::Result<Duration>) -> Moment
-    ensures shown { IfOk since_1970 (λ t. result ≡ min (as_nanos t / 1_000_000) 253_402_300_799_999) }
+    ensures shown { IfOk since_1970 (λ t.
+        result ≡ min (as_nanos t / 1_000_000) 253_402_300_799_999) }
     ensures unread { OnErr since_1970 (result ≡ 0) }
 {
     match since_1970 {
@@ -152,7 +153,8 @@ pub fn serve_connections<D: Disk, C: Clock>(
     clock: &C,
 )
     ensures connections { Connections D.state source.old count source.new }
-    ensures goes_on { (commands : List (Command × ℕ)) × (length commands ≤ count) × GoesOnBy D.state source.old source.new commands }
+    ensures goes_on { (commands : List (Command × ℕ)) × (length commands ≤ count)
+        × GoesOnBy D.state source.old source.new commands }
 {
     for _ in 0..count {
         serve_next(alloc, source, listener, clock);

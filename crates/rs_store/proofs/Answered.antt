@@ -16,14 +16,15 @@ use Rattle.rs_model.specs.declared.command.Refusal.TheVariants as decides
 use Rattle.rs_image.specs.declared.contents.Contents.{Contents}
 use Rattle.rs_image.specs.Reach.{is_kept}
 use Rattle.rs_image.specs.Whole.{IsWhole}
-use Rattle.rs_image.specs.Tells.{Tells, StandsFor, state_in}
+use Rattle.rs_image.specs.StateOfImage.{Tells, StandsFor, state_in}
 use Rattle.rs_image.proofs.Frame.{tells_behind}
 use Rattle.rs_plan.specs.declared.plan.Plan.{Plan}
 use Rattle.rs_plan.specs.declared.planning.PlanFault.{PlanFault}
 use Rattle.rs_plan.specs.declared.planning.PlanFault.TheVariants.{Full as NoRoom, NoMemory as NoPlanMemory}
 use Rattle.rs_store.specs.declared.refusal.Refusal.{Refusal}
 use Rattle.rs_store.specs.declared.refusal.Refusal.TheVariants.{Closed, TooLong, NotHeld, TooManyResources, TooManyChanges, Exhausted, Full, ReadFault, ShortBody, Device, Damaged, NoMemory}
-use Rattle.rs_store.specs.Source.{Stored, Holds, state_of}
+use Rattle.rs_image.specs.Rooted.{Rooted}
+use Rattle.rs_store.specs.Source.{Stored, Holds, rooted_in, state_of}
 use Rattle.rs_store.specs.Refusals.{named_as, or_spent, is_spent, decided}
 use Rattle.rs_plan.specs.Plans.{body_of_command, once_stored, planned_root, IsPlanned, LacksRoom, AreWritten}
 use Rattle.rs_store.specs.Writing.{of_plan, AreLists}
@@ -166,7 +167,7 @@ module _ {D : Type 0} (device : D → DiskState) (medium : (disk : D) → IsMedi
 
   -- without a plan
   pub unplanned : (fault : PlanFault) → decided old (state_of device old) command ≡ None
-      → (fault ≡ NoRoom → LacksRoom (device old.disk).size old.slots.root old.contents command (moment_at (state_of device old) now))
+      → (fault ≡ NoRoom → LacksRoom (rooted_in device old) command (moment_at (state_of device old) now))
       → Answers device old old command now (Err (of_plan fault))
   unplanned NoRoom is room =
       kept_answers old Full (is, room refl) (λ (same : Full ≡ Device). absurd cc) (λ q other. absurd cc) refl nothing_done at_rest no_call
@@ -176,7 +177,7 @@ module _ {D : Type 0} (device : D → DiskState) (medium : (disk : D) → IsMedi
   -- with a plan
   module _ (p : Plan) (bytes : List ℕ) (whole : IsWhole (device old.disk).size old.slots.root old.contents)
       (free : decided old (state_of device old) command ≡ None) (body : body_of_command command ≡ bytes)
-      (planned : IsPlanned (device old.disk).size old.slots.root old.contents command (moment_at (state_of device old) now) p)
+      (planned : IsPlanned (rooted_in device old) command (moment_at (state_of device old) now) p)
       (mid : D) (run : WritesOutside (is_kept old.slots.root old.contents) (device old.disk) (device mid)) where
     kept_state : state_in (device mid).now.seen old.contents ≡ state_of device old
     kept_state =
@@ -353,18 +354,13 @@ module _ {D : Type 0} (device : D → DiskState) (medium : (disk : D) → IsMedi
           }
 
 -- what the end of a command promises, whatever command a plan is of
-abbrev pub Promised : {D : Type 0} → (D → DiskState) → List ℕ → Plan → Reply → Stored D → Result Reply Refusal → Stored D → Type 0
-Promised device bytes p reply new result old =
+abbrev pub Promised : {D : Type 0} → (D → DiskState) → List ℕ → Plan → Stored D → Result Reply Refusal → Stored D → Type 0
+Promised device bytes p new result old =
     (command : Command) (now : ℕ) → decided old (state_of device old) command ≡ None → body_of_command command ≡ bytes
-    → IsPlanned (device old.disk).size old.slots.root old.contents command (moment_at (state_of device old) now) p
-    → reply ≡ reply_to (state_of device old) command (moment_at (state_of device old) now)
+    → IsPlanned (rooted_in device old) command (moment_at (state_of device old) now) p
     → Answers device old new command now result
 
--- what is said of the parts of an opened source is said of the source
-pub of_source : {D : Type 0} (P : ℕ → Root → Contents → ℕ → Type 0) (device : D → DiskState) (opened old : Stored D) → opened ≡ old
-    → (size : ℕ) (root : Root) (moment at : ℕ) → size ≡ (device opened.disk).size → root ≡ opened.slots.root → moment ≡ at
-    → P size root opened.contents moment → P (device old.disk).size old.slots.root old.contents at
-of_source {D} P device opened old same size root moment at one two three given =
-    subst (λ (s : Stored D). P (device s.disk).size s.slots.root s.contents at) same
-    (subst (λ (n : ℕ). P n opened.slots.root opened.contents at) one
-    (subst (λ (r : Root). P size r opened.contents at) two (subst (λ (m : ℕ). P size root opened.contents m) three given)))
+-- what is said of a root with its lists, as they were taken from a source, is said of the source
+pub of_source : {D : Type 0} (P : Rooted → ℕ → Type 0) (device : D → DiskState) (old : Stored D) (r : Rooted) (moment at : ℕ) → r ≡ rooted_in device old → moment ≡ at
+    → P r moment → P (rooted_in device old) at
+of_source {D} P device old r moment at one two given = subst (λ (x : Rooted). P x at) one (subst (λ (m : ℕ). P r m) two given)

@@ -13,17 +13,18 @@ use Rattle.rs_model.specs.declared.command.Command.TheVariants.{Put, Delete, Pub
 use Rattle.rs_page.specs.declared.place.PageRef.{PageRef}
 use Rattle.rs_page.specs.Format.{ItemFormat}
 use Rattle.rs_page.specs.Items.{record_format, change_format}
-use Rattle.rs_page.specs.Sheets.{Sheet, IsStored, stored_ref, stored_refs, stored, items_of}
-use Rattle.rs_page.specs.Pages.{IsPage, Stands}
-use Rattle.rs_page.specs.Kept.{IsSublist, stored_sheets, KeepsPages}
+use Rattle.rs_page.specs.Pages.{Page, IsStored, stored_ref, stored_refs, stored, items_of}
+use Rattle.rs_page.specs.DiskPages.{IsPage, Stands}
+use Rattle.rs_page.specs.SharedPages.{IsSublist, stored_pages, KeepsPages}
 use Rattle.rs_page.proofs.Standing.{written_stand, standing_are_pages, pages_stand}
 use Rattle.rs_catalogue.specs.Catalogue.{AreHeld, IsCatalogue, HoldsCatalogue}
 use Rattle.rs_catalogue.proofs.Joined.{joined, fewer_refs}
 use Rattle.rs_changes.specs.History.{AreKept, IsHistory, HoldsHistory}
 use Rattle.rs_changes.proofs.Joined.{joined as joined_changes, fewer_refs as fewer_changes}
 use Rattle.rs_image.specs.declared.contents.Contents.{Contents}
+use Rattle.rs_image.specs.Rooted.{rooted}
 use Rattle.rs_image.specs.Whole.{IsWhole}
-use Rattle.rs_image.specs.Tells.{Tells, state_in, held_in}
+use Rattle.rs_image.specs.StateOfImage.{Tells, state_in, held_in}
 use Rattle.rs_plan.specs.declared.plan.Plan.{Plan}
 use Rattle.rs_plan.specs.Plans.{body_of_command, ArePagesAfter, once_stored, planned_root, IsPlanned, AreWritten}
 use Rattle.rs_store.specs.Writing.{AreLists}
@@ -61,18 +62,18 @@ nothing P None is = tt
 nothing P (Some x) is = absurd (true≢false is)
 
 -- Pages that were kept stand where the old ones do.
-kept_stand : {T : Type 0} (format : ItemFormat T) (old new : List (Sheet T)) (image : List ℕ) → KeepsPages old new
+kept_stand : {T : Type 0} (format : ItemFormat T) (old new : List (Page T)) (image : List ℕ) → KeepsPages old new
     → All (Stands format image) old → All (Stands format image) new
 kept_stand {T} format old new image kept stand =
-    all_from (Stands format image) (λ sheet. is_some (stored_ref sheet.place))
-    (λ sheet is. nothing (λ (ref : PageRef). IsPage format ref image sheet.items) (stored_ref sheet.place) is) new
-    (all_sub (Stands format image) (stored_sheets new) (stored_sheets old)
-    (All-filter (λ sheet. is_some (stored_ref sheet.place)) (Stands format image) old stand) kept)
+    all_from (Stands format image) (λ page. is_some (stored_ref page.place))
+    (λ page is. nothing (λ (ref : PageRef). IsPage format ref image page.items) (stored_ref page.place) is) new
+    (all_sub (Stands format image) (stored_pages new) (stored_pages old)
+    (All-filter (λ page. is_some (stored_ref page.place)) (Stands format image) old stand) kept)
 
 -- Once they are stored, pages have the same items.
-items_stored : {T : Type 0} (format : ItemFormat T) (sheets : List (Sheet T)) → items_of (stored format sheets) ≡ items_of sheets
+items_stored : {T : Type 0} (format : ItemFormat T) (pages : List (Page T)) → items_of (stored format pages) ≡ items_of pages
 items_stored format [] = refl
-items_stored format (sheet ∷ sheets) = ap (λ items. sheet.items ++ items) (items_stored format sheets)
+items_stored format (page ∷ pages) = ap (λ items. page.items ++ items) (items_stored format pages)
 
 once_state : (image : List ℕ) (c : Contents) → state_in image (once_stored c) ≡ state_in image c
 once_state image c =
@@ -80,36 +81,36 @@ once_state image c =
     (items_stored record_format c.catalogue) (items_stored change_format c.history)
 
 -- The lists are on the disk as what was kept of the old ones and what was written.
-held_catalogue : (sheets : List (Sheet Record)) (image : List ℕ) → IsCatalogue sheets → length sheets ≤ 1 → All IsStored sheets
-    → All (Stands record_format image) sheets → HoldsCatalogue (stored_refs sheets) image (map (λ sheet. sheet.items) sheets)
-held_catalogue sheets image is one all stand =
+held_catalogue : (pages : List (Page Record)) (image : List ℕ) → IsCatalogue pages → length pages ≤ 1 → All IsStored pages
+    → All (Stands record_format image) pages → HoldsCatalogue (stored_refs pages) image (map (λ page. page.items) pages)
+held_catalogue pages image is one all stand =
     record {
-      hold = standing_are_pages record_format sheets image all stand;
-      held = subst AreHeld (sym (joined sheets)) is.held;
-      one = omega (arith, fewer_refs sheets);
+      hold = standing_are_pages record_format pages image all stand;
+      held = subst AreHeld (sym (joined pages)) is.held;
+      one = omega (arith, fewer_refs pages);
     }
 
-held_history : (sheets : List (Sheet Change)) (image : List ℕ) → IsHistory sheets → length sheets ≤ 1 → All IsStored sheets
-    → All (Stands change_format image) sheets → HoldsHistory (stored_refs sheets) image (map (λ sheet. sheet.items) sheets)
-held_history sheets image is one all stand =
+held_history : (pages : List (Page Change)) (image : List ℕ) → IsHistory pages → length pages ≤ 1 → All IsStored pages
+    → All (Stands change_format image) pages → HoldsHistory (stored_refs pages) image (map (λ page. page.items) pages)
+held_history pages image is one all stand =
     record {
-      hold = standing_are_pages change_format sheets image all stand;
-      kept = subst AreKept (sym (joined_changes sheets)) is.kept;
-      one = omega (arith, fewer_changes sheets);
+      hold = standing_are_pages change_format pages image all stand;
+      kept = subst AreKept (sym (joined_changes pages)) is.kept;
+      one = omega (arith, fewer_changes pages);
     }
 
-abbrev HoldsSheets : List (Sheet Record) → List ℕ → Type 0
-HoldsSheets sheets image = HoldsCatalogue (stored_refs sheets) image (map (λ sheet. sheet.items) sheets)
+abbrev HoldsPagesInMemory : List (Page Record) → List ℕ → Type 0
+HoldsPagesInMemory pages image = HoldsCatalogue (stored_refs pages) image (map (λ page. page.items) pages)
 
-held_published : (command : Command) (old c : Contents) (image : List ℕ) → ArePagesAfter old command c → HoldsSheets old.catalogue image → HoldsSheets old.published image
-    → HoldsSheets c.published image
-held_published (Put name kind bytes) old c image after catalogue published = subst (λ (l : List (Sheet Record)). HoldsSheets l image) (sym after.2) published
-held_published (Delete name) old c image after catalogue published = subst (λ (l : List (Sheet Record)). HoldsSheets l image) (sym after.2) published
-held_published Publish old c image after catalogue published = subst (λ (l : List (Sheet Record)). HoldsSheets l image) (sym after.2) catalogue
+held_published : (command : Command) (old c : Contents) (image : List ℕ) → ArePagesAfter old command c → HoldsPagesInMemory old.catalogue image → HoldsPagesInMemory old.published image
+    → HoldsPagesInMemory c.published image
+held_published (Put name kind bytes) old c image after catalogue published = subst (λ (l : List (Page Record)). HoldsPagesInMemory l image) (sym after.2) published
+held_published (Delete name) old c image after catalogue published = subst (λ (l : List (Page Record)). HoldsPagesInMemory l image) (sym after.2) published
+held_published Publish old c image after catalogue published = subst (λ (l : List (Page Record)). HoldsPagesInMemory l image) (sym after.2) catalogue
 
 -- The state of the lists is the next one, where the body stands.
 pub state_follows : (size : ℕ) (root : Root) (old : Contents) (command : Command) (moment : ℕ) (p : Plan) (bytes image : List ℕ)
-    → IsPlanned size root old command moment p → body_of_command command ≡ bytes → AreWritten p bytes image
+    → IsPlanned (rooted size root old) command moment p → body_of_command command ≡ bytes → AreWritten p bytes image
     → state_in image (once_stored p.contents) ≡ next_state (state_in image old) command moment
 state_follows size root old command moment p bytes image planned body there =
     let stands : part p.body (length (body_of_command command)) image ≡ body_of_command command =
@@ -117,7 +118,7 @@ state_follows size root old command moment p bytes image planned body there =
     once_state image p.contents ∙ planned.next.turns image stands
 
 pub tells_next : (size : ℕ) (root : Root) (old : Contents) (command : Command) (moment : ℕ) (p : Plan) (bytes image : List ℕ) (s : Source)
-    → IsPlanned size root old command moment p → body_of_command command ≡ bytes → AreWritten p bytes image → AreLists (once_stored p.contents)
+    → IsPlanned (rooted size root old) command moment p → body_of_command command ≡ bytes → AreWritten p bytes image → AreLists (once_stored p.contents)
     → length image ≡ size → Tells root old image s
     → Tells (planned_root root p) (once_stored p.contents) image (next_state s command moment)
 tells_next size root old command moment p bytes image s planned body there lists long told =

@@ -4,9 +4,11 @@ use Rattle.std.specs.Prelude.{All}
 use Rattle.std.specs.declared.cmp.Ordering.{Ordering}
 use Rattle.std.specs.declared.cmp.Ordering.TheVariants.{Less, Equal, Greater}
 use Rattle.std.proofs.lemmas.List.Elements.{All-head, All-tail}
+use Rattle.rs_extent.proofs.Sets.{some_behind}
 use Rattle.rs_extent.specs.declared.Extent.{Extent}
-use Rattle.rs_body.specs.Blocks.{within, in_some, IsOnDisk}
-use Rattle.rs_body.proofs.Sets.{some_first, some_rest, fits_sized}
+use Rattle.rs_extent.specs.Extents.{within, in_some, IsOnDisk}
+use Rattle.rs_extent.proofs.Sets.{some_first, some_rest}
+use Rattle.rs_body.proofs.Sets.{fits_sized}
 use Rattle.rs_commit.specs.declared.root.Root.{Root}
 use Rattle.rs_record.specs.declared.record.Record.{Record}
 use Rattle.rs_model.specs.declared.value.Entry.{Entry}
@@ -14,7 +16,7 @@ use Rattle.rs_model.specs.Names.{value_of, by_order, by_bytes}
 use Rattle.rs_catalogue.specs.Named.{named}
 use Rattle.rs_catalogue.specs.Catalogue.{records_of}
 use Rattle.rs_image.specs.declared.contents.Contents.{Contents}
-use Rattle.rs_page.specs.Sheets.{stored_refs, extents_of}
+use Rattle.rs_page.specs.Pages.{stored_refs, extents_of}
 use Rattle.rs_image.specs.Reach.{unshared, bodies_of, blocks_of_disk}
 use Rattle.rs_image.specs.Whole.{IsWhole, IsSoundRecord}
 use Rattle.rs_model.specs.State.{entries}
@@ -22,8 +24,8 @@ use Rattle.rs_model.specs.Listed.{entry_of}
 use Rattle.rs_body.specs.declared.read.BodyFault.{BodyFault}
 use Rattle.rs_body.specs.declared.read.BodyFault.TheVariants as faults
 use Rattle.rs_store.specs.declared.refusal.Refusal.TheVariants.{NotHeld, Damaged}
-use Rattle.rs_store.specs.Bodies.{of_body}
-use Rattle.rs_image.specs.Tells.{held_in}
+use Rattle.rs_store.specs.Bodies.{refusal_of_body}
+use Rattle.rs_image.specs.StateOfImage.{held_in}
 
 ordered_map : {A B : Type 0} (f : A → B) (o : Ordering) (x : A) (m : Option A) (n : Option B) → n ≡ option_map f m
     → by_order o None (Some (f x)) n ≡ option_map f (by_order o None (Some x) m)
@@ -58,10 +60,6 @@ found_within name (x ∷ rs) r b e is =
     (λ same. some_first x.extent (bodies_of rs) b (subst (λ (y : Record). within y.extent b ≡ true) (sym same) is))
     (λ there. some_rest x.extent (bodies_of rs) b (found_within name rs r b there is))
 
-some_after : (es fs : List Extent) (b : ℕ) → in_some fs b ≡ true → in_some (es ++ fs) b ≡ true
-some_after [] fs b is = is
-some_after (e ∷ es) fs b is = some_rest e (es ++ fs) b (some_after es fs b is)
-
 block_fits : (size b : ℕ) → b < blocks_of_disk size → 512 * b + 512 ≤ size
 block_fits size b less = omega arith
 
@@ -74,7 +72,7 @@ lists_reached root c =
 -- the blocks of a held body lie on the disk, and its bytes fit into them
 pub found_room : (size : ℕ) (root : Root) (c : Contents) (name : List ℕ) (r : Record) → IsWhole size root c → value_of name (named (records_of c.catalogue)) ≡ Some r → IsOnDisk r.extent size
 found_room size root c name r whole found b is =
-    let there = whole.inside b (some_after (lists_reached root c) (bodies_of (records_of c.catalogue)) b (found_within name (records_of c.catalogue) r b found is)) in
+    let there = whole.inside b (some_behind (lists_reached root c) (bodies_of (records_of c.catalogue)) b (found_within name (records_of c.catalogue) r b found is)) in
     block_fits size b there.1
 
 pub found_fits : (size : ℕ) (root : Root) (c : Contents) (name : List ℕ) (r : Record) → IsWhole size root c → value_of name (named (records_of c.catalogue)) ≡ Some r → r.length ≤ 512 * r.extent.blocks
@@ -95,13 +93,13 @@ entries_held image [] = refl
 entries_held image (r ∷ rs) = ap (λ (l : List (List ℕ × Entry)). entry_of r ∷ l) (entries_held image rs)
 
 -- a fault of a body is never that the name is not held
-pub never_not_held : (fault : BodyFault) → of_body fault ≡ NotHeld → ⊥
+pub never_not_held : (fault : BodyFault) → refusal_of_body fault ≡ NotHeld → ⊥
 never_not_held faults.Device e = cc
 never_not_held faults.Damaged e = cc
 never_not_held faults.NoMemory e = cc
 
 -- and is answered as Damaged where it is that alone
-pub damaged_body : (fault : BodyFault) → of_body fault ≡ Damaged → fault ≡ faults.Damaged
+pub damaged_body : (fault : BodyFault) → refusal_of_body fault ≡ Damaged → fault ≡ faults.Damaged
 damaged_body faults.Damaged e = refl
 damaged_body faults.Device e = cc
 damaged_body faults.NoMemory e = cc

@@ -1,4 +1,3 @@
-pub mod Places
 pub mod Written
 pub mod Bounds
 pub mod Stays

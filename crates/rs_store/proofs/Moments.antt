@@ -9,14 +9,14 @@ use Rattle.rs_model.specs.State.{Source}
 use Rattle.rs_model.specs.Step.{step, state_after, fold_of}
 use Rattle.rs_model.specs.declared.command.Command.{Command}
 use Rattle.rs_model.specs.declared.command.Reply.{Reply}
-use Rattle.rs_image.specs.Tells.{StandsFor}
+use Rattle.rs_image.specs.StateOfImage.{StandsFor}
 use Rattle.rs_store.specs.declared.refusal.Refusal.{Refusal}
 use Rattle.rs_store.specs.declared.refusal.Refusal.TheVariants.{Closed, TooLong, NotHeld, TooManyResources, TooManyChanges, Exhausted, Full, ReadFault, ShortBody, Device, Damaged, NoMemory}
 use Rattle.rs_store.specs.Source.{Stored, Holds}
 use Rattle.rs_store.specs.Commands.{Leads}
 use Rattle.rs_store.specs.Answered.{Answers}
 use Rattle.rs_store.specs.declared.running.Ack.{Ack}
-use Rattle.rs_store.specs.Counted.{is_accepted, is_device, is_in_doubt, answered, counted, acknowledged, begun}
+use Rattle.rs_store.specs.Counted.{is_accepted, is_device, is_in_doubt, answered, counted_commands, acknowledged, begun}
 use Rattle.rs_store.specs.Runs.{InTurn, StandsForPrefix}
 use Rattle.rs_store.proofs.Turns.{idle_at, Commands, Acks, IsClosed, one, one_at_most, and_false, not_yet, by_then, none_yet, acknowledged_cons, closed_run, none_counts, none_acknowledged, closed_is_no_ok, closed_is_no_device}
 
@@ -67,7 +67,7 @@ module _ {D : Type 0} (device : D → DiskState) (sound : (disk : D) → IsMediu
       j = suc p.j;
       least = omega (arith, p.least, one_at_most (nat_le n m), acknowledged_cons m (ack (Ok reply) n) acks);
       most = (let all : begun m (ack (Ok reply) n ∷ acks) ≡ 1 + begun m acks = ap (λ (b : Bool). 1 + cond b (begun m acks) 0) (by_then m n le) in omega (arith, all, p.most));
-      stands = subst (λ (x : Source). StandsFor image (fold_of x (take p.j (counted cs acks)))) (sym (ap (state_after s) steps)) p.stands;
+      stands = subst (λ (x : Source). StandsFor image (fold_of x (take p.j (counted_commands cs acks)))) (sym (ap (state_after s) steps)) p.stands;
     }
 
     -- the old state, while nothing is acknowledged
@@ -129,7 +129,7 @@ module _ {D : Type 0} (device : D → DiskState) (sound : (disk : D) → IsMediu
         none : (m : ℕ) → acknowledged m (ack (Err Device) n ∷ acks) ≡ 0
         none m = omega (arith, acknowledged_cons m (ack (Err Device) n) acks, none_acknowledged m acks closed)
 
-        alone : counted (c ∷ cs) (ack (Err Device) n ∷ acks) ≡ c ∷ []
+        alone : counted_commands (c ∷ cs) (ack (Err Device) n ∷ acks) ≡ c ∷ []
         alone = λ i. none_counts is_accepted closed_is_no_ok cs acks closed i ++ c ∷ none_counts is_in_doubt closed_is_no_device cs acks closed i
 
         next : (m : ℕ) (image : List ℕ) → StandsFor image (state_after s (step s c.0 c.1)) → Before (Err Device) m image
@@ -165,7 +165,7 @@ module _ {D : Type 0} (device : D → DiskState) (sound : (disk : D) → IsMediu
       refused s old mid new c cs acks n at turn answers.goes_on.calls refusal other lead.1 (rest s lead.0))
       (is_device_or_not refusal)
 
-  -- at each moment of a run each image stands for a prefix of the counted commands
+  -- at each moment of a run each image stands for a prefix of the counted_commands commands
   pub each_moment : (s : Source) (old : Stored D) (cs : Commands) (acks : Acks) (new : Stored D) → Holds device old s → InTurn device old cs acks new
       → Leaves (device old.disk) (device new.disk) (StandsForPrefix s cs acks)
   each_moment s old [] [] new holds turn =
@@ -181,19 +181,19 @@ module _ {D : Type 0} (device : D → DiskState) (sound : (disk : D) → IsMediu
   each_moment s old [] (a ∷ acks) new holds turn = absurd turn
   each_moment s old (c ∷ cs) [] new holds turn = absurd turn
 
-  -- at the end a source that is open holds what the counted commands make
+  -- at the end a source that is open holds what the counted_commands commands make
   pub holds_all : (s : Source) (old : Stored D) (cs : Commands) (acks : Acks) (new : Stored D) → Holds device old s → InTurn device old cs acks new → new.is_closed ≡ false
-      → Holds device new (fold_of s (counted cs acks))
+      → Holds device new (fold_of s (counted_commands cs acks))
   holds_all s old [] [] new holds turn open_then = (turn.holds s holds).0
   holds_all s old (c ∷ cs) (a ∷ acks) new holds turn open_then = after a.reply turn.3 (λ t held. holds_all t turn.2 cs acks new held turn.5 open_then)
     where
       goal_of : Result Reply Refusal → Type 0
-      goal_of reply = Holds device new (fold_of s (counted (c ∷ cs) (ack reply a.at_call ∷ acks)))
+      goal_of reply = Holds device new (fold_of s (counted_commands (c ∷ cs) (ack reply a.at_call ∷ acks)))
 
-      after : (reply : Result Reply Refusal) → Answers device turn.0 turn.2 c.0 c.1 reply → ((t : Source) → Holds device turn.2 t → Holds device new (fold_of t (counted cs acks))) → goal_of reply
+      after : (reply : Result Reply Refusal) → Answers device turn.0 turn.2 c.0 c.1 reply → ((t : Source) → Holds device turn.2 t → Holds device new (fold_of t (counted_commands cs acks))) → goal_of reply
       after (Ok reply) answers rest =
           let lead = answers.leads s (turn.1.holds s holds).0 in
-          subst (λ (x : Source). Holds device new (fold_of x (counted cs acks))) (sym (ap (state_after s) lead.1)) (rest lead.0 lead.2)
+          subst (λ (x : Source). Holds device new (fold_of x (counted_commands cs acks))) (sym (ap (state_after s) lead.1)) (rest lead.0 lead.2)
       after (Err refusal) answers rest = ⊎_elim
           (λ is.
           let here : Answers device turn.0 turn.2 c.0 c.1 (Err Device) = subst (λ (r : Refusal). Answers device turn.0 turn.2 c.0 c.1 (Err r)) is answers in

@@ -5,14 +5,14 @@ use Rattle.rs_extent.specs.declared.Extent.{Extent}
 use Rattle.rs_disk.specs.Medium.{Medium, DiskState, IsImage, resting}
 use Rattle.rs_disk.proofs.Images.{resting_image}
 use Rattle.rs_body.specs.Blocks.{part, IsSized}
-use Rattle.rs_body.proofs.Sets.{within_true, some_first}
+use Rattle.rs_extent.proofs.Sets.{within_true, some_first}
 use Rattle.rs_commit.specs.declared.root.Root.{Root}
 use Rattle.rs_commit.specs.Slots.{Standing, current}
 use Rattle.rs_commit.specs.Commit.{IsReady}
 use Rattle.rs_model.specs.State.{Source}
 use Rattle.rs_image.specs.declared.contents.Contents.{Contents}
 use Rattle.rs_image.specs.Reach.{AreInside}
-use Rattle.rs_image.specs.Tells.{Tells, StandsFor, listing, state_in}
+use Rattle.rs_image.specs.StateOfImage.{Tells, StandsFor, listing, state_in}
 use Rattle.rs_page.specs.declared.page.load.LoadFault.{LoadFault}
 use Rattle.rs_page.specs.declared.page.load.LoadFault.TheVariants as lists
 use Rattle.rs_store.specs.declared.opening.OpenFault.TheVariants.{Damaged}

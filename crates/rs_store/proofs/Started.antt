@@ -6,23 +6,24 @@ use Rattle.std.proofs.lemmas.List.Elements.{All-nil}
 use Rattle.rs_extent.specs.declared.Extent.{Extent}
 use Rattle.rs_disk.specs.Medium.{Medium, DiskState, IsImage, resting}
 use Rattle.rs_disk.proofs.Images.{resting_image}
-use Rattle.rs_body.specs.Blocks.{part, blocks_of, in_some}
-use Rattle.rs_body.proofs.Sets.{within_is, some_split}
+use Rattle.rs_extent.specs.Extents.{in_some}
+use Rattle.rs_body.specs.Blocks.{part, blocks_of}
+use Rattle.rs_extent.proofs.Sets.{within_is, some_split}
 use Rattle.rs_commit.specs.Commit.{SameBehind, IsReady}
 use Rattle.rs_commit.specs.Format.{fresh}
 use Rattle.rs_commit.specs.declared.root.Root.{Root}
 use Rattle.rs_commit.specs.Slots.{Standing}
 use Rattle.rs_record.specs.declared.record.Record.{Record}
 use Rattle.rs_record.specs.declared.change.Change.{Change}
-use Rattle.rs_page.specs.Sheets.{Sheet}
+use Rattle.rs_page.specs.Pages.{Page}
 use Rattle.rs_directory.specs.declared.header.Header.{Header}
 use Rattle.rs_image.specs.declared.contents.Contents.{Contents}
 use Rattle.rs_model.specs.State.{start_of}
-use Rattle.rs_page.specs.Sheets.{IsStored}
+use Rattle.rs_page.specs.Pages.{IsStored}
 use Rattle.rs_directory.specs.Directory.{IsLawfulHeader, IsLawfulRef}
 use Rattle.rs_image.specs.Reach.{blocks_of_disk}
 use Rattle.rs_image.specs.Whole.{IsWhole, IsSoundRecord, IsSoundChange}
-use Rattle.rs_image.specs.Tells.{Tells, listing}
+use Rattle.rs_image.specs.StateOfImage.{Tells, listing}
 use Rattle.rs_store.specs.Source.{Holds}
 use Rattle.rs_store.specs.declared.formatting.Blank.{Blank}
 use Rattle.rs_store.specs.Formatting.{first_header, first_contents, first_root, IsBlank}
@@ -84,7 +85,7 @@ first_told base limit moment image lawful small room reads =
     }
 
 -- the lists of a formatting, from their parts
-pub made_contents : (base : List ℕ) (limit moment : ℕ) (h : Header) (a : List (Sheet Record)) (b : List (Sheet Change)) (p : List (Sheet Record))
+pub made_contents : (base : List ℕ) (limit moment : ℕ) (h : Header) (a : List (Page Record)) (b : List (Page Change)) (p : List (Page Record))
     → h ≡ first_header base limit moment → a ≡ [] → b ≡ [] → p ≡ []
     → record { header = h; catalogue = a; history = b; published = p } ≡ first_contents base limit moment
 made_contents base limit moment h a b p e f g k = λ i. record { header = e i; catalogue = f i; history = g i; published = k i }

@@ -5,7 +5,7 @@ use Rattle.std.proofs.lemmas.List.{ext_get_or, get_or-take}
 use Rattle.rs_disk.specs.Medium.{DiskState, IsImage, IsMedium}
 use Rattle.rs_disk.specs.Leaves.{Leaves}
 use Rattle.rs_disk.proofs.Steps.{weaker, exit_images}
-use Rattle.rs_body.specs.Blocks.{in_some}
+use Rattle.rs_extent.specs.Extents.{in_some}
 use Rattle.rs_body.specs.Outside.{Keeps, KeepsMarks, KeptFrom, WritesOutside}
 use Rattle.rs_commit.specs.declared.root.Root.{Root}
 use Rattle.rs_commit.specs.Slots.{Standing}
@@ -18,7 +18,7 @@ use Rattle.rs_catalogue.specs.Catalogue.{records_of}
 use Rattle.rs_image.specs.declared.contents.Contents.{Contents}
 use Rattle.rs_image.specs.Reach.{reach, is_kept}
 use Rattle.rs_image.specs.Whole.{IsWhole}
-use Rattle.rs_image.specs.Tells.{Tells, StandsFor, state_in, held_in}
+use Rattle.rs_image.specs.StateOfImage.{Tells, StandsFor, state_in, held_in}
 use Rattle.rs_image.proofs.Reaching.{reaches_bodies}
 use Rattle.rs_image.proofs.Frame.{tells_stays, held_stays, keeps_behind}
 

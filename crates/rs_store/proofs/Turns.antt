@@ -11,7 +11,7 @@ use Rattle.rs_model.specs.State.{Source}
 use Rattle.rs_model.specs.Step.{refusal_of}
 use Rattle.rs_model.specs.declared.command.Command.{Command}
 use Rattle.rs_model.specs.declared.command.Reply.{Reply}
-use Rattle.rs_image.specs.Tells.{StandsFor}
+use Rattle.rs_image.specs.StateOfImage.{StandsFor}
 use Rattle.rs_store.specs.declared.refusal.Refusal.{Refusal}
 use Rattle.rs_store.specs.declared.refusal.Refusal.TheVariants.{Closed}
 use Rattle.rs_store.specs.Source.{Stored, Holds, state_of}

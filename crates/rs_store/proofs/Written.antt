@@ -3,20 +3,21 @@ use Rattle.std.proofs.Common.{true≢false, ◌≡◌, ℕ, ◌+◌, ◌*◌, �
 use Rattle.std.specs.Prelude.{All}
 use Rattle.rs_disk.specs.Medium.{DiskState}
 use Rattle.rs_extent.specs.declared.Extent.{Extent}
-use Rattle.rs_body.specs.Blocks.{within, in_some, part, IsOnDisk, IsSized}
-use Rattle.rs_body.specs.Outside.{IsBeside, AreBeside, WritesOutside}
-use Rattle.rs_body.proofs.Kept.{part_kept, outside_on}
-use Rattle.rs_body.proofs.Sets.{some_first, some_rest, beside_first, beside_rest, fits_sized}
+use Rattle.rs_extent.specs.Extents.{within, in_some, IsOnDisk, IsBeside, AreBeside, AreApart, AreOnDisk}
+use Rattle.rs_body.specs.Blocks.{part, IsSized}
+use Rattle.rs_body.specs.Outside.{WritesOutside}
+use Rattle.rs_body.proofs.KeptBlocks.{part_kept, outside_on}
+use Rattle.rs_extent.proofs.Sets.{some_first, some_rest, beside_first, beside_rest}
+use Rattle.rs_body.proofs.Sets.{fits_sized}
 use Rattle.rs_page.specs.Items.{record_format, change_format}
-use Rattle.rs_page.specs.Sheets.{placed_extents}
-use Rattle.rs_page.specs.Pages.{IsWritten}
-use Rattle.rs_page.specs.Kept.{AreApart, AreOnDisk}
+use Rattle.rs_page.specs.Pages.{placed_extents}
+use Rattle.rs_page.specs.DiskPages.{IsWritten}
 use Rattle.rs_page.proofs.Standing.{written_stay}
 use Rattle.rs_image.specs.Reach.{AreInside, blocks_of_disk}
-use Rattle.rs_image.proofs.Reaching.{some_left, some_right}
+use Rattle.rs_extent.proofs.Sets.{some_front, some_behind}
 use Rattle.rs_plan.specs.declared.plan.Plan.{Plan}
 use Rattle.rs_plan.specs.Plans.{places, planned_listing, AreWritten}
-use Rattle.rs_store.proofs.Places.{refuted, beside_left, beside_right, apart_left, apart_between}
+use Rattle.rs_extent.proofs.Sets.{not_true, beside_front, beside_behind, apart_front, beside_between}
 
 pub on_ok : {T E : Type 0} {P Q : Type 0} (result : Result T E) → (P → Q) → OnOk result P → OnOk result Q
 on_ok (Ok x) from p = from p
@@ -44,8 +45,8 @@ beside_each kept p beside =
     let behind : AreBeside kept (behind_body p) = subst (λ (es : List Extent). AreBeside kept es) (sym (places_are p)) (beside_rest kept p.body rest beside) in
     record {
       body = beside_first kept p.body rest beside;
-      pages = beside_left kept (pages_of p) (p.directory ∷ []) behind;
-      directory = beside_first kept p.directory [] (beside_right kept (pages_of p) (p.directory ∷ []) behind);
+      pages = beside_front kept (pages_of p) (p.directory ∷ []) behind;
+      directory = beside_first kept p.directory [] (beside_behind kept (pages_of p) (p.directory ∷ []) behind);
     }
 
 -- The places of a plan are apart from one another.
@@ -59,13 +60,13 @@ pub apart_each : (p : Plan) → AreApart (places p) → AreEachApart p
 apart_each p apart =
     let rest = placed_extents p.contents.catalogue ++ placed_extents p.contents.history ++ p.directory ∷ [] in
     let behind : AreApart (behind_body p) = subst (λ (es : List Extent). AreApart es) (sym (places_are p)) apart.1 in
-    let body : AreBeside (within p.body) rest = λ b is. refuted (within p.body b) (λ here. true≢false (sym is ∙ apart.0 b here)) in
+    let body : AreBeside (within p.body) rest = λ b is. not_true (within p.body b) (λ here. true≢false (sym is ∙ apart.0 b here)) in
     let beside : AreBeside (within p.body) (behind_body p) = subst (λ (es : List Extent). AreBeside (within p.body) es) (sym (places_are p)) body in
     record {
-      pages = apart_left (pages_of p) (p.directory ∷ []) behind;
-      body_pages = beside_left (within p.body) (pages_of p) (p.directory ∷ []) beside;
-      body_directory = beside_first (within p.body) p.directory [] (beside_right (within p.body) (pages_of p) (p.directory ∷ []) beside);
-      pages_directory = beside_first (in_some (pages_of p)) p.directory [] (apart_between (pages_of p) (p.directory ∷ []) behind);
+      pages = apart_front (pages_of p) (p.directory ∷ []) behind;
+      body_pages = beside_front (within p.body) (pages_of p) (p.directory ∷ []) beside;
+      body_directory = beside_first (within p.body) p.directory [] (beside_behind (within p.body) (pages_of p) (p.directory ∷ []) beside);
+      pages_directory = beside_first (in_some (pages_of p)) p.directory [] (beside_between (pages_of p) (p.directory ∷ []) behind);
     }
 
 -- They lie on the disk.
@@ -85,8 +86,8 @@ inside_each size p inside =
     (λ b is. on_disk size b (inside b (some_rest p.body rest b is)).1) in
     record {
       body = λ b is. on_disk size b (inside b (some_first p.body rest b is)).1;
-      pages = λ b is. behind b (some_left (pages_of p) (p.directory ∷ []) b is);
-      directory = λ b is. behind b (some_right (pages_of p) (p.directory ∷ []) b (some_first p.directory [] b is));
+      pages = λ b is. behind b (some_front (pages_of p) (p.directory ∷ []) b is);
+      directory = λ b is. behind b (some_behind (pages_of p) (p.directory ∷ []) b (some_first p.directory [] b is));
     }
 
 -- The body, then the pages, then the directory: all of them stand there at the end.
@@ -104,7 +105,7 @@ all_written p bytes first mid new apart sized body pages catalogue history last 
     let kept = last (in_some (pages_of p)) each.pages_directory in
     record {
       body = part_kept (within p.body) p.body (length bytes) (fits_sized p.body (length bytes) sized) (λ b is. is) first.now.seen new.now.seen after.seen ∙ body;
-      catalogue = written_stay record_format (in_some (pages_of p)) p.contents.catalogue mid.now.seen new.now.seen (λ b is. some_left cat hist b is) kept.seen catalogue;
-      history = written_stay change_format (in_some (pages_of p)) p.contents.history mid.now.seen new.now.seen (λ b is. some_right cat hist b is) kept.seen history;
+      catalogue = written_stay record_format (in_some (pages_of p)) p.contents.catalogue mid.now.seen new.now.seen (λ b is. some_front cat hist b is) kept.seen catalogue;
+      history = written_stay change_format (in_some (pages_of p)) p.contents.history mid.now.seen new.now.seen (λ b is. some_behind cat hist b is) kept.seen history;
       directory = directory;
     }

@@ -5,7 +5,7 @@ use Rattle.rs_store.specs.declared.refusal.Refusal.{Refusal}
 use Rattle.rs_store.specs.declared.refusal.Refusal.TheVariants.{Device, Damaged, NoMemory}
 
 -- a fault of a body, by the same name
-abbrev pub of_body : BodyFault → Refusal
-of_body faults.Device = Device
-of_body faults.Damaged = Damaged
-of_body faults.NoMemory = NoMemory
+abbrev pub refusal_of_body : BodyFault → Refusal
+refusal_of_body faults.Device = Device
+refusal_of_body faults.Damaged = Damaged
+refusal_of_body faults.NoMemory = NoMemory

@@ -6,17 +6,17 @@ use Rattle.rs_model.specs.State.{Source}
 use Rattle.rs_model.specs.Step.{step, state_after, moment_at}
 use Rattle.rs_model.specs.declared.command.Command.{Command}
 use Rattle.rs_model.specs.declared.command.Reply.{Reply}
-use Rattle.rs_image.specs.Tells.{StandsFor}
+use Rattle.rs_image.specs.StateOfImage.{StandsFor}
 use Rattle.rs_store.specs.declared.refusal.Refusal.{Refusal}
 use Rattle.rs_store.specs.declared.refusal.Refusal.TheVariants.{Full, ReadFault, ShortBody, Device, Damaged, NoMemory}
-use Rattle.rs_store.specs.Source.{Stored, Holds, state_of}
+use Rattle.rs_store.specs.Source.{Stored, Holds, rooted_in, state_of}
 use Rattle.rs_store.specs.Refusals.{decided}
 use Rattle.rs_plan.specs.Plans.{LacksRoom}
 
 -- The cause of a refusal of a command is there.
 abbrev pub IsCause : {D : Type 0} → (D → DiskState) → Stored D → Stored D → Command → ℕ → Refusal → Type 0
 IsCause device old new command now Full =
-    (decided old (state_of device old) command ≡ None) × LacksRoom (device old.disk).size old.slots.root old.contents command (moment_at (state_of device old) now)
+    (decided old (state_of device old) command ≡ None) × LacksRoom (rooted_in device old) command (moment_at (state_of device old) now)
 IsCause device old new command now Device =
     (decided old (state_of device old) command ≡ None) × HasFailed (device old.disk) (device new.disk)
 IsCause device old new command now Damaged = ⊥

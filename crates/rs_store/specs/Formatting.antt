@@ -6,7 +6,7 @@ use Rattle.rs_commit.specs.declared.root.Root.{Root}
 use Rattle.rs_directory.specs.declared.header.Header.{Header}
 use Rattle.rs_directory.specs.Directory.{IsLawfulHeader}
 use Rattle.rs_image.specs.declared.contents.Contents.{Contents}
-use Rattle.rs_image.specs.Tells.{listing}
+use Rattle.rs_image.specs.StateOfImage.{listing}
 use Rattle.rs_store.specs.declared.formatting.Blank.{Blank}
 
 -- the header of a source that is formatted at this moment

@@ -1,7 +1,6 @@
 pub mod Source
 pub mod Refusals
 pub mod Commands
-pub mod Inside
 pub mod Writing
 pub mod Answered
 pub mod Opening
@@ -14,4 +13,4 @@ pub mod AnswersBody
 pub mod Counted
 pub mod Runs
 pub mod Laws
-pub mod GoesOn
+pub mod Advancing

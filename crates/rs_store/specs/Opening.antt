@@ -1,12 +1,17 @@
 -- What an opening or a formatting hands back.
-use Rattle.std.specs.Prelude.{Result, Ok, Err}
+use Rattle.std.specs.Prelude.{◌≡◌, false, None, Some, IsSome, IsTrue, Result, Ok, Err}
+use Rattle.rs_disk.specs.Leaves.{HasFailed}
+use Rattle.rs_disk.specs.Medium.{DiskState}
+use Rattle.rs_commit.specs.Slots.{current}
 use Rattle.rs_commit.specs.declared.faults.SlotFault.{SlotFault}
 use Rattle.rs_commit.specs.declared.faults.SlotFault.TheVariants as slots
 use Rattle.rs_page.specs.declared.page.load.LoadFault.{LoadFault}
 use Rattle.rs_page.specs.declared.page.load.LoadFault.TheVariants as lists
 use Rattle.rs_store.specs.declared.opening.OpenFault.{OpenFault}
 use Rattle.rs_store.specs.declared.opening.OpenFault.TheVariants.{NotASource, Damaged, Device, NoMemory}
-use Rattle.rs_store.specs.Source.{Stored}
+use Rattle.rs_image.specs.StateOfImage.{StandsFor}
+use Rattle.rs_model.specs.State.{Source}
+use Rattle.rs_store.specs.Source.{Stored, Holds, state_of}
 
 -- the disk after an answer: the source has it, or the refusal hands it back
 abbrev pub disk_of : {D F : Type 0} → Result (Stored D) (D × F) → D
@@ -23,3 +28,19 @@ abbrev pub of_lists : LoadFault → OpenFault
 of_lists lists.Damaged = Damaged
 of_lists lists.Device = Device
 of_lists lists.NoMemory = NoMemory
+
+-- An opened source. What the disk held is said of a device that has followed the model: the slots are those that the disk told,
+-- and the source holds the state that the disk stood for.
+pub record IsOpened {D : Type 0} (device : D → DiskState) (old : DiskState) (source : Stored D) : Type 0 where
+  pub is_open : source.is_closed ≡ false
+  pub slots : IsTrue (device source.disk).honest → current old.now.seen ≡ Some source.slots
+  pub holds : IsTrue (device source.disk).honest
+      → Holds device source (state_of device source) × StandsFor old.now.seen (state_of device source)
+
+-- Why no source was opened; what the disk held is said of a device that has followed the model: its slots tell no root; they
+-- tell one, and the disk stands for no state; the device failed; or memory was refused.
+abbrev pub IsNotOpened : DiskState → DiskState → OpenFault → Type 0
+IsNotOpened old new NotASource = IsTrue new.honest → current old.now.seen ≡ None
+IsNotOpened old new Damaged = IsTrue new.honest → IsSome (current old.now.seen) × ((s : Source) → ¬ StandsFor old.now.seen s)
+IsNotOpened old new Device = HasFailed old new
+IsNotOpened old new NoMemory = Unit {0}

@@ -7,12 +7,12 @@ use Rattle.rs_model.specs.State.{Source}
 use Rattle.rs_model.specs.Step.{moment_at}
 use Rattle.rs_model.specs.declared.command.Command.TheVariants.{Put}
 use Rattle.rs_model.specs.declared.command.Reply.{Reply}
-use Rattle.rs_image.specs.Tells.{StandsFor}
+use Rattle.rs_image.specs.StateOfImage.{StandsFor}
 use Rattle.rs_plan.specs.declared.plan.Plan.{Plan}
 use Rattle.rs_plan.specs.Plans.{IsPlanned}
 use Rattle.rs_store.specs.declared.refusal.Refusal.{Refusal}
 use Rattle.rs_store.specs.declared.refusal.Refusal.TheVariants.{ReadFault, ShortBody, Device, NoMemory}
-use Rattle.rs_store.specs.Source.{Stored, Holds, state_of}
+use Rattle.rs_store.specs.Source.{Stored, Holds, rooted_in, state_of}
 use Rattle.rs_store.specs.Refusals.{decided}
 use Rattle.rs_store.specs.Answered.{Answers, IsUnchanged}
 
@@ -35,7 +35,7 @@ pub record IsCutShort {D : Type 0} (device : D → DiskState) (old new : Stored 
   pub fewer : length came < n
   pub decides : (body : List ℕ) → length body ≡ n → decided old (state_of device old) (Put name kind body) ≡ None
   pub plan : (body : List ℕ) → length body ≡ n
-      → (p : Plan) × IsPlanned (device old.disk).size old.slots.root old.contents (Put name kind body) (moment_at (state_of device old) now) p
+      → (p : Plan) × IsPlanned (rooted_in device old) (Put name kind body) (moment_at (state_of device old) now) p
   pub left : IsLeft device old new
 
 -- the refusals that may come once a body is being read or written

@@ -8,14 +8,14 @@ use Rattle.rs_model.specs.State.{Source}
 use Rattle.rs_model.specs.Step.{step, state_after, fold_of, refusal_of}
 use Rattle.rs_model.specs.declared.command.Command.{Command}
 use Rattle.rs_model.specs.declared.command.Reply.{Reply}
-use Rattle.rs_image.specs.Tells.{StandsFor}
+use Rattle.rs_image.specs.StateOfImage.{StandsFor}
 use Rattle.rs_store.specs.declared.refusal.Refusal.{Refusal}
 use Rattle.rs_store.specs.declared.refusal.Refusal.TheVariants.{Closed, Exhausted, Full, Device, NoMemory}
 use Rattle.rs_store.specs.declared.running.Ack.{Ack}
 use Rattle.rs_store.specs.Source.{Stored, Holds}
 use Rattle.rs_store.specs.Refusals.{named_as}
 use Rattle.rs_store.specs.Answered.{Answers}
-use Rattle.rs_store.specs.Counted.{counted, acknowledged, begun, is_accepted, is_in_doubt}
+use Rattle.rs_store.specs.Counted.{counted_commands, acknowledged, begun, is_accepted, is_in_doubt}
 
 -- No command is done in between: the source may have been asked what it holds, or for a put whose body did not come whole.
 -- It is as open or closed as it was; a state that was held is still held, and each image of a crash meanwhile stands for it.
@@ -26,7 +26,7 @@ pub record IsIdle {D : Type 0} (device : D → DiskState) (old new : Stored D) :
   pub rests : old.is_closed ≡ true → Rests (device old.disk) (device new.disk)
   pub calls : (device old.disk).calls ≤ (device new.disk).calls
 
--- Commands are answered in their order, each as a source answers it, and `at_call` tells the calls that were counted then.
+-- Commands are answered in their order, each as a source answers it, and `at_call` tells the calls that were counted_commands then.
 -- Before each, and after the last, the source may have idled.
 abbrev pub InTurn : {D : Type 0} → (D → DiskState) → Stored D → List (Command × ℕ) → List Ack → Stored D → Type 0
 InTurn {D} device old [] [] new = IsIdle device old new
@@ -36,13 +36,13 @@ InTurn {D} device old (c ∷ commands) (a ∷ acks) new =
 InTurn {D} device old [] (a ∷ acks) new = ⊥
 InTurn {D} device old (c ∷ commands) [] new = ⊥
 
--- An image stands for the state after the first j counted commands, for some j: no command that was acknowledged when m calls
--- were counted is left out, and none is in that had not begun.
+-- An image stands for the state after the first j counted_commands commands, for some j: no command that was acknowledged when m calls
+-- were counted_commands is left out, and none is in that had not begun.
 pub record StandsForPrefix (s : Source) (commands : List (Command × ℕ)) (acks : List Ack) (m : ℕ) (image : List ℕ) : Type 0 where
   pub j : ℕ
   pub least : acknowledged m acks ≤ j
   pub most : j ≤ begun m acks
-  pub stands : StandsFor image (fold_of s (take j (counted commands acks)))
+  pub stands : StandsFor image (fold_of s (take j (counted_commands commands acks)))
 
 -- a refusal that the model does not decide
 abbrev pub IsBeyondModel : Refusal → Type 0

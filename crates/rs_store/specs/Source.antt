@@ -5,7 +5,8 @@ use Rattle.rs_commit.specs.Slots.{Standing}
 use Rattle.rs_commit.specs.Commit.{IsReady}
 use Rattle.rs_model.specs.State.{Source}
 use Rattle.rs_image.specs.declared.contents.Contents.{Contents}
-use Rattle.rs_image.specs.Tells.{Tells, state_in}
+use Rattle.rs_image.specs.Rooted.{Rooted, rooted}
+use Rattle.rs_image.specs.StateOfImage.{Tells, state_in}
 
 -- A stored source: its disk, how the slots stand, what stands behind the root, and whether it is closed, which it is once
 -- a command met a fault of the device.
@@ -14,6 +15,10 @@ pub record Stored (D : Type 0) : Type 0 where
   pub slots : Standing
   pub contents : Contents
   pub is_closed : Bool
+
+-- its root with what stands behind it, on its disk
+abbrev pub rooted_in : {D : Type 0} → (D → DiskState) → Stored D → Rooted
+rooted_in device source = rooted (device source.disk).size source.slots.root source.contents
 
 -- what its lists tell of the disk as a read gives it
 abbrev pub state_of : {D : Type 0} → (D → DiskState) → Stored D → Source

@@ -6,8 +6,8 @@ use Rattle.rs_lists.specs.Shown.{Shown}
 use Rattle.rs_store.specs.declared.view.SourceView.{SourceView}
 
 -- the latest publication as it is stored, and all changes, of which the first part has number 0
-abbrev pub shown_of : Contents → Shown
-shown_of c =
+abbrev pub shown_in : Contents → Shown
+shown_in c =
     record {
       base = c.header.base;
       limit = c.header.limit;
@@ -19,5 +19,5 @@ shown_of c =
       first = 0;
     }
 
-abbrev pub shown_by : {D : Type 0} → SourceView D → Shown
-shown_by view = shown_of view.source.now.contents
+abbrev pub shown_by_source : {D : Type 0} → SourceView D → Shown
+shown_by_source view = shown_in view.source.now.contents

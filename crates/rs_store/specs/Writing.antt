@@ -1,14 +1,18 @@
 -- What it is to write a plan.
-use Rattle.std.specs.Prelude.{◌≡◌, ◌≤◌, ℕ, List, length}
+use Rattle.std.specs.Prelude.{◌≡◌, ◌≤◌, ℕ, List, length, All}
+use Rattle.rs_extent.specs.Extents.{AreApart}
 use Rattle.rs_fixity.specs.Digests.{digests}
-use Rattle.rs_commit.specs.declared.root.Root.{Root}
 use Rattle.rs_model.specs.declared.command.Command.{Command}
 use Rattle.rs_page.specs.declared.page.store.StoreFault.{StoreFault}
 use Rattle.rs_page.specs.declared.page.store.StoreFault.TheVariants.{Device as NoDevice, NoMemory as NoPageMemory}
 use Rattle.rs_catalogue.specs.Catalogue.{IsCatalogue}
 use Rattle.rs_changes.specs.History.{IsHistory}
 use Rattle.rs_image.specs.declared.contents.Contents.{Contents}
-use Rattle.rs_image.specs.Tells.{listing}
+use Rattle.rs_body.specs.Blocks.{IsSized}
+use Rattle.rs_page.specs.Pages.{IsTouched}
+use Rattle.rs_image.specs.Reach.{AreInside}
+use Rattle.rs_image.specs.Rooted.{Rooted}
+use Rattle.rs_image.specs.StateOfImage.{listing, AreListable}
 use Rattle.rs_plan.specs.declared.plan.Plan.{Plan}
 use Rattle.rs_plan.specs.declared.planning.PlanFault.{PlanFault}
 use Rattle.rs_plan.specs.declared.planning.PlanFault.TheVariants.{Full as NoRoom, NoMemory as NoPlanMemory}
@@ -17,7 +21,7 @@ use Rattle.rs_store.specs.declared.refusal.Refusal.TheVariants.{Full, NoMemory a
 use Rattle.rs_store.specs.declared.writing.WriteFault.{WriteFault}
 use Rattle.rs_store.specs.declared.writing.WriteFault.TheVariants.{Device, NoMemory}
 use Rattle.rs_store.specs.declared.writing.Written.{Written}
-use Rattle.rs_plan.specs.Plans.{IsPlanned, body_of_command}
+use Rattle.rs_plan.specs.Plans.{IsPlanned, body_of_command, once_stored, places, planned_listing, AreWritten}
 
 -- a page that was not stored
 abbrev pub of_store : StoreFault → WriteFault
@@ -43,8 +47,31 @@ pub record AreLists (c : Contents) : Type 0 where
   pub one_published_page : length c.published ≤ 1
 
 -- A plan is of some command that writes these bytes.
-pub record IsPlanOfSome (size : ℕ) (root : Root) (old : Contents) (bytes : List ℕ) (p : Plan) : Type 0 where
+pub record IsPlanOfSome (old : Rooted) (bytes : List ℕ) (p : Plan) : Type 0 where
   pub command : Command
   pub moment : ℕ
   pub written : body_of_command command ≡ bytes
-  pub planned : IsPlanned size root old command moment p
+  pub planned : IsPlanned old command moment p
+
+-- A plan can be written to a disk of this many bytes, with this body: its places lie behind the slots, no two of them have a
+-- block in common, each page has its place, body and directory have exactly their blocks, and a directory can have the lists.
+pub record IsWritable (size : ℕ) (bytes : List ℕ) (p : Plan) : Type 0 where
+  pub inside : AreInside size (places p)
+  pub apart : AreApart (places p)
+  pub catalogue : All (λ page. ¬ IsTouched page.place) p.contents.catalogue
+  pub history : All (λ page. ¬ IsTouched page.place) p.contents.history
+  pub body : IsSized p.body (length bytes)
+  pub directory : IsSized p.directory (length (planned_listing p))
+  pub listable : AreListable (once_stored p.contents)
+
+-- All of a plan was written: its lists are stored, and what it writes stands in an image.
+pub record IsStoredPlan (p p' : Plan) (bytes image : List ℕ) : Type 0 where
+  pub contents : p'.contents ≡ once_stored p.contents
+  pub lists : AreLists (once_stored p.contents)
+  pub reads : AreWritten p bytes image
+
+-- the parts of a plan beside its lists are as they were
+pub record StaysBesideLists (p p' : Plan) : Type 0 where
+  pub body : p'.body ≡ p.body
+  pub directory : p'.directory ≡ p.directory
+  pub reply : p'.reply ≡ p.reply

@@ -1,11 +1,10 @@
 //! The commands of a source.
 
-ghost use Rattle.std.specs.Prelude.{◌≡◌, ◌<◌, ◌+◌, ◌^◌, ℕ, false, None, IfErr, if◌then◌else◌};
-ghost use Rattle.rs_model.specs.Step.{moment_at, reply_to};
+ghost use Rattle.std.specs.Prelude.{◌≡◌, ◌<◌, ◌+◌, ◌^◌, ℕ, false, None, IfErr};
+ghost use Rattle.rs_model.specs.Step.{moment_at};
 ghost use Rattle.rs_model.specs.declared.command.Command.{Command};
 ghost use Rattle.rs_model.specs.declared.command.Command.TheVariants.{Put, Delete, Publish};
-ghost use Rattle.rs_model.specs.declared.command.Reply.TheVariants.{Created, Updated};
-ghost use Rattle.rs_store.specs.Source.{state_of};
+ghost use Rattle.rs_store.specs.Source.{rooted_in, state_of};
 ghost use Rattle.rs_store.specs.Refusals.{decided};
 ghost use Rattle.rs_plan.specs.Plans.{IsPlanned, body_of_command};
 ghost use Rattle.rs_store.specs.Writing.{of_plan, IsPlanOfSome};
@@ -60,20 +59,8 @@ impl<D: Disk> Source<D> {
         ensures { Answers D.state self.old self.new (Put name.now kind.now bytes.now) now result }
     {
         let moment = self.moment_of_put(name, bytes.len() as u64, now)?;
-        let is_held = self.holds(name);
-        let root = self.slots.root();
-        let size = self.disk.size();
-        let plan = plan_put(
-            self.alloc,
-            size,
-            &root,
-            &self.contents,
-            name,
-            kind,
-            bytes,
-            moment,
-        )?;
-        self.finish(plan, bytes, put_reply(is_held, moment))
+        let plan = plan_put(self.alloc, &self.rooted(), name, kind, bytes, moment)?;
+        self.finish(plan, bytes)
     }
 
     /// Unbinds the name: the resource is deleted. The command comes at the moment `now`, and is accepted
@@ -89,10 +76,8 @@ impl<D: Disk> Source<D> {
         ensures { Answers D.state self.old self.new (Delete name.now) now result }
     {
         let moment = self.moment_of_delete(name, now)?;
-        let root = self.slots.root();
-        let size = self.disk.size();
-        let plan = plan_delete(self.alloc, size, &root, &self.contents, name, moment)?;
-        self.finish(plan, &[], Reply::Deleted(moment))
+        let plan = plan_delete(self.alloc, &self.rooted(), name, moment)?;
+        self.finish(plan, &[])
     }
 
     /// Lists all resources that are held, as the next publication. The command comes at the moment
@@ -109,26 +94,21 @@ impl<D: Disk> Source<D> {
         ensures { Answers D.state self.old self.new Publish now result }
     {
         let moment = self.moment_of_publish(now)?;
-        let number = self.contents.header.number + 1;
-        let root = self.slots.root();
-        let size = self.disk.size();
-        let plan = plan_publish(self.alloc, size, &root, &self.contents, moment)?;
-        self.finish(plan, &[], Reply::Published(number, moment))
+        let plan = plan_publish(self.alloc, &self.rooted(), moment)?;
+        self.finish(plan, &[])
     }
 
-    /// Writes a plan and changes the root; then what is in memory goes along.
-    pub(crate) fn finish(
-        &mut self,
-        mut plan: Plan,
-        bytes: &[u8],
-        reply: Reply,
-    ) -> Result<Reply, Refusal>
+    /// Writes a plan and changes the root; then what is in memory goes along, and the plan's reply is
+    /// answered.
+    pub(crate) fn finish(&mut self, mut plan: Plan, bytes: &[u8]) -> Result<Reply, Refusal>
         requires is_open { self.old.is_closed ≡ false }
         requires spare { self.old.slots.root.generation + 1 < 2 ^ 64 }
-        requires planned { IsPlanOfSome (D.state self.old.disk).size self.old.slots.root self.old.contents bytes.now plan }
-        ensures answers { (command : Command) (now : ℕ) → decided self.old (state_of D.state self.old) command ≡ None → body_of_command command ≡ bytes.now
-            → IsPlanned (D.state self.old.disk).size self.old.slots.root self.old.contents command (moment_at (state_of D.state self.old) now) plan
-            → reply ≡ reply_to (state_of D.state self.old) command (moment_at (state_of D.state self.old) now)
+        requires planned { IsPlanOfSome (rooted_in D.state self.old) bytes.now plan }
+        ensures answers { (command : Command) (now : ℕ)
+            → decided self.old (state_of D.state self.old) command ≡ None
+            → body_of_command command ≡ bytes.now
+            → IsPlanned (rooted_in D.state self.old) command
+            (moment_at (state_of D.state self.old) now) plan
             → Answers D.state self.old self.new command now result }
         ensures late { IfErr result IsLate }
     {
@@ -154,17 +134,6 @@ impl<D: Disk> Source<D> {
             }
         }
         self.contents = plan.contents;
-        Ok(reply)
-    }
-}
-
-/// The reply to a put.
-pub(crate) fn put_reply(is_held: bool, moment: Moment) -> Reply
-    ensures { result ≡ (if is_held then Updated moment else Created moment) }
-{
-    if is_held {
-        Reply::Updated(moment)
-    } else {
-        Reply::Created(moment)
+        Ok(plan.reply)
     }
 }

@@ -1,12 +1,11 @@
 //! What is decided of a command before anything is asked of memory or the disk.
 
-ghost use Rattle.std.specs.Prelude.{◌≡◌, ◌<◌, ◌≤◌, ◌+◌, ◌^◌, ℕ, List, [], ◌∷◌, length, false, not, is_some, is_none, IfOk, OnOk, IsNone, IsSome};
+ghost use Rattle.std.specs.Prelude.{◌≡◌, ◌<◌, ◌+◌, ◌^◌, ℕ, List, [], ◌∷◌, length, false, not, is_some, is_none, IfOk, OnOk};
 ghost use Rattle.rs_model.specs.Names.{value_of};
-ghost use Rattle.rs_model.specs.State.{longest_body, most_resources, most_changes};
 ghost use Rattle.rs_model.specs.Step.{moment_at, change_refusal, first_cause, is_held, is_out_of_moments};
 ghost use Rattle.rs_catalogue.specs.Named.{named};
 ghost use Rattle.rs_catalogue.specs.Catalogue.{records_of};
-ghost use Rattle.rs_changes.specs.History.{changes_of};
+ghost use Rattle.rs_plan.specs.Allowed.{MayChange, MayPut, MayDelete, MayPublish};
 ghost use Rattle.rs_model.specs.declared.command.Command.TheVariants.{Put, Delete, Publish};
 ghost use Rattle.rs_model.specs.declared.command.Refusal.TheVariants as decides;
 ghost use Rattle.rs_store.specs.Source.{state_of};
@@ -15,17 +14,8 @@ ghost use Rattle.rs_store.specs.Answered.{moment_unless};
 
 use crate::{Refusal, Source};
 use rs_disk::Disk;
-use rs_record::Name;
+use rs_record::{LONGEST_BODY, MOST_ITEMS, Name};
 use rs_time::Moment;
-
-// The greatest number of bytes of a body.
-const LONGEST_BODY: u64 = 16_777_216;
-
-// The greatest number of resources that are held.
-const MOST_RESOURCES: usize = 50_000;
-
-// The greatest number of changes that are kept.
-const MOST_CHANGES: usize = 50_000;
 
 impl<D: Disk> Source<D> {
     /// The moment of a put of so many bytes that comes at `now`, or why it is refused at once.
@@ -36,21 +26,20 @@ impl<D: Disk> Source<D> {
         now: Moment,
     ) -> Result<Moment, Refusal>
         ensures decided { (kind bytes : List ℕ) → length bytes ≡ body_length
-            → result ≡ moment_unless (decided self.now (state_of D.state self.now) (Put name.now kind bytes)) (moment_at (state_of D.state self.now) now) }
+            → result ≡ moment_unless
+            (decided self.now (state_of D.state self.now) (Put name.now kind bytes))
+            (moment_at (state_of D.state self.now) now) }
         ensures open { OnOk result (self.now.is_closed ≡ false) }
-        ensures later { IfOk result (λ moment. self.now.contents.header.last < moment) }
+        ensures may { IfOk result (MayPut self.now.contents name.now body_length) }
         ensures spare { OnOk result (self.now.slots.root.generation + 1 < 2 ^ 64) }
-        ensures changes { OnOk result (length (changes_of self.now.contents.history) < most_changes) }
-        ensures body { OnOk result (body_length ≤ longest_body) }
-        ensures resources { OnOk result (IsNone (value_of name.now (named (records_of self.now.contents.catalogue))) → length (records_of self.now.contents.catalogue) < most_resources) }
     {
         if self.is_closed {
             return Err(Refusal::Closed);
         }
-        if body_length > LONGEST_BODY {
+        if body_length > LONGEST_BODY as u64 {
             return Err(Refusal::TooLong);
         }
-        if !self.holds(name) && self.resources() >= MOST_RESOURCES {
+        if self.resources() >= MOST_ITEMS && !self.holds(name) {
             return Err(Refusal::TooManyResources);
         }
         let moment = self.moment_of_change(now)?;
@@ -59,12 +48,12 @@ impl<D: Disk> Source<D> {
 
     /// The moment of a delete that comes at `now`, or why it is refused at once.
     pub(crate) fn moment_of_delete(&self, name: &Name, now: Moment) -> Result<Moment, Refusal>
-        ensures decided { result ≡ moment_unless (decided self.now (state_of D.state self.now) (Delete name.now)) (moment_at (state_of D.state self.now) now) }
+        ensures decided { result ≡ moment_unless
+            (decided self.now (state_of D.state self.now) (Delete name.now))
+            (moment_at (state_of D.state self.now) now) }
         ensures open { OnOk result (self.now.is_closed ≡ false) }
-        ensures later { IfOk result (λ moment. self.now.contents.header.last < moment) }
+        ensures may { IfOk result (MayDelete self.now.contents name.now) }
         ensures spare { OnOk result (self.now.slots.root.generation + 1 < 2 ^ 64) }
-        ensures changes { OnOk result (length (changes_of self.now.contents.history) < most_changes) }
-        ensures held { OnOk result (IsSome (value_of name.now (named (records_of self.now.contents.catalogue)))) }
     {
         if self.is_closed {
             return Err(Refusal::Closed);
@@ -78,11 +67,12 @@ impl<D: Disk> Source<D> {
 
     /// The moment of a publish that comes at `now`, or why it is refused at once.
     pub(crate) fn moment_of_publish(&self, now: Moment) -> Result<Moment, Refusal>
-        ensures decided { result ≡ moment_unless (decided self.now (state_of D.state self.now) Publish) (moment_at (state_of D.state self.now) now) }
+        ensures decided { result ≡ moment_unless
+            (decided self.now (state_of D.state self.now) Publish)
+            (moment_at (state_of D.state self.now) now) }
         ensures open { OnOk result (self.now.is_closed ≡ false) }
-        ensures later { IfOk result (λ moment. self.now.contents.header.last < moment) }
+        ensures may { IfOk result (MayPublish self.now.contents) }
         ensures spare { OnOk result (self.now.slots.root.generation + 1 < 2 ^ 64) }
-        ensures number { OnOk result (self.now.contents.header.number + 1 < 2 ^ 64) }
     {
         if self.is_closed {
             return Err(Refusal::Closed);
@@ -96,12 +86,13 @@ impl<D: Disk> Source<D> {
 
     // The moment of a put or a delete that the resources allow.
     fn moment_of_change(&self, now: Moment) -> Result<Moment, Refusal>
-        ensures decided { result ≡ moment_unless (or_spent (change_refusal (state_of D.state self.now)) (is_spent self.now)) (moment_at (state_of D.state self.now) now) }
-        ensures later { IfOk result (λ moment. self.now.contents.header.last < moment) }
+        ensures decided { result ≡ moment_unless
+            (or_spent (change_refusal (state_of D.state self.now)) (is_spent self.now))
+            (moment_at (state_of D.state self.now) now) }
+        ensures may { IfOk result (MayChange self.now.contents) }
         ensures spare { OnOk result (self.now.slots.root.generation + 1 < 2 ^ 64) }
-        ensures changes { OnOk result (length (changes_of self.now.contents.history) < most_changes) }
     {
-        if self.contents.history.len() >= MOST_CHANGES {
+        if self.contents.history.len() >= MOST_ITEMS {
             return Err(Refusal::TooManyChanges);
         }
         let moment = self.next_moment(now)?;
@@ -112,7 +103,8 @@ impl<D: Disk> Source<D> {
     pub(crate) fn holds(&self, name: &Name) -> bool
         ensures held { result ≡ is_held (state_of D.state self.now) name.now }
         ensures lacks { not result ≡ is_none (value_of name.now (state_of D.state self.now).held) }
-        ensures found { result ≡ is_some (value_of name.now (named (records_of self.now.contents.catalogue))) }
+        ensures found { result ≡ is_some
+            (value_of name.now (named (records_of self.now.contents.catalogue))) }
     {
         self.contents.catalogue.get(name).is_some()
     }
@@ -127,7 +119,12 @@ impl<D: Disk> Source<D> {
 
     // The moment of a command that is allowed otherwise.
     fn next_moment(&self, now: Moment) -> Result<Moment, Refusal>
-        ensures decided { result ≡ moment_unless (or_spent (first_cause ((is_out_of_moments (state_of D.state self.now), decides.Exhausted) ∷ [])) (is_spent self.now)) (moment_at (state_of D.state self.now) now) }
+        ensures decided { result ≡ moment_unless
+            (or_spent
+            (first_cause
+            ((is_out_of_moments (state_of D.state self.now), decides.Exhausted) ∷ []))
+            (is_spent self.now))
+            (moment_at (state_of D.state self.now) now) }
         ensures later { IfOk result (λ moment. self.now.contents.header.last < moment) }
         ensures spare { OnOk result (self.now.slots.root.generation + 1 < 2 ^ 64) }
     {

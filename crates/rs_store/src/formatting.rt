@@ -3,7 +3,8 @@
 ghost use Rattle.std.specs.Prelude.{◌≡◌, ◌↔◌, ◌*◌, ◌<◌, ◌≤◌, false, length, IfOk, OnOk, IfErr, IsErrAnd, IsErrOf, IsTrue};
 ghost use Rattle.rs_disk.specs.Medium.{resting};
 ghost use Rattle.rs_disk.specs.Leaves.{Runs, HasFailed};
-ghost use Rattle.rs_body.specs.Blocks.{IsOnDisk, part};
+ghost use Rattle.rs_extent.specs.Extents.{IsOnDisk};
+ghost use Rattle.rs_body.specs.Blocks.{part};
 ghost use Rattle.rs_record.specs.Base.{is_base};
 ghost use Rattle.rs_commit.specs.Commit.{IsReady};
 ghost use Rattle.rs_commit.specs.Format.{fresh};
@@ -98,10 +99,16 @@ impl<D: Disk> Source<D> {
         // Of every device, since nothing is read.
         ensures holds { IfOk result (λ source. Holds D.state source (start_of base.now limit now)) }
 
-        ensures bad_base { IsErrAnd result (λ e. e.1 ≡ FormatFault.BadBase) ↔ (is_base base.now ≡ false) }
-        ensures bad_limit { IsErrAnd result (λ e. e.1 ≡ FormatFault.BadLimit) ↔ (IsTrue (is_base base.now) × (¬ IsLimit limit)) }
-        ensures too_small { IsErrAnd result (λ e. e.1 ≡ FormatFault.TooSmall) ↔ (IsTrue (is_base base.now) × IsLimit limit × (blocks_of_disk (D.state disk).size < 16)) }
-        ensures device { IfErr result (λ e. e.1 ≡ FormatFault.Device → HasFailed (D.state disk) (D.state e.0)) }
+        ensures bad_base { IsErrAnd result (λ e. e.1 ≡ FormatFault.BadBase)
+            ↔ (is_base base.now ≡ false) }
+        ensures bad_limit { IsErrAnd result (λ e. e.1 ≡ FormatFault.BadLimit)
+            ↔ (IsTrue (is_base base.now) × (¬ IsLimit limit)) }
+        ensures too_small { IsErrAnd result (λ e. e.1 ≡ FormatFault.TooSmall)
+            ↔ (IsTrue (is_base base.now)
+            × IsLimit limit
+            × (blocks_of_disk (D.state disk).size < 16)) }
+        ensures device { IfErr result (λ e. e.1 ≡ FormatFault.Device
+            → HasFailed (D.state disk) (D.state e.0)) }
         ensures untouched { IfErr result (λ e. ¬ (e.1 ≡ FormatFault.Device) → e.0 ≡ disk) }
 
         // Whatever it answers.
@@ -141,8 +148,10 @@ fn lay_out(
     ensures limit { OnOk result (IsLimit limit) }
     ensures base { OnOk result (IsTrue (is_base base.now)) }
     ensures bad_base { IsErrOf result FormatFault.BadBase ↔ (is_base base.now ≡ false) }
-    ensures bad_limit { IsErrOf result FormatFault.BadLimit ↔ (IsTrue (is_base base.now) × (¬ IsLimit limit)) }
-    ensures too_small { IsErrOf result FormatFault.TooSmall ↔ (IsTrue (is_base base.now) × IsLimit limit × (blocks_of_disk size < 16)) }
+    ensures bad_limit { IsErrOf result FormatFault.BadLimit
+        ↔ (IsTrue (is_base base.now) × (¬ IsLimit limit)) }
+    ensures too_small { IsErrOf result FormatFault.TooSmall
+        ↔ (IsTrue (is_base base.now) × IsLimit limit × (blocks_of_disk size < 16)) }
     ensures device { ¬ IsErrOf result FormatFault.Device }
 {
     let header = first_header(alloc, size, base, limit, now)?;
@@ -184,8 +193,10 @@ fn first_header(
     ensures limit { OnOk result (IsLimit limit) }
     ensures base { OnOk result (IsTrue (is_base base.now)) }
     ensures bad_base { IsErrOf result FormatFault.BadBase ↔ (is_base base.now ≡ false) }
-    ensures bad_limit { IsErrOf result FormatFault.BadLimit ↔ (IsTrue (is_base base.now) × (¬ IsLimit limit)) }
-    ensures too_small { IsErrOf result FormatFault.TooSmall ↔ (IsTrue (is_base base.now) × IsLimit limit × (blocks_of_disk size < 16)) }
+    ensures bad_limit { IsErrOf result FormatFault.BadLimit
+        ↔ (IsTrue (is_base base.now) × (¬ IsLimit limit)) }
+    ensures too_small { IsErrOf result FormatFault.TooSmall
+        ↔ (IsTrue (is_base base.now) × IsLimit limit × (blocks_of_disk size < 16)) }
     ensures device { ¬ IsErrOf result FormatFault.Device }
 {
     let base = match Base::new(alloc, base) {
@@ -221,7 +232,10 @@ fn write_blank<D: Disk>(disk: &mut D, blank: &Blank) -> Result<Slots, Fault>
     ensures slots { IfOk result (λ slots. slots ≡ fresh blank.now.root) }
     ensures ready { OnOk result (IsReady (fresh blank.now.root) (D.state disk.new).now) }
     ensures resting { OnOk result ((D.state disk.new).now ≡ resting (D.state disk.new).now.seen) }
-    ensures reads { OnOk result (part blank.now.root.directory (length blank.now.directory.items) (D.state disk.new).now.seen ≡ blank.now.directory.items) }
+    ensures reads { OnOk result
+        (part blank.now.root.directory (length blank.now.directory.items)
+        (D.state disk.new).now.seen
+        ≡ blank.now.directory.items) }
 {
     write_body(disk, blank.root.directory, &blank.directory)?;
     format_slots(disk, &blank.root)

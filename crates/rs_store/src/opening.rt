@@ -6,21 +6,21 @@ ghost use Rattle.rs_disk.specs.Leaves.{Rests, HasFailed, WritesNothing};
 ghost use Rattle.rs_commit.specs.Slots.{current};
 ghost use Rattle.rs_commit.specs.Commit.{IsReady, AreSettled};
 ghost use Rattle.rs_model.specs.State.{Source as State};
-ghost use Rattle.rs_image.specs.Tells.{StandsFor, Tells, state_in};
-ghost use Rattle.rs_store.specs.Inside.{IsKept};
-ghost use Rattle.rs_store.specs.Source.{Holds, state_of};
-ghost use Rattle.rs_store.specs.Opening.{disk_of};
+ghost use Rattle.rs_image.specs.StateOfImage.{StandsFor, Tells, state_in};
+ghost use Rattle.rs_image.specs.Rooted.{IsRooted, rooted};
+ghost use Rattle.rs_store.specs.Opening.{disk_of, IsOpened, IsNotOpened};
 
 use crate::Source;
 use rs_catalogue::LoadFault;
 use rs_commit::{SlotFault, Slots, open_slots};
 use rs_disk::{Disk, Fault};
+use rs_extent::BLOCK_SIZE;
 use rs_image::{Contents, load};
 use std::alloc::Global;
 use thiserror::Error;
 
 // The bytes of the two slots.
-const SLOTS_SIZE: u64 = 1024;
+const SLOTS_SIZE: u64 = 2 * BLOCK_SIZE as u64;
 
 /// Why no source was opened.
 #[derive(Clone, Copy, Debug, PartialEq, Eq, Error)]
@@ -95,15 +95,8 @@ impl<D: Disk> Source<D> {
     ///
     /// One of the first two comes only where the device and the memory allowed to find out.
     pub fn open(alloc: Global, disk: D) -> Result<Source<D>, (D, OpenFault)>
-        ensures is_open { IfOk result (λ source. source.is_closed ≡ false) }
-
-        // What the disk holds is said of a device that has followed the model.
-        ensures holds { IfOk result (λ source. IsTrue (D.state source.disk).honest → Holds D.state source (state_of D.state source) × StandsFor (D.state disk).now.seen (state_of D.state source)) }
-        ensures slots { IfOk result (λ source. IsTrue (D.state source.disk).honest → current (D.state disk).now.seen ≡ Some source.slots) }
-        ensures not_a_source { IfErr result (λ e. e.1 ≡ OpenFault.NotASource → IsTrue (D.state e.0).honest → current (D.state disk).now.seen ≡ None) }
-        ensures a_source { IfErr result (λ e. e.1 ≡ OpenFault.Damaged → IsTrue (D.state e.0).honest → IsSome (current (D.state disk).now.seen)) }
-        ensures damaged { IfErr result (λ e. e.1 ≡ OpenFault.Damaged → IsTrue (D.state e.0).honest → (s : State) → ¬ StandsFor (D.state disk).now.seen s) }
-        ensures device { IfErr result (λ e. e.1 ≡ OpenFault.Device → HasFailed (D.state disk) (D.state e.0)) }
+        ensures opened { IfOk result (IsOpened D.state (D.state disk)) }
+        ensures refused { IfErr result (λ e. IsNotOpened (D.state disk) (D.state e.0) e.1) }
 
         // Whatever it answers, a crash within it leaves an image of its entry, and a read gives what
         // it gave.
@@ -125,15 +118,24 @@ impl<D: Disk> Source<D> {
 
 // Settles what a disk holds, and reads the source that it holds.
 fn recover<D: Disk>(alloc: Global, disk: &mut D) -> Result<(Slots, Contents), OpenFault>
-    ensures kept { IfOk result (λ x. IsKept (D.state disk.new).size x.0 x.1) }
+    ensures sound { IfOk result (λ x. IsRooted (rooted (D.state disk.new).size x.0.root x.1)) }
     ensures resting { OnOk result ((D.state disk.new).now ≡ resting (D.state disk.old).now.seen) }
-    ensures slots { IfOk result (λ x. IsTrue (D.state disk.new).honest → current (D.state disk.old).now.seen ≡ Some x.0) }
-    ensures ready { IfOk result (λ x. IsTrue (D.state disk.new).honest → IsReady x.0 (D.state disk.new).now) }
-    ensures told { IfOk result (λ x. IsTrue (D.state disk.new).honest → Tells x.0.root x.1 (D.state disk.old).now.seen (state_in (D.state disk.old).now.seen x.1)) }
-    ensures not_a_source { IsErrOf result OpenFault.NotASource → IsTrue (D.state disk.new).honest → current (D.state disk.old).now.seen ≡ None }
-    ensures a_source { IsErrOf result OpenFault.Damaged → IsTrue (D.state disk.new).honest → IsSome (current (D.state disk.old).now.seen) }
-    ensures damaged { IsErrOf result OpenFault.Damaged → IsTrue (D.state disk.new).honest → (s : State) → ¬ StandsFor (D.state disk.old).now.seen s }
-    ensures device { IsErrOf result OpenFault.Device → HasFailed (D.state disk.old) (D.state disk.new) }
+    ensures slots { IfOk result (λ x. IsTrue (D.state disk.new).honest
+        → current (D.state disk.old).now.seen ≡ Some x.0) }
+    ensures ready { IfOk result (λ x. IsTrue (D.state disk.new).honest
+        → IsReady x.0 (D.state disk.new).now) }
+    ensures told { IfOk result (λ x. IsTrue (D.state disk.new).honest
+        → Tells x.0.root x.1 (D.state disk.old).now.seen
+        (state_in (D.state disk.old).now.seen x.1)) }
+    ensures not_a_source { IsErrOf result OpenFault.NotASource
+        → IsTrue (D.state disk.new).honest → current (D.state disk.old).now.seen ≡ None }
+    ensures a_source { IsErrOf result OpenFault.Damaged
+        → IsTrue (D.state disk.new).honest → IsSome (current (D.state disk.old).now.seen) }
+    ensures damaged { IsErrOf result OpenFault.Damaged
+        → IsTrue (D.state disk.new).honest
+        → (s : State) → ¬ StandsFor (D.state disk.old).now.seen s }
+    ensures device { IsErrOf result OpenFault.Device
+        → HasFailed (D.state disk.old) (D.state disk.new) }
     ensures writes_nothing { WritesNothing (D.state disk.old) (D.state disk.new) }
 {
     disk.sync()?;
@@ -142,14 +144,23 @@ fn recover<D: Disk>(alloc: Global, disk: &mut D) -> Result<(Slots, Contents), Op
 
 // Reads the source that a disk holds.
 fn read_source<D: Disk>(alloc: Global, disk: &mut D) -> Result<(Slots, Contents), OpenFault>
-    ensures kept { IfOk result (λ x. IsKept (D.state disk.new).size x.0 x.1) }
-    ensures slots { IfOk result (λ x. IsTrue (D.state disk.new).honest → current (D.state disk.old).now.seen ≡ Some x.0) }
-    ensures ready { IfOk result (λ x. IsTrue (D.state disk.new).honest → AreSettled (D.state disk.old).now → IsReady x.0 (D.state disk.new).now) }
-    ensures told { IfOk result (λ x. IsTrue (D.state disk.new).honest → Tells x.0.root x.1 (D.state disk.old).now.seen (state_in (D.state disk.old).now.seen x.1)) }
-    ensures not_a_source { IsErrOf result OpenFault.NotASource → IsTrue (D.state disk.new).honest → current (D.state disk.old).now.seen ≡ None }
-    ensures a_source { IsErrOf result OpenFault.Damaged → IsTrue (D.state disk.new).honest → IsSome (current (D.state disk.old).now.seen) }
-    ensures damaged { IsErrOf result OpenFault.Damaged → IsTrue (D.state disk.new).honest → (s : State) → ¬ StandsFor (D.state disk.old).now.seen s }
-    ensures device { IsErrOf result OpenFault.Device → HasFailed (D.state disk.old) (D.state disk.new) }
+    ensures sound { IfOk result (λ x. IsRooted (rooted (D.state disk.new).size x.0.root x.1)) }
+    ensures slots { IfOk result (λ x. IsTrue (D.state disk.new).honest
+        → current (D.state disk.old).now.seen ≡ Some x.0) }
+    ensures ready { IfOk result (λ x. IsTrue (D.state disk.new).honest
+        → AreSettled (D.state disk.old).now → IsReady x.0 (D.state disk.new).now) }
+    ensures told { IfOk result (λ x. IsTrue (D.state disk.new).honest
+        → Tells x.0.root x.1 (D.state disk.old).now.seen
+        (state_in (D.state disk.old).now.seen x.1)) }
+    ensures not_a_source { IsErrOf result OpenFault.NotASource
+        → IsTrue (D.state disk.new).honest → current (D.state disk.old).now.seen ≡ None }
+    ensures a_source { IsErrOf result OpenFault.Damaged
+        → IsTrue (D.state disk.new).honest → IsSome (current (D.state disk.old).now.seen) }
+    ensures damaged { IsErrOf result OpenFault.Damaged
+        → IsTrue (D.state disk.new).honest
+        → (s : State) → ¬ StandsFor (D.state disk.old).now.seen s }
+    ensures device { IsErrOf result OpenFault.Device
+        → HasFailed (D.state disk.old) (D.state disk.new) }
     ensures rests { Rests (D.state disk.old) (D.state disk.new) }
 {
     let (slots, root) = open_slots(disk)?;

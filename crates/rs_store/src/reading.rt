@@ -12,7 +12,7 @@ ghost use Rattle.rs_changes.specs.History.{changes_of};
 ghost use Rattle.rs_store.specs.Source.{state_of};
 ghost use Rattle.rs_store.specs.Shows.{AreAsRecorded, HasItsDigest, IsOfBody, IsOfKind, kind_of, status_of};
 ghost use Rattle.rs_store.specs.AnswersBody.{AnswersBody};
-ghost use Rattle.rs_store.specs.Views.{shown_of, shown_by};
+ghost use Rattle.rs_store.specs.Views.{shown_in, shown_by_source};
 
 use crate::{Refusal, Source, SourceView};
 use rs_body::{BodyFault, read_body};
@@ -37,9 +37,9 @@ pub struct Status {
 }
 
 impl From<BodyFault> for Refusal {
-    ghost use Rattle.rs_store.specs.Bodies.{of_body};
+    ghost use Rattle.rs_store.specs.Bodies.{refusal_of_body};
 
-    ghost from_gives = { λ fault refusal. refusal ≡ of_body fault };
+    ghost from_gives = { λ fault refusal. refusal ≡ refusal_of_body fault };
 
     fn from(fault: BodyFault) -> Refusal {
         match fault {
@@ -85,13 +85,22 @@ impl<D: Disk> Source<D> {
     fn read_held(&mut self, name: &Name) -> Result<Vec<u8>, Refusal>
         // What the disk holds is said of a device that has followed the model; that the bytes are as
         // recorded, of every device.
-        ensures reads { IfOk result (λ bytes. IsTrue (D.state self.new.disk).honest → body_of name.now (state_of D.state self.old) ≡ Some bytes.items) }
-        ensures recorded { IfOk result (λ bytes. IfSome (value_of name.now (state_of D.state self.old).held) (λ held. AreAsRecorded held.entry.facts bytes.items)) }
+        ensures reads { IfOk result (λ bytes. IsTrue (D.state self.new.disk).honest
+            → body_of name.now (state_of D.state self.old) ≡ Some bytes.items) }
+        ensures recorded { IfOk result
+            (λ bytes. IfSome (value_of name.now (state_of D.state self.old).held)
+            (λ held. AreAsRecorded held.entry.facts bytes.items)) }
 
         ensures closed { IsErrOf result Refusal.Closed ↔ IsTrue self.old.is_closed }
-        ensures not_held { IsErrOf result Refusal.NotHeld ↔ ((self.old.is_closed ≡ false) × (is_held (state_of D.state self.old) name.now ≡ false)) }
-        ensures damaged { IsErrOf result Refusal.Damaged → IsTrue (D.state self.new.disk).honest → IfSome (value_of name.now (state_of D.state self.old).held) (λ held. ¬ HasItsDigest held) }
-        ensures device { IsErrOf result Refusal.Device → HasFailed (D.state self.old.disk) (D.state self.new.disk) }
+        ensures not_held { IsErrOf result Refusal.NotHeld
+            ↔ ((self.old.is_closed ≡ false)
+            × (is_held (state_of D.state self.old) name.now ≡ false)) }
+        ensures damaged { IsErrOf result Refusal.Damaged
+            → IsTrue (D.state self.new.disk).honest
+            → IfSome (value_of name.now (state_of D.state self.old).held)
+            (λ held. ¬ HasItsDigest held) }
+        ensures device { IsErrOf result Refusal.Device
+            → HasFailed (D.state self.old.disk) (D.state self.new.disk) }
         ensures others { IfErr result IsOfBody }
 
         ensures slots { self.new.slots ≡ self.old.slots }
@@ -120,9 +129,12 @@ impl<D: Disk> Source<D> {
     /// - [`Refusal::NotHeld`] exactly where it is open and the name is not held.
     /// - [`Refusal::NoMemory`] where the memory for the copy is refused.
     pub fn kind(&self, name: &Name) -> Result<MediaType, Refusal>
-        ensures kind { IfOk result (λ kind. kind_of name.now (state_of D.state self.now) ≡ Some kind) }
+        ensures kind { IfOk result (λ kind. kind_of name.now (state_of D.state self.now)
+            ≡ Some kind) }
         ensures closed { IsErrOf result Refusal.Closed ↔ IsTrue self.now.is_closed }
-        ensures not_held { IsErrOf result Refusal.NotHeld ↔ ((self.now.is_closed ≡ false) × (is_held (state_of D.state self.now) name.now ≡ false)) }
+        ensures not_held { IsErrOf result Refusal.NotHeld
+            ↔ ((self.now.is_closed ≡ false)
+            × (is_held (state_of D.state self.now) name.now ≡ false)) }
         ensures others { IfErr result IsOfKind }
     {
         if self.is_closed {
@@ -142,8 +154,10 @@ impl<D: Disk> Source<D> {
     /// [`Refusal::Closed`] exactly where the source is closed; [`Refusal::NoMemory`] where the
     /// memory is refused.
     pub fn records(&self) -> Result<Vec<Record>, Refusal>
-        ensures entries { IfOk result (λ records. map entry_of records.items ≡ entries (state_of D.state self.now).held) }
-        ensures stored { IfOk result (λ records. records.items ≡ records_of self.now.contents.catalogue) }
+        ensures entries { IfOk result (λ records. map entry_of records.items
+            ≡ entries (state_of D.state self.now).held) }
+        ensures stored { IfOk result
+            (λ records. records.items ≡ records_of self.now.contents.catalogue) }
         ensures ascending { IfOk result (λ records. IsTrue (is_ordered (named records.items))) }
         ensures closed { IsErrOf result Refusal.Closed ↔ IsTrue self.now.is_closed }
         ensures no_memory { self.now.is_closed ≡ false → IsOkUnless result Refusal.NoMemory }
@@ -163,8 +177,10 @@ impl<D: Disk> Source<D> {
     /// [`Refusal::Closed`] exactly where the source is closed; [`Refusal::NoMemory`] where the
     /// memory is refused.
     pub fn published(&self) -> Result<Vec<Record>, Refusal>
-        ensures entries { IfOk result (λ records. map entry_of records.items ≡ (state_of D.state self.now).listed) }
-        ensures stored { IfOk result (λ records. records.items ≡ records_of self.now.contents.published) }
+        ensures entries { IfOk result (λ records. map entry_of records.items
+            ≡ (state_of D.state self.now).listed) }
+        ensures stored { IfOk result
+            (λ records. records.items ≡ records_of self.now.contents.published) }
         ensures ascending { IfOk result (λ records. IsTrue (is_ordered (named records.items))) }
         ensures closed { IsErrOf result Refusal.Closed ↔ IsTrue self.now.is_closed }
         ensures no_memory { self.now.is_closed ≡ false → IsOkUnless result Refusal.NoMemory }
@@ -182,7 +198,8 @@ impl<D: Disk> Source<D> {
     /// [`Refusal::Closed`] exactly where the source is closed; [`Refusal::NoMemory`] where the
     /// memory is refused.
     pub fn changes(&self) -> Result<Vec<Change>, Refusal>
-        ensures changes { IfOk result (λ changes. changes.items ≡ (state_of D.state self.now).changes) }
+        ensures changes { IfOk result
+            (λ changes. changes.items ≡ (state_of D.state self.now).changes) }
         ensures closed { IsErrOf result Refusal.Closed ↔ IsTrue self.now.is_closed }
         ensures no_memory { self.now.is_closed ≡ false → IsOkUnless result Refusal.NoMemory }
     {
@@ -222,7 +239,7 @@ impl<D: Disk> Source<D> {
     ///
     /// [`Refusal::Closed`] exactly where the source is closed.
     pub fn view(&self) -> Result<SourceView<'_, D>, Refusal>
-        ensures shows { IfOk result (λ view. shown_by view ≡ shown_of self.now.contents) }
+        ensures shows { IfOk result (λ view. shown_by_source view ≡ shown_in self.now.contents) }
         ensures closed { IsErrOf result Refusal.Closed ↔ IsTrue self.now.is_closed }
         ensures only { IsOkUnless result Refusal.Closed }
     {

@@ -5,7 +5,6 @@ ghost use Rattle.std.specs.Io.KnownBytes.{Consumes, Keeps, IsAtEnd};
 ghost use Rattle.rs_io.specs.Watch.{watched, failures, EndFailed, Took};
 ghost use Rattle.rs_store.specs.Received.{AnswersFrom, IsCut};
 
-use crate::commands::put_reply;
 use crate::{Refusal, Source};
 use rs_disk::Disk;
 use rs_fixity::digests_of;
@@ -38,29 +37,21 @@ impl<D: Disk> Source<D> {
         body_length: u64,
         now: Moment,
     ) -> Result<Reply, Refusal>
-        ensures came { (came : List ℕ) × Consumes (R.remaining (watched reader.old)) (R.remaining (watched reader.new)) came
+        ensures came { (came : List ℕ)
+            × Consumes (R.remaining (watched reader.old)) (R.remaining (watched reader.new)) came
             × AnswersFrom D.state self.old self.new name.now kind.now body_length now came result }
         ensures failed { IsErrOf result Refusal.ReadFault → EndFailed reader.old reader.new }
-        ensures sound { ¬ IsErrOf result Refusal.ReadFault → failures reader.new ≡ failures reader.old }
-        ensures ended { IsErrOf result Refusal.ShortBody → IsAtEnd (R.remaining (watched reader.new)) }
+        ensures sound { ¬ IsErrOf result Refusal.ReadFault
+            → failures reader.new ≡ failures reader.old }
+        ensures ended { IsErrOf result Refusal.ShortBody
+            → IsAtEnd (R.remaining (watched reader.new)) }
     {
         let moment = self.moment_of_put(name, body_length, now)?;
-        let is_held = self.holds(name);
-        let root = self.slots.root();
-        let size = self.disk.size();
-        let mut plan = draft_put(
-            self.alloc,
-            size,
-            &root,
-            &self.contents,
-            name,
-            kind,
-            body_length as u32,
-            moment,
-        )?;
-        let bytes = read_whole(self.alloc, reader, body_length as u32)?;
+        let length = body_length as u32;
+        let mut plan = draft_put(self.alloc, &self.rooted(), name, kind, length, moment)?;
+        let bytes = read_whole(self.alloc, reader, length)?;
         plan.fill(name, digests_of(&bytes));
-        self.finish(plan, &bytes, put_reply(is_held, moment))
+        self.finish(plan, &bytes)
     }
 }
 
@@ -72,7 +63,8 @@ fn read_whole<R: Read>(
 ) -> Result<Vec<u8>, Refusal>
     ensures ok { IfOk result (λ bytes. Took R.remaining reader.old reader.new bytes.items) }
     ensures whole { IfOk result (λ bytes. length bytes.items ≡ body_length) }
-    ensures cut { IfErr result (λ refusal. (came : List ℕ) × Consumes (R.remaining (watched reader.old)) (R.remaining (watched reader.new)) came
+    ensures cut { IfErr result (λ refusal. (came : List ℕ)
+        × Consumes (R.remaining (watched reader.old)) (R.remaining (watched reader.new)) came
         × IsCut body_length (R.remaining (watched reader.new)) came refusal) }
     ensures failed { IsErrOf result Refusal.ReadFault → EndFailed reader.old reader.new }
     ensures sound { ¬ IsErrOf result Refusal.ReadFault → failures reader.new ≡ failures reader.old }
@@ -92,9 +84,11 @@ fn read_behind<R: Read>(
     ensures size { length buf.new ≡ length buf.old }
     ensures front { take filled buf.new ≡ take filled buf.old }
     ensures fits { IfOk result (λ n. filled + n ≤ length buf.old) }
-    ensures ok { IfOk result (λ n. Took R.remaining reader.old reader.new (take n (drop filled buf.new))) }
+    ensures ok { IfOk result
+        (λ n. Took R.remaining reader.old reader.new (take n (drop filled buf.new))) }
     ensures end { IfOk result (λ n. n ≡ 0 → IsAtEnd (R.remaining (watched reader.new))) }
-    ensures err { OnErr result (Keeps (R.remaining (watched reader.old)) (R.remaining (watched reader.new))) }
+    ensures err { OnErr result
+        (Keeps (R.remaining (watched reader.old)) (R.remaining (watched reader.new))) }
     ensures failed { OnErr result (EndFailed reader.old reader.new) }
 {
     reader.read(&mut buf[filled..])
@@ -103,7 +97,8 @@ fn read_behind<R: Read>(
 // Fills a buffer with the next bytes of a reader.
 fn read_into<R: Read>(reader: &mut Watched<R>, buf: &mut [u8]) -> Result<(), Refusal>
     ensures ok { OnOk result (Took R.remaining reader.old reader.new buf.new) }
-    ensures cut { IfErr result (λ refusal. (came : List ℕ) × Consumes (R.remaining (watched reader.old)) (R.remaining (watched reader.new)) came
+    ensures cut { IfErr result (λ refusal. (came : List ℕ)
+        × Consumes (R.remaining (watched reader.old)) (R.remaining (watched reader.new)) came
         × IsCut (length buf.old) (R.remaining (watched reader.new)) came refusal) }
     ensures failed { IsErrOf result Refusal.ReadFault → EndFailed reader.old reader.new }
     ensures sound { ¬ IsErrOf result Refusal.ReadFault → failures reader.new ≡ failures reader.old }

@@ -6,7 +6,7 @@ ghost use Rattle.rs_model.specs.State.{Source as State};
 ghost use Rattle.rs_model.specs.Step.{fold_of};
 ghost use Rattle.rs_store.specs.Source.{Holds};
 ghost use Rattle.rs_store.specs.Answered.{Answers};
-ghost use Rattle.rs_store.specs.Counted.{counted};
+ghost use Rattle.rs_store.specs.Counted.{counted_commands};
 ghost use Rattle.rs_store.specs.Runs.{InTurn, StandsForPrefix, AreReplies};
 
 use crate::{Refusal, Source};
@@ -37,16 +37,21 @@ impl<D: Disk> Source<D> {
     /// [`Refusal::NoMemory`] where the memory for the answers is refused, before the first command.
     pub fn run(&mut self, commands: &[(Command, Moment)]) -> Result<Vec<Ack>, Refusal>
         // Each command is answered as the source answers it.
-        ensures in_turn { IfOk result (λ acks. InTurn D.state self.old commands.now acks.items self.new) }
+        ensures in_turn { IfOk result
+            (λ acks. InTurn D.state self.old commands.now acks.items self.new) }
 
         // Of a source that holds a state: a crash at any moment leaves a prefix of the counted commands
         // that has each acknowledged one; at the end an open source holds them all; and the replies are
         // those of the model.
         ensures any_moment { IfOk result (λ acks. (s : State) → Holds D.state self.old s
-            → Leaves (D.state self.old.disk) (D.state self.new.disk) (StandsForPrefix s commands.now acks.items)) }
+            → Leaves (D.state self.old.disk) (D.state self.new.disk)
+            (StandsForPrefix s commands.now acks.items)) }
         ensures at_exit { IfOk result (λ acks. (s : State) → Holds D.state self.old s
-            → self.new.is_closed ≡ false → Holds D.state self.new (fold_of s (counted commands.now acks.items))) }
-        ensures replies { IfOk result (λ acks. (s : State) → Holds D.state self.old s → AreReplies s commands.now acks.items) }
+            → self.new.is_closed ≡ false
+            → Holds D.state self.new (fold_of s (counted_commands commands.now acks.items))) }
+        ensures replies { IfOk result (λ acks. (s : State)
+            → Holds D.state self.old s
+            → AreReplies s commands.now acks.items) }
 
         ensures only { IfErr result (λ refusal. refusal ≡ Refusal.NoMemory) }
         ensures untouched { OnErr result (self.new ≡ self.old) }

@@ -2,7 +2,7 @@
 
 use rs_commit::Slots;
 use rs_disk::Disk;
-use rs_image::Contents;
+use rs_image::{Contents, Rooted};
 use std::alloc::Global;
 use std::marker::Model;
 
@@ -19,11 +19,24 @@ pub struct Source<D: Disk> {
 
 impl<D: Disk> Model for Source<D> {
     ghost use Rattle.rs_store.specs.Source.{Stored};
-    ghost use Rattle.rs_store.specs.Inside.{IsKept};
+    ghost use Rattle.rs_image.specs.Rooted.{IsRooted, rooted};
 
     ghost Value = { Stored D };
 
-    ghost view = { λ s. record { disk = s.disk; slots = s.slots; contents = s.contents; is_closed = s.is_closed } };
+    ghost view = { λ s. record
+        { disk = s.disk; slots = s.slots; contents = s.contents; is_closed = s.is_closed } };
 
-    ghost invariant = { λ s. IsKept (D.state s.disk).size s.slots s.contents };
+    ghost invariant = { λ s. IsRooted (rooted (D.state s.disk).size s.slots.root s.contents) };
+}
+
+impl<D: Disk> Source<D> {
+    ghost use Rattle.std.specs.Prelude.{◌≡◌};
+    ghost use Rattle.rs_store.specs.Source.{rooted_in};
+
+    /// Its root with the lists behind it, as planners take them.
+    pub(crate) fn rooted(&self) -> Rooted<'_>
+        ensures { result ≡ rooted_in D.state self.now }
+    {
+        Rooted::new(self.disk.size(), self.slots.root(), &self.contents)
+    }
 }

@@ -30,9 +30,9 @@ impl<'a, D: Disk> SourceView<'a, D> {
 }
 
 impl<D: Disk> View for SourceView<'_, D> {
-    ghost use Rattle.rs_store.specs.Views.{shown_by};
+    ghost use Rattle.rs_store.specs.Views.{shown_by_source};
 
-    ghost shown = { shown_by };
+    ghost shown = { shown_by_source };
 
     fn base(&self) -> &Base {
         &self.contents().header.base

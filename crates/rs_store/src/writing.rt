@@ -1,17 +1,17 @@
 //! Writing what a plan says.
 
 ghost use Rattle.std.specs.Prelude.{◌≡◌, ◌<◌, ◌+◌, ◌++◌, ◌^◌, ℕ, Bool, length, vec_len, All, IfOk, OnOk, IsErrOf};
-ghost use Rattle.rs_body.specs.Blocks.{part, IsOnDisk, IsSized};
-ghost use Rattle.rs_body.specs.Outside.{IsBeside, AreBeside, WritesOutside};
+ghost use Rattle.rs_extent.specs.Extents.{IsOnDisk, IsBeside, AreBeside, AreApart, AreOnDisk};
+ghost use Rattle.rs_body.specs.Blocks.{part, IsSized};
+ghost use Rattle.rs_body.specs.Outside.{WritesOutside};
 ghost use Rattle.rs_page.specs.Items.{record_format, change_format};
-ghost use Rattle.rs_page.specs.Sheets.{IsTouched, placed_extents};
-ghost use Rattle.rs_page.specs.Pages.{IsWritten};
-ghost use Rattle.rs_page.specs.Kept.{AreApart, AreOnDisk};
+ghost use Rattle.rs_page.specs.Pages.{IsTouched, placed_extents};
+ghost use Rattle.rs_page.specs.DiskPages.{IsWritten};
 ghost use Rattle.rs_image.specs.Reach.{AreInside};
-ghost use Rattle.rs_image.specs.Tells.{listing, AreListable};
+ghost use Rattle.rs_image.specs.StateOfImage.{listing, AreListable};
 ghost use Rattle.rs_disk.specs.Leaves.{Advances, HasFailed};
 ghost use Rattle.rs_plan.specs.Plans.{once_stored, places, planned_listing, AreWritten};
-ghost use Rattle.rs_store.specs.Writing.{of_store, IsDigestOf, AreLists};
+ghost use Rattle.rs_store.specs.Writing.{of_store, IsDigestOf, IsStoredPlan, IsWritable, StaysBesideLists, AreLists};
 
 use rs_body::write_body;
 use rs_directory::directory_bytes;
@@ -91,22 +91,17 @@ pub(crate) fn write_plan<D: Disk>(
     plan: &mut Plan,
     bytes: &[u8],
 ) -> Result<Written, WriteFault>
-    requires inside { AreInside (D.state disk.old).size (places plan.old) }
-    requires apart { AreApart (places plan.old) }
-    requires catalogue { All (λ sheet. ¬ IsTouched sheet.place) plan.old.contents.catalogue }
-    requires history { All (λ sheet. ¬ IsTouched sheet.place) plan.old.contents.history }
-    requires body { IsSized plan.old.body (length bytes.now) }
-    requires directory { IsSized plan.old.directory (length (planned_listing plan.old)) }
-    requires listable { AreListable (once_stored plan.old.contents) }
-    ensures contents { OnOk result (plan.new.contents ≡ once_stored plan.old.contents) }
-    ensures lists { OnOk result (AreLists plan.new.contents) }
+    requires { IsWritable (D.state disk.old).size bytes.now plan.old }
     ensures written { IfOk result (IsDigestOf (once_stored plan.old.contents)) }
-    ensures reads { OnOk result (AreWritten plan.old bytes.now (D.state disk.new).now.seen) }
-    ensures device { IsErrOf result WriteFault.Device → HasFailed (D.state disk.old) (D.state disk.new) }
+    ensures stored { OnOk result
+        (IsStoredPlan plan.old plan.new bytes.now (D.state disk.new).now.seen) }
+    ensures device { IsErrOf result WriteFault.Device
+        → HasFailed (D.state disk.old) (D.state disk.new) }
 
     // Whatever it answers.
-    ensures places { (plan.new.body ≡ plan.old.body) × (plan.new.directory ≡ plan.old.directory) }
-    ensures outside { (kept : ℕ → Bool) → AreBeside kept (places plan.old) → WritesOutside kept (D.state disk.old) (D.state disk.new) }
+    ensures stays { StaysBesideLists plan.old plan.new }
+    ensures outside { (kept : ℕ → Bool) → AreBeside kept (places plan.old)
+        → WritesOutside kept (D.state disk.old) (D.state disk.new) }
     ensures advances { Advances (D.state disk.old) (D.state disk.new) }
 {
     write_body(disk, plan.body, bytes)?;
@@ -120,15 +115,23 @@ fn write_pages<D: Disk>(
     disk: &mut D,
     contents: &mut Contents,
 ) -> Result<(), WriteFault>
-    requires catalogue { All (λ sheet. ¬ IsTouched sheet.place) contents.old.catalogue }
-    requires history { All (λ sheet. ¬ IsTouched sheet.place) contents.old.history }
-    requires room { AreOnDisk (placed_extents contents.old.catalogue ++ placed_extents contents.old.history) (D.state disk.old).size }
-    requires apart { AreApart (placed_extents contents.old.catalogue ++ placed_extents contents.old.history) }
+    requires catalogue { All (λ page. ¬ IsTouched page.place) contents.old.catalogue }
+    requires history { All (λ page. ¬ IsTouched page.place) contents.old.history }
+    requires room { AreOnDisk
+        (placed_extents contents.old.catalogue ++ placed_extents contents.old.history)
+        (D.state disk.old).size }
+    requires apart { AreApart
+        (placed_extents contents.old.catalogue ++ placed_extents contents.old.history) }
     ensures ok { OnOk result (contents.new ≡ once_stored contents.old) }
-    ensures catalogue { OnOk result (All (IsWritten record_format (D.state disk.new).now.seen) contents.old.catalogue) }
-    ensures history { OnOk result (All (IsWritten change_format (D.state disk.new).now.seen) contents.old.history) }
-    ensures device { IsErrOf result WriteFault.Device → HasFailed (D.state disk.old) (D.state disk.new) }
-    ensures outside { (kept : ℕ → Bool) → AreBeside kept (placed_extents contents.old.catalogue ++ placed_extents contents.old.history)
+    ensures catalogue { OnOk result
+        (All (IsWritten record_format (D.state disk.new).now.seen) contents.old.catalogue) }
+    ensures history { OnOk result
+        (All (IsWritten change_format (D.state disk.new).now.seen) contents.old.history) }
+    ensures device { IsErrOf result WriteFault.Device
+        → HasFailed (D.state disk.old) (D.state disk.new) }
+    ensures outside { (kept : ℕ → Bool)
+        → AreBeside kept
+        (placed_extents contents.old.catalogue ++ placed_extents contents.old.history)
         → WritesOutside kept (D.state disk.old) (D.state disk.new) }
     ensures advances { Advances (D.state disk.old) (D.state disk.new) }
 {
@@ -148,9 +151,13 @@ fn write_directory<D: Disk>(
     requires sized { IsSized extent (length (listing contents.now)) }
     ensures written { IfOk result (IsDigestOf contents.now) }
     ensures lists { OnOk result (AreLists contents.now) }
-    ensures reads { OnOk result (part extent (length (listing contents.now)) (D.state disk.new).now.seen ≡ listing contents.now) }
-    ensures device { IsErrOf result WriteFault.Device → HasFailed (D.state disk.old) (D.state disk.new) }
-    ensures outside { (kept : ℕ → Bool) → IsBeside kept extent → WritesOutside kept (D.state disk.old) (D.state disk.new) }
+    ensures reads { OnOk result
+        (part extent (length (listing contents.now)) (D.state disk.new).now.seen
+        ≡ listing contents.now) }
+    ensures device { IsErrOf result WriteFault.Device
+        → HasFailed (D.state disk.old) (D.state disk.new) }
+    ensures outside { (kept : ℕ → Bool) → IsBeside kept extent
+        → WritesOutside kept (D.state disk.old) (D.state disk.new) }
     ensures advances { Advances (D.state disk.old) (D.state disk.new) }
 {
     let bytes = directory_of(alloc, contents)?;

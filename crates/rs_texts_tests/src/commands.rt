@@ -224,6 +224,6 @@ fn a_run_and_its_mirror(rt: HostRuntime) -> Result<(), Fail> {
 fn a_body_is_its_bytes(rt: HostRuntime) -> Result<(), Fail> {
     let body = Body::new(b"abc".to_vec(rt.alloc())?);
     let copied = body.duplicate(rt.alloc())?;
-    assert_eq!(rt; copied.into_bytes().as_slice(), b"abc".as_slice());
+    assert_eq!(rt; copied.bytes(), b"abc".as_slice());
     Ok(())
 }

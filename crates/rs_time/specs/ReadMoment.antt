@@ -16,15 +16,15 @@ number_after n [] = n
 number_after n (c ∷ cs) = number_after (10 * n + (c - 48)) cs
 
 -- the number that the `count` digits from this place on write
-abbrev pub number_at : ℕ → ℕ → List ℕ → ℕ
-number_at from count text = number_after 0 (take count (drop from text))
+abbrev pub digits_at : ℕ → ℕ → List ℕ → ℕ
+digits_at from count text = number_after 0 (take count (drop from text))
 
 -- the milliseconds that the digits at their places say
 unfoldable pub moment_digits : List ℕ → ℕ
 moment_digits text =
-    let date : CivilDate = record { year = number_at 0 4 text; month = number_at 5 2 text; day = number_at 8 2 text } in
-    days_before date * 86400000 + number_at 11 2 text * 3600000 + number_at 14 2 text * 60000
-    + number_at 17 2 text * 1000 + number_at 20 3 text
+    let date : CivilDate = record { year = digits_at 0 4 text; month = digits_at 5 2 text; day = digits_at 8 2 text } in
+    days_before date * 86400000 + digits_at 11 2 text * 3600000 + digits_at 14 2 text * 60000
+    + digits_at 17 2 text * 1000 + digits_at 20 3 text
 
 -- the moment that has this text, if one has
 unfoldable pub read_moment : List ℕ → Option ℕ

@@ -1,7 +1,9 @@
 //! Texts that are printed, texts that no line of a script can hold, and laws.
 
 use rs_io::{ReadFault, WriteFault};
-use rs_record::{BaseError, FieldFault, MediaType, MediaTypeError, Name, NameError};
+use rs_record::{
+    BaseError, FieldFault, MediaType, MediaTypeError, Name, NameError, count_digits, number,
+};
 use rs_time::Moment;
 use std::test::Fail;
 
@@ -33,6 +35,20 @@ fn bytes_of_no_line(rt: HostRuntime) {
         let kind = MediaType::new(rt.alloc(), kind);
         assert!(rt; matches!(kind, Err(MediaTypeError::BadType)));
     }
+}
+
+#[test]
+fn numbers_of_at_most_some_digits(rt: HostRuntime) {
+    assert!(rt; number(b"007", 3) == Some(7));
+    assert!(rt; number(b"999999999999999999", 18) == Some(999_999_999_999_999_999));
+    assert!(rt; number(b"1000", 3).is_none());
+    assert!(rt; number(b"", 3).is_none());
+    assert!(rt; number(b"+7", 3).is_none());
+    assert!(rt; number(b"7 ", 3).is_none());
+    assert!(rt; count_digits(0) == 1);
+    assert!(rt; count_digits(9) == 1);
+    assert!(rt; count_digits(10) == 2);
+    assert!(rt; count_digits(u64::MAX) == 20);
 }
 
 #[test]

@@ -28,19 +28,23 @@ pub fn escaped_reads()
 /// number is its digits: no leading zero, no sign and no space.
 pub fn numbers_read()
     ensures read { (n : ℕ) → n < 2 ^ 64 → read_number (decimal n) ≡ Some n }
-    ensures exact { (text : List ℕ) (n : ℕ) → n < 2 ^ 64 → read_number text ≡ Some n → text ≡ decimal n }
+    ensures exact { (text : List ℕ) (n : ℕ) → n < 2 ^ 64 → read_number text ≡ Some n
+        → text ≡ decimal n }
 {}
 
 /// Lines that have no line feed are the lines of the text in which each ends with one; and the lines of a text
 /// that has any, each ended by a line feed, are the text.
 pub fn lines_read()
-    ensures read { (lines : List (List ℕ)) → IsTrue (list_all (lacks 10) lines) → lines_of (joined lines) ≡ Some lines }
-    ensures exact { (text : List ℕ) (lines : List (List ℕ)) → lines_of text ≡ Some lines → text ≡ joined lines }
+    ensures read { (lines : List (List ℕ)) → IsTrue (list_all (lacks 10) lines)
+        → lines_of (joined lines) ≡ Some lines }
+    ensures exact { (text : List ℕ) (lines : List (List ℕ)) → lines_of text ≡ Some lines
+        → text ≡ joined lines }
 {}
 
 /// The path of each document reads as that document, be it there or not, where its numbers have 64 bits; and
 /// a path that reads as a document is the path of that document, and its numbers have 64 bits.
 pub fn paths_read()
     ensures read { (doc : Doc) → HasCounts doc → doc_of (path_of doc) ≡ Some doc }
-    ensures exact { (path : List ℕ) (doc : Doc) → doc_of path ≡ Some doc → (path ≡ path_of doc) × HasCounts doc }
+    ensures exact { (path : List ℕ) (doc : Doc) → doc_of path ≡ Some doc
+        → (path ≡ path_of doc) × HasCounts doc }
 {}

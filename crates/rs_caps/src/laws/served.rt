@@ -5,7 +5,9 @@ ghost use Rattle.rs_model.specs.Regular.{IsRegular};
 ghost use Rattle.rs_model.specs.Lawful.{IsLawful};
 ghost use Rattle.rs_caps.specs.Statements.{TextsAreAnswered, TextsRead, ResourcesAreGathered, ChangesAreGathered, ListsMirror, ListedPartsStay, ClosedPartsStay, PartsAreBounded, BlocksAreNotShown, AlikeViewsHaveOneText};
 
-use rs_model::State;
+use rs_lists::parts_are_chunks;
+use rs_model::{State, lawful_stays};
+use rs_record::{Change, Record};
 
 /// The text of each list, part and index that is there is what is answered at its path, and reads as exactly
 /// that document: its moments, and its children in order with all that is said of them.
@@ -21,7 +23,10 @@ pub fn lists_read()
     ensures resources { (s : Source) → IsLawful s → ResourcesAreGathered s }
     ensures changes { (s : Source) → IsLawful s → ChangesAreGathered s }
     ensures mirrored { (s : Source) → IsRegular s → IsLawful s → ListsMirror s }
-{}
+{
+    parts_are_chunks::<Record>();
+    parts_are_chunks::<Change>();
+}
 
 /// So it is of every [`State`]: what its type keeps is all that its lists need to read.
 pub fn lists_of_a_state_read(state: &State)
@@ -29,6 +34,7 @@ pub fn lists_of_a_state_read(state: &State)
     ensures changes { ChangesAreGathered state.now }
     ensures mirrored { IsRegular state.now → ListsMirror state.now }
 {
+    lists_read();
     let _limit = state.limit();
 }
 
@@ -41,7 +47,9 @@ pub fn listed_parts_stay()
 /// So does a part of the Change List from the time on when it has an `until`.
 pub fn closed_parts_stay()
     ensures { ClosedPartsStay }
-{}
+{
+    lawful_stays();
+}
 
 /// In a regular state the changes of each part of the Change List are after the part's `from`, and not after
 /// the `from` of the next, which is its `until` where it has one.

@@ -1,9 +1,9 @@
 //! The calls of a memory disk.
 ghost use Rattle.std.specs.Prelude.{◌≡◌, ℕ, ◌^◌, ◌+◌, ◌≤◌, ◌<◌, ◌⊎◌, ◌↔◌, is_ok, if◌then◌else◌, length, take, drop, IsOk, OnOk, OnErr, IfOk};
-ghost use Rattle.rs_disk.specs.Memory.{state_of, planned, sound, MovesOn, Begun, Changes, SameContents, SameCounts};
-ghost use Rattle.rs_disk.specs.Calls.{Counts, Stays, Writes, Tears, Settles};
+ghost use Rattle.rs_disk.specs.Memory.{memory_state, planned, sound, MovesOn, Begun, Changes, SameContents, SameCounts};
+ghost use Rattle.rs_disk.specs.Calls.{CountsCall, Stays, Writes, Tears, Settles};
 ghost use Rattle.rs_disk.specs.Medium.{resting, widened, partly_written};
-ghost use Rattle.rs_disk.specs.Plan.{left_by};
+ghost use Rattle.rs_disk.specs.Plan.{left_by_write};
 ghost use Rattle.rs_disk.specs.declared.plan.Outcome.TheVariants.{Works};
 
 use super::MemoryDisk;
@@ -20,8 +20,9 @@ impl MemoryDisk {
         ensures unchanged { OnErr result (self.new ≡ self.old) }
         ensures call { IfOk result (λ call. call ≡ self.old.calls) }
         ensures room { OnOk result (self.old.calls + 1 < 2 ^ 64) }
-        ensures begun { IfOk result (λ call. Begun call (state_of self.new)) }
-        ensures state { OnOk result (state_of self.new ≡ record (state_of self.old) { calls = self.old.calls + 1 }) }
+        ensures begun { IfOk result (λ call. Begun call (memory_state self.new)) }
+        ensures state { OnOk result (memory_state self.new
+            ≡ record (memory_state self.old) { calls = self.old.calls + 1 }) }
         ensures plan { OnOk result (self.new.plan ≡ self.old.plan) }
     {
         if self.calls == u64::MAX {
@@ -36,7 +37,9 @@ impl MemoryDisk {
     fn end_call(&mut self, done: Result<(), Fault>) -> Result<(), Fault>
         requires { self.old.faults < self.old.calls }
         ensures result { result ≡ done }
-        ensures state { state_of self.new ≡ record (state_of self.old) { faults = self.old.faults + (if is_ok done then 0 else 1) } }
+        ensures state { memory_state self.new
+            ≡ record (memory_state self.old)
+            { faults = self.old.faults + (if is_ok done then 0 else 1) } }
         ensures plan { self.new.plan ≡ self.old.plan }
     {
         if done.is_err() {
@@ -48,13 +51,14 @@ impl MemoryDisk {
     // Puts the bytes at an offset and makes this many places from there unsettled; where the
     // record's growth is refused, nothing changes.
     fn put(&mut self, call: u64, at: usize, places: usize, bytes: &[u8]) -> Result<(), AllocError>
-        requires begun { Begun call (state_of self.old) }
-        requires range { at + places ≤ (state_of self.old).size }
+        requires begun { Begun call (memory_state self.old) }
+        requires range { at + places ≤ (memory_state self.old).size }
         requires front { length bytes.now ≤ places }
-        ensures ok { OnOk result (Changes call (widened (state_of self.old).now at places)
-            (partly_written (state_of self.old).now at places bytes.now) (state_of self.old) (state_of self.new)) }
-        ensures err { OnErr result (SameContents (state_of self.old) (state_of self.new)) }
-        ensures counts { SameCounts (state_of self.old) (state_of self.new) }
+        ensures ok { OnOk result (Changes call (widened (memory_state self.old).now at places)
+            (partly_written (memory_state self.old).now at places bytes.now) (memory_state self.old)
+            (memory_state self.new)) }
+        ensures err { OnErr result (SameContents (memory_state self.old) (memory_state self.new)) }
+        ensures counts { SameCounts (memory_state self.old) (memory_state self.new) }
         ensures plan { self.new.plan ≡ self.old.plan }
     {
         let put = bytes.to_vec(self.alloc)?;
@@ -66,10 +70,12 @@ impl MemoryDisk {
 
     // Settles what a read gives; where the record's growth is refused, nothing changes.
     fn settle(&mut self, call: u64) -> Result<(), AllocError>
-        requires begun { Begun call (state_of self.old) }
-        ensures ok { OnOk result (Changes call (state_of self.old).now (resting (state_of self.old).now.seen) (state_of self.old) (state_of self.new)) }
-        ensures err { OnErr result (SameContents (state_of self.old) (state_of self.new)) }
-        ensures counts { SameCounts (state_of self.old) (state_of self.new) }
+        requires begun { Begun call (memory_state self.old) }
+        ensures ok { OnOk result
+            (Changes call (memory_state self.old).now (resting (memory_state self.old).now.seen)
+            (memory_state self.old) (memory_state self.new)) }
+        ensures err { OnErr result (SameContents (memory_state self.old) (memory_state self.new)) }
+        ensures counts { SameCounts (memory_state self.old) (memory_state self.new) }
         ensures plan { self.new.plan ≡ self.old.plan }
     {
         self.history.note(call, Change::Sync)?;
@@ -79,7 +85,7 @@ impl MemoryDisk {
 }
 
 impl Disk for MemoryDisk {
-    ghost state = { state_of };
+    ghost state = { memory_state };
 
     ghost holds = { sound };
 
@@ -96,12 +102,14 @@ impl Disk for MemoryDisk {
     }
 
     fn read(&mut self, at: u64, into: &mut [u8]) -> Result<(), Fault>
-        requires { at + length into.old ≤ (state_of self.old).size }
-        ensures counts { Counts (state_of self.old) (state_of self.new) result }
-        ensures stays { Stays (state_of self.old) (state_of self.new) }
-        ensures gives { OnOk result (into.new ≡ take (length into.old) (drop at (state_of self.old).now.seen)) }
+        requires { at + length into.old ≤ (memory_state self.old).size }
+        ensures counts { CountsCall (memory_state self.old) (memory_state self.new) result }
+        ensures stays { Stays (memory_state self.old) (memory_state self.new) }
+        ensures gives { OnOk result (into.new
+            ≡ take (length into.old) (drop at (memory_state self.old).now.seen)) }
 
-        ensures works { IsOk result ↔ (((state_of self.old).calls + 1 < 2 ^ 64) × (planned self.old 0 ≡ Works)) }
+        ensures works { IsOk result
+            ↔ (((memory_state self.old).calls + 1 < 2 ^ 64) × (planned self.old 0 ≡ Works)) }
         ensures plan { MovesOn self.old self.new }
     {
         self.begin_call()?;
@@ -116,15 +124,19 @@ impl Disk for MemoryDisk {
     }
 
     fn write(&mut self, at: u64, bytes: &[u8]) -> Result<(), Fault>
-        requires { at + length bytes.now ≤ (state_of self.old).size }
-        ensures counts { Counts (state_of self.old) (state_of self.new) result }
-        ensures writes { OnOk result (Writes at bytes.now (state_of self.old) (state_of self.new)) }
-        ensures tears { OnErr result (Tears at (length bytes.now) (state_of self.old) (state_of self.new)) }
+        requires { at + length bytes.now ≤ (memory_state self.old).size }
+        ensures counts { CountsCall (memory_state self.old) (memory_state self.new) result }
+        ensures writes { OnOk result
+            (Writes at bytes.now (memory_state self.old) (memory_state self.new)) }
+        ensures tears { OnErr result
+            (Tears at (length bytes.now) (memory_state self.old) (memory_state self.new)) }
 
         ensures works { OnOk result (planned self.old 0 ≡ Works) }
         // What a failing write leaves is what was planned, or what was there where the record's
         // growth was refused.
-        ensures fails { OnErr result (((state_of self.new).now ≡ left_by (planned self.old 0) at bytes.now (state_of self.old).now) ⊎ ((state_of self.new).now ≡ (state_of self.old).now)) }
+        ensures fails { OnErr result (((memory_state self.new).now
+            ≡ left_by_write (planned self.old 0) at bytes.now (memory_state self.old).now)
+            ⊎ ((memory_state self.new).now ≡ (memory_state self.old).now)) }
         ensures plan { MovesOn self.old self.new }
     {
         let call = self.begin_call()?;
@@ -146,9 +158,9 @@ impl Disk for MemoryDisk {
     }
 
     fn sync(&mut self) -> Result<(), Fault>
-        ensures counts { Counts (state_of self.old) (state_of self.new) result }
-        ensures settles { OnOk result (Settles (state_of self.old) (state_of self.new)) }
-        ensures stays { OnErr result (Stays (state_of self.old) (state_of self.new)) }
+        ensures counts { CountsCall (memory_state self.old) (memory_state self.new) result }
+        ensures settles { OnOk result (Settles (memory_state self.old) (memory_state self.new)) }
+        ensures stays { OnErr result (Stays (memory_state self.old) (memory_state self.new)) }
 
         ensures works { OnOk result (planned self.old 0 ≡ Works) }
         ensures plan { MovesOn self.old self.new }

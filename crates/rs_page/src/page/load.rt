@@ -3,9 +3,10 @@ ghost use Rattle.rs_disk.specs.Leaves.{HasFailed};
 ghost use Rattle.std.specs.Prelude.{◌≡◌, ◌<◌, ◌≤◌, ◌+◌, List, IfOk, IsErrOf, IsTrue};
 ghost use Rattle.rs_disk.specs.Leaves.{Rests};
 ghost use Rattle.rs_page.specs.Format.{ArePageItems};
-ghost use Rattle.rs_page.specs.Pages.{HasItsBlocks, IsPage};
+ghost use Rattle.rs_page.specs.DiskPages.{HasItsBlocks, IsPage};
 
 use crate::reading::read_items;
+use crate::shared::SharedItems;
 use crate::{Page, PageItem, PageRef, Place};
 use rs_body::{BodyFault, is_on_disk, is_sized, read_body};
 use rs_disk::Disk;
@@ -28,9 +29,9 @@ pub enum LoadFault {
 }
 
 impl From<BodyFault> for LoadFault {
-    ghost use Rattle.rs_page.specs.Faults.{of_body};
+    ghost use Rattle.rs_page.specs.Faults.{load_fault_of};
 
-    ghost from_gives = { λ fault made. made ≡ of_body fault };
+    ghost from_gives = { λ fault made. made ≡ load_fault_of fault };
 
     fn from(fault: BodyFault) -> LoadFault {
         match fault {
@@ -72,10 +73,16 @@ impl<T: PageItem> Page<T> {
         ensures lawful { IfOk result (λ loaded. ArePageItems T.format loaded.items) }
 
         // What the disk holds is said of a device that has followed the model.
-        ensures found { IfOk result (λ loaded. IsTrue (D.state disk.new).honest → IsPage T.format page.now (D.state disk.new).now.seen loaded.items) }
-        ensures damaged { IsErrOf result LoadFault.Damaged → IsTrue (D.state disk.new).honest → (items : List T) → ¬ IsPage T.format page.now (D.state disk.new).now.seen items }
-        ensures no_memory { IsErrOf result LoadFault.NoMemory → HasItsBlocks (D.state disk.old).size page.now }
-        ensures device { IsErrOf result LoadFault.Device → HasFailed (D.state disk.old) (D.state disk.new) }
+        ensures found { IfOk result (λ loaded. IsTrue (D.state disk.new).honest
+            → IsPage T.format page.now (D.state disk.new).now.seen loaded.items) }
+        ensures damaged { IsErrOf result LoadFault.Damaged
+            → IsTrue (D.state disk.new).honest
+            → (items : List T)
+            → ¬ IsPage T.format page.now (D.state disk.new).now.seen items }
+        ensures no_memory { IsErrOf result LoadFault.NoMemory
+            → HasItsBlocks (D.state disk.old).size page.now }
+        ensures device { IsErrOf result LoadFault.Device
+            → HasFailed (D.state disk.old) (D.state disk.new) }
 
         ensures rests { Rests (D.state disk.old) (D.state disk.new) }
         ensures one_call { (D.state disk.new).calls ≤ (D.state disk.old).calls + 1 }
@@ -85,8 +92,10 @@ impl<T: PageItem> Page<T> {
         }
         let mut bytes = Vec::new(alloc);
         read_body(disk, page.extent, page.length, &page.sha256, &mut bytes)?;
+        let mut items = SharedItems::new(read_items(alloc, &bytes)?);
+        items.share(alloc);
         Ok(Page {
-            items: read_items(alloc, &bytes)?,
+            items,
             place: Place::Stored(*page),
         })
     }

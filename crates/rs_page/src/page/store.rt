@@ -1,10 +1,10 @@
 //! Writing a page.
 ghost use Rattle.rs_disk.specs.Leaves.{Advances, HasFailed};
 ghost use Rattle.std.specs.Prelude.{ℕ, ◌≡◌, ◌<◌, ◌≤◌, ◌+◌, Bool, IfSome, IsSome, OnOk, OnErr, IsErrOf};
-ghost use Rattle.rs_body.specs.Blocks.{IsOnDisk};
-ghost use Rattle.rs_body.specs.Outside.{IsBeside, WritesOutside};
-ghost use Rattle.rs_page.specs.Sheets.{IsTouched, placed_extent, stored_ref, sheet_stored};
-ghost use Rattle.rs_page.specs.Pages.{IsWritten};
+ghost use Rattle.rs_extent.specs.Extents.{IsOnDisk, IsBeside};
+ghost use Rattle.rs_body.specs.Outside.{WritesOutside};
+ghost use Rattle.rs_page.specs.Pages.{IsTouched, placed_extent, stored_ref, page_stored};
+ghost use Rattle.rs_page.specs.DiskPages.{IsWritten};
 
 use crate::format::page_bytes;
 use crate::{Page, PageItem, PageRef, Place};
@@ -62,25 +62,32 @@ impl<T: PageItem> Page<T> {
     /// After each of them the page is as it was, and may be stored again.
     pub fn store<D: Disk>(&mut self, alloc: Global, disk: &mut D) -> Result<(), StoreFault>
         requires placed { ¬ IsTouched self.old.place }
-        requires room { IfSome (placed_extent self.old.place) (λ extent. IsOnDisk extent (D.state disk.old).size) }
-        ensures ok { OnOk result (self.new ≡ sheet_stored T.format self.old) }
+        requires room { IfSome (placed_extent self.old.place)
+            (λ extent. IsOnDisk extent (D.state disk.old).size) }
+        ensures ok { OnOk result (self.new ≡ page_stored T.format self.old) }
         ensures reads { OnOk result (IsWritten T.format (D.state disk.new).now.seen self.old) }
         ensures err { OnErr result (self.new ≡ self.old) }
-        ensures device { IsErrOf result StoreFault.Device → HasFailed (D.state disk.old) (D.state disk.new) }
-        ensures no_memory { IsErrOf result StoreFault.NoMemory → D.state disk.new ≡ D.state disk.old }
-        ensures stored { IsSome (stored_ref self.old.place) → (result ≡ Ok tt) × (D.state disk.new ≡ D.state disk.old) }
+        ensures device { IsErrOf result StoreFault.Device
+            → HasFailed (D.state disk.old) (D.state disk.new) }
+        ensures no_memory { IsErrOf result StoreFault.NoMemory
+            → D.state disk.new ≡ D.state disk.old }
+        ensures stored { IsSome (stored_ref self.old.place)
+            → (result ≡ Ok tt) × (D.state disk.new ≡ D.state disk.old) }
 
         // Whatever it answers.
-        ensures outside { (kept : ℕ → Bool) → IfSome (placed_extent self.old.place) (IsBeside kept) → WritesOutside kept (D.state disk.old) (D.state disk.new) }
+        ensures outside { (kept : ℕ → Bool)
+            → IfSome (placed_extent self.old.place) (IsBeside kept)
+            → WritesOutside kept (D.state disk.old) (D.state disk.new) }
         ensures advances { Advances (D.state disk.old) (D.state disk.new) }
         ensures one_call { (D.state disk.new).calls ≤ (D.state disk.old).calls + 1 }
     {
         let Place::Placed(extent) = self.place else {
             return Ok(());
         };
-        let bytes = page_bytes(alloc, &self.items)?;
+        let bytes = page_bytes(alloc, self.items.as_slice())?;
         let sha256 = sha256_of(&bytes);
         write_body(disk, extent, &bytes)?;
+        self.items.share(alloc);
         self.place = Place::Stored(PageRef {
             extent,
             length: bytes.len() as u32,

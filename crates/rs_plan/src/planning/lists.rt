@@ -1,24 +1,27 @@
 //! The lists after a command.
 
-ghost use Rattle.std.specs.Prelude.{◌≡◌, ◌<◌, ◌≤◌, ◌+◌, ◌^◌, [], ◌∷◌, ◌++◌, length, is_some, IfOk, IsNone, IsSome};
+ghost use Rattle.std.specs.Prelude.{◌≡◌, ◌<◌, ◌≤◌, ◌+◌, ◌^◌, [], ◌∷◌, ◌++◌, length, is_some, IfOk, IsNone, IsSome, MatchOption};
 ghost use Rattle.rs_time.specs.Moment.{IsMoment};
 ghost use Rattle.rs_record.specs.Changes.{bound, deleted};
-ghost use Rattle.rs_page.specs.Kept.{KeepsPages};
-ghost use Rattle.rs_page.specs.Sheets.{placed_extents};
+ghost use Rattle.rs_page.specs.SharedPages.{KeepsPages};
+ghost use Rattle.rs_page.specs.Pages.{placed_extents};
 ghost use Rattle.rs_catalogue.specs.Catalogue.{records_of, StandsUnstored};
 ghost use Rattle.rs_catalogue.specs.Named.{named};
-ghost use Rattle.rs_changes.specs.History.{changes_of, EndsUnstored};
+ghost use Rattle.rs_changes.specs.History.{changes_of, last_of, EndsUnstored};
 ghost use Rattle.rs_model.specs.Names.{value_of, bind, unbind};
-ghost use Rattle.rs_model.specs.State.{most_resources, most_changes};
 ghost use Rattle.rs_image.specs.Whole.{AreMoments};
+ghost use Rattle.rs_plan.specs.Allowed.{MayChange, MayPut, MayDelete, MayPublish};
 ghost use Rattle.rs_plan.specs.Placed.{AreUnplaced, record_of_body, facts_of_body};
+ghost use Rattle.rs_plan.specs.Replies.{reply_of};
 
 use rs_catalogue::Catalogue;
+use rs_changes::History;
 use rs_directory::Header;
 use rs_extent::Extent;
 use rs_fixity::Digests;
 use rs_image::Contents;
-use rs_record::{Change, Facts, MediaType, Name, Record};
+use rs_model::Reply;
+use rs_record::{Change, Facts, MediaType, Name, Record, What};
 use rs_time::Moment;
 use std::alloc::{AllocError, Global};
 
@@ -28,6 +31,7 @@ use std::alloc::{AllocError, Global};
 /// # Errors
 ///
 /// [`AllocError`] where the memory is refused.
+#[tactic(auto, using(crate::proofs::Replies::held_again))]
 pub(crate) fn lists_after_put(
     alloc: Global,
     old: &Contents,
@@ -39,20 +43,23 @@ pub(crate) fn lists_after_put(
     moment: Moment,
 ) -> Result<Contents, AllocError>
     requires moments { AreMoments old.now.header old.now }
-    requires resources { IsNone (value_of name.now (named (records_of old.now.catalogue))) → length (records_of old.now.catalogue) < most_resources }
-    requires changes { length (changes_of old.now.history) < most_changes }
-    requires later { old.now.header.last < moment }
+    requires may { MayPut old.now name.now body_length moment }
     ensures header { IfOk result (λ lists. lists.header ≡ record old.now.header { last = moment }) }
-    ensures records { IfOk result (λ lists. named (records_of lists.catalogue) ≡ bind name.now (record_of_body name.now kind.now body_length digests body moment) (named (records_of old.now.catalogue))) }
+    ensures records { IfOk result (λ lists. named (records_of lists.catalogue)
+        ≡ bind name.now (record_of_body name.now kind.now body_length digests body moment)
+        (named (records_of old.now.catalogue))) }
     ensures changes { IfOk result (λ lists. changes_of lists.history ≡ changes_of old.now.history
-        ++ bound name.now (is_some (value_of name.now (named (records_of old.now.catalogue)))) moment (facts_of_body kind.now body_length digests) ∷ []) }
+        ++ bound name.now
+        (is_some (value_of name.now (named (records_of old.now.catalogue)))) moment
+        (facts_of_body kind.now body_length digests) ∷ []) }
     ensures published { IfOk result (λ lists. lists.published ≡ old.now.published) }
     ensures catalogue_pages { IfOk result (λ lists. KeepsPages old.now.catalogue lists.catalogue) }
     ensures history_pages { IfOk result (λ lists. KeepsPages old.now.history lists.history) }
     ensures unplaced { IfOk result AreUnplaced }
     ensures moment { IfOk result (λ _. IsMoment moment) }
     ensures one_page { IfOk result (λ _. length old.now.catalogue ≤ 1) }
-    ensures unstored { IfOk result (λ lists. StandsUnstored name.now lists.catalogue × EndsUnstored lists.history) }
+    ensures unstored { IfOk result (λ lists. StandsUnstored name.now lists.catalogue
+        × EndsUnstored lists.history) }
 {
     let record = Record {
         name: name.copy(alloc)?,
@@ -67,9 +74,25 @@ pub(crate) fn lists_after_put(
         length: body_length,
         digests,
     };
-    let again = old.catalogue.get(name).is_some();
+    let catalogue = old.catalogue.with(alloc, record)?;
+    // The catalogue has grown where the name was not held.
+    let again = catalogue.len() == old.catalogue.len();
     let change = Change::bound(name.copy(alloc)?, again, moment, facts);
-    lists_with(alloc, old, old.catalogue.with(alloc, record)?, change)
+    lists_with(alloc, old, catalogue, change)
+}
+
+/// The reply to the command that made the last change.
+pub(crate) fn reply_told(history: &History) -> Reply
+    requires { 1 ≤ length (changes_of history.now) }
+    ensures { MatchOption (last_of (changes_of history.now)) ⊥
+        (λ change. result ≡ reply_of change) }
+{
+    let change = history.at(history.len() - 1);
+    match change.what {
+        What::Created => Reply::Created(change.moment),
+        What::Updated => Reply::Updated(change.moment),
+        What::Deleted => Reply::Deleted(change.moment),
+    }
 }
 
 /// The lists without a name that is held, at a moment.
@@ -84,12 +107,12 @@ pub(crate) fn lists_after_delete(
     moment: Moment,
 ) -> Result<Contents, AllocError>
     requires moments { AreMoments old.now.header old.now }
-    requires held { IsSome (value_of name.now (named (records_of old.now.catalogue))) }
-    requires changes { length (changes_of old.now.history) < most_changes }
-    requires later { old.now.header.last < moment }
+    requires may { MayDelete old.now name.now moment }
     ensures header { IfOk result (λ lists. lists.header ≡ record old.now.header { last = moment }) }
-    ensures records { IfOk result (λ lists. named (records_of lists.catalogue) ≡ unbind name.now (named (records_of old.now.catalogue))) }
-    ensures changes { IfOk result (λ lists. changes_of lists.history ≡ changes_of old.now.history ++ deleted name.now moment ∷ []) }
+    ensures records { IfOk result (λ lists. named (records_of lists.catalogue)
+        ≡ unbind name.now (named (records_of old.now.catalogue))) }
+    ensures changes { IfOk result (λ lists. changes_of lists.history
+        ≡ changes_of old.now.history ++ deleted name.now moment ∷ []) }
     ensures published { IfOk result (λ lists. lists.published ≡ old.now.published) }
     ensures catalogue_pages { IfOk result (λ lists. KeepsPages old.now.catalogue lists.catalogue) }
     ensures history_pages { IfOk result (λ lists. KeepsPages old.now.history lists.history) }
@@ -109,11 +132,12 @@ fn lists_with(
     change: Change,
 ) -> Result<Contents, AllocError>
     requires moments { AreMoments old.now.header old.now }
-    requires changes { length (changes_of old.now.history) < most_changes }
-    requires later { old.now.header.last < «change».moment }
-    ensures header { IfOk result (λ lists. lists.header ≡ record old.now.header { last = «change».moment }) }
+    requires may { MayChange old.now «change».moment }
+    ensures header { IfOk result
+        (λ lists. lists.header ≡ record old.now.header { last = «change».moment }) }
     ensures catalogue { IfOk result (λ lists. lists.catalogue ≡ catalogue) }
-    ensures changes { IfOk result (λ lists. changes_of lists.history ≡ changes_of old.now.history ++ «change» ∷ []) }
+    ensures changes { IfOk result (λ lists. changes_of lists.history
+        ≡ changes_of old.now.history ++ «change» ∷ []) }
     ensures published { IfOk result (λ lists. lists.published ≡ old.now.published) }
     ensures history_pages { IfOk result (λ lists. KeepsPages old.now.history lists.history) }
     ensures unstored { IfOk result (λ lists. EndsUnstored lists.history) }
@@ -142,8 +166,10 @@ pub(crate) fn lists_after_publish(
     old: &Contents,
     moment: Moment,
 ) -> Result<Contents, AllocError>
-    requires { old.now.header.number + 1 < 2 ^ 64 }
-    ensures header { IfOk result (λ lists. lists.header ≡ record old.now.header { last = moment; number = old.now.header.number + 1; at = moment }) }
+    requires { MayPublish old.now moment }
+    ensures header { IfOk result
+        (λ lists. lists.header ≡ record old.now.header
+        { last = moment; number = old.now.header.number + 1; at = moment }) }
     ensures catalogue { IfOk result (λ lists. lists.catalogue ≡ old.now.catalogue) }
     ensures history { IfOk result (λ lists. lists.history ≡ old.now.history) }
     ensures published { IfOk result (λ lists. lists.published ≡ old.now.catalogue) }

@@ -13,12 +13,14 @@ use rs_changes::History;
 use rs_directory::directory_size;
 use rs_extent::{Extent, Used};
 use rs_image::Contents;
+use rs_model::Reply;
 use rs_page::Full;
 
 /// Takes the lowest run of free blocks for so many bytes, and no block for none. `None` where there
 /// is no such run.
 pub(crate) fn take_lowest(used: &mut Used, length: u32) -> Option<Extent>
-    ensures { MatchOption result (HasNoRun used.old (blocks_of length)) (λ extent. Takes used.old (blocks_of length) extent used.new) }
+    ensures { MatchOption result (HasNoRun used.old (blocks_of length))
+        (λ extent. Takes used.old (blocks_of length) extent used.new) }
 {
     let blocks = blocks_for(length);
     if blocks == 0 {
@@ -33,14 +35,21 @@ pub(crate) fn take_lowest(used: &mut Used, length: u32) -> Option<Extent>
 }
 
 /// Gives each page that is touched, and then the directory, the lowest run of free blocks of its
-/// size, in the order of the catalogue, the history and the directory. It takes no memory.
+/// size, in the order of the catalogue, the history and the directory: a plan with this reply. It
+/// takes no memory.
 ///
 /// # Errors
 ///
 /// [`Full`] where one of them has no such run.
-pub(crate) fn place_lists(mut used: Used, body: Extent, mut lists: Contents) -> Result<Plan, Full>
+pub(crate) fn place_lists(
+    mut used: Used,
+    body: Extent,
+    mut lists: Contents,
+    reply: Reply,
+) -> Result<Plan, Full>
     requires { AreUnplaced lists }
     ensures placed { IfOk result (IsPlaced used body lists) }
+    ensures reply { IfOk result (λ plan. plan.reply ≡ reply) }
     ensures full { OnErr result (HasNoRoom used (lists_needed lists)) }
     ensures catalogue { AreInOnePage lists.catalogue }
     ensures history { AreInOnePage lists.history }
@@ -56,12 +65,14 @@ pub(crate) fn place_lists(mut used: Used, body: Extent, mut lists: Contents) -> 
         contents: lists,
         body,
         directory,
+        reply,
     })
 }
 
 // How many pages there are in all.
 fn pages_of(lists: &Contents) -> usize
-    ensures pages { result ≡ length lists.now.catalogue + length lists.now.history + length lists.now.published }
+    ensures pages { result ≡ length lists.now.catalogue + length lists.now.history
+        + length lists.now.published }
     ensures catalogue { AreInOnePage lists.now.catalogue }
     ensures history { AreInOnePage lists.now.history }
     ensures published { AreInOnePage lists.now.published }

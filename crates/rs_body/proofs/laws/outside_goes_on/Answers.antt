@@ -1,4 +1,4 @@
-use Rattle.rs_body.proofs.Kept.{outside_on}
+use Rattle.rs_body.proofs.KeptBlocks.{outside_on}
 use Rattle.rs_body.proofs.laws.outside_goes_on.Goals as goal
 
 pub returns : goal.returns

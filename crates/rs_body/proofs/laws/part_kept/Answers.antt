@@ -1,4 +1,4 @@
-use Rattle.rs_body.proofs.Kept.{part_kept, image_part_kept}
+use Rattle.rs_body.proofs.KeptBlocks.{part_kept, image_part_kept}
 use Rattle.rs_body.proofs.laws.part_kept.Goals as goal
 
 pub returns-clause-part : goal.returns-clause-part

@@ -1,6 +1,6 @@
 use Rattle.std.proofs.Common.{◌≡◌, ◌<◌, ◌==◌, ℕ, false, length, arith}
 use Rattle.std.proofs.lemmas.Bool.Decides.{nat_tests}
-use Rattle.rs_body.proofs.Kept.{has_room}
+use Rattle.rs_body.proofs.KeptBlocks.{has_room}
 use Rattle.rs_body.proofs.read.read_front.Goals as goal
 
 some_bytes : (n : ℕ) → false ≡ (n == 0) → 0 < n

@@ -1,7 +1,7 @@
 use Rattle.std.proofs.Common.{◌≡◌, ◌<◌, ◌==◌, ℕ, false, length, subst, arith, OnOk, OnErr}
 use Rattle.std.proofs.lemmas.Bool.Decides.{nat_tests}
 use Rattle.rs_disk.specs.Calls.{Writes, Tears}
-use Rattle.rs_body.proofs.Kept.{outside_write, has_room}
+use Rattle.rs_body.proofs.KeptBlocks.{outside_write, has_room}
 use Rattle.rs_body.proofs.write.write_body.Goals as goal
 
 some_bytes : (n : ℕ) → false ≡ (n == 0) → 0 < n

@@ -2,7 +2,7 @@ use Rattle.std.proofs.Common.{List, subst, sym}
 use Rattle.rs_record.specs.declared.record.Record.{Record}
 use Rattle.rs_model.specs.Names.{IsFoundAt, IsMissingAt}
 use Rattle.rs_catalogue.specs.Named.{named}
-use Rattle.rs_catalogue.proofs.Held.{filled-bind, filled-length}
+use Rattle.rs_catalogue.proofs.HeldRecords.{filled-bind, filled-length}
 use Rattle.rs_catalogue.proofs.FilledIn.{filled-none, filled-at}
 use Rattle.rs_catalogue.proofs.catalogue.fill_page.Goals as goal
 

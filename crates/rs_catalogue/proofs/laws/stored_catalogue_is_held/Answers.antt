@@ -4,9 +4,9 @@ use Rattle.rs_catalogue.proofs.Joined.{joined, fewer_refs}
 use Rattle.rs_catalogue.proofs.laws.stored_catalogue_is_held.Goals as goal
 
 pub returns : goal.returns
-returns c sheets image keeps one stored stand =
+returns c pages image keeps one stored stand =
     record {
-      hold = c.stored_pages_stand.ensures.pages sheets image stored stand;
-      held = subst AreHeld (sym (joined sheets)) keeps.held;
-      one = omega (arith, fewer_refs sheets);
+      hold = c.stored_pages_stand.ensures.pages pages image stored stand;
+      held = subst AreHeld (sym (joined pages)) keeps.held;
+      one = omega (arith, fewer_refs pages);
     }

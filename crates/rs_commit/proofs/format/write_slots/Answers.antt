@@ -1,7 +1,7 @@
 use Rattle.std.proofs.Common.{◌≡◌, ◌≤◌, ◌∷◌, [], ◌++◌, ℕ, List, length, refl, ◌∙◌, ap, arith}
 use Rattle.rs_disk.specs.Medium.{Medium, over, resting}
 use Rattle.rs_commit.specs.Slots.{payload_of}
-use Rattle.rs_commit.specs.Commit.{IsReady, behind}
+use Rattle.rs_commit.specs.Commit.{IsReady, behind_slots}
 use Rattle.rs_commit.specs.Format.{slot_bytes, formatted, fresh}
 use Rattle.rs_commit.proofs.Payloads.{made}
 use Rattle.rs_commit.proofs.Phases.{behind_on}
@@ -78,7 +78,7 @@ returns-clause-made g c =
     let e2 : next.now.seen ≡ over mid.now.seen 512 (slot_bytes 0 (1 ∷ [])) =
     ap (λ (m : Medium). m.seen) c.in_ok-write_settled.ensures.settled ∙ (λ i. over mid.now.seen (c.offset-2.ensures i) (c.closed_slot-2.ensures i)) in
     let last_seen : List ℕ = over next.now.seen 0 (1 ∷ []) in
-    on_ok {P = last.now ≡ resting (over next.now.seen c.offset-3.result (1 ∷ []))} {Q = last.now ≡ resting (formatted root ++ behind old.now.seen)} c.write_settled-2.result
+    on_ok {P = last.now ≡ resting (over next.now.seen c.offset-3.result (1 ∷ []))} {Q = last.now ≡ resting (formatted root ++ behind_slots old.now.seen)} c.write_settled-2.result
     (λ settled. settled ∙ ap (λ (k : ℕ). resting (over next.now.seen k (1 ∷ []))) c.offset-3.ensures
     ∙ ap resting (made root old.now.seen mid.now.seen next.now.seen last_seen c.payload.ensures.lawful room e1 e2 refl))
     c.write_settled-2.ensures.settled
@@ -88,5 +88,5 @@ returns-clause-ready g c =
     let root = c.args.root.now in
     let old = g.D.Disk.state c.args.disk.now in
     let last = g.D.Disk.state c.write_settled-2.new.disk in
-    on_ok {P = last.now ≡ resting (formatted root ++ behind old.now.seen)} {Q = IsReady (fresh root) last.now} c.write_settled-2.result
-    (λ are. formatted_ready root (behind old.now.seen) last.now c.payload.ensures.lawful are) (returns-clause-made g c)
+    on_ok {P = last.now ≡ resting (formatted root ++ behind_slots old.now.seen)} {Q = IsReady (fresh root) last.now} c.write_settled-2.result
+    (λ are. formatted_ready root (behind_slots old.now.seen) last.now c.payload.ensures.lawful are) (returns-clause-made g c)

@@ -6,7 +6,7 @@ use Rattle.rs_http.specs.declared.request.NoPlan.{NoPlan}
 use Rattle.rs_http.specs.declared.request.Plan.{Plan}
 use Rattle.rs_http.specs.declared.request.Plan.TheVariants.{Put}
 use Rattle.rs_http.specs.Responses.{replied, refused}
-use Rattle.rs_http.specs.Gives.{IsPut, replied_as}
+use Rattle.rs_http.specs.Outcomes.{PutComesTo, outcome_replied}
 use Rattle.rs_http.proofs.Asking.{answered}
 use Rattle.rs_http.proofs.Endings.{sent_ends}
 use Rattle.rs_http.proofs.answer.put.Goals as goal
@@ -19,13 +19,13 @@ returns-in-Ok-clause-ends g c = λ waits.
     let after = c.write_reply.new.writer in
     let came = c.put_from.ensures.came in
     let asked : Result Plan NoPlan = Ok (Put c.args.name.now c.args.kind.now c.args.body_length waits) in
-    let comes = IsPut g.D.Disk.state c.args.source.now c.put_from.new.self c.args.name.now c.args.kind.now c.args.body_length c.args.now came.0 rest in
+    let comes = PutComesTo g.D.Disk.state c.args.source.now c.put_from.new.self c.args.name.now c.args.kind.now c.args.body_length c.args.now came.0 rest in
     let is : comes (replied c.in-Ok.reply) = record {
       result = c.put_from.result;
       answers = came.2;
       unbroken = λ e. absurd cc;
       ended = c.put_from.ensures.ended;
-      outcome_is = sym (ap replied_as c.in-Ok.is);
+      outcome_is = sym (ap outcome_replied c.in-Ok.is);
     } in
     sent_ends g.D.Disk.state c.args.source.now c.put_from.new.self c.args.now asked asked c.args.framing left rest g.W.Write.contents before after came.0
     comes c.write_reply.result c.sent.result came.1 refl c.sent.ensures
@@ -39,13 +39,13 @@ returns-in_default-clause-ends g c = λ waits.
     let after = c.write_refusal.new.writer in
     let came = c.put_from.ensures.came in
     let asked : Result Plan NoPlan = Ok (Put c.args.name.now c.args.kind.now c.args.body_length waits) in
-    let comes = IsPut g.D.Disk.state c.args.source.now c.put_from.new.self c.args.name.now c.args.kind.now c.args.body_length c.args.now came.0 rest in
+    let comes = PutComesTo g.D.Disk.state c.args.source.now c.put_from.new.self c.args.name.now c.args.kind.now c.args.body_length c.args.now came.0 rest in
     let is : comes (refused c.in-Err.refusal) = record {
       result = c.put_from.result;
       answers = came.2;
       unbroken = λ e. let fault : c.in-Err.refusal ≡ ReadFault = cc in c.in_default.not-ReadFault fault;
       ended = c.put_from.ensures.ended;
-      outcome_is = sym (ap replied_as c.in-Err.is);
+      outcome_is = sym (ap outcome_replied c.in-Err.is);
     } in
     sent_ends g.D.Disk.state c.args.source.now c.put_from.new.self c.args.now asked asked c.args.framing left rest g.W.Write.contents before after came.0
     comes c.write_refusal.result c.sent-in_default.result came.1 refl c.sent-in_default.ensures

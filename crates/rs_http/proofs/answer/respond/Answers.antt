@@ -4,7 +4,7 @@ use Rattle.std.proofs.KnownBytes.{Consumes-nil}
 use Rattle.rs_io.specs.Watch.{watched, Wrote}
 use Rattle.rs_model.specs.declared.command.Command.TheVariants as commands
 use Rattle.rs_http.specs.declared.request.Plan.TheVariants.{ShowBody, ShowDocument, Delete, Publish}
-use Rattle.rs_http.specs.Gives.{IsRead, IsRun, document_shown, unplanned}
+use Rattle.rs_http.specs.Outcomes.{ReadComesTo, RunComesTo, document_shown, unplanned}
 use Rattle.rs_http.proofs.Asking.{answered}
 use Rattle.rs_http.proofs.Endings.{sent_ends}
 use Rattle.rs_http.proofs.answer.respond.Goals as goal
@@ -26,7 +26,7 @@ returns-in-Ok-ShowBody-clause-ends g c =
     let left = g.R.Read.remaining (watched c.args.reader.now) in
     sent_ends g.D.Disk.state c.args.source.now c.show_body.new.source c.args.now c.args.plan (Ok (ShowBody c.in-Ok-ShowBody.name)) c.args.framing
     left left g.W.Write.contents c.args.writer.now c.show_body.new.writer []
-    (IsRead g.D.Disk.state c.args.source.now c.show_body.new.source c.in-Ok-ShowBody.name) c.show_body.result c.sent-in-Ok-ShowBody.result
+    (ReadComesTo g.D.Disk.state c.args.source.now c.show_body.new.source c.in-Ok-ShowBody.name) c.show_body.result c.sent-in-Ok-ShowBody.result
     (Consumes-nil left) (c.in-Ok-ShowBody.is ∙ ap Ok c.in-Ok-ShowBody.field-0-is) c.sent-in-Ok-ShowBody.ensures c.show_body.ensures.answered (λ o h. (refl, h))
 
 pub returns-in-Ok-ShowDocument-clause-ends : goal.returns-in-Ok-ShowDocument-clause-ends
@@ -42,7 +42,7 @@ returns-in-Ok-Delete-clause-ends g c =
     let left = g.R.Read.remaining (watched c.args.reader.now) in
     sent_ends g.D.Disk.state c.args.source.now c.delete.new.source c.args.now c.args.plan (Ok (Delete c.in-Ok-Delete.name)) c.args.framing
     left left g.W.Write.contents c.args.writer.now c.delete.new.writer []
-    (IsRun g.D.Disk.state c.args.source.now c.delete.new.source (commands.Delete c.in-Ok-Delete.name) c.args.now) c.delete.result c.sent-in-Ok-Delete.result
+    (RunComesTo g.D.Disk.state c.args.source.now c.delete.new.source (commands.Delete c.in-Ok-Delete.name) c.args.now) c.delete.result c.sent-in-Ok-Delete.result
     (Consumes-nil left) (c.in-Ok-Delete.is ∙ ap Ok c.in-Ok-Delete.field-0-is) c.sent-in-Ok-Delete.ensures c.delete.ensures.answered (λ o h. (refl, h))
 
 pub returns-in-Ok-Publish-clause-ends : goal.returns-in-Ok-Publish-clause-ends
@@ -50,7 +50,7 @@ returns-in-Ok-Publish-clause-ends g c =
     let left = g.R.Read.remaining (watched c.args.reader.now) in
     sent_ends g.D.Disk.state c.args.source.now c.publish.new.source c.args.now c.args.plan (Ok Publish) c.args.framing
     left left g.W.Write.contents c.args.writer.now c.publish.new.writer []
-    (IsRun g.D.Disk.state c.args.source.now c.publish.new.source commands.Publish c.args.now) c.publish.result c.sent-in-Ok-Publish.result
+    (RunComesTo g.D.Disk.state c.args.source.now c.publish.new.source commands.Publish c.args.now) c.publish.result c.sent-in-Ok-Publish.result
     (Consumes-nil left) (c.in-Ok-Publish.is ∙ ap Ok c.in-Ok-Publish.field-0-is) c.sent-in-Ok-Publish.ensures c.publish.ensures.answered (λ o h. (refl, h))
 
 pub returns-in-Ok-Put-clause-ends : goal.returns-in-Ok-Put-clause-ends

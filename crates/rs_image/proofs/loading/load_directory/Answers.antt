@@ -1,6 +1,6 @@
 use Rattle.std.proofs.Common.{rules, ◌≡◌, length, ◌<◌, ◌≤◌, arith, sym, ap, ◌∙◌, Err}
 use Rattle.rs_body.specs.Blocks.{part}
-use Rattle.rs_image.specs.Tells.{listing}
+use Rattle.rs_image.specs.StateOfImage.{listing}
 use Rattle.rs_image.proofs.Loaded.{has_slots, still_read, malformed, some_bytes}
 use Rattle.rs_image.proofs.loading.load_directory.Goals as goal
 

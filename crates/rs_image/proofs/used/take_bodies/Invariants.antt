@@ -1,5 +1,5 @@
 use Rattle.std.proofs.Common.{◌≤◌, length, drop}
-use Rattle.rs_page.specs.Kept.{AreTaken}
+use Rattle.rs_extent.specs.Extents.{AreTaken}
 use Rattle.rs_catalogue.specs.Catalogue.{records_of}
 use Rattle.rs_image.specs.Reach.{bodies_of}
 use Rattle.rs_image.proofs.used.take_bodies.Given as goal

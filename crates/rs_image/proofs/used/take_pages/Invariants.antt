@@ -1,6 +1,6 @@
 use Rattle.std.proofs.Common.{◌≤◌, length, drop}
-use Rattle.rs_page.specs.Kept.{AreTaken}
-use Rattle.rs_page.specs.Sheets.{extents_of}
+use Rattle.rs_extent.specs.Extents.{AreTaken}
+use Rattle.rs_page.specs.Pages.{extents_of}
 use Rattle.rs_image.proofs.used.take_pages.Given as goal
 
 abbrev pub invariant-loop-i : goal.invariant-loop-i

@@ -1,10 +1,9 @@
 use Rattle.std.proofs.Common.{◌≡◌, [], ◌∷◌, ◌++◌, sym, subst}
-use Rattle.rs_page.specs.Kept.{AreTaken}
-use Rattle.rs_page.specs.Sheets.{stored_refs, extents_of}
+use Rattle.rs_extent.specs.Extents.{AreTaken, CanTake}
+use Rattle.rs_page.specs.Pages.{stored_refs, extents_of}
 use Rattle.rs_catalogue.specs.Catalogue.{records_of}
 use Rattle.rs_image.specs.Reach.{bodies_of, unshared, reach}
-use Rattle.rs_image.specs.Takes.{CanTake}
-use Rattle.rs_image.proofs.Taken.{taken_both, can_behind, can_front}
+use Rattle.rs_extent.proofs.Taken.{taken_before, can_behind, can_front}
 use Rattle.rs_image.proofs.Reached.{reach_by}
 use Rattle.rs_image.proofs.used.take_reached.Goals as goal
 
@@ -41,10 +40,10 @@ returns-clause-taken c is =
     let are : directory ∷ extents_of pages ++ bodies ≡ reach c.args.root.now lists =
     reach_by directory (stored_refs lists.catalogue) (stored_refs lists.history) (unshared (stored_refs lists.published) (stored_refs lists.catalogue)) pages bodies c.in_ok-pages.ensures in
     let behind : AreTaken c.args.used.now c.take_pages.new.used (extents_of pages ++ bodies) =
-    taken_both c.args.used.now c.take_bodies.new.used c.take_pages.new.used (extents_of pages) bodies (c.take_bodies.ensures.taken c.if-not-take_bodies.false)
+    taken_before c.args.used.now c.take_bodies.new.used c.take_pages.new.used (extents_of pages) bodies (c.take_bodies.ensures.taken c.if-not-take_bodies.false)
     (rw c.deref.ensures.value at (c.take_pages.ensures.taken c.if-not-take_pages.false)) in
     subst (AreTaken c.args.used.now c.take.new.used) are
-    (taken_both c.args.used.now c.take_pages.new.used c.take.new.used (directory ∷ []) (extents_of pages ++ bodies) behind (c.take.ensures.taken is))
+    (taken_before c.args.used.now c.take_pages.new.used c.take.new.used (directory ∷ []) (extents_of pages ++ bodies) behind (c.take.ensures.taken is))
 
 pub returns-clause-refused : goal.returns-clause-refused
 returns-clause-refused c is can =
@@ -55,7 +54,7 @@ returns-clause-refused c is can =
     let are : directory ∷ extents_of pages ++ bodies ≡ reach c.args.root.now lists =
     reach_by directory (stored_refs lists.catalogue) (stored_refs lists.history) (unshared (stored_refs lists.published) (stored_refs lists.catalogue)) pages bodies c.in_ok-pages.ensures in
     let behind : AreTaken c.args.used.now c.take_pages.new.used (extents_of pages ++ bodies) =
-    taken_both c.args.used.now c.take_bodies.new.used c.take_pages.new.used (extents_of pages) bodies (c.take_bodies.ensures.taken c.if-not-take_bodies.false)
+    taken_before c.args.used.now c.take_bodies.new.used c.take_pages.new.used (extents_of pages) bodies (c.take_bodies.ensures.taken c.if-not-take_bodies.false)
     (rw c.deref.ensures.value at (c.take_pages.ensures.taken c.if-not-take_pages.false)) in
     c.take.ensures.refused is
     (can_front c.args.used.now c.take_pages.new.used (directory ∷ []) (extents_of pages ++ bodies) behind (subst (CanTake c.args.used.now) (sym are) can))

@@ -1,22 +1,28 @@
 use Rattle.std.proofs.Common.{ap, ◌∷◌, [], List, ℕ, refl, None}
 use Rattle.std.specs.Prelude.{codes}
 use Rattle.rs_lists.specs.Text.{xml_line, open_line, close_line, up_line, change_md}
-use Rattle.std.proofs.Common.{◌≤◌, length}
+use Rattle.std.proofs.Common.{◌≤◌, length, arith}
 use Rattle.rs_lists.specs.Shown.{change_parts_of}
+use Rattle.rs_lists.specs.Lawful.{IsSmall}
 use Rattle.rs_lists.proofs.Sizes.{on_value, change_index_small}
 use Rattle.rs_lists.proofs.Parts.{parts_few}
 use Rattle.rs_lists.proofs.Runs.{on_four}
+use Rattle.rs_lists.proofs.Documents.{on_document, change_head_index}
 use Rattle.rs_lists.proofs.Lines.{same_document}
 use Rattle.rs_lists.proofs.change_list.put_change_index.Goals as goal
 
 pub returns-clause-taken : goal.returns-clause-taken
 returns-clause-taken g c =
-    on_four g.S.Sink.takes g.met.S.Sink.takes_more c.put_closing.result _ _ _ _ _ _ _ _ _ _ c.in_ok-put_opening.ensures.taken c.in_ok-put_change_md.ensures.taken
+    let s = g.V.View.shown c.args.view.now in
+    on_document (g.S.Sink.takes _ _) _ _ _
+    (on_four g.S.Sink.takes g.met.S.Sink.takes_more c.put_closing.result _ _ _ _ _ _ _ _ _ _ c.in_ok-put_opening.ensures.taken c.in_ok-put_change_md.ensures.taken
     c.in_ok-put_change_entries.ensures.taken c.put_closing.ensures.taken
-    (same_document _ _ _ _ _ _ (close_line (codes "sitemapindex")) (ap (λ (b : List ℕ). xml_line ∷ open_line (codes "sitemapindex") ∷ up_line b ∷ []) c.base.ensures) (ap (λ (t : ℕ). change_md t None) c.start.ensures) refl)
+    (same_document _ _ _ _ _ _ (close_line (codes "sitemapindex")) (ap (λ (b : List ℕ). xml_line ∷ open_line (codes "sitemapindex") ∷ up_line b ∷ []) c.base.ensures) (ap (λ (t : ℕ). change_md t None) c.start.ensures) refl))
+    (change_head_index s (omega (arith, c.requires.shown)) c.requires.several)
 
 pub returns-clause-small : goal.returns-clause-small
 returns-clause-small g c =
     let s = g.V.View.shown c.args.view.now in
     let short : length s.base ≤ 128 = rw c.base.ensures at c.in_ok-put_opening.ensures.base in
-    on_value c.put_closing.result (change_index_small s (change_parts_of s) short c.in_ok-put_change_entries.ensures.small (parts_few (length s.changes) s.limit c.requires.low c.requires.changes))
+    on_document IsSmall _ _ _ (on_value c.put_closing.result (change_index_small s (change_parts_of s) short c.in_ok-put_change_entries.ensures.small (parts_few (length s.changes) s.limit c.requires.shown.low c.requires.shown.changes)))
+    (change_head_index s (omega (arith, c.requires.shown)) c.requires.several)

@@ -4,18 +4,22 @@ use Rattle.rs_record.specs.declared.change.Change.{Change}
 use Rattle.rs_lists.specs.Text.{xml_line, open_line, close_line, up_line, change_md, change_line}
 use Rattle.std.proofs.Common.{◌≤◌, ◌*◌, ◌-◌, length, arith}
 use Rattle.rs_lists.specs.Text.{joined}
+use Rattle.rs_lists.specs.Lawful.{IsSmall}
 use Rattle.rs_lists.proofs.Sizes.{on_value, change_list_small}
 use Rattle.rs_lists.proofs.Runs.{on_four}
+use Rattle.rs_lists.proofs.Documents.{on_document, change_head_list}
 use Rattle.rs_lists.proofs.Lines.{same_document, all_items}
 use Rattle.rs_lists.proofs.change_list.put_change_list.Goals as goal
 
 pub returns-clause-taken : goal.returns-clause-taken
 returns-clause-taken g c =
     let s = g.V.View.shown c.args.view.now in
-    on_four g.S.Sink.takes g.met.S.Sink.takes_more c.put_closing.result _ _ _ _ _ _ _ _ _ _ c.in_ok-put_opening.ensures.taken c.in_ok-put_change_md.ensures.taken
+    on_document (g.S.Sink.takes _ _) _ _ _
+    (on_four g.S.Sink.takes g.met.S.Sink.takes_more c.put_closing.result _ _ _ _ _ _ _ _ _ _ c.in_ok-put_opening.ensures.taken c.in_ok-put_change_md.ensures.taken
     c.in_ok-put_changes.ensures.taken c.put_closing.ensures.taken
     (same_document _ _ _ _ _ _ (close_line (codes "urlset")) (ap (λ (b : List ℕ). xml_line ∷ open_line (codes "urlset") ∷ up_line b ∷ []) c.base.ensures) (ap (λ (t : ℕ). change_md t None) c.start.ensures)
-    (ap (λ (xs : List Change). map (change_line s.base) xs) (all_items s.changes c.changes_len.result c.changes_len.ensures)))
+    (ap (λ (xs : List Change). map (change_line s.base) xs) (all_items s.changes c.changes_len.result c.changes_len.ensures))))
+    (change_head_list s (omega (arith, c.requires.shown)) c.requires.one)
 
 pub returns-clause-small : goal.returns-clause-small
 returns-clause-small g c =
@@ -23,4 +27,5 @@ returns-clause-small g c =
     let n = c.changes_len.result in
     let short : length s.base ≤ 128 = rw c.base.ensures at c.in_ok-put_opening.ensures.base in
     let text : length (joined (map (change_line s.base) s.changes)) ≤ 2450 * (n - 0) = rw (all_items s.changes n c.changes_len.ensures) at c.in_ok-put_changes.ensures.small in
-    on_value c.put_closing.result (change_list_small s s.start None s.changes (n - 0) short text (omega (arith, c.changes_len.ensures)))
+    on_document IsSmall _ _ _ (on_value c.put_closing.result (change_list_small s s.start None s.changes (n - 0) short text (omega (arith, c.changes_len.ensures))))
+    (change_head_list s (omega (arith, c.requires.shown)) c.requires.one)

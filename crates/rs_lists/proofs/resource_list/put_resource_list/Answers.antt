@@ -4,18 +4,22 @@ use Rattle.rs_record.specs.declared.record.Record.{Record}
 use Rattle.rs_lists.specs.Text.{xml_line, open_line, close_line, up_line, resource_md, resource_line}
 use Rattle.std.proofs.Common.{◌≤◌, ◌*◌, ◌-◌, length, arith}
 use Rattle.rs_lists.specs.Text.{joined}
+use Rattle.rs_lists.specs.Lawful.{IsSmall}
 use Rattle.rs_lists.proofs.Sizes.{on_value, resource_list_small}
 use Rattle.rs_lists.proofs.Runs.{on_four}
+use Rattle.rs_lists.proofs.Documents.{on_document, resource_head_list}
 use Rattle.rs_lists.proofs.Lines.{same_document, all_items}
 use Rattle.rs_lists.proofs.resource_list.put_resource_list.Goals as goal
 
 pub returns-clause-taken : goal.returns-clause-taken
 returns-clause-taken g c =
     let s = g.V.View.shown c.args.view.now in
-    on_four g.S.Sink.takes g.met.S.Sink.takes_more c.put_closing.result _ _ _ _ _ _ _ _ _ _ c.in_ok-put_opening.ensures.taken c.in_ok-put_resource_md.ensures.taken
+    on_document (g.S.Sink.takes _ _) _ _ _
+    (on_four g.S.Sink.takes g.met.S.Sink.takes_more c.put_closing.result _ _ _ _ _ _ _ _ _ _ c.in_ok-put_opening.ensures.taken c.in_ok-put_resource_md.ensures.taken
     c.in_ok-put_resources.ensures.taken c.put_closing.ensures.taken
     (same_document _ _ _ _ _ _ (close_line (codes "urlset")) (ap (λ (b : List ℕ). xml_line ∷ open_line (codes "urlset") ∷ up_line b ∷ []) c.base.ensures) (ap resource_md c.at.ensures)
-    (ap (λ (xs : List Record). map (resource_line s.base) xs) (all_items s.published c.published_len.result c.published_len.ensures)))
+    (ap (λ (xs : List Record). map (resource_line s.base) xs) (all_items s.published c.published_len.result c.published_len.ensures))))
+    (resource_head_list s (omega (arith, c.requires.shown)) c.requires.one)
 
 pub returns-clause-small : goal.returns-clause-small
 returns-clause-small g c =
@@ -23,4 +27,5 @@ returns-clause-small g c =
     let n = c.published_len.result in
     let short : length s.base ≤ 128 = rw c.base.ensures at c.in_ok-put_opening.ensures.base in
     let text : length (joined (map (resource_line s.base) s.published)) ≤ 2450 * (n - 0) = rw (all_items s.published n c.published_len.ensures) at c.in_ok-put_resources.ensures.small in
-    on_value c.put_closing.result (resource_list_small s s.published (n - 0) short text (omega (arith, c.published_len.ensures)))
+    on_document IsSmall _ _ _ (on_value c.put_closing.result (resource_list_small s s.published (n - 0) short text (omega (arith, c.published_len.ensures))))
+    (resource_head_list s (omega (arith, c.requires.shown)) c.requires.one)

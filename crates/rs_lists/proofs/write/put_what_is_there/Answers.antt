@@ -2,7 +2,7 @@ use Rattle.std.proofs.Common.{◌≡◌, ◌-◌, Some, arith}
 use Rattle.std.specs.Prelude.{IsSome}
 use Rattle.rs_lists.specs.declared.doc.Doc.TheVariants.{ChangePart}
 use Rattle.rs_lists.specs.Text.{list_text, change_part_text}
-use Rattle.rs_lists.proofs.Sizes.{on_small}
+use Rattle.rs_lists.specs.Lawful.{IsSmall}
 use Rattle.rs_lists.proofs.Documents.{on_document, resource_part_there, resource_part_is, change_part_there, change_part_is, others_absent}
 use Rattle.rs_lists.proofs.write.put_what_is_there.Goals as goal
 
@@ -23,17 +23,17 @@ unreachable-requires g c = let absent = others_absent (g.V.View.shown c.args.vie
 
 pub returns-in-ResourcePart-clause-taken : goal.returns-in-ResourcePart-clause-taken
 returns-in-ResourcePart-clause-taken g c =
-    rw c.in-ResourcePart.is (on_document g.S.Sink.takes c.put_resource_part.result _ _ _ _ c.put_resource_part.ensures.taken
+    rw c.in-ResourcePart.is (on_document (g.S.Sink.takes _ _) c.put_resource_part.result _ _ c.put_resource_part.ensures.taken
     (resource_part_is (g.V.View.shown c.args.view.now) c.in-ResourcePart.publication c.in-ResourcePart.part (rw c.in-ResourcePart.is at c.requires)))
 
 pub returns-in-ChangePart-clause-taken : goal.returns-in-ChangePart-clause-taken
 returns-in-ChangePart-clause-taken g c =
-    rw c.in-ChangePart.is (on_document g.S.Sink.takes c.put_change_part.result _ _ _ _ c.put_change_part.ensures.taken
+    rw c.in-ChangePart.is (on_document (g.S.Sink.takes _ _) c.put_change_part.result _ _ c.put_change_part.ensures.taken
     (rw c.first.ensures (change_part_is (g.V.View.shown c.args.view.now) c.in-ChangePart.part (rw c.in-ChangePart.is at c.requires))))
 
 pub returns-in-ResourcePart-clause-small : goal.returns-in-ResourcePart-clause-small
 returns-in-ResourcePart-clause-small g c =
-    rw c.in-ResourcePart.is (on_small c.put_resource_part.result _ _ c.put_resource_part.ensures.small
+    rw c.in-ResourcePart.is (on_document IsSmall c.put_resource_part.result _ _ c.put_resource_part.ensures.small
     (resource_part_is (g.V.View.shown c.args.view.now) c.in-ResourcePart.publication c.in-ResourcePart.part (rw c.in-ResourcePart.is at c.requires)))
 
 pub returns-in-ChangePart-clause-small : goal.returns-in-ChangePart-clause-small
@@ -41,4 +41,4 @@ returns-in-ChangePart-clause-small g c =
     let s = g.V.View.shown c.args.view.now in
     let there : IsSome (list_text s (ChangePart c.in-ChangePart.part)) = rw c.in-ChangePart.is at c.requires in
     let is : list_text s (ChangePart c.in-ChangePart.part) ≡ Some (change_part_text s (c.in-ChangePart.part - c.first.result)) = rw c.first.ensures (change_part_is s c.in-ChangePart.part there) in
-    rw c.in-ChangePart.is (on_small c.put_change_part.result _ _ c.put_change_part.ensures.small is)
+    rw c.in-ChangePart.is (on_document IsSmall c.put_change_part.result _ _ c.put_change_part.ensures.small is)

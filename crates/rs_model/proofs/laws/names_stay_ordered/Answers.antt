@@ -2,10 +2,10 @@ use Rattle.rs_model.proofs.OrderLemmas.{ordered-bind, ordered-unbind, ordered_mi
 use Rattle.rs_model.proofs.laws.names_stay_ordered.Goals as goal
 
 pub returns-clause-bound : goal.returns-clause-bound
-returns-clause-bound c = ordered-bind
+returns-clause-bound g c = ordered-bind
 
 pub returns-clause-unbound : goal.returns-clause-unbound
-returns-clause-unbound c = ordered-unbind
+returns-clause-unbound g c = ordered-unbind
 
 pub returns-clause-mirrored : goal.returns-clause-mirrored
-returns-clause-mirrored c = ordered_mirror
+returns-clause-mirrored g c = ordered_mirror

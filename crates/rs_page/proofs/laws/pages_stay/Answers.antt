@@ -1,5 +1,5 @@
 -- Each clause is a lemma.
-use Rattle.rs_page.proofs.Standing.{page_stays, pages_stay, sheets_stay, written_stay}
+use Rattle.rs_page.proofs.Standing.{page_stays, pages_stay, stored_pages_stay, written_stay}
 use Rattle.rs_page.proofs.laws.pages_stay.Goals as goal
 
 pub returns-clause-page : goal.returns-clause-page
@@ -9,7 +9,7 @@ pub returns-clause-pages : goal.returns-clause-pages
 returns-clause-pages g c = pages_stay g.T.PageItem.format
 
 pub returns-clause-stored : goal.returns-clause-stored
-returns-clause-stored g c = sheets_stay g.T.PageItem.format
+returns-clause-stored g c = stored_pages_stay g.T.PageItem.format
 
 pub returns-clause-written : goal.returns-clause-written
 returns-clause-written g c = written_stay g.T.PageItem.format

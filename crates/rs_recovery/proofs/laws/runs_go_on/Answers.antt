@@ -1,5 +1,5 @@
 use Rattle.std.proofs.Common.{refl}
-use Rattle.rs_recovery.proofs.Going.{bodies_idle, cut_puts_idle}
+use Rattle.rs_recovery.proofs.TurnsJoined.{bodies_idle, cut_puts_idle}
 use Rattle.rs_recovery.proofs.laws.runs_go_on.Goals as goal
 
 pub returns-clause-join : goal.returns-clause-join

@@ -1,19 +1,19 @@
 use Rattle.std.proofs.Common.{ℕ, List, take, sym, subst}
 use Rattle.rs_model.specs.State.{start_of}
 use Rattle.rs_model.specs.Step.{fold_of}
-use Rattle.rs_image.specs.Tells.{StandsFor}
-use Rattle.rs_store.specs.Counted.{counted}
-use Rattle.rs_recovery.specs.Sessions.{behind}
+use Rattle.rs_image.specs.StateOfImage.{StandsFor}
+use Rattle.rs_store.specs.Counted.{counted_commands}
+use Rattle.rs_recovery.specs.Sessions.{commands_standing}
 use Rattle.rs_recovery.proofs.Opened.{gives_back, opened_on}
 use Rattle.rs_recovery.proofs.Sessions.{left_standing, yields_held}
 use Rattle.rs_recovery.proofs.recovering.recover.Goals as goal
 
 pub returns-clause-recovers : goal.returns-clause-recovers
 returns-clause-recovers g c =
-    gives_back c.stands_once.ensures g.D.Disk.state c.args.disk c.open.result c.open.ensures.holds c.open.ensures.not_a_source c.open.ensures.damaged c.open.ensures.device
+    gives_back c.stands_once.ensures g.D.Disk.state c.args.disk c.open.result c.open.ensures.opened c.open.ensures.refused
 
 pub returns-clause-opened : goal.returns-clause-opened
-returns-clause-opened g c = opened_on g.D.Disk.state c.args.disk c.open.result c.open.ensures.holds
+returns-clause-opened g c = opened_on g.D.Disk.state c.args.disk c.open.result c.open.ensures.opened
 
 pub returns-clause-after_a_run : goal.returns-clause-after_a_run
 returns-clause-after_a_run g c = λ honest s commands acks m prefix.
@@ -21,21 +21,21 @@ returns-clause-after_a_run g c = λ honest s commands acks m prefix.
       j = prefix.j;
       least = prefix.least;
       most = prefix.most;
-      state = returns-clause-recovers g c honest (fold_of s (take prefix.j (counted commands acks))) prefix.stands;
+      state = returns-clause-recovers g c honest (fold_of s (take prefix.j (counted_commands commands acks))) prefix.stands;
     }
 
 pub returns-clause-headline : goal.returns-clause-headline
 returns-clause-headline g c = λ base limit moment sessions are bytes honest.
     let start = start_of base limit moment in
     let found = c.sessions_stand.ensures start sessions are in
-    let s = fold_of start (behind sessions found.0) in
+    let s = fold_of start (commands_standing sessions found.0) in
     let here : StandsFor (g.D.Disk.state c.args.disk).now.seen s = subst (λ (l : List ℕ). StandsFor l s) (sym bytes) (left_standing g.D.Disk.state start sessions found.0 are found.1.holds) in
-    let regular = c.fold_is_regular.ensures.regular start (behind sessions found.0) (c.start_is_regular.ensures.regular base limit moment) in
+    let regular = c.fold_is_regular.ensures.regular start (commands_standing sessions found.0) (c.start_is_regular.ensures.regular base limit moment) in
     record {
       standing = found.0;
       stand = found.1;
       state = returns-clause-recovers g c honest s here;
       regular = regular;
-      timely = c.fold_is_regular.ensures.timely start (behind sessions found.0) (c.start_is_regular.ensures.regular base limit moment) (c.start_is_regular.ensures.timely base limit moment);
+      timely = c.fold_is_regular.ensures.timely start (commands_standing sessions found.0) (c.start_is_regular.ensures.regular base limit moment) (c.start_is_regular.ensures.timely base limit moment);
       yields = yields_held s regular;
     }

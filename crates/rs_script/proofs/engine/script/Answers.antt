@@ -5,15 +5,15 @@ use Rattle.rs_io.specs.Watch.{watched, is_flushed, EndFailed}
 use Rattle.rs_io.proofs.Faults.{later_fault}
 use Rattle.rs_script.specs.Answers.{output_of}
 use Rattle.rs_script.specs.Progress.{Progress}
-use Rattle.rs_script.specs.Session.{session}
+use Rattle.rs_script.specs.Session.{script_state}
 use Rattle.rs_script.proofs.Steps.{Progress-none, Progress-kept, Progress-whole, Consumes-end, Gave-front, count_more, no_more}
 use Rattle.rs_script.proofs.engine.script.Goals as goal
 
 pub loop-init : goal.loop-init
 loop-init g c =
-    let start = session c.args.source.now 0 in
+    let start = script_state c.args.source.now 0 in
     let a = c.args.writer.now in
-    let P : ℕ → Type 0 = λ now. Progress g.D.Disk.state g.W.Write.contents start a [] c.new-line.result a (session c.args.source.now now) in (
+    let P : ℕ → Type 0 = λ now. Progress g.D.Disk.state g.W.Write.contents start a [] c.new-line.result a (script_state c.args.source.now now) in (
       [],
       (Consumes-nil (g.R.Read.remaining (watched c.args.reader.now)), refl),
       subst P (sym c.first-now.ensures) (Progress-none g.D.Disk.state g.W.Write.contents start a c.new-line.result c.new-line.ensures),
@@ -23,14 +23,11 @@ loop-init g c =
 
 pub returns-in_default-clause-write : goal.returns-in_default-clause-write
 returns-in_default-clause-write g c = λ _.
-    let before = g.R.Read.remaining (watched c.args.reader.now) in
-    let after = g.R.Read.remaining (watched c.loop.reader) in
     let inv = c.loop.invariant in
-    let whole = Progress-whole g.D.Disk.state g.W.Write.contents _ _ inv.0 _ _ _ before after (0 ≤ 0) (inl (omega arith)) inv.1.0 inv.2 in (
+    let whole = Progress-whole g.D.Disk.state g.W.Write.contents g.R.Read.remaining c.args.source.now c.args.writer.now inv.0 c.loop.line c.loop.writer c.loop.source c.loop.now
+    c.args.reader.now c.loop.reader (0 ≤ 0) (inl (omega arith)) inv.1.0 inv.2 in (
       whole.0,
-      c.loop.now,
-      inl ((whole.1, whole.4), whole.9),
-      (whole.2, whole.3, whole.7),
+      inl ((whole.1, whole.2.0), whole.2.1),
       later_fault c.args.writer.now c.loop.writer c.flush.new.self inv.2.written.1 c.in_default.ensures.failed,
       inv.1.1,
     )
@@ -41,17 +38,16 @@ returns-in_default-read-clause-read g c = λ _.
     let after = g.R.Read.remaining (watched c.read.new.self) in
     let inv = c.loop.invariant in
     let p = Progress-kept g.D.Disk.state g.W.Write.contents _ _ inv.0 _ _ c.flush.new.self _ c.flush.ensures.bytes c.in-Ok.ensures.sound inv.2 in
-    let whole = Progress-whole g.D.Disk.state g.W.Write.contents _ _ inv.0 _ _ _ before after (EndFailed c.args.reader.now c.read.new.self × (is_flushed c.flush.new.self ≡ true))
+    Progress-whole g.D.Disk.state g.W.Write.contents g.R.Read.remaining c.args.source.now c.args.writer.now inv.0 c.loop.line c.flush.new.self c.loop.source c.loop.now
+    c.args.reader.now c.read.new.self (EndFailed c.args.reader.now c.read.new.self × (is_flushed c.flush.new.self ≡ true))
     (inl (later_fault c.args.reader.now c.loop.reader c.read.new.self inv.1.1 c.in_default-read.ensures.failed, c.in-Ok.ensures.flushed))
-    (Consumes-kept before (g.R.Read.remaining (watched c.loop.reader)) after inv.0 inv.1.0 c.in_default-read.ensures.err) p in
-    (whole.0, whole.1, whole.2, whole.3, c.loop.now, whole.4, whole.9, whole.5, whole.6, whole.7, whole.8)
+    (Consumes-kept before (g.R.Read.remaining (watched c.loop.reader)) after inv.0 inv.1.0 c.in_default-read.ensures.err) p
 
 pub returns-clause-read : goal.returns-clause-read
 returns-clause-read g c = λ _.
     let inv = c.loop.invariant in
-    let whole = Progress-whole g.D.Disk.state g.W.Write.contents _ _ inv.0 _ _ _ (g.R.Read.remaining (watched c.args.reader.now)) (g.R.Read.remaining (watched c.loop.reader))
-    (EndFailed c.args.reader.now c.loop.reader × (is_flushed c.loop.writer ≡ true)) (inr (omega (arith, inv.3))) inv.1.0 inv.2 in
-    (whole.0, whole.1, whole.2, whole.3, c.loop.now, whole.4, whole.9, whole.5, whole.6, whole.7, whole.8)
+    Progress-whole g.D.Disk.state g.W.Write.contents g.R.Read.remaining c.args.source.now c.args.writer.now inv.0 c.loop.line c.loop.writer c.loop.source c.loop.now
+    c.args.reader.now c.loop.reader (EndFailed c.args.reader.now c.loop.reader × (is_flushed c.loop.writer ≡ true)) (inr (omega (arith, inv.3))) inv.1.0 inv.2
 
 pub returns-in_default-take_end-clause-write : goal.returns-in_default-take_end-clause-write
 returns-in_default-take_end-clause-write g c = λ _.
@@ -59,11 +55,10 @@ returns-in_default-take_end-clause-write g c = λ _.
     let after = g.R.Read.remaining (watched c.read.new.self) in
     let inv = c.loop.invariant in
     let p = Progress-kept g.D.Disk.state g.W.Write.contents _ _ inv.0 _ _ c.flush.new.self _ c.flush.ensures.bytes c.in-Ok.ensures.sound inv.2 in
-    let gave = Consumes-end before (g.R.Read.remaining (watched c.loop.reader)) after inv.0 c.read.new.buf c.in-Ok-read.count c.if-count-eq0.true inv.1.0 c.in-Ok-read.ensures.ok.0 in (
-      inv.0,
-      c.take_end.new.now,
+    let gave = Consumes-end before (g.R.Read.remaining (watched c.loop.reader)) after inv.0 c.read.new.buf c.in-Ok-read.count c.if-count-eq0.true inv.1.0 c.in-Ok-read.ensures.ok.0 in
+    let end = c.in_default-take_end.ensures.err _ _ inv.0 p in (
+      record { input = inv.0; outcomes = end.0; commands = end.1; last = c.take_end.new.now; gives = end.2 },
       inr (gave, c.in-Ok-read.ensures.end c.if-count-eq0.true (omega arith)),
-      c.in_default-take_end.ensures.err _ _ inv.0 p,
       later_fault c.args.writer.now c.flush.new.self c.take_end.new.writer p.written.1 c.in_default-take_end.ensures.failed,
       c.in-Ok-read.ensures.ok.1 ∙ inv.1.1,
     )
@@ -76,10 +71,8 @@ returns-in_default-flush-clause-write g c = λ _.
     let p = Progress-kept g.D.Disk.state g.W.Write.contents _ _ inv.0 _ _ c.flush.new.self _ c.flush.ensures.bytes c.in-Ok.ensures.sound inv.2 in
     let gave = Consumes-end before (g.R.Read.remaining (watched c.loop.reader)) after inv.0 c.read.new.buf c.in-Ok-read.count c.if-count-eq0.true inv.1.0 c.in-Ok-read.ensures.ok.0 in
     let end = c.in-Ok-take_end.ensures.ok _ _ inv.0 p in (
-      inv.0,
-      c.take_end.new.now,
+      record { input = inv.0; outcomes = end.0; commands = end.1; last = c.take_end.new.now; gives = end.2 },
       inr (gave, c.in-Ok-read.ensures.end c.if-count-eq0.true (omega arith)),
-      (end.0, end.1, end.2),
       later_fault c.args.writer.now c.take_end.new.writer c.flush-then-count-eq0.new.self end.3.1 c.in_default-flush.ensures.failed,
       c.in-Ok-read.ensures.ok.1 ∙ inv.1.1,
     )
@@ -90,22 +83,15 @@ returns-then-count-eq0-clause-ok g c =
     let after = g.R.Read.remaining (watched c.read.new.self) in
     let inv = c.loop.invariant in
     let p = Progress-kept g.D.Disk.state g.W.Write.contents _ _ inv.0 _ _ c.flush.new.self _ c.flush.ensures.bytes c.in-Ok.ensures.sound inv.2 in
+    let gave = Consumes-end before (g.R.Read.remaining (watched c.loop.reader)) after inv.0 c.read.new.buf c.in-Ok-read.count c.if-count-eq0.true inv.1.0 c.in-Ok-read.ensures.ok.0 in
     let end = c.in-Ok-take_end.ensures.ok _ _ inv.0 p in (
-      inv.0,
-      end.0,
-      end.1,
-      c.take_end.new.now,
-      (
-        Consumes-end before (g.R.Read.remaining (watched c.loop.reader)) after inv.0 c.read.new.buf c.in-Ok-read.count c.if-count-eq0.true inv.1.0 c.in-Ok-read.ensures.ok.0,
-        c.in-Ok-read.ensures.ok.1 ∙ inv.1.1,
-      ),
-      c.in-Ok-read.ensures.end c.if-count-eq0.true (omega arith),
+      record { input = inv.0; outcomes = end.0; commands = end.1; last = c.take_end.new.now; gives = end.2 },
+      ((gave, c.in-Ok-read.ensures.ok.1 ∙ inv.1.1), c.in-Ok-read.ensures.end c.if-count-eq0.true (omega arith)),
       (
         Appends-kept (g.W.Write.contents (watched c.args.writer.now)) (g.W.Write.contents (watched c.take_end.new.writer))
             (g.W.Write.contents (watched c.flush-then-count-eq0.new.self)) (output_of end.0) end.3.0 c.flush-then-count-eq0.ensures.bytes,
         c.in-Ok-flush.ensures.sound ∙ end.3.1,
       ),
-      end.2,
     )
 
 pub returns-in_default-take_piece-clause-write : goal.returns-in_default-take_piece-clause-write
@@ -114,11 +100,10 @@ returns-in_default-take_piece-clause-write g c = λ _.
     let after = g.R.Read.remaining (watched c.read.new.self) in
     let inv = c.loop.invariant in
     let p = Progress-kept g.D.Disk.state g.W.Write.contents _ _ inv.0 _ _ c.flush.new.self _ c.flush.ensures.bytes c.in-Ok.ensures.sound inv.2 in
-    let e = c.in_default-take_piece.ensures.err _ _ inv.0 p in (
-      inv.0 ++ e.0,
-      c.take_piece.new.now,
-      inl (Gave-front before (g.R.Read.remaining (watched c.loop.reader)) after inv.0 (take c.in-Ok-read.count c.read.new.buf) e.0 e.1 e.2 inv.1.0 c.in-Ok-read.ensures.ok.0, e.4),
-      e.3,
+    let e = c.in_default-take_piece.ensures.err in
+    let stops = e.3 _ _ inv.0 p in (
+      record { input = inv.0 ++ e.0; outcomes = stops.0.0; commands = stops.0.1; last = c.take_piece.new.now; gives = stops.0.2 },
+      inl (Gave-front before (g.R.Read.remaining (watched c.loop.reader)) after inv.0 (take c.in-Ok-read.count c.read.new.buf) e.0 e.1 e.2 inv.1.0 c.in-Ok-read.ensures.ok.0, stops.1),
       later_fault c.args.writer.now c.flush.new.self c.take_piece.new.writer p.written.1 c.in_default-take_piece.ensures.failed,
       c.in-Ok-read.ensures.ok.1 ∙ inv.1.1,
     )

@@ -3,7 +3,7 @@ use Rattle.std.proofs.Common.{◌≡◌, ◌++◌, ◌+◌, ◌-◌, ◌∙◌, 
 use Rattle.std.proofs.lemmas.Grind.{common_steps}
 use Rattle.rs_script.specs.Lines.{AreWholeLines, with_break}
 use Rattle.rs_script.specs.Progress.{Progress, Answered}
-use Rattle.rs_script.specs.Session.{session}
+use Rattle.rs_script.specs.Session.{script_state}
 use Rattle.rs_script.proofs.Breaks.{before_break, no_break, piece_cut}
 use Rattle.rs_script.proofs.Steps.{Progress-run, on_err}
 use Rattle.rs_script.proofs.engine.take_piece.Goals as goal
@@ -15,18 +15,15 @@ returns-in_err-take_line-clause-err g c =
     let found = sym c.position_of.ensures ∙ c.in-Some.is in
     let inv = c.loop-i.invariant in
     let run = with_break (take i rest) in
-    on_err c.from_residual.result
-    (λ start before input p.
-    let P : List ℕ → Type 0 = λ bytes. Answered g.D.Disk.state start bytes (session c.take_line.new.source c.take_line.new.now) × AreWholeLines bytes in
-    let both : P (input ++ (inv.0 ++ run)) =
-    subst P (append_assoc input inv.0 run)
-    (c.in_err-take_line.ensures.err start before (input ++ inv.0) (before_break rest i found) (inv.2 start before input p)) in (
+    on_err c.from_residual.result (
       inv.0 ++ run,
       drop (i + 1) rest,
       piece_cut c.args.piece.now inv.0 rest i inv.1 found,
-      both.0,
-      both.1,
-    ))
+      λ start before input p.
+          let P : List ℕ → Type 0 = λ bytes. Answered g.D.Disk.state start bytes (script_state c.take_line.new.source c.take_line.new.now) × AreWholeLines bytes in
+          subst P (append_assoc input inv.0 run)
+          (c.in_err-take_line.ensures.err (before_break rest i found) start before (input ++ inv.0) (inv.2 start before input p)),
+    )
 
 pub loop-i-preserved : goal.loop-i-preserved
 loop-i-preserved g c =
@@ -40,9 +37,9 @@ loop-i-preserved g c =
       piece_cut c.args.piece.now inv.0 rest i inv.1 found ∙ ap (λ z. (inv.0 ++ run) ++ z) (sym all),
       λ start before input p.
           let P : List ℕ → Type 0 = λ bytes. Progress g.D.Disk.state g.W.Write.contents start before bytes c.take_line.new.line c.take_line.new.writer
-          (session c.take_line.new.source c.take_line.new.now) in
+          (script_state c.take_line.new.source c.take_line.new.now) in
           subst P (append_assoc input inv.0 run)
-          (c.in_ok-take_line.ensures.ok start before (input ++ inv.0) (before_break rest i found) (inv.2 start before input p)),
+          (c.in_ok-take_line.ensures.ok (before_break rest i found) start before (input ++ inv.0) (inv.2 start before input p)),
       c.in_ok-take_line.ensures.sound ∙ inv.3,
     )
 
@@ -50,7 +47,7 @@ pub returns-clause-ok : goal.returns-clause-ok
 returns-clause-ok g c = λ start before input p.
     let inv = c.loop-i.invariant in
     let P : List ℕ → Type 0 = λ bytes. Progress g.D.Disk.state g.W.Write.contents start before bytes c.extend.new.self c.loop-i.writer
-    (session c.loop-i.source c.loop-i.now) in
+    (script_state c.loop-i.source c.loop-i.now) in
     subst P (append_assoc input inv.0 c.loop-i.rest.now ∙ ap (λ z. input ++ z) (sym inv.1))
     (Progress-run g.D.Disk.state g.W.Write.contents start before (input ++ inv.0) _ _ _ c.loop-i.rest.now c.extend.new.self
     (no_break c.loop-i.rest.now (sym c.position_of.ensures ∙ c.in_default.is)) c.extend.ensures (inv.2 start before input p))

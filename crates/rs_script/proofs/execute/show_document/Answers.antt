@@ -2,7 +2,7 @@
 use Rattle.std.proofs.Common.{List, ℕ, ap, sym, ◌∙◌}
 use Rattle.rs_io.specs.Watch.{Wrote}
 use Rattle.rs_caps.specs.DocumentTexts.{document_text}
-use Rattle.rs_store.specs.Views.{shown_by}
+use Rattle.rs_store.specs.Views.{shown_by_source}
 use Rattle.rs_script.specs.declared.refusal.Refusal.TheVariants.{NoSuchDocument}
 use Rattle.rs_script.specs.Model.{shown_or}
 use Rattle.rs_script.specs.Session.{shown, refused}
@@ -16,7 +16,7 @@ returns-in-Err-clause-answered g c =
 
 pub returns-in-Some-clause-answered : goal.returns-in-Some-clause-answered
 returns-in-Some-clause-answered g c =
-    let view = shown_by c.in-Ok.view in
+    let view = shown_by_source c.in-Ok.view in
     let W : List ℕ → Type 0 = λ text. Wrote g.W.Write.contents c.args.writer.now c.write_shown_document.new.writer text in
     let whole = shown_whole c.write_shown_document.result (document_text view c.args.doc) c.in-Some.length W (sym c.document_length.ensures ∙ c.in-Some.is) c.write_shown_document.ensures.ok in
     document_answered g.D.Disk.state c.args.source.now c.args.now c.args.doc view (shown whole.0) _
@@ -25,7 +25,7 @@ returns-in-Some-clause-answered g c =
 
 pub returns-in-None-clause-answered : goal.returns-in-None-clause-answered
 returns-in-None-clause-answered g c =
-    let view = shown_by c.in-Ok.view in
+    let view = shown_by_source c.in-Ok.view in
     let none = shown_none (document_text view c.args.doc) (sym c.document_length.ensures ∙ c.in-None.is) in
     document_answered g.D.Disk.state c.args.source.now c.args.now c.args.doc view (refused NoSuchDocument) _
     (is_open c.view.result c.in-Ok.view c.args.source.now.is_closed c.in-Ok.is c.view.ensures.closed) c.in-Ok.ensures.shows

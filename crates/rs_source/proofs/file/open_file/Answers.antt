@@ -2,7 +2,7 @@
 use Rattle.std.proofs.Common.{subst}
 use Rattle.rs_disk.specs.Medium.{Medium}
 use Rattle.rs_file.specs.File.{state_of as device_of}
-use Rattle.rs_image.specs.Tells.{StandsFor}
+use Rattle.rs_image.specs.StateOfImage.{StandsFor}
 use Rattle.rs_store.specs.Source.{state_of}
 use Rattle.rs_source.proofs.file.open_file.Goals as goal
 
@@ -10,4 +10,4 @@ pub returns-in-Ok-clause-held : goal.returns-in-Ok-clause-held
 returns-in-Ok-clause-held g c = λ honest.
     let device = device_of g.S.Start in
     subst (λ (m : Medium). StandsFor m.seen (state_of device c.in-Ok.source))
-    (c.in_ok-disk.ensures.first (c.in-Ok.ensures.writes_nothing.lasts honest)) (c.in-Ok.ensures.holds honest).1
+    (c.in_ok-disk.ensures.first (c.in-Ok.ensures.writes_nothing.lasts honest)) (c.in-Ok.ensures.found.holds honest).1

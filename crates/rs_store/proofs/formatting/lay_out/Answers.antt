@@ -1,10 +1,10 @@
 use Rattle.std.proofs.Common.{◌≡◌, ◌∙◌, ℕ, List, length, sym, ap, arith, rules}
 use Rattle.rs_fixity.specs.Digests.{digests}
-use Rattle.rs_page.specs.Sheets.{stored_refs}
+use Rattle.rs_page.specs.Pages.{stored_refs}
 use Rattle.rs_directory.specs.Directory.{directory_bytes}
 use Rattle.rs_body.specs.Blocks.{blocks_of}
 use Rattle.rs_image.specs.declared.contents.Contents.{Contents}
-use Rattle.rs_image.specs.Tells.{listing}
+use Rattle.rs_image.specs.StateOfImage.{listing}
 use Rattle.rs_store.proofs.Started.{made_contents}
 use Rattle.rs_store.proofs.formatting.lay_out.Goals as goal
 

@@ -4,7 +4,7 @@ use Rattle.rs_disk.specs.Medium.{Medium}
 use Rattle.rs_disk.proofs.Steps.{rest_on}
 use Rattle.rs_model.specs.State.{Source as State}
 use Rattle.rs_image.specs.declared.contents.Contents.{Contents}
-use Rattle.rs_image.specs.Tells.{Tells}
+use Rattle.rs_image.specs.StateOfImage.{Tells}
 use Rattle.rs_commit.specs.Slots.{current}
 use Rattle.rs_store.specs.declared.opening.OpenFault.TheVariants.{Damaged}
 use Rattle.rs_page.specs.declared.page.load.LoadFault.TheVariants as lists

@@ -2,7 +2,7 @@ use Rattle.std.proofs.Common.{◌≡◌, List, ℕ, sym, ap, subst, ◌∙◌, a
 use Rattle.rs_disk.specs.Medium.{Medium, IsImage}
 use Rattle.rs_disk.specs.Leaves.{Leaves, Runs}
 use Rattle.rs_disk.proofs.Steps.{runs_one, sync_leaves, goes_on, weaker, exit_images}
-use Rattle.rs_image.specs.Tells.{StandsFor}
+use Rattle.rs_image.specs.StateOfImage.{StandsFor}
 use Rattle.rs_store.proofs.opening.recover.Goals as goal
 
 pub returns-clause-damaged : goal.returns-clause-damaged

@@ -1,5 +1,5 @@
 use Rattle.std.proofs.Common.{arith, ◌≡◌, ◌∙◌, ◌+◌, length, ap}
-use Rattle.rs_page.specs.Sheets.{stored_refs}
+use Rattle.rs_page.specs.Pages.{stored_refs}
 use Rattle.rs_catalogue.proofs.Joined.{fewer_refs}
 use Rattle.rs_changes.proofs.Joined.{fewer_refs as fewer_changes}
 use Rattle.rs_store.proofs.Bounds.{fits}

@@ -1,10 +1,12 @@
-use Rattle.std.proofs.Common.{arith, ◌≡◌, ◌*◌, ◌+◌, ◌≤◌, subst, length}
+use Rattle.std.proofs.Common.{arith, ◌≡◌, ◌*◌, ◌+◌, ◌≤◌, subst, length, Result, Ok, Err}
+use Rattle.std.specs.Prelude.{OnOk}
 use Rattle.rs_disk.specs.Medium.{DiskState}
 use Rattle.rs_body.specs.Blocks.{part}
-use Rattle.rs_body.proofs.Kept.{outside_on}
+use Rattle.rs_body.proofs.KeptBlocks.{outside_on}
 use Rattle.rs_image.specs.declared.contents.Contents.{Contents}
-use Rattle.rs_image.specs.Tells.{listing}
-use Rattle.rs_store.proofs.Written.{on_ok, beside_each, apart_each, inside_each, all_written}
+use Rattle.rs_image.specs.StateOfImage.{listing}
+use Rattle.rs_store.specs.Writing.{AreLists}
+use Rattle.rs_store.proofs.Written.{beside_each, apart_each, inside_each, all_written}
 use Rattle.rs_store.proofs.writing.write_plan.Goals as goal
 
 pub returns-in_err-write_body-clause-outside : goal.returns-in_err-write_body-clause-outside
@@ -43,13 +45,23 @@ returns-clause-outside g c kept beside =
     (outside_on kept old first mid (c.write_body.ensures.outside kept each.body) (c.write_pages.ensures.outside kept each.pages))
     (c.write_directory.ensures.outside kept each.directory)
 
-pub returns-clause-reads : goal.returns-clause-reads
-returns-clause-reads g c =
+-- where both are said of what comes well, so is what follows from both
+both_ok : {T E P Q R : Type 0} (r : Result T E) → (P → Q → R) → OnOk r P → OnOk r Q → OnOk r R
+both_ok (Ok x) f p q = f p q
+both_ok (Err e) f p q = tt
+
+pub returns-clause-stored : goal.returns-clause-stored
+returns-clause-stored g c =
     let p = c.args.plan.now in
     let new : DiskState = g.D.Disk.state c.write_directory.new.disk in
-    on_ok c.write_directory.result
-    (λ reads. all_written p c.args.bytes.now (g.D.Disk.state c.write_body.new.disk) (g.D.Disk.state c.write_pages.new.disk) new
-    c.requires.apart c.requires.body c.in_ok-write_body.ensures.reads c.write_pages.ensures.outside
-    c.in_ok-write_pages.ensures.catalogue c.in_ok-write_pages.ensures.history c.write_directory.ensures.outside
-    (subst (λ (d : Contents). part p.directory (length (listing d)) new.now.seen ≡ listing d) c.in_ok-write_pages.ensures.ok reads))
-    c.write_directory.ensures.reads
+    let stored = c.in_ok-write_pages.ensures.ok in
+    both_ok c.write_directory.result
+    (λ reads lists. record {
+      contents = stored;
+      lists = subst (λ (d : Contents). AreLists d) stored lists;
+      reads = all_written p c.args.bytes.now (g.D.Disk.state c.write_body.new.disk) (g.D.Disk.state c.write_pages.new.disk) new
+          c.requires.apart c.requires.body c.in_ok-write_body.ensures.reads c.write_pages.ensures.outside
+          c.in_ok-write_pages.ensures.catalogue c.in_ok-write_pages.ensures.history c.write_directory.ensures.outside
+          (subst (λ (d : Contents). part p.directory (length (listing d)) new.now.seen ≡ listing d) stored reads);
+    })
+    c.write_directory.ensures.reads c.write_directory.ensures.lists

@@ -1,5 +1,5 @@
 use Rattle.rs_catalogue.specs.Catalogue.{records_of}
-use Rattle.rs_catalogue.proofs.Held.{held-bind, has_bound}
+use Rattle.rs_catalogue.proofs.HeldRecords.{held-bind, has_bound}
 use Rattle.rs_catalogue.proofs.catalogue.Catalogue.with.Goals as goal
 
 pub of_records-requires : goal.of_records-requires

@@ -2,7 +2,7 @@ use Rattle.std.proofs.Common.{ap, ◌∙◌}
 use Rattle.rs_model.specs.Names.{unbind}
 use Rattle.rs_catalogue.specs.Named.{named}
 use Rattle.rs_catalogue.specs.Catalogue.{AreHeld}
-use Rattle.rs_catalogue.proofs.Held.{held-unbind, named-without}
+use Rattle.rs_catalogue.proofs.HeldRecords.{held-unbind, named-without}
 use Rattle.rs_catalogue.proofs.catalogue.Catalogue.without.Goals as goal
 
 pub of_records-requires : goal.of_records-requires

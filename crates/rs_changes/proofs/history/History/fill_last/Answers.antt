@@ -1,7 +1,7 @@
 use Rattle.std.proofs.Common.{◌≤◌, ◌∷◌, [], length, Option, subst, arith}
 use Rattle.rs_record.specs.declared.change.Change.{Change}
-use Rattle.rs_page.specs.Sheets.{Sheet}
-use Rattle.rs_changes.specs.Inside.{sheets_of}
+use Rattle.rs_page.specs.Pages.{Page}
+use Rattle.rs_changes.specs.OnePage.{page_or_none}
 use Rattle.rs_changes.specs.History.{AreKept, IsHistory}
 use Rattle.rs_changes.proofs.Filled.{kept-filled}
 use Rattle.rs_changes.proofs.OnePage.{one_page, history_of_one}
@@ -11,7 +11,7 @@ pub invariant_of-self-2 : goal.invariant_of-self-2
 invariant_of-self-2 c =
     let page = c.in-Some.page in
     let next = c.fill_last_of.new.page in
-    let before : IsHistory (page ∷ []) = subst (λ (page : Option (Sheet Change)). IsHistory (sheets_of page)) c.in-Some.is c.self.invariant in
+    let before : IsHistory (page ∷ []) = subst (λ (page : Option (Page Change)). IsHistory (page_or_none page)) c.in-Some.is c.self.invariant in
     let kept : AreKept page.items = subst AreKept (one_page page) before.kept in
     let some : 1 ≤ length page.items = before.some 0 page (omega arith) in
     let lengths = c.fill_last_of.ensures.lengths in

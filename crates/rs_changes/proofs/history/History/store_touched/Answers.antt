@@ -2,29 +2,28 @@ use Rattle.std.proofs.Common.{◌≡◌, ◌≤◌, ◌+◌, List, [], ◌∷◌
 use Rattle.std.specs.Prelude.{All}
 use Rattle.std.proofs.lemmas.List.Elements.{All-head}
 use Rattle.rs_record.specs.declared.change.Change.{Change}
-use Rattle.rs_body.specs.Outside.{AreBeside}
-use Rattle.rs_page.specs.Kept.{AreOnDisk}
-use Rattle.rs_page.specs.Sheets.{Sheet, IsTouched, placed_extents}
-use Rattle.rs_changes.specs.Inside.{sheets_of}
+use Rattle.rs_extent.specs.Extents.{AreBeside, AreOnDisk}
+use Rattle.rs_page.specs.Pages.{Page, IsTouched, placed_extents}
+use Rattle.rs_changes.specs.OnePage.{page_or_none}
 use Rattle.rs_changes.proofs.OnePage.{beside_one, on_disk_one, calls_one}
 use Rattle.rs_changes.proofs.history.History.store_touched.Goals as goal
 
 pub store-requires-clause-room : goal.store-requires-clause-room
 store-requires-clause-room g c =
-    let view : c.args.self.now ≡ c.in-Some.page ∷ [] = sym c.self.view_is ∙ ap sheets_of c.in-Some.is in
+    let view : c.args.self.now ≡ c.in-Some.page ∷ [] = sym c.self.view_is ∙ ap page_or_none c.in-Some.is in
     on_disk_one c.in-Some.page (g.D.Disk.state c.args.disk.now).size
-    (subst (λ (sheets : List (Sheet Change)). AreOnDisk (placed_extents sheets) (g.D.Disk.state c.args.disk.now).size) view c.requires.room)
+    (subst (λ (pages : List (Page Change)). AreOnDisk (placed_extents pages) (g.D.Disk.state c.args.disk.now).size) view c.requires.room)
 
 pub returns-clause-outside : goal.returns-clause-outside
 returns-clause-outside g c kept beside =
-    let view : c.args.self.now ≡ c.in-Some.page ∷ [] = sym c.self.view_is ∙ ap sheets_of c.in-Some.is in
-    c.store.ensures.outside kept (beside_one kept c.in-Some.page (subst (λ (sheets : List (Sheet Change)). AreBeside kept (placed_extents sheets)) view beside))
+    let view : c.args.self.now ≡ c.in-Some.page ∷ [] = sym c.self.view_is ∙ ap page_or_none c.in-Some.is in
+    c.store.ensures.outside kept (beside_one kept c.in-Some.page (subst (λ (pages : List (Page Change)). AreBeside kept (placed_extents pages)) view beside))
 
 pub returns-clause-one_each : goal.returns-clause-one_each
 returns-clause-one_each g c =
-    let view : c.args.self.now ≡ c.in-Some.page ∷ [] = sym c.self.view_is ∙ ap sheets_of c.in-Some.is in
-    let placed : ¬ IsTouched c.in-Some.page.place = All-head (λ (sheet : Sheet Change). ¬ IsTouched sheet.place) c.in-Some.page []
-    (subst (λ (sheets : List (Sheet Change)). All (λ sheet. ¬ IsTouched sheet.place) sheets) view c.requires.placed) in
-    subst (λ (sheets : List (Sheet Change)). (g.D.Disk.state c.store.new.disk).calls ≤ (g.D.Disk.state c.args.disk.now).calls + length (placed_extents sheets)) (sym view)
+    let view : c.args.self.now ≡ c.in-Some.page ∷ [] = sym c.self.view_is ∙ ap page_or_none c.in-Some.is in
+    let placed : ¬ IsTouched c.in-Some.page.place = All-head (λ (page : Page Change). ¬ IsTouched page.place) c.in-Some.page []
+    (subst (λ (pages : List (Page Change)). All (λ page. ¬ IsTouched page.place) pages) view c.requires.placed) in
+    subst (λ (pages : List (Page Change)). (g.D.Disk.state c.store.new.disk).calls ≤ (g.D.Disk.state c.args.disk.now).calls + length (placed_extents pages)) (sym view)
     (calls_one c.in-Some.page (g.D.Disk.state c.args.disk.now).calls (g.D.Disk.state c.store.new.disk).calls placed c.store.ensures.one_call
     (λ stored. ap (λ state. state.calls) (c.store.ensures.stored stored).1))

@@ -3,11 +3,10 @@ use Rattle.std.proofs.lemmas.Result.{err_from_is_err_and}
 use Rattle.rs_model.specs.Step.{moment_at}
 use Rattle.rs_model.specs.declared.command.Command.{Command}
 use Rattle.rs_model.specs.declared.command.Command.TheVariants.{Delete}
-use Rattle.rs_model.specs.declared.command.Reply.TheVariants as replies
 use Rattle.rs_plan.specs.declared.planning.PlanFault.{PlanFault}
-use Rattle.rs_store.specs.Source.{Stored, state_of}
-use Rattle.rs_store.specs.Refusals.{decided}
 use Rattle.rs_plan.specs.Plans.{IsPlanned, LacksRoom}
+use Rattle.rs_store.specs.Source.{rooted_in, state_of}
+use Rattle.rs_store.specs.Refusals.{decided}
 use Rattle.rs_store.proofs.Answered.{unless_err, unless_ok, at_once, unplanned, of_source}
 use Rattle.rs_store.proofs.source.Source.delete.Goals as goal
 
@@ -15,35 +14,32 @@ pub returns-in_err-moment : goal.returns-in_err-moment
 returns-in_err-moment g c =
     let old = c.args.self.now in
     let command : Command = Delete c.args.name.now in
+    let refusal = c.in_err-moment.field-0.0 in
     let given = err_from_is_err_and c.from_residual.result c.from_residual.ensures.1 in
     rw (given.1, given.2)
-    (at_once g.D.Disk.state g.met.D.Disk.holds old command c.args.now c.in_err-moment.field-0.0
-    (unless_err (decided old (state_of g.D.Disk.state old) command) (moment_at (state_of g.D.Disk.state old) c.args.now) c.in_err-moment.field-0.0 (c.in_err-moment.ensures.decided)))
+    (at_once g.D.Disk.state g.met.D.Disk.holds old command c.args.now refusal
+    (unless_err (decided old (state_of g.D.Disk.state old) command) (moment_at (state_of g.D.Disk.state old) c.args.now) refusal (c.in_err-moment.ensures.decided)))
 
 pub returns-in_err-plan : goal.returns-in_err-plan
 returns-in_err-plan g c =
     let device = g.D.Disk.state in
     let old = c.args.self.now in
-    let opened : Stored g.row.D.Denot = record { disk = c.self.inside.disk; slots = c.self.inside.slots; contents = c.self.inside.contents; is_closed = c.self.inside.is_closed } in
     let command : Command = Delete c.args.name.now in
     let at : ℕ = moment_at (state_of device old) c.args.now in
     let is = unless_ok (decided old (state_of device old) command) at c.in_ok-moment.moment (c.in_ok-moment.ensures.decided) in
     let given = err_from_is_err_and c.from_residual-in_err-plan.result c.from_residual-in_err-plan.ensures.1 in
     rw (given.1, given.2)
     (unplanned device g.met.D.Disk.holds old command c.args.now c.in_err-plan.field-0.0 is.0
-    (λ full. of_source (λ n r l m. LacksRoom n r l command m) device opened old c.self.view_is c.size-size.result c.root-root.result c.in_ok-moment.moment at
-    c.size-size.ensures c.root-root.ensures is.1 (c.in_err-plan.ensures.full (ap (λ (x : PlanFault). Err x) full))))
+    (λ full. of_source (λ r m. LacksRoom r command m) device old c.rooted.result c.in_ok-moment.moment at c.rooted.ensures is.1
+    (c.in_err-plan.ensures.full (ap (λ (x : PlanFault). Err x) full))))
 
 pub returns : goal.returns
 returns g c =
     let device = g.D.Disk.state in
     let old = c.args.self.now in
-    let opened : Stored g.row.D.Denot = record { disk = c.self.inside.disk; slots = c.self.inside.slots; contents = c.self.inside.contents; is_closed = c.self.inside.is_closed } in
     let command : Command = Delete c.args.name.now in
     let at : ℕ = moment_at (state_of device old) c.args.now in
     let is = unless_ok (decided old (state_of device old) command) at c.in_ok-moment.moment (c.in_ok-moment.ensures.decided) in
-    let planned : IsPlanned (device old.disk).size old.slots.root old.contents command at c.in_ok-plan.plan =
-    of_source (λ n r l m. IsPlanned n r l command m c.in_ok-plan.plan) device opened old c.self.view_is c.size-size.result c.root-root.result c.in_ok-moment.moment at
-    c.size-size.ensures c.root-root.ensures is.1 c.in_ok-plan.ensures.planned in
+    let planned : IsPlanned (rooted_in device old) command at c.in_ok-plan.plan =
+    of_source (λ r m. IsPlanned r command m c.in_ok-plan.plan) device old c.rooted.result c.in_ok-moment.moment at c.rooted.ensures is.1 c.in_ok-plan.ensures.planned in
     c.finish.ensures.answers command c.args.now is.0 refl planned
-    (ap replies.Deleted is.1)

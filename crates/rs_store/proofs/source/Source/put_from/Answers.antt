@@ -1,4 +1,4 @@
-use Rattle.std.proofs.Common.{◌≡◌, ℕ, ◌<◌, List, [], length, ◌∙◌, sym, ap, ap₂, subst, Err, if◌then◌else◌, Bool}
+use Rattle.std.proofs.Common.{◌≡◌, ℕ, ◌<◌, List, [], length, ◌∙◌, sym, ap, subst, Err}
 use Rattle.std.specs.Prelude.{replicate}
 use Rattle.std.proofs.lemmas.Result.{err_from_is_err_and}
 use Rattle.std.proofs.KnownBytes.{Consumes-nil}
@@ -8,14 +8,13 @@ use Rattle.rs_fixity.specs.Digests.{digests}
 use Rattle.rs_model.specs.Step.{moment_at}
 use Rattle.rs_model.specs.declared.command.Command.{Command}
 use Rattle.rs_model.specs.declared.command.Command.TheVariants.{Put}
-use Rattle.rs_model.specs.declared.command.Reply.TheVariants as replies
 use Rattle.rs_plan.specs.declared.plan.Plan.{Plan}
 use Rattle.rs_plan.specs.declared.planning.PlanFault.{PlanFault}
 use Rattle.rs_plan.specs.declared.planning.PlanFault.TheVariants.{NoMemory as NoPlanMemory}
 use Rattle.rs_plan.specs.Plans.{IsPlanned, LacksRoom}
 use Rattle.rs_plan.specs.Drafts.{plan_filled}
 use Rattle.rs_store.specs.declared.refusal.Refusal.TheVariants.{ReadFault, ShortBody}
-use Rattle.rs_store.specs.Source.{Stored, state_of}
+use Rattle.rs_store.specs.Source.{rooted_in, state_of}
 use Rattle.rs_store.specs.Refusals.{decided}
 use Rattle.rs_store.specs.Writing.{of_plan}
 use Rattle.rs_store.specs.Answered.{Answers}
@@ -69,7 +68,6 @@ returns-in_err-plan-clause-came g c =
     let n = c.args.body_length in
     let fault = c.in_err-plan.field-0.0 in
     let at : ℕ = moment_at (state_of device old) c.args.now in
-    let opened : Stored g.row.D.Denot = record { disk = c.self.inside.disk; slots = c.self.inside.slots; contents = c.self.inside.contents; is_closed = c.self.inside.is_closed } in
     let given = err_from_is_err_and c.from_residual-in_err-plan.result c.from_residual-in_err-plan.ensures.1 in (
       [],
       Consumes-nil (g.R.Read.remaining (watched c.args.reader.now)),
@@ -78,8 +76,8 @@ returns-in_err-plan-clause-came g c =
           let command : Command = Put c.args.name.now c.args.kind.now body in
           let free = unless_ok (decided old (state_of device old) command) at c.in_ok-moment.moment (c.in_ok-moment.ensures.decided c.args.kind.now body is.len) in
           unplanned device g.met.D.Disk.holds old command c.args.now fault free.0
-          (λ full. of_source (λ n r l m. LacksRoom n r l command m) device opened old c.self.view_is c.size-size.result c.root-root.result c.in_ok-moment.moment at
-          c.size-size.ensures c.root-root.ensures free.1 (c.in_err-plan.ensures.full (ap (λ (x : PlanFault). Err x) full) body is.len)))),
+          (λ full. of_source (λ r m. LacksRoom r command m) device old c.rooted.result c.in_ok-moment.moment at c.rooted.ensures free.1
+          (c.in_err-plan.ensures.full (ap (λ (x : PlanFault). Err x) full) body is.len)))),
     )
 
 pub returns-in_err-bytes-clause-came : goal.returns-in_err-bytes-clause-came
@@ -92,7 +90,6 @@ returns-in_err-bytes-clause-came g c =
     let r = c.in_err-bytes.field-0.0 in
     let cut = c.in_err-bytes.ensures.cut in
     let at : ℕ = moment_at (state_of device old) c.args.now in
-    let opened : Stored g.row.D.Denot = record { disk = c.self.inside.disk; slots = c.self.inside.slots; contents = c.self.inside.contents; is_closed = c.self.inside.is_closed } in
     let given = err_from_is_err_and c.from_residual-in_err-bytes.result c.from_residual-in_err-bytes.ensures.1 in
     let free = λ (body : List ℕ) (is : length body ≡ n). unless_ok (decided old (state_of device old) (Put name kind body)) at c.in_ok-moment.moment (c.in_ok-moment.ensures.decided kind body is) in
     let refused = λ (body : List ℕ) (is : length body ≡ n). unplanned device g.met.D.Disk.holds old (Put name kind body) c.args.now NoPlanMemory (free body is).0 (λ full. absurd cc) in
@@ -101,8 +98,8 @@ returns-in_err-bytes-clause-came g c =
       decides = λ body is. (free body is).0;
       plan = λ body is. (
         plan_filled name (digests body) c.in_ok-plan.plan,
-        of_source (λ n r l m. IsPlanned n r l (Put name kind body) m (plan_filled name (digests body) c.in_ok-plan.plan)) device opened old c.self.view_is c.size-size.result c.root-root.result c.in_ok-moment.moment at
-            c.size-size.ensures c.root-root.ensures (free body is).1 (c.in_ok-plan.ensures.planned body is),
+        of_source (λ r m. IsPlanned r (Put name kind body) m (plan_filled name (digests body) c.in_ok-plan.plan)) device old c.rooted.result c.in_ok-moment.moment at
+            c.rooted.ensures (free body is).1 (c.in_ok-plan.ensures.planned body is),
       );
       left = left_by device old old name kind (replicate n 0) c.args.now (refused (replicate n 0) (zeros n).len);
     } in (
@@ -133,17 +130,15 @@ said g c =
     let bytes : List ℕ = c.in_ok-bytes.bytes.items in
     let command : Command = Put name kind bytes in
     let at : ℕ = moment_at (state_of device old) c.args.now in
-    let opened : Stored g.row.D.Denot = record { disk = c.self.inside.disk; slots = c.self.inside.slots; contents = c.self.inside.contents; is_closed = c.self.inside.is_closed } in
     let whole : length bytes ≡ c.args.body_length = c.in_ok-bytes.ensures.whole in
     let free = unless_ok (decided old (state_of device old) command) at c.in_ok-moment.moment (c.in_ok-moment.ensures.decided kind bytes whole) in
     let filled : c.fill.new.self ≡ plan_filled name (digests bytes) c.in_ok-plan.plan =
     c.fill.ensures ∙ ap (λ (d : Digests). plan_filled name d c.in_ok-plan.plan) (c.digests_of.ensures ∙ ap digests c.deref.ensures.value) in
-    let planned : IsPlanned (device old.disk).size old.slots.root old.contents command at c.fill.new.self =
-    subst (λ (p : Plan). IsPlanned (device old.disk).size old.slots.root old.contents command at p) (sym filled)
-    (of_source (λ n r l m. IsPlanned n r l command m (plan_filled name (digests bytes) c.in_ok-plan.plan)) device opened old c.self.view_is c.size-size.result c.root-root.result c.in_ok-moment.moment at
-    c.size-size.ensures c.root-root.ensures free.1 (c.in_ok-plan.ensures.planned bytes whole)) in
+    let planned : IsPlanned (rooted_in device old) command at c.fill.new.self =
+    subst (λ (p : Plan). IsPlanned (rooted_in device old) command at p) (sym filled)
+    (of_source (λ r m. IsPlanned r command m (plan_filled name (digests bytes) c.in_ok-plan.plan)) device old c.rooted.result c.in_ok-moment.moment at
+    c.rooted.ensures free.1 (c.in_ok-plan.ensures.planned bytes whole)) in
     c.finish.ensures.answers command c.args.now free.0 (sym c.deref-2.ensures.value) planned
-    (c.put_reply.ensures ∙ ap₂ (λ (held : Bool) (m : ℕ). if held then replies.Updated m else replies.Created m) c.holds-is_held.ensures.held free.1)
 
 pub returns-clause-came : goal.returns-clause-came
 returns-clause-came g c = (

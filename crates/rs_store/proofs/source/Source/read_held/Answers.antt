@@ -10,7 +10,7 @@ use Rattle.rs_model.specs.Step.{is_held}
 use Rattle.rs_catalogue.specs.Catalogue.{records_of}
 use Rattle.rs_store.specs.declared.refusal.Refusal.TheVariants.{NotHeld, Damaged}
 use Rattle.rs_store.specs.Source.{Stored, state_of}
-use Rattle.rs_store.specs.Bodies.{of_body}
+use Rattle.rs_store.specs.Bodies.{refusal_of_body}
 use Rattle.rs_store.specs.Shows.{AreAsRecorded, HasItsDigest}
 use Rattle.rs_store.proofs.Found.{found_room, found_fits, held_found, held_missing, never_not_held, damaged_body}
 use Rattle.rs_store.proofs.source.Source.read_held.Goals as goal
@@ -40,7 +40,7 @@ returns-in_err-read_body-clause-not_held g c =
     (ap is_some (held_found (g.D.Disk.state c.self.inside.disk).now.seen c.args.name.now (records_of c.self.inside.contents.catalogue) c.in-Some.record.now (sym c.in-Some.ensures))) in
     let p = err_from_is_err_and c.from_residual.result c.from_residual.ensures.1 in
     let fault = c.in_err-read_body.field-0.0 in (
-      λ is. let named : of_body fault ≡ NotHeld = cc in absurd (never_not_held fault named),
+      λ is. let named : refusal_of_body fault ≡ NotHeld = cc in absurd (never_not_held fault named),
       λ none. absurd (false≢true (sym none.1 ∙ held)),
     )
 
@@ -52,7 +52,7 @@ returns-in_err-read_body-clause-damaged g c is honest =
     let Q : Option Held → Type 0 = λ o. IfSome o (λ held. HasItsDigest held → ⊥) in
     let p = err_from_is_err_and c.from_residual.result c.from_residual.ensures.1 in
     let fault = c.in_err-read_body.field-0.0 in
-    let answered : of_body fault ≡ Damaged = cc in
+    let answered : refusal_of_body fault ≡ Damaged = cc in
     let only : fault ≡ faults.Damaged = damaged_body fault answered in
     subst P c.self.view_is
     (subst Q (sym (held_found seen name (records_of c.self.inside.contents.catalogue) c.in-Some.record.now (sym c.in-Some.ensures)))

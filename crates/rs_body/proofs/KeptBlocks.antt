@@ -1,0 +1,152 @@
+-- Runs of calls that keep what a set of blocks holds.
+use Rattle.std.proofs.Common.{rules, ◌≡◌, ◌⊎◌, inl, inr, ⊎_elim, ℕ, ◌+◌, ◌*◌, ◌-◌, ◌/◌, ◌%◌, ◌<◌, ◌≤◌, Bool, true, false, List, length, drop, get_or, refl, sym, ◌∙◌, subst, arith, Result, Ok, Err, OnOk, OnErr, length-take, length-drop}
+use Rattle.std.proofs.lemmas.List.{ext_get_or, get_or-take, get_or-drop, places}
+use Rattle.rs_disk.specs.Medium.{Medium, DiskState, IsImage, IsImageAt, IsMedium, over, marked, written}
+use Rattle.rs_disk.specs.Calls.{CountsCall, Writes, Tears}
+use Rattle.rs_disk.specs.Leaves.{Torn, TornFrom, Rests}
+use Rattle.rs_disk.proofs.Images.{torn_below, torn_above, over_torn}
+use Rattle.rs_disk.proofs.Steps.{started, goes_on, weaker, write_leaves, exit_images}
+use Rattle.rs_extent.specs.declared.Extent.{Extent}
+use Rattle.rs_extent.specs.Blocks.{block_size}
+use Rattle.rs_extent.specs.Extents.{within, IsOnDisk, IsBeside}
+use Rattle.rs_body.specs.Blocks.{part}
+use Rattle.rs_body.specs.Outside.{Keeps, KeepsMarks, KeptFrom, WritesOutside}
+use Rattle.rs_extent.proofs.Sets.{within_true, outside, turned}
+
+-- The first bytes of an extent on the disk, if there are any, lie on the disk.
+pub has_room : (e : Extent) (n size : ℕ) → 0 < n → n ≤ block_size * e.blocks → IsOnDisk e size → block_size * e.first + n ≤ size
+has_room e n size some fits inside =
+    let last : block_size * (e.first + (e.blocks - 1)) + block_size ≤ size = inside (e.first + (e.blocks - 1)) (within_true e (e.first + (e.blocks - 1)) (omega arith) (omega arith)) in
+    omega (arith, last)
+
+-- A block of a set lies below or above each extent that is beside the set.
+pub apart_from : (kept : ℕ → Bool) (e : Extent) → IsBeside kept e → (b : ℕ) → kept b ≡ true → (b < e.first) ⊎ (e.first + e.blocks ≤ b)
+apart_from kept e beside b is = outside e b (turned (within e) kept beside b is)
+
+-- Blocks are kept where nothing changes, by one change and then another, and in a set of fewer.
+pub keeps_same : (kept : ℕ → Bool) (bytes : List ℕ) → Keeps kept bytes bytes
+keeps_same kept bytes = record { size = refl; same = λ b i is lt. refl }
+
+pub keeps_on : (kept : ℕ → Bool) (a b c : List ℕ) → Keeps kept a b → Keeps kept b c → Keeps kept a c
+keeps_on kept a b c first behind = record { size = behind.size ∙ first.size; same = λ k i is lt. behind.same k i is lt ∙ first.same k i is lt }
+
+pub keeps_less : (kept more : ℕ → Bool) → ((b : ℕ) → kept b ≡ true → more b ≡ true) → (a b : List ℕ) → Keeps more a b → Keeps kept a b
+keeps_less kept more from a b keeps = record { size = keeps.size; same = λ k i is lt. keeps.same k i (from k is) lt }
+
+-- What is torn at the front of an extent alone keeps each set beside it.
+pub keeps_torn : (kept : ℕ → Bool) (e : Extent) (n : ℕ) → IsBeside kept e → n ≤ block_size * e.blocks → (old new : List ℕ) → Torn (block_size * e.first) n old new → Keeps kept old new
+keeps_torn kept e n beside fits old new torn = record {
+  size = torn.size;
+  same = λ b i is lt. elim (apart_from kept e beside b is) [
+    | inl below ↦ torn_below (block_size * e.first) n old new torn (block_size * b + i) (omega arith)
+    | inr above ↦ torn_above (block_size * e.first) n old new torn (block_size * b + i) (omega arith)
+  ];
+}
+
+-- A set of places keeps those outside a range that is marked.
+marked_below : (set : List Bool) (at n i : ℕ) → at ≤ length set → i < at → get_or (marked set at n) i false ≡ get_or set i false
+marked_below set at n i le lt = search (rules, places)
+
+marked_above : (set : List Bool) (at n i : ℕ) → at + n ≤ length set → at + n ≤ i → get_or (marked set at n) i false ≡ get_or set i false
+marked_above set at n i le lt = search (rules, places)
+
+keeps_marked : (kept : ℕ → Bool) (e : Extent) (n : ℕ) → IsBeside kept e → n ≤ block_size * e.blocks → (set : List Bool) → block_size * e.first + n ≤ length set → KeepsMarks kept set (marked set (block_size * e.first) n)
+keeps_marked kept e n beside fits set room = record {
+  same = λ b i is lt. elim (apart_from kept e beside b is) [
+    | inl below ↦ marked_below set (block_size * e.first) n (block_size * b + i) (omega arith) (omega arith)
+    | inr above ↦ marked_above set (block_size * e.first) n (block_size * b + i) room (omega arith)
+  ];
+}
+
+-- a run of no call
+pub outside_none : (kept : ℕ → Bool) (disk : DiskState) → WritesOutside kept disk disk
+outside_none kept disk = record {
+  seen = keeps_same kept disk.now.seen;
+  marks = record { same = λ b i is lt. refl };
+  leaves = started disk (λ _. KeptFrom kept disk.now) (λ image left. (image, left, keeps_same kept image));
+}
+
+-- one run after another
+pub outside_on : (kept : ℕ → Bool) (old mid new : DiskState) → WritesOutside kept old mid → WritesOutside kept mid new → WritesOutside kept old new
+outside_on kept old mid new first behind = record {
+  seen = keeps_on kept old.now.seen mid.now.seen new.now.seen first.seen behind.seen;
+  marks = record { same = λ b i is lt. behind.marks.same b i is lt ∙ first.marks.same b i is lt };
+  leaves = goes_on old mid new (λ _. KeptFrom kept old.now) first.leaves
+      (weaker mid new (λ _. KeptFrom kept mid.now) (λ _. KeptFrom kept old.now)
+      (λ m image left. let was = exit_images old mid (λ _. KeptFrom kept old.now) first.leaves left.0 left.1 in
+      (was.0, was.1, keeps_on kept was.0 left.0 image was.2 left.2))
+      behind.leaves);
+}
+
+-- in a set of fewer blocks
+pub outside_less : (kept more : ℕ → Bool) → ((b : ℕ) → kept b ≡ true → more b ≡ true) → (old new : DiskState) → WritesOutside more old new → WritesOutside kept old new
+outside_less kept more from old new run = record {
+  seen = keeps_less kept more from old.now.seen new.now.seen run.seen;
+  marks = record { same = λ b i is lt. run.marks.same b i (from b is) lt };
+  leaves = weaker old new (λ _. KeptFrom more old.now) (λ _. KeptFrom kept old.now) (λ m image left. (left.0, left.1, keeps_less kept more from left.0 image left.2)) run.leaves;
+}
+
+-- what a change to the same keeps
+stayed : (kept : ℕ → Bool) (old : DiskState) (now : Medium) → now ≡ old.now → Keeps kept old.now.seen now.seen × KeepsMarks kept old.now.unsettled now.unsettled
+stayed kept old now are =
+    subst (λ (m : Medium). Keeps kept old.now.seen m.seen × KeepsMarks kept old.now.unsettled m.unsettled) (sym are) (keeps_same kept old.now.seen, record { same = λ b i is lt. refl })
+
+-- a run that changes nothing
+pub outside_rests : (kept : ℕ → Bool) (old new : DiskState) → Rests old new → WritesOutside kept old new
+outside_rests kept old new rests =
+    let same = stayed kept old new.now rests.now in
+    record {
+      seen = same.0;
+      marks = same.1;
+      leaves = weaker old new (λ _. IsImage old.now) (λ _. KeptFrom kept old.now) (λ m image left. (image, left, keeps_same kept image)) rests.leaves;
+    }
+
+-- what one write keeps in what is held
+wrote : (kept : ℕ → Bool) (e : Extent) (old : DiskState) (bytes : List ℕ) → IsBeside kept e → length bytes ≤ block_size * e.blocks → IsMedium old.size old.now → block_size * e.first + length bytes ≤ old.size
+    → (now : Medium) → now ≡ written old.now (block_size * e.first) bytes → Keeps kept old.now.seen now.seen × KeepsMarks kept old.now.unsettled now.unsettled
+wrote kept e old bytes beside fits is room now are =
+    subst (λ (m : Medium). Keeps kept old.now.seen m.seen × KeepsMarks kept old.now.unsettled m.unsettled) (sym are) (
+      keeps_torn kept e (length bytes) beside fits old.now.seen (over old.now.seen (block_size * e.first) bytes) (over_torn old.now.seen (block_size * e.first) bytes (omega (arith, is.image.size, is.settled))),
+      keeps_marked kept e (length bytes) beside fits old.now.unsettled (omega (arith, is.unsettled)),
+    )
+
+held_on : {E : Type 0} (kept : ℕ → Bool) (e : Extent) (old new : DiskState) (bytes : List ℕ) (result : Result (Unit {0}) E) → IsBeside kept e → length bytes ≤ block_size * e.blocks → IsMedium old.size old.now → block_size * e.first + length bytes ≤ old.size
+    → OnOk result (Writes (block_size * e.first) bytes old new) → OnErr result (Tears (block_size * e.first) (length bytes) old new) → Keeps kept old.now.seen new.now.seen × KeepsMarks kept old.now.unsettled new.now.unsettled
+held_on kept e old new bytes (Ok x) beside fits is room ok err = wrote kept e old bytes beside fits is room new.now ok.now
+held_on kept e old new bytes (Err x) beside fits is room ok err = ⊎_elim
+    (λ torn. wrote kept e old torn.0 beside (omega (arith, torn.1)) is (omega (arith, torn.1)) new.now torn.2.now)
+    (λ refused. stayed kept old new.now refused.now)
+    err
+
+-- one write at the front of an extent, whether it succeeded or not
+pub outside_write : {E : Type 0} (kept : ℕ → Bool) (e : Extent) (old new : DiskState) (bytes : List ℕ) (result : Result (Unit {0}) E) → CountsCall old new result → IsMedium old.size old.now → IsBeside kept e → length bytes ≤ block_size * e.blocks → block_size * e.first + length bytes ≤ old.size
+    → OnOk result (Writes (block_size * e.first) bytes old new) → OnErr result (Tears (block_size * e.first) (length bytes) old new) → WritesOutside kept old new
+outside_write kept e old new bytes result counts is beside fits room ok err =
+    let held = held_on kept e old new bytes result beside fits is room ok err in
+    record {
+      seen = held.0;
+      marks = held.1;
+      leaves = weaker old new (λ _. TornFrom old.now (block_size * e.first) (length bytes)) (λ _. KeptFrom kept old.now)
+          (λ m image left. (left.0, left.1, keeps_torn kept e (length bytes) beside fits left.0 image left.2))
+          (write_leaves old new (block_size * e.first) bytes result counts is room ok err);
+    }
+
+-- The first bytes of an extent in the set stay.
+pub part_kept : (kept : ℕ → Bool) (e : Extent) (n : ℕ) → n ≤ block_size * e.blocks → ((b : ℕ) → within e b ≡ true → kept b ≡ true) → (old new : List ℕ) → Keeps kept old new → part e n new ≡ part e n old
+part_kept kept e n fits all old new keeps = ext_get_or 0 (part e n new) (part e n old)
+    (omega (arith, length-take n (drop (block_size * e.first) new), length-take n (drop (block_size * e.first) old), length-drop (block_size * e.first) new, length-drop (block_size * e.first) old, keeps.size))
+    (λ j lt. let below : j < n = omega (arith, lt, length-take n (drop (block_size * e.first) new)) in here j below)
+  where
+    here : (j : ℕ) → j < n → get_or (part e n new) j 0 ≡ get_or (part e n old) j 0
+    here j lt =
+        let place : block_size * (e.first + j / block_size) + j % block_size ≡ block_size * e.first + j = omega arith in
+        let one = keeps.same (e.first + j / block_size) (j % block_size) (all (e.first + j / block_size) (within_true e (e.first + j / block_size) (omega arith) (omega arith))) (omega arith) in
+        let there : get_or new (block_size * e.first + j) 0 ≡ get_or old (block_size * e.first + j) 0 = subst (λ (k : ℕ). get_or new k 0 ≡ get_or old k 0) place one in
+        get_or-take n (drop (block_size * e.first) new) j 0 lt ∙ get_or-drop (block_size * e.first) new j 0 ∙ there ∙ sym (get_or-drop (block_size * e.first) old j 0) ∙ sym (get_or-take n (drop (block_size * e.first) old) j 0 lt)
+
+-- So they do in each image of a crash within a run that writes outside the set.
+pub image_part_kept : (kept : ℕ → Bool) (e : Extent) (n : ℕ) → n ≤ block_size * e.blocks → ((b : ℕ) → within e b ≡ true → kept b ≡ true) → (old new : DiskState) → WritesOutside kept old new
+    → (m : ℕ) (image : List ℕ) → old.calls ≤ m → m ≤ new.calls → IsImageAt new m image → (entry : List ℕ) × IsImage old.now entry × (part e n image ≡ part e n entry)
+image_part_kept kept e n fits all old new run m image ge le left =
+    let was = run.leaves.each m image ge le left in
+    (was.0, was.1, part_kept kept e n fits all was.0 image was.2)

@@ -1,0 +1,56 @@
+-- Which blocks extents have: apart, within, taken, beside a set of blocks.
+use Rattle.std.specs.Prelude.{◌≡◌, ◌<◌, ◌≤◌, ◌+◌, ◌*◌, ℕ, Bool, true, false, ◌&&◌, ◌||◌, nat_lt, nat_le, List, [], ◌∷◌, length}
+use Rattle.rs_extent.specs.declared.Extent.{Extent}
+use Rattle.rs_extent.specs.Blocks.{block_size, is_used}
+
+-- the block is one of the extent's
+abbrev pub within : Extent → ℕ → Bool
+within e b = nat_le e.first b && nat_lt b (e.first + e.blocks)
+
+-- the block is one of some extent's
+abbrev pub in_some : List Extent → ℕ → Bool
+in_some [] b = false
+in_some (e ∷ es) b = within e b || in_some es b
+
+-- no block is in both sets
+abbrev pub AreDisjoint : (ℕ → Bool) → (ℕ → Bool) → Type 0
+AreDisjoint one other = (b : ℕ) → one b ≡ true → other b ≡ false
+
+-- each block of the first set is in the second one
+abbrev pub IsSubset : (ℕ → Bool) → (ℕ → Bool) → Type 0
+IsSubset one other = (b : ℕ) → one b ≡ true → other b ≡ true
+
+-- no two of the extents have a block in common
+abbrev pub AreApart : List Extent → Type 0
+AreApart [] = Unit {0}
+AreApart (e ∷ es) = AreDisjoint (within e) (in_some es) × AreApart es
+
+-- each block of the extent lies on a disk of this many bytes
+abbrev pub IsOnDisk : Extent → ℕ → Type 0
+IsOnDisk e size = (b : ℕ) → within e b ≡ true → block_size * b + block_size ≤ size
+
+-- each block of the extents lies on a disk of this many bytes
+abbrev pub AreOnDisk : List Extent → ℕ → Type 0
+AreOnDisk extents size = (b : ℕ) → in_some extents b ≡ true → block_size * b + block_size ≤ size
+
+-- no block of the extent is in the set
+abbrev pub IsBeside : (ℕ → Bool) → Extent → Type 0
+IsBeside kept e = AreDisjoint (within e) kept
+
+-- no block of any of the extents is in the set
+abbrev pub AreBeside : (ℕ → Bool) → List Extent → Type 0
+AreBeside kept es = AreDisjoint (in_some es) kept
+
+-- Each block of the extents is on the disk and free, and no two of them have a block in common.
+pub record CanTake (used : List Bool) (extents : List Extent) : Type 0 where
+  pub apart : AreApart extents
+  pub is_free : (b : ℕ) → in_some extents b ≡ true → is_used used b ≡ false
+
+-- The extents were free and are used: they lie on the disk, no two of them have a block in common, and all other blocks are as they were.
+pub record AreTaken (old new : List Bool) (extents : List Extent) : Type 0 where
+  pub size : length new ≡ length old
+  pub inside : (b : ℕ) → in_some extents b ≡ true → b < length old
+  pub before : (b : ℕ) → in_some extents b ≡ true → is_used old b ≡ false
+  pub after : (b : ℕ) → in_some extents b ≡ true → is_used new b ≡ true
+  pub others : (b : ℕ) → in_some extents b ≡ false → is_used new b ≡ is_used old b
+  pub apart : AreApart extents

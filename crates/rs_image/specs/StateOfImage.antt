@@ -1,0 +1,62 @@
+-- What an image of a disk stands for.
+use Rattle.std.specs.Prelude.{◌≡◌, ℕ, List, length, map}
+use Rattle.rs_fixity.specs.Digests.{digests}
+use Rattle.rs_body.specs.Blocks.{part}
+use Rattle.rs_commit.specs.declared.root.Root.{Root}
+use Rattle.rs_commit.specs.Slots.{OpensTo}
+use Rattle.rs_record.specs.declared.record.Record.{Record}
+use Rattle.rs_model.specs.declared.value.Held.{Held}
+use Rattle.rs_model.specs.State.{Source}
+use Rattle.rs_model.specs.Listed.{entry_of}
+use Rattle.rs_page.specs.Pages.{stored_refs}
+use Rattle.rs_catalogue.specs.Catalogue.{records_of, HoldsCatalogue}
+use Rattle.rs_changes.specs.History.{changes_of, HoldsHistory}
+use Rattle.rs_directory.specs.Directory.{directory_bytes, IsLawfulHeader, AreLawfulRefs}
+use Rattle.rs_image.specs.declared.contents.Contents.{Contents}
+use Rattle.rs_image.specs.Whole.{IsWhole}
+
+-- a record with its body, which is the first bytes of its extent
+abbrev pub held_in : List ℕ → Record → List ℕ × Held
+held_in image r = (r.name, record { bytes = part r.extent r.length image; entry = (entry_of r).1 })
+
+-- the state of these lists, with the bodies that the image has
+abbrev pub state_in : List ℕ → Contents → Source
+state_in image c =
+    record {
+      base = c.header.base;
+      limit = c.header.limit;
+      start = c.header.start;
+      last = c.header.last;
+      held = map (held_in image) (records_of c.catalogue);
+      changes = changes_of c.history;
+      number = c.header.number;
+      at = c.header.at;
+      listed = map entry_of (records_of c.published);
+    }
+
+-- the bytes of the directory of these lists
+abbrev pub listing : Contents → List ℕ
+listing c = directory_bytes c.header (stored_refs c.catalogue) (stored_refs c.history) (stored_refs c.published)
+
+-- entries of pages and a header that a directory can have
+pub record AreListable (c : Contents) : Type 0 where
+  pub header : IsLawfulHeader c.header
+  pub catalogue : AreLawfulRefs (stored_refs c.catalogue)
+  pub history : AreLawfulRefs (stored_refs c.history)
+  pub published : AreLawfulRefs (stored_refs c.published)
+
+-- A root tells these lists in an image: the directory's bytes are theirs and have the root's digest, the pages that it
+-- names hold them, and each rule of the lists and their blocks is kept. So the image tells their state.
+pub record Tells (root : Root) (c : Contents) (image : List ℕ) (s : Source) : Type 0 where
+  pub listable : AreListable c
+  pub directory : part root.directory root.length image ≡ listing c
+  pub digest : (digests (listing c)).sha256 ≡ root.sha256
+  pub catalogue : HoldsCatalogue (stored_refs c.catalogue) image (map (λ page. page.items) c.catalogue)
+  pub history : HoldsHistory (stored_refs c.history) image (map (λ page. page.items) c.history)
+  pub published : HoldsCatalogue (stored_refs c.published) image (map (λ page. page.items) c.published)
+  pub whole : IsWhole (length image) root c
+  pub state : state_in image c ≡ s
+
+-- An image stands for a state: it opens to a root, which tells lists of this state in it.
+abbrev pub StandsFor : List ℕ → Source → Type 0
+StandsFor image s = (root : Root) × OpensTo root image × ((c : Contents) × Tells root c image s)

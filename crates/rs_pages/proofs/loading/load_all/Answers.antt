@@ -1,0 +1,25 @@
+use Rattle.std.proofs.Common.{rules, ◌≡◌, ◌<◌, [], ◌∷◌, ◌++◌, length, arith}
+use Rattle.std.proofs.lemmas.Result.{err_from_is_err_and}
+use Rattle.rs_pages.proofs.LoadedUpTo.{load_step, damaged_at, reads_next}
+use Rattle.rs_pages.proofs.loading.load_all.Goals as goal
+
+pub loop-page-preserved : goal.loop-page-preserved
+loop-page-preserved g c =
+    let inside : c.loop-page.page-index < length c.args.pages.now = omega arith in
+    let pushed : c.push.new.self.items ≡ c.loop-page.loaded.items ++ c.in_ok-page.page ∷ [] = search rules in
+    load_step g.T.PageItem.format c.loop-page.page-index c.args.pages.now c.loop-page.loaded.items c.push.new.self.items _ c.in_ok-page.page
+    (g.D.Disk.state c.args.disk.now) (g.D.Disk.state c.loop-page.disk) (g.D.Disk.state c.load.new.disk) inside c.loop-page.invariant pushed
+    c.in_ok-page.ensures.place c.in_ok-page.ensures.lawful c.in_ok-page.ensures.found c.load.ensures.rests c.load.ensures.one_call
+
+pub returns-in_err-page-clause-damaged : goal.returns-in_err-page-clause-damaged
+returns-in_err-page-clause-damaged g c =
+    let inside : c.loop-page.page-index < length c.args.pages.now = omega arith in
+    let p = err_from_is_err_and c.from_residual.result c.from_residual.ensures.1 in
+    rw (p.1, p.2)
+    (λ damaged honest held are.
+    damaged_at g.T.PageItem.format c.loop-page.page-index c.args.pages.now _ (g.D.Disk.state c.load.new.disk).now.seen inside (c.in_err-page.ensures.damaged (cc) honest) held are)
+
+pub returns-in_err-map_err-clause-reads : goal.returns-in_err-map_err-clause-reads
+returns-in_err-map_err-clause-reads g c =
+    reads_next g.T.PageItem.format c.loop-page.page-index c.args.pages.now (g.D.Disk.state c.args.disk.now) (g.D.Disk.state c.loop-page.disk) (g.D.Disk.state c.load.new.disk)
+    (omega arith) c.loop-page.invariant.reads c.load.ensures.rests c.load.ensures.one_call

@@ -1,0 +1,26 @@
+-- What reading and writing pages leaves.
+use Rattle.std.specs.Prelude.{◌≡◌, ◌≤◌, ◌+◌, ◌⊎◌, ℕ, Bool, List, length}
+use Rattle.rs_disk.specs.Medium.{DiskState}
+use Rattle.rs_disk.specs.Leaves.{Advances, Rests}
+use Rattle.rs_extent.specs.Extents.{AreBeside}
+use Rattle.rs_body.specs.Outside.{WritesOutside}
+use Rattle.rs_page.specs.declared.place.PageRef.{PageRef}
+use Rattle.rs_page.specs.Format.{ItemFormat}
+use Rattle.rs_page.specs.Pages.{Page, placed_extents, page_stored}
+use Rattle.rs_page.specs.DiskPages.{IsWritten}
+
+-- a page is as it was, or it is written and stored
+abbrev pub StaysOrIsStored : {T : Type 0} → ItemFormat T → List ℕ → Page T → Page T → Type 0
+StaysOrIsStored format image old new = (new ≡ old) ⊎ ((new ≡ page_stored format old) × IsWritten format image old)
+
+-- What a run that writes pages leaves, whatever it answers: each set of blocks beside those that the pages were given stays, and
+-- each of the pages costs one call at most.
+pub record WritesPages {T : Type 0} (pages : List (Page T)) (old new : DiskState) : Type 0 where
+  pub outside : (kept : ℕ → Bool) → AreBeside kept (placed_extents pages) → WritesOutside kept old new
+  pub advances : Advances old new
+  pub one_each : new.calls ≤ old.calls + length (placed_extents pages)
+
+-- What a run that reads the pages of references leaves, whatever it answers: nothing changes, and each page costs one call at most.
+pub record ReadsPages (refs : List PageRef) (old new : DiskState) : Type 0 where
+  pub rests : Rests old new
+  pub one_each : new.calls ≤ old.calls + length refs

@@ -1,0 +1,21 @@
+//! Lists in pages, of which only those that are touched change.
+//!
+//! [`Pages`] is a list that stays: [`Pages::with`], [`Pages::without`] and [`Pages::append`] make a
+//! new one, in which all pages but the one that was touched are the same. Where an item goes, and
+//! how a touched page is cut into pages of at most 64 items, is a function on lists of pages in
+//! `specs/Rule.antt`, and the contracts say that the new list is exactly it.
+//! [`Pages::place_touched`] and [`Pages::store_touched`] bring the pages onto the disk, and
+//! [`Pages::load`] reads them back; [`laws`] states what follows from the rule.
+#![tactic(auto)]
+
+mod filling;
+pub mod laws;
+mod loading;
+mod making;
+mod named;
+mod pages;
+mod storing;
+mod within;
+
+pub use named::Named;
+pub use pages::Pages;

@@ -1,0 +1,75 @@
+//! Pages that are read.
+ghost use Rattle.std.specs.Prelude.{◌≡◌, List, map, All, IfOk, IsErrOf, IsTrue};
+ghost use Rattle.rs_disk.specs.Leaves.{HasFailed};
+ghost use Rattle.rs_page.specs.DiskPages.{ArePages};
+ghost use Rattle.rs_page.specs.Pages.{IsStored, stored_refs};
+ghost use Rattle.rs_pages.specs.Rule.{HaveItems};
+ghost use Rattle.rs_pages.specs.Storing.{ReadsPages};
+
+use crate::Pages;
+use rs_disk::Disk;
+use rs_page::{LoadFault, Page, PageItem, PageRef};
+use std::alloc::Global;
+
+impl<T: PageItem> Pages<T> {
+    /// Reads the pages that these references point to, whatever they say, by one device call a page.
+    /// The disk stays as it is.
+    ///
+    /// No memory is asked for a page before its extent was found to lie on the disk and to have
+    /// exactly the blocks of its length.
+    ///
+    /// # Errors
+    ///
+    /// - [`LoadFault::Device`] where the device fails.
+    /// - [`LoadFault::Damaged`] where the disk holds no such page at one of them.
+    /// - [`LoadFault::NoMemory`] where the memory is refused.
+    pub fn load<D: Disk>(
+        alloc: Global,
+        disk: &mut D,
+        pages: &[PageRef],
+    ) -> Result<Pages<T>, LoadFault>
+        ensures pages { IfOk result (λ loaded. stored_refs loaded ≡ pages.now) }
+        ensures stored { IfOk result (All IsStored) }
+
+        // What the disk holds is said of a device that has followed the model.
+        ensures found { IfOk result (λ loaded. IsTrue (D.state disk.new).honest
+            → ArePages T.format pages.now (D.state disk.new).now.seen
+            (map (λ page. page.items) loaded)) }
+        ensures damaged { IsErrOf result LoadFault.Damaged → IsTrue (D.state disk.new).honest
+            → (held : List (List T))
+            → ¬ ArePages T.format pages.now (D.state disk.new).now.seen held }
+        ensures device { IsErrOf result LoadFault.Device
+            → HasFailed (D.state disk.old) (D.state disk.new) }
+        ensures reads { ReadsPages pages.now (D.state disk.old) (D.state disk.new) }
+    {
+        let loaded = load_all(alloc, disk, pages)?;
+        Pages::of_pages(alloc, loaded).map_err(|_| LoadFault::NoMemory)
+    }
+}
+
+// Reads the pages that these references point to, one after the other.
+fn load_all<T: PageItem, D: Disk>(
+    alloc: Global,
+    disk: &mut D,
+    pages: &[PageRef],
+) -> Result<Vec<Page<T>>, LoadFault>
+    ensures pages { IfOk result (λ loaded. (stored_refs loaded.items ≡ pages.now)
+        × HaveItems loaded.items) }
+    ensures stored { IfOk result (λ loaded. All IsStored loaded.items) }
+    ensures found { IfOk result (λ loaded. IsTrue (D.state disk.new).honest
+        → ArePages T.format pages.now (D.state disk.new).now.seen
+        (map (λ page. page.items) loaded.items)) }
+    ensures damaged { IsErrOf result LoadFault.Damaged → IsTrue (D.state disk.new).honest
+        → (held : List (List T))
+        → ¬ ArePages T.format pages.now (D.state disk.new).now.seen held }
+    ensures device { IsErrOf result LoadFault.Device
+        → HasFailed (D.state disk.old) (D.state disk.new) }
+    ensures reads { ReadsPages pages.now (D.state disk.old) (D.state disk.new) }
+{
+    let mut loaded = Vec::new(alloc);
+    for page in pages {
+        let page = Page::load(alloc, disk, page)?;
+        loaded.push(page).map_err(|_| LoadFault::NoMemory)?;
+    }
+    Ok(loaded)
+}

@@ -1,0 +1,123 @@
+//! Pages on the disk.
+ghost use Rattle.std.specs.Prelude.{◌≡◌, [], map, All, IfOk, OnOk, OnErr, IsErrOf};
+ghost use Rattle.std.specs.List.{AllZip};
+ghost use Rattle.rs_disk.specs.Leaves.{HasFailed};
+ghost use Rattle.rs_extent.specs.Extents.{AreApart, AreOnDisk, AreTaken};
+ghost use Rattle.rs_page.specs.DiskPages.{IsWritten};
+ghost use Rattle.rs_page.specs.Pages.{IsTouched, placed_extents, stored, stored_refs};
+ghost use Rattle.rs_page.specs.Placing.{Places, HasNoPlace};
+ghost use Rattle.rs_pages.specs.Storing.{StaysOrIsStored, WritesPages};
+
+use crate::Pages;
+use rs_disk::Disk;
+use rs_extent::Used;
+use rs_page::{Full, Page, PageItem, PageRef, Place, StoreFault};
+use std::alloc::{AllocError, Global};
+
+impl<T: PageItem> Pages<T> {
+    /// Gives each touched page the lowest run of free blocks of its size, one page after the other.
+    /// It takes no memory.
+    ///
+    /// # Errors
+    ///
+    /// [`Full`] where a page has no such run. Pages before it may have been given blocks then.
+    pub fn place_touched(&mut self, used: &mut Used) -> Result<(), Full>
+        ensures places { OnOk result (Places T.format used.old self.old used.new self.new) }
+        ensures placed { OnOk result (All (λ page. ¬ IsTouched page.place) self.new) }
+        ensures taken { placed_extents self.old ≡ []
+            → OnOk result (AreTaken used.old used.new (placed_extents self.new)) }
+        ensures full { OnErr result (HasNoPlace T.format used.old self.old) }
+        ensures items { map (λ page. page.items) self.new ≡ map (λ page. page.items) self.old }
+    {
+        place_all(&mut self.pages, used)
+    }
+
+    /// Writes each page that was given blocks, by one device call a page. Pages that are on the disk
+    /// already are not written again.
+    ///
+    /// No page is touched, and the extents of those that were given blocks lie on the disk and have
+    /// no block in common. A read gives the pages from then on; a crash may leave anything in their
+    /// blocks until the next sync. Nothing else on the disk changes, whether it succeeds or not:
+    /// each set of blocks beside these extents stays as it is, at every moment of the run.
+    ///
+    /// # Errors
+    ///
+    /// - [`StoreFault::NoMemory`] where the memory for a page's bytes is refused. Pages before it may
+    ///   have been written then.
+    /// - [`StoreFault::Device`] where the device fails. The extents may then hold anything.
+    ///
+    /// After each of them the items are as they were, and each page is as it was, or is written and
+    /// stored.
+    pub fn store_touched<D: Disk>(&mut self, alloc: Global, disk: &mut D) -> Result<(), StoreFault>
+        requires placed { All (λ page. ¬ IsTouched page.place) self.old }
+        requires room { AreOnDisk (placed_extents self.old) (D.state disk.old).size }
+        requires apart { AreApart (placed_extents self.old) }
+        ensures ok { OnOk result (self.new ≡ stored T.format self.old) }
+        ensures reads { OnOk result
+            (All (IsWritten T.format (D.state disk.new).now.seen) self.old) }
+        ensures places { OnErr result
+            (AllZip (StaysOrIsStored T.format (D.state disk.new).now.seen) self.old self.new) }
+        ensures items { map (λ page. page.items) self.new ≡ map (λ page. page.items) self.old }
+        ensures device { IsErrOf result StoreFault.Device
+            → HasFailed (D.state disk.old) (D.state disk.new) }
+        ensures writes { WritesPages self.old (D.state disk.old) (D.state disk.new) }
+    {
+        store_all(&mut self.pages, alloc, disk)
+    }
+
+    /// The references to the pages that are on the disk, in their order.
+    ///
+    /// # Errors
+    ///
+    /// [`AllocError`] where the memory is refused.
+    pub fn pages(&self, alloc: Global) -> Result<Vec<PageRef>, AllocError>
+        ensures { IfOk result (λ pages. pages.items ≡ stored_refs self.now) }
+    {
+        let mut pages = Vec::with_capacity(alloc, self.pages.len())?;
+        for page in &self.pages {
+            if let Place::Stored(stored) = page.place() {
+                pages.push(stored)?;
+            }
+        }
+        Ok(pages)
+    }
+}
+
+// Gives each touched page the lowest run of free blocks of its size, one page after the other.
+fn place_all<T: PageItem>(pages: &mut [Page<T>], used: &mut Used) -> Result<(), Full>
+    ensures places { OnOk result (Places T.format used.old pages.old used.new pages.new) }
+    ensures placed { OnOk result (All (λ page. ¬ IsTouched page.place) pages.new) }
+    ensures taken { placed_extents pages.old ≡ []
+        → OnOk result (AreTaken used.old used.new (placed_extents pages.new)) }
+    ensures full { OnErr result (HasNoPlace T.format used.old pages.old) }
+    ensures items { map (λ page. page.items) pages.new ≡ map (λ page. page.items) pages.old }
+{
+    for page in pages.iter_mut() {
+        page.place_in(used)?;
+    }
+    Ok(())
+}
+
+// Writes each page that was given blocks, one page after the other.
+fn store_all<T: PageItem, D: Disk>(
+    pages: &mut [Page<T>],
+    alloc: Global,
+    disk: &mut D,
+) -> Result<(), StoreFault>
+    requires placed { All (λ page. ¬ IsTouched page.place) pages.old }
+    requires room { AreOnDisk (placed_extents pages.old) (D.state disk.old).size }
+    requires apart { AreApart (placed_extents pages.old) }
+    ensures ok { OnOk result (pages.new ≡ stored T.format pages.old) }
+    ensures reads { OnOk result (All (IsWritten T.format (D.state disk.new).now.seen) pages.old) }
+    ensures places { OnErr result
+        (AllZip (StaysOrIsStored T.format (D.state disk.new).now.seen) pages.old pages.new) }
+    ensures items { map (λ page. page.items) pages.new ≡ map (λ page. page.items) pages.old }
+    ensures device { IsErrOf result StoreFault.Device
+        → HasFailed (D.state disk.old) (D.state disk.new) }
+    ensures writes { WritesPages pages.old (D.state disk.old) (D.state disk.new) }
+{
+    for page in pages.iter_mut() {
+        page.store(alloc, disk)?;
+    }
+    Ok(())
+}

@@ -1,0 +1,26 @@
+-- What is said of a root with its lists is said of these lists.
+use Rattle.std.proofs.Common.{◌≡◌, ◌<◌, ◌+◌, ◌^◌, ℕ, Bool, List, sym, subst}
+use Rattle.rs_image.specs.declared.contents.Contents.{Contents}
+use Rattle.rs_image.specs.Rooted.{Rooted, rooted, IsRooted, AreUsed}
+use Rattle.rs_model.specs.declared.command.Command.{Command}
+use Rattle.rs_plan.specs.declared.plan.Plan.{Plan}
+use Rattle.rs_plan.specs.Plans.{IsPlanned, LacksRoom}
+
+module _ (r : Rooted) (c : Contents) (at : c ≡ r.contents) where
+  pub sound_here : IsRooted r → IsRooted (rooted r.size r.root c)
+  sound_here sound = subst (λ (x : Contents). IsRooted (rooted r.size r.root x)) (sym at) sound
+
+  pub used_here : (used : List Bool) → AreUsed r used → AreUsed (rooted r.size r.root c) used
+  used_here used are_used = subst (λ (x : Contents). AreUsed (rooted r.size r.root x) used) (sym at) are_used
+
+  pub planned_there : (command : Command) (moment : ℕ) (p : Plan) → IsPlanned (rooted r.size r.root c) command moment p → IsPlanned r command moment p
+  planned_there command moment p planned = subst (λ (x : Contents). IsPlanned (rooted r.size r.root x) command moment p) at planned
+
+  pub lacking_there : (command : Command) (moment : ℕ) → LacksRoom (rooted r.size r.root c) command moment → LacksRoom r command moment
+  lacking_there command moment lacks = subst (λ (x : Contents). LacksRoom (rooted r.size r.root x) command moment) at lacks
+
+  pub later_here : (moment : ℕ) → r.contents.header.last < moment → c.header.last < moment
+  later_here moment later = subst (λ (x : Contents). x.header.last < moment) (sym at) later
+
+  pub number_here : r.contents.header.number + 1 < 2 ^ 64 → c.header.number + 1 < 2 ^ 64
+  number_here few = subst (λ (x : Contents). x.header.number + 1 < 2 ^ 64) (sym at) few

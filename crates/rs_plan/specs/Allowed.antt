@@ -1,0 +1,30 @@
+-- When a command may be planned: a source accepts it.
+use Rattle.std.specs.Prelude.{◌<◌, ◌≤◌, ◌+◌, ◌^◌, ℕ, List, length, IsNone, IsSome}
+use Rattle.rs_catalogue.specs.Catalogue.{records_of}
+use Rattle.rs_catalogue.specs.Named.{named}
+use Rattle.rs_changes.specs.History.{changes_of}
+use Rattle.rs_image.specs.declared.contents.Contents.{Contents}
+use Rattle.rs_model.specs.Names.{value_of}
+use Rattle.rs_record.specs.Limits.{longest_body}
+use Rattle.rs_model.specs.State.{most_resources, most_changes}
+
+-- A change at this moment has room in the history, and is later than the last command.
+pub record MayChange (c : Contents) (moment : ℕ) : Type 0 where
+  pub changes : length (changes_of c.history) < most_changes
+  pub later : c.header.last < moment
+
+-- A name may be bound to a body of n bytes.
+pub record MayPut (c : Contents) (name : List ℕ) (n moment : ℕ) : Type 0 where
+  pub body : n ≤ longest_body
+  pub resources : IsNone (value_of name (named (records_of c.catalogue))) → length (records_of c.catalogue) < most_resources
+  pub change : MayChange c moment
+
+-- A name that is held may be unbound.
+pub record MayDelete (c : Contents) (name : List ℕ) (moment : ℕ) : Type 0 where
+  pub held : IsSome (value_of name (named (records_of c.catalogue)))
+  pub change : MayChange c moment
+
+-- The next publication has a number, and a moment after the last command.
+pub record MayPublish (c : Contents) (moment : ℕ) : Type 0 where
+  pub number : c.header.number + 1 < 2 ^ 64
+  pub later : c.header.last < moment

@@ -1,0 +1,67 @@
+-- What joins a run of commands.
+use Rattle.std.proofs.Common.{◌≡◌, inl, inr, ℕ, Bool, true, List, sym, ◌∙◌, ap, subst, cond, Some, None, Result, Vec}
+use Rattle.std.specs.Prelude.{replicate}
+use Rattle.std.specs.Global.{Global}
+use Rattle.std.proofs.lemmas.List.{length-replicate}
+use Rattle.rs_disk.specs.Medium.{Medium, DiskState, IsImage}
+use Rattle.rs_commit.specs.Slots.{Standing}
+use Rattle.rs_commit.specs.Commit.{IsReady}
+use Rattle.rs_model.specs.State.{Source}
+use Rattle.rs_model.specs.Step.{refusal_of}
+use Rattle.rs_model.specs.declared.command.Command.{Command}
+use Rattle.rs_model.specs.declared.command.Command.TheVariants.{Put}
+use Rattle.rs_image.specs.StateOfImage.{StandsFor, Tells}
+use Rattle.rs_image.specs.declared.contents.Contents.{Contents}
+use Rattle.rs_store.specs.declared.refusal.Refusal.{Refusal}
+use Rattle.rs_store.specs.declared.refusal.Refusal.TheVariants.{Closed}
+use Rattle.rs_store.specs.Source.{Stored, Holds, state_of}
+use Rattle.rs_store.specs.Refusals.{decided, or_spent, is_spent}
+use Rattle.rs_store.specs.AnswersBody.{AnswersBody}
+use Rattle.rs_store.specs.Received.{IsCutShort}
+use Rattle.rs_store.specs.Runs.{IsIdle}
+use Rattle.rs_store.specs.Laws.{HeldStands}
+use Rattle.rs_recovery.proofs.Below.{weaker}
+use Rattle.rs_recovery.specs.Turns.{BodiesIdle, CutPutsIdle}
+
+module _ {D : Type 0} (device : D → DiskState) (images_stand : HeldStands device) where
+  -- a source whose body was asked for holds what it held
+  holds_on : (old new : Stored D) (name : List ℕ) (result : Result (Vec ℕ Global) Refusal) → AnswersBody device old new name result → (s : Source) → Holds device old s → Holds device new s
+  holds_on old new name result answers s holds = record {
+    is_open = answers.is_closed ∙ holds.is_open;
+    ready = subst (λ (x : Standing). IsReady x (device new.disk).now) (sym answers.slots) (subst (λ (m : Medium). IsReady old.slots m) (sym answers.rests.now) holds.ready);
+    told = λ image is.
+        let here : IsImage (device old.disk).now image = subst (λ (m : Medium). IsImage m image) answers.rests.now is in
+        subst (λ (x : Standing). Tells x.root new.contents image s) (sym answers.slots) (subst (λ (x : Contents). Tells old.slots.root x image s) (sym answers.contents) (holds.told image here));
+  }
+
+  pub bodies_idle : BodiesIdle device
+  bodies_idle old new name result answers = record {
+    is_closed = answers.is_closed;
+    holds = λ s holds. (
+      holds_on old new name result answers s holds,
+      weaker (device old.disk) (device new.disk) (λ _. IsImage (device old.disk).now) (λ _ image. StandsFor image s) (λ m image is. images_stand old s holds image is) answers.rests.leaves,
+    );
+    rests = λ _. answers.rests;
+    calls = answers.rests.leaves.later;
+  }
+
+  -- a closed source is asked for no body
+  cut_open : (old new : Stored D) (name kind : List ℕ) (n now : ℕ) (came : List ℕ) → IsCutShort device old new name kind n now came → old.is_closed ≡ true → ⊥
+  cut_open old new name kind n now came cut shut =
+      let command : Command = Put name kind (replicate n 0) in
+      let refused : decided old (state_of device old) command ≡ Some Closed =
+      ap (λ (b : Bool). cond b (Some Closed) (or_spent (refusal_of (state_of device old) command) (is_spent old))) shut in
+      let clash : Some Closed ≡ None = sym refused ∙ cut.decides (replicate n 0) (length-replicate n 0) in
+      cc
+
+  cut_idles : (old new : Stored D) (name kind : List ℕ) (n now : ℕ) (came : List ℕ) → IsCutShort device old new name kind n now came → IsIdle device old new
+  cut_idles old new name kind n now came cut = record {
+    is_closed = cut.left.is_closed;
+    holds = cut.left.holds;
+    rests = λ shut. absurd (cut_open old new name kind n now came cut shut);
+    calls = cut.left.goes_on.calls;
+  }
+
+  pub cut_puts_idle : CutPutsIdle device
+  cut_puts_idle old new name kind n now came (inl cut) = cut_idles old new name kind n now came cut
+  cut_puts_idle old new name kind n now came (inr cut) = cut_idles old new name kind n now came cut

@@ -1,0 +1,79 @@
+-- What may come of a line that is asked of a stored source.
+use Rattle.std.specs.Prelude.{◌≡◌, ◌⊎◌, ◌<◌, ◌≤◌, ℕ, if◌then◌else◌, List, [], ◌∷◌, length, Result, Ok, Err, Vec}
+use Rattle.std.specs.Global.{Global}
+use Rattle.rs_disk.specs.Medium.{DiskState}
+use Rattle.rs_model.specs.declared.command.Command.{Command}
+use Rattle.rs_model.specs.declared.command.Reply.{Reply}
+use Rattle.rs_store.specs.Answered.{Answers}
+use Rattle.rs_store.specs.Shows.{status_of}
+use Rattle.rs_store.specs.Source.{Stored, state_of}
+use Rattle.rs_store.specs.declared.refusal.Refusal as stored
+use Rattle.rs_store.specs.declared.refusal.Refusal.TheVariants.{Closed, Device}
+use Rattle.rs_caps.specs.DocumentTexts.{document_text}
+use Rattle.rs_caps.specs.Shows.{shown_of}
+use Rattle.rs_script.specs.declared.refusal.Refusal.{Refusal}
+use Rattle.rs_script.specs.declared.refusal.Refusal.TheVariants as refusals
+use Rattle.rs_script.specs.declared.request.Request.{Request}
+use Rattle.rs_script.specs.declared.request.Request.TheVariants.{At, Run, Document, Body, Status}
+use Rattle.rs_store.specs.AnswersBody.{AnswersBody}
+use Rattle.rs_script.specs.Lines.{line_limit}
+use Rattle.rs_script.specs.Model.{shown_or}
+use Rattle.rs_script.specs.Requests.{request_of}
+use Rattle.rs_script.specs.Session.{ScriptState, LineOutcome, moment_set, replied, shown, counted, refused, Answer, unchanged}
+
+-- what comes of an answer to a command
+abbrev pub outcome_of_reply : Result Reply stored.Refusal → LineOutcome
+outcome_of_reply (Ok reply) = replied reply
+outcome_of_reply (Err refusal) = refused (refusals.Source refusal)
+
+-- A command counts where it was accepted, and where the device failed in it, since its step may stand then.
+abbrev pub counted_as : Command → ℕ → Result Reply stored.Refusal → List (Command × ℕ)
+counted_as command now (Ok reply) = (command, now) ∷ []
+counted_as command now (Err Device) = (command, now) ∷ []
+counted_as command now (Err refusal) = []
+
+-- A command was asked of the source, which answered as it may.
+pub record RunAnswers {D : Type 0} (device : D → DiskState) (old : ScriptState (Stored D)) (command : Command) (answer : Answer (Stored D)) : Type 0 where
+  pub result : Result Reply stored.Refusal
+  pub answers : Answers device old.source answer.session.source command old.now result
+  pub outcome : answer.outcome ≡ outcome_of_reply result
+  pub commands : answer.commands ≡ counted_as command old.now result
+  pub now : answer.session.now ≡ old.now
+
+-- what comes of an answer to the question for a body
+abbrev pub shown_as : Result (Vec ℕ Global) stored.Refusal → LineOutcome
+shown_as (Ok bytes) = shown bytes.items
+shown_as (Err refusal) = refused (refusals.Source refusal)
+
+-- A body was asked of the source, which answered as it may.
+pub record ReadAnswers {D : Type 0} (device : D → DiskState) (old : ScriptState (Stored D)) (name : List ℕ) (answer : Answer (Stored D)) : Type 0 where
+  pub result : Result (Vec ℕ Global) stored.Refusal
+  pub answers : AnswersBody device old.source answer.session.source name result
+  pub outcome : answer.outcome ≡ shown_as result
+  pub commands : answer.commands ≡ []
+  pub now : answer.session.now ≡ old.now
+
+-- a closed source refuses whatever it is asked
+abbrev pub if_open : {D : Type 0} → ScriptState (Stored D) → LineOutcome → LineOutcome
+if_open s outcome = if s.source.is_closed then refused (refusals.Source Closed) else outcome
+
+-- what may come of a request: documents and counts are those of the state that the source tells
+abbrev pub RequestGives : {D : Type 0} → (D → DiskState) → ScriptState (Stored D) → Result Request Refusal → Answer (Stored D) → Type 0
+RequestGives device old (Ok (At t)) answer =
+    answer ≡ record { outcome = moment_set; commands = []; session = record { source = old.source; now = t } }
+RequestGives device old (Ok (Run command)) answer = RunAnswers device old command answer
+RequestGives device old (Ok (Document doc)) answer =
+    answer ≡ unchanged old (if_open old (shown_or refusals.NoSuchDocument (document_text (shown_of (state_of device old.source)) doc)))
+RequestGives device old (Ok (Body name)) answer = ReadAnswers device old name answer
+RequestGives device old (Ok Status) answer = answer ≡ unchanged old (if_open old (counted (status_of (state_of device old.source))))
+RequestGives device old (Err refusal) answer = answer ≡ unchanged old (refused refusal)
+
+-- this, or room for the request was refused and nothing changed
+abbrev pub AnswerGives : {D : Type 0} → (D → DiskState) → ScriptState (Stored D) → Result Request Refusal → Answer (Stored D) → Type 0
+AnswerGives device old request answer = RequestGives device old request answer ⊎ (answer ≡ unchanged old (refused refusals.NoMemory))
+
+-- what may come of a line, where one past the limit is refused whatever it says
+abbrev pub LineGives : {D : Type 0} → (D → DiskState) → ScriptState (Stored D) → List ℕ → Answer (Stored D) → Type 0
+LineGives device old line answer =
+    ((line_limit < length line) × (answer ≡ unchanged old (refused refusals.LongLine)))
+    ⊎ ((length line ≤ line_limit) × AnswerGives device old (request_of line) answer)

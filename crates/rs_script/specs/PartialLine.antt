@@ -1,0 +1,34 @@
+-- What is kept of a line while it comes.
+use Rattle.std.specs.Prelude.{◌≡◌, ℕ, ◌+◌, ◌-◌, ◌<◌, ◌≤◌, false, List, length, slice_index, Err}
+use Rattle.rs_script.specs.declared.line.Kept.{Kept}
+use Rattle.rs_script.specs.declared.line.Kept.TheVariants as kept
+use Rattle.rs_script.specs.declared.line.Content.{Content}
+use Rattle.rs_script.specs.declared.line.Content.TheVariants.{Bytes, Foreign, Refused, TooLong}
+use Rattle.rs_script.specs.declared.refusal.Refusal.TheVariants.{BadLine}
+use Rattle.rs_script.specs.declared.line.Line.{Line}
+use Rattle.rs_script.specs.Lines.{line_limit}
+use Rattle.rs_script.specs.Requests.{begins_request, request_of}
+
+-- the length and the last byte of these bytes, which may be a line with a carriage return at its end
+pub record CountsLine (line : Line) (raw : List ℕ) : Type 0 where
+  pub count_is : line.count ≡ length raw
+  pub last_is : line.last ≡ slice_index raw (length raw - 1)
+  pub fits : length raw ≤ line_limit + 1
+
+-- 9 bytes are longer than each line of one field, also with a carriage return at its end
+abbrev pub KeepsLineAs : Line → Kept → List ℕ → Type 0
+KeepsLineAs line kept.Whole raw = CountsLine line raw × (line.bytes.items ≡ raw)
+KeepsLineAs line kept.Foreign raw = CountsLine line raw × (9 ≤ length raw) × (begins_request raw ≡ false)
+KeepsLineAs line kept.Refused raw = CountsLine line raw × (0 < length raw)
+KeepsLineAs line kept.TooLong raw = line_limit + 1 < length raw
+
+-- these bytes have come since the last line feed
+abbrev pub KeepsLine : Line → List ℕ → Type 0
+KeepsLine line raw = KeepsLineAs line line.kept raw
+
+-- what a line is that has come
+abbrev pub IsContent : Content → List ℕ → Type 0
+IsContent (Bytes bytes) line = (bytes.now ≡ line) × (length line ≤ line_limit)
+IsContent Foreign line = (length line ≤ line_limit) × (request_of line ≡ Err BadLine)
+IsContent Refused line = length line ≤ line_limit
+IsContent TooLong line = line_limit < length line
