@@ -19,14 +19,11 @@ KIND = b"text/plain"
 PROGRAM = """//! Opens the disk on standard input, and times puts of 4 KiB on it.
 #![tactic(auto)]
 
-ghost use Rattle.std.specs.Prelude.{◌≤◌};
-ghost use Rattle.rs_image.specs.Whole.{IsWhole};
-
 use rs_commit::{Root, open_slots};
 use rs_directory::directory_bytes;
 use rs_disk::{Disk, MemoryDisk};
 use rs_fixity::digests_of;
-use rs_image::{Contents, load, used_of};
+use rs_image::{Contents, Rooted, load, used_of};
 use rs_record::{MediaType, Name};
 use rs_store::Source;
 use rs_time::Moment;
@@ -63,13 +60,10 @@ fn make_directory(alloc: Global, contents: &Contents) -> anyhow::Result<()> {
     Ok(())
 }
 
-fn time_used(rt: &HostRuntime, size: u64, root: &Root, contents: &Contents) -> anyhow::Result<()>
-    requires room { 1024 ≤ size }
-    requires whole { IsWhole size root.now contents.now }
-{
+fn time_used(rt: &HostRuntime, rooted: &Rooted<'_>) -> anyhow::Result<()> {
     let start = Instant::now(rt)?;
     for _ in 0..TIMES {
-        used_of(rt.alloc(), size, root, contents)?;
+        used_of(rt.alloc(), rooted)?;
     }
     let used = start.elapsed(rt)?;
     println!(rt; "used {}", used.as_micros())?;
@@ -126,9 +120,9 @@ fn main(rt: HostRuntime) -> anyhow::Result<()> {
     }
     let (_, root) = open_slots(&mut disk)?;
     let contents = load(alloc, &mut disk, &root)?;
-    time_used(&rt, disk.size(), &root, &contents)?;
     time_hashing(&rt, &root, &contents)?;
     time_directory(&rt, &contents)?;
+    time_used(&rt, &Rooted::new(disk.size(), root, &contents))?;
     time_puts(&rt, disk)
 }
 """

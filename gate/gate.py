@@ -8,7 +8,7 @@
     older than its crate fails the gate;
   - on the program that the copy proved and built: the worked rows, its calls of the system, its edges, the documents
     read by tools that are not ours, the tour, the images of crashes at its calls on a file;
-  - the tests of the gate itself, and the list of proofs by hand.
+  - the tests of the gate itself, the layout of the files, and the list of proofs by hand.
 
 N counts crates, edits and the other parts. The minutes of a processor of each part are told before.
 """
@@ -24,6 +24,7 @@ import time
 from pathlib import Path
 
 import edits
+import kit
 import record
 from meter import Meter
 
@@ -75,6 +76,14 @@ def toolchain(copy):
     if ran.wait() or not ended or int(ended[2]):
         return 0, [f"rt ci ended with status {ran.returncode}: {last.strip()}"]
     return int(ended[1]), []
+
+
+def layout():
+    """Whether each file of code, specs and proofs is in the toolchain's layout."""
+    files = [it for kind in ("*.rt", "*.antt") for it in sorted(Path(ROOT, "crates").rglob(kind)) if "out" not in it.parts]
+    ran = subprocess.run([f"{kit.folder()}/bin/rattle", "fmt", "--check", *files], capture_output=True, text=True)
+    named = (ran.stdout + ran.stderr).splitlines()
+    return (0 if ran.returncode else 1), (named or ["the layout was not checked"]) if ran.returncode else []
 
 
 def dates():
@@ -131,6 +140,7 @@ def main():
         os.environ["TMPDIR"] = tempfile.tempdir = room
         copy = copied(room)
         parts.run("the gate's own tests", script(ROOT / "gate" / "test_gate.py"))
+        parts.run("the layout", layout)
         parts.run("the record of edits", dates)
         parts.run("proofs by hand", script(copy / "examples" / "check_hand_proofs.py"))
         if parts.run("proofs, tests and builds", lambda: toolchain(copy)):

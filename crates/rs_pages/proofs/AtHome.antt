@@ -96,11 +96,11 @@ module _ {T : Type 0} (name : T → List ℕ) where
   pub parted : (n : List ℕ) (pages : List (Page T)) → HaveItems pages → IsTrue (is_ordered (keyed name (items_of pages))) → IsPartitionedBy (λ page. begins_by name n page.items) pages
   parted n pages have h = λ i j d order inside passes. part n pages i j d have h order inside passes
 
-  above_front : (lower : List ℕ) (xs ys : List T) → IsTrue (is_above lower (keyed name (xs ++ ys))) → IsTrue (is_above lower (keyed name xs))
+  pub above_front : (lower : List ℕ) (xs ys : List T) → IsTrue (is_above lower (keyed name (xs ++ ys))) → IsTrue (is_above lower (keyed name xs))
   above_front lower [] ys h = refl
   above_front lower (x ∷ xs) ys h = and_from _ _ (first_so _ _ h) (above_front (name x) xs ys (second_so (is_lt (by_bytes lower (name x))) _ h))
 
-  ordered_front : (xs ys : List T) → IsTrue (is_ordered (keyed name (xs ++ ys))) → IsTrue (is_ordered (keyed name xs))
+  pub ordered_front : (xs ys : List T) → IsTrue (is_ordered (keyed name (xs ++ ys))) → IsTrue (is_ordered (keyed name xs))
   ordered_front [] ys h = refl
   ordered_front (x ∷ xs) ys h = above_front (name x) xs ys h
 

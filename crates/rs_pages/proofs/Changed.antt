@@ -4,7 +4,8 @@ use Rattle.std.specs.Prelude.{slice_get, slice_set, IfSome}
 use Rattle.std.proofs.lemmas.List.{length-append}
 use Rattle.std.proofs.lemmas.List.Elements.{All-cons, All-head, All-tail}
 use Rattle.rs_page.specs.Pages.{Page, stored_ref, items_of}
-use Rattle.rs_pages.specs.Filled.{changed_at, page_filled, ref_of}
+use Rattle.rs_pages.specs.Changed.{changed_at, page_filled}
+use Rattle.rs_pages.specs.Filled.{IsUnstored}
 use Rattle.rs_pages.specs.Rule.{items_at, HaveItems}
 use Rattle.rs_pages.specs.Starts.{AreCounted, starts_of}
 
@@ -18,7 +19,7 @@ inside_page k i [] d h = absurd (omega arith)
 inside_page zero i (page ∷ pages) d h = h
 inside_page (suc k) i (page ∷ pages) d h = inside_page k i pages d h
 
-pub not_on_disk : {T : Type 0} (k : ℕ) (pages : List (Page T)) (d : Page T) → k < length pages → ref_of k pages ≡ None → stored_ref (get_or pages k d).place ≡ None
+pub not_on_disk : {T : Type 0} (k : ℕ) (pages : List (Page T)) (d : Page T) → k < length pages → IfSome (slice_get pages k) IsUnstored → stored_ref (get_or pages k d).place ≡ None
 not_on_disk k [] d inside none = absurd (omega arith)
 not_on_disk zero (page ∷ pages) d inside none = none
 not_on_disk (suc k) (page ∷ pages) d inside none = not_on_disk k pages d (omega arith) none

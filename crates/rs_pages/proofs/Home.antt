@@ -14,7 +14,7 @@ use Rattle.rs_pages.specs.Items.{keyed}
 use Rattle.rs_pages.specs.Rule.{begins_by, some_begins_by}
 use Rattle.rs_pages.proofs.InOrder.{is_past, is_before}
 
-above_lower : {V : Type 0} (x y : List ℕ) (m : Names V) → by_bytes x y ≡ Less → IsTrue (is_above y m) → IsTrue (is_above x m)
+pub above_lower : {V : Type 0} (x y : List ℕ) (m : Names V) → by_bytes x y ≡ Less → IsTrue (is_above y m) → IsTrue (is_above x m)
 above_lower x y [] e h = refl
 above_lower x y (z ∷ m) e h =
     let one = is_less (by_bytes y z.0) (first_so _ _ h) in
@@ -40,7 +40,7 @@ module _ {T : Type 0} (name : T → List ℕ) where
   ordered_rest [] ys h = h
   ordered_rest (x ∷ xs) ys h = ordered_rest xs ys (tail_ordered (name x) (keyed name (xs ++ ys)) h)
 
-  above_rest : (lower : List ℕ) (xs ys : List T) → IsTrue (is_above lower (keyed name (xs ++ ys))) → IsTrue (is_above lower (keyed name ys))
+  pub above_rest : (lower : List ℕ) (xs ys : List T) → IsTrue (is_above lower (keyed name (xs ++ ys))) → IsTrue (is_above lower (keyed name ys))
   above_rest lower [] ys h = h
   above_rest lower (x ∷ xs) ys h =
       above_lower lower (name x) (keyed name ys) (is_less (by_bytes lower (name x)) (first_so _ _ h)) (above_rest (name x) xs ys (second_so (is_lt (by_bytes lower (name x))) _ h))

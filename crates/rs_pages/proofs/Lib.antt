@@ -13,3 +13,7 @@ pub mod Writing
 pub mod StoredUpTo
 pub mod LoadedUpTo
 pub mod Changed
+pub mod NamedFilled
+pub mod LastFilled
+pub mod Ascending
+pub mod FilledAt

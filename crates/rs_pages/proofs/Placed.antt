@@ -6,7 +6,9 @@ use Rattle.std.proofs.Math.Seq.{drop-length, take-length}
 use Rattle.rs_pages.specs.Rule.{HaveItems}
 use Rattle.rs_pages.specs.Starts.{AreCounted, starts_of}
 use Rattle.rs_page.specs.Format.{ItemFormat}
-use Rattle.rs_page.specs.Pages.{Page, items_of}
+use Rattle.rs_page.specs.declared.place.Place.{Place}
+use Rattle.rs_page.specs.declared.place.Place.TheVariants.{Touched, Placed, Stored}
+use Rattle.rs_page.specs.Pages.{Page, stored_ref, items_of}
 use Rattle.rs_page.specs.Placing.{PlacesOne, PageHasNoRun, Places, HasNoPlace}
 
 module _ {T : Type 0} (format : ItemFormat T) where
@@ -44,6 +46,19 @@ pub same_items : {T : Type 0} (k : ℕ) (now : List (Page T)) (x y : Page T) →
 same_items k [] x y is same = refl
 same_items zero (n ∷ now) x y is same = ap (λ items. items ∷ map (λ p. p.items) now) (same ∙ ap (λ p. p.items) is)
 same_items (suc k) (n ∷ now) x y is same = ap (λ rest. n.items ∷ rest) (same_items k now x y is same)
+
+-- so do the references to pages that are on the disk
+pub ref_kept : {T : Type 0} (format : ItemFormat T) (old new : List Bool) (items : List T) (place : Place) (page : Page T) → PlacesOne format old (record { items = items; place = place }) new page
+    → stored_ref page.place ≡ stored_ref place
+ref_kept format old new items Touched page one = ap stored_ref one.1.placed
+ref_kept format old new items (Placed e) page one = ap stored_ref one.1.1
+ref_kept format old new items (Stored ref) page one = ap stored_ref one.1.1
+
+pub same_refs : {T : Type 0} (k : ℕ) (now : List (Page T)) (x y : Page T) → x ≡ get_or now k x → stored_ref y.place ≡ stored_ref x.place
+    → map (λ p. stored_ref p.place) (set now k y) ≡ map (λ p. stored_ref p.place) now
+same_refs k [] x y is same = refl
+same_refs zero (n ∷ now) x y is same = ap (λ ref. ref ∷ map (λ p. stored_ref p.place) now) (same ∙ ap (λ p. stored_ref p.place) is)
+same_refs (suc k) (n ∷ now) x y is same = ap (λ rest. stored_ref n.place ∷ rest) (same_refs k now x y is same)
 
 -- pages with the same items are counted the same
 module _ {T : Type 0} where

@@ -1,20 +1,40 @@
--- An item of a page gets new content in its place.
-use Rattle.std.specs.Prelude.{ℕ, zero, suc, List, [], ◌∷◌, Option, None}
-use Rattle.rs_page.specs.declared.place.PageRef.{PageRef}
+-- Items that get new content where they stand, in pages that are not on the disk.
+use Rattle.std.specs.Prelude.{◌≡◌, ◌⊎◌, ℕ, List, [], ◌∷◌, map, None, IsSome}
+use Rattle.rs_model.specs.Names.{by_bytes, by_order, value_of}
 use Rattle.rs_page.specs.Pages.{Page, stored_ref}
+use Rattle.rs_pages.specs.Items.{keyed}
 
--- the list, with what f makes of the element at i in its place
-abbrev pub changed_at : {A : Type 0} → (A → A) → ℕ → List A → List A
-changed_at f i [] = []
-changed_at f zero (x ∷ xs) = f x ∷ xs
-changed_at f (suc i) (x ∷ xs) = x ∷ changed_at f i xs
+-- the items, where the one of this name, if it is there, becomes what f makes of it
+abbrev pub items_filled : {T : Type 0} → (T → List ℕ) → (T → T) → List ℕ → List T → List T
+items_filled name f n items = map (λ t. by_order (by_bytes n (name t)) t (f t) t) items
 
--- the page, with what f makes of its item at i in its place; it stays where it is
-abbrev pub page_filled : {T : Type 0} → (T → T) → ℕ → Page T → Page T
-page_filled f i page = record { items = changed_at f i page.items; place = page.place }
+-- the same in each page, which stays where it is
+abbrev pub named_filled : {T : Type 0} → (T → List ℕ) → (T → T) → List ℕ → List (Page T) → List (Page T)
+named_filled name f n pages = map (λ page. record { items = items_filled name f n page.items; place = page.place }) pages
 
--- the reference to the page at k, where that is on the disk
-abbrev pub ref_of : {T : Type 0} → ℕ → List (Page T) → Option PageRef
-ref_of k [] = None
-ref_of zero (page ∷ pages) = stored_ref page.place
-ref_of (suc k) (page ∷ pages) = ref_of k pages
+-- the items, where the last one, if there is one, becomes what f makes of it
+abbrev pub end_filled : {T : Type 0} → (T → T) → List T → List T
+end_filled f [] = []
+end_filled f (last ∷ []) = f last ∷ []
+end_filled f (t ∷ next ∷ items) = t ∷ end_filled f (next ∷ items)
+
+-- the same in the last page, and each page stays where it is
+abbrev pub last_filled : {T : Type 0} → (T → T) → List (Page T) → List (Page T)
+last_filled f [] = []
+last_filled f (page ∷ []) = record { items = end_filled f page.items; place = page.place } ∷ []
+last_filled f (page ∷ next ∷ pages) = page ∷ last_filled f (next ∷ pages)
+
+-- a page is not on the disk
+abbrev pub IsUnstored : {T : Type 0} → Page T → Type 0
+IsUnstored page = stored_ref page.place ≡ None
+
+-- a name stands in a page that is not on the disk
+abbrev pub StandsUnstored : {T : Type 0} → (T → List ℕ) → List ℕ → List (Page T) → Type 0
+StandsUnstored name n [] = ⊥
+StandsUnstored name n (page ∷ pages) = (IsSome (value_of n (keyed name page.items)) × IsUnstored page) ⊎ StandsUnstored name n pages
+
+-- the last page is not on the disk
+abbrev pub EndsUnstored : {T : Type 0} → List (Page T) → Type 0
+EndsUnstored [] = ⊥
+EndsUnstored (page ∷ []) = IsUnstored page
+EndsUnstored (page ∷ next ∷ pages) = EndsUnstored (next ∷ pages)

@@ -1,10 +1,11 @@
 -- What follows from the page rule alone.
-use Rattle.std.specs.Prelude.{◌≡◌, ◌≤◌, ◌⊎◌, ℕ, List, [], ◌∷◌, ◌++◌, length, All, IsTrue, IsSome}
+use Rattle.std.specs.Prelude.{◌≡◌, ◌≤◌, ℕ, List, [], ◌∷◌, ◌++◌, length, All, IfSome, IsTrue}
 use Rattle.rs_model.specs.Names.{bind, unbind, value_of, is_ordered}
 use Rattle.rs_page.specs.Pages.{Page, IsTouched, items_of, placed_extents}
 use Rattle.rs_page.specs.SharedPages.{KeepsPages}
 use Rattle.rs_pages.specs.Items.{keyed}
-use Rattle.rs_pages.specs.Rule.{items_at, home, bound_in, unbound_in, appended_to}
+use Rattle.rs_pages.specs.Filled.{named_filled, end_filled, last_filled, StandsUnstored, EndsUnstored}
+use Rattle.rs_pages.specs.Rule.{HaveItems, items_at, home, bound_in, unbound_in, appended_to}
 
 -- a page is touched, and has 1 to 64 items
 abbrev pub IsFreshPage : {T : Type 0} → Page T → Type 0
@@ -58,21 +59,33 @@ AppendingTouchesOne T = (t : T) (pages : List (Page T)) → TouchesOne pages (ap
 abbrev pub TouchingKeeps : Type 0 → Type 0
 TouchingKeeps T = (old new : List (Page T)) → TouchesOne old new → KeepsPages old new × (placed_extents old ≡ [] → placed_extents new ≡ [])
 
--- a name stands in a touched page
-abbrev pub StandsTouched : {T : Type 0} → (T → List ℕ) → List ℕ → List (Page T) → Type 0
-StandsTouched name n [] = ⊥
-StandsTouched name n (page ∷ pages) = (IsSome (value_of n (keyed name page.items)) × IsTouched page.place) ⊎ StandsTouched name n pages
+-- What is bound, ..
+abbrev pub BoundStandsUnstored : {T : Type 0} → (T → List ℕ) → Type 0
+BoundStandsUnstored {T} name = (t : T) (pages : List (Page T)) → StandsUnstored name (name t) (bound_in name t pages)
 
--- the last page is touched
-abbrev pub EndsTouched : {T : Type 0} → List (Page T) → Type 0
-EndsTouched [] = ⊥
-EndsTouched (page ∷ []) = IsTouched page.place
-EndsTouched (page ∷ next ∷ pages) = EndsTouched (next ∷ pages)
+-- .. and what is appended, stands in a page that is not on the disk.
+abbrev pub AppendedEndsUnstored : Type 0 → Type 0
+AppendedEndsUnstored T = (t : T) (pages : List (Page T)) → EndsUnstored (appended_to t pages)
 
--- A bound name stands in a touched page, ..
-abbrev pub BoundStandsTouched : {T : Type 0} → (T → List ℕ) → Type 0
-BoundStandsTouched {T} name = (t : T) (pages : List (Page T)) → StandsTouched name (name t) (bound_in name t pages)
+-- Through all pages, the item of a name is filled as in one list: it is bound anew, and the order and the number stay.
+pub record FillsAsOne {T : Type 0} (name : T → List ℕ) (f : T → T) (n : List ℕ) (pages : List (Page T)) : Type 0 where
+  pub bound : IfSome (value_of n (keyed name (items_of pages))) (λ t. keyed name (items_of (named_filled name f n pages)) ≡ bind n (f t) (keyed name (items_of pages)))
+  pub ordered : Ascend name (named_filled name f n pages)
+  pub len : length (items_of (named_filled name f n pages)) ≡ length (items_of pages)
 
--- .. and what is appended ends in one.
-abbrev pub AppendedEndsTouched : Type 0 → Type 0
-AppendedEndsTouched T = (t : T) (pages : List (Page T)) → EndsTouched (appended_to t pages)
+-- So it is where what fills an item leaves it its name.
+abbrev pub FillingIsOne : {T : Type 0} → (T → List ℕ) → Type 0
+FillingIsOne {T} name = (f : T → T) → ((t : T) → name (f t) ≡ name t) → (n : List ℕ) (pages : List (Page T)) → Ascend name pages → FillsAsOne name f n pages
+
+-- The last item of all pages is filled as in one list.
+abbrev pub LastIsFilled : Type 0 → Type 0
+LastIsFilled T = (f : T → T) (pages : List (Page T)) → HaveItems pages → items_of (last_filled f pages) ≡ end_filled f (items_of pages)
+
+-- What is filled after it was bound ..
+abbrev pub FillingBound : {T : Type 0} → (T → List ℕ) → Type 0
+FillingBound {T} name = (f : T → T) → ((t : T) → name (f t) ≡ name t) → (t : T) (pages : List (Page T)) → Ascend name pages
+    → named_filled name f (name t) (bound_in name t pages) ≡ bound_in name (f t) pages
+
+-- .. or appended is bound or appended as it is filled.
+abbrev pub FillingAppended : Type 0 → Type 0
+FillingAppended T = (f : T → T) (t : T) (pages : List (Page T)) → last_filled f (appended_to t pages) ≡ appended_to (f t) pages

@@ -4,3 +4,4 @@ pub mod Starts
 pub mod Laws
 pub mod Storing
 pub mod Filled
+pub mod Changed

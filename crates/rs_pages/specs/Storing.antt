@@ -1,13 +1,14 @@
 -- What reading and writing pages leaves.
-use Rattle.std.specs.Prelude.{◌≡◌, ◌≤◌, ◌+◌, ◌⊎◌, ℕ, Bool, List, length}
+use Rattle.std.specs.Prelude.{◌≡◌, ◌≤◌, ◌+◌, ◌⊎◌, ℕ, Bool, List, length, flat_map}
 use Rattle.rs_disk.specs.Medium.{DiskState}
 use Rattle.rs_disk.specs.Leaves.{Advances, Rests}
 use Rattle.rs_extent.specs.Extents.{AreBeside}
 use Rattle.rs_body.specs.Outside.{WritesOutside}
+use Rattle.rs_record.specs.Limits.{most_items}
 use Rattle.rs_page.specs.declared.place.PageRef.{PageRef}
 use Rattle.rs_page.specs.Format.{ItemFormat}
 use Rattle.rs_page.specs.Pages.{Page, placed_extents, page_stored}
-use Rattle.rs_page.specs.DiskPages.{IsWritten}
+use Rattle.rs_page.specs.DiskPages.{IsWritten, ArePages}
 
 -- a page is as it was, or it is written and stored
 abbrev pub StaysOrIsStored : {T : Type 0} → ItemFormat T → List ℕ → Page T → Page T → Type 0
@@ -24,3 +25,8 @@ pub record WritesPages {T : Type 0} (pages : List (Page T)) (old new : DiskState
 pub record ReadsPages (refs : List PageRef) (old new : DiskState) : Type 0 where
   pub rests : Rests old new
   pub one_each : new.calls ≤ old.calls + length refs
+
+-- What the pages of references hold: items, page for page, no more than 50,000 in all.
+pub record HoldItems {T : Type 0} (format : ItemFormat T) (refs : List PageRef) (image : List ℕ) (pages : List (List T)) : Type 0 where
+  pub hold : ArePages format refs image pages
+  pub room : length (flat_map (λ items. items) pages) ≤ most_items

@@ -1,19 +1,56 @@
 //! Items whose digests are found after they were made.
-ghost use Rattle.std.specs.Prelude.{◌≡◌, ◌<◌, None, length, map};
-ghost use Rattle.rs_pages.specs.Filled.{changed_at, page_filled, ref_of};
+ghost use Rattle.std.specs.Prelude.{◌≡◌, ◌<◌, length, map, slice_get, IfSome, IsTrue};
+ghost use Rattle.rs_model.specs.Names.{is_ordered};
+ghost use Rattle.rs_page.specs.Pages.{items_of};
+ghost use Rattle.rs_pages.specs.Changed.{changed_at, page_filled};
+ghost use Rattle.rs_pages.specs.Filled.{named_filled, last_filled, IsUnstored, StandsUnstored, EndsUnstored};
+ghost use Rattle.rs_pages.specs.Items.{keyed};
 ghost use Rattle.rs_pages.specs.Rule.{items_at};
 
-use crate::Pages;
+use crate::within::place_of;
+use crate::{Named, Pages};
 use rs_fixity::Digests;
 use rs_page::Fill;
+use rs_record::Name;
+
+impl<T: Named + Fill> Pages<T> {
+    /// Gives the item of this name these digests in the place of its own. It stands in a page that
+    /// is not on the disk. Each page stays where it is, and it takes no memory.
+    pub fn fill(&mut self, name: &Name, digests: Digests)
+        requires ordered { IsTrue (is_ordered (keyed T.name (items_of self.old))) }
+        requires unstored { StandsUnstored T.name name.now self.old }
+        ensures pages { self.new ≡ named_filled T.name (T.filled digests) name.now self.old }
+        ensures places { map (λ page. page.place) self.new ≡ map (λ page. page.place) self.old }
+        ensures lengths { map (λ page. length page.items) self.new
+            ≡ map (λ page. length page.items) self.old }
+    {
+        let home = self.home_of(name);
+        if let Ok(i) = place_of(self.items_at(home), name) {
+            self.fill_at(home, i, digests);
+        }
+    }
+}
 
 impl<T: Fill> Pages<T> {
-    /// Gives the item at place `i` of the page at `k`, both counted from 0, these digests in the
-    /// place of its own. That page is not on the disk; it stays where it is, and has as many items.
-    /// It takes no memory.
-    pub fn fill(&mut self, k: usize, i: usize, digests: Digests)
+    /// Gives the last item these digests in the place of its own. It stands in a page that is not on
+    /// the disk. Each page stays where it is, and it takes no memory.
+    pub fn fill_last(&mut self, digests: Digests)
+        requires { EndsUnstored self.old }
+        ensures pages { self.new ≡ last_filled (T.filled digests) self.old }
+        ensures places { map (λ page. page.place) self.new ≡ map (λ page. page.place) self.old }
+        ensures lengths { map (λ page. length page.items) self.new
+            ≡ map (λ page. length page.items) self.old }
+    {
+        let k = self.pages.len() - 1;
+        let i = self.items_at(k).len() - 1;
+        self.fill_at(k, i, digests);
+    }
+
+    // Gives the item at place i of the page at k, both counted from 0, these digests in the place of
+    // its own. That page is not on the disk.
+    fn fill_at(&mut self, k: usize, i: usize, digests: Digests)
         requires within { i < length (items_at k self.old) }
-        requires not_stored { ref_of k self.old ≡ None }
+        requires not_stored { IfSome (slice_get self.old k) IsUnstored }
         ensures pages { self.new ≡ changed_at (page_filled (T.filled digests) i) k self.old }
         ensures places { map (λ page. page.place) self.new ≡ map (λ page. page.place) self.old }
         ensures lengths { map (λ page. length page.items) self.new

@@ -1,14 +1,15 @@
 //! Pages that are read.
-ghost use Rattle.std.specs.Prelude.{◌≡◌, List, map, All, IfOk, IsErrOf, IsTrue};
+ghost use Rattle.std.specs.Prelude.{◌≡◌, ◌≤◌, List, length, map, All, IfOk, IsErrOf, IsTrue};
 ghost use Rattle.rs_disk.specs.Leaves.{HasFailed};
-ghost use Rattle.rs_page.specs.DiskPages.{ArePages};
-ghost use Rattle.rs_page.specs.Pages.{IsStored, stored_refs};
+ghost use Rattle.rs_record.specs.Limits.{most_items};
+ghost use Rattle.rs_page.specs.Pages.{IsStored, items_of, stored_refs};
 ghost use Rattle.rs_pages.specs.Rule.{HaveItems};
-ghost use Rattle.rs_pages.specs.Storing.{ReadsPages};
+ghost use Rattle.rs_pages.specs.Storing.{HoldItems, ReadsPages};
 
 use crate::Pages;
 use rs_disk::Disk;
 use rs_page::{LoadFault, Page, PageItem, PageRef};
+use rs_record::MOST_ITEMS;
 use std::alloc::Global;
 
 impl<T: PageItem> Pages<T> {
@@ -16,12 +17,13 @@ impl<T: PageItem> Pages<T> {
     /// The disk stays as it is.
     ///
     /// No memory is asked for a page before its extent was found to lie on the disk and to have
-    /// exactly the blocks of its length.
+    /// exactly the blocks of its length, nor for any after 50,000 items were passed.
     ///
     /// # Errors
     ///
     /// - [`LoadFault::Device`] where the device fails.
-    /// - [`LoadFault::Damaged`] where the disk holds no such page at one of them.
+    /// - [`LoadFault::Damaged`] where the disk holds no such page at one of them, or more than
+    ///   50,000 items in all.
     /// - [`LoadFault::NoMemory`] where the memory is refused.
     pub fn load<D: Disk>(
         alloc: Global,
@@ -30,14 +32,15 @@ impl<T: PageItem> Pages<T> {
     ) -> Result<Pages<T>, LoadFault>
         ensures pages { IfOk result (λ loaded. stored_refs loaded ≡ pages.now) }
         ensures stored { IfOk result (All IsStored) }
+        ensures room { IfOk result (λ loaded. length (items_of loaded) ≤ most_items) }
 
         // What the disk holds is said of a device that has followed the model.
         ensures found { IfOk result (λ loaded. IsTrue (D.state disk.new).honest
-            → ArePages T.format pages.now (D.state disk.new).now.seen
+            → HoldItems T.format pages.now (D.state disk.new).now.seen
             (map (λ page. page.items) loaded)) }
         ensures damaged { IsErrOf result LoadFault.Damaged → IsTrue (D.state disk.new).honest
             → (held : List (List T))
-            → ¬ ArePages T.format pages.now (D.state disk.new).now.seen held }
+            → ¬ HoldItems T.format pages.now (D.state disk.new).now.seen held }
         ensures device { IsErrOf result LoadFault.Device
             → HasFailed (D.state disk.old) (D.state disk.new) }
         ensures reads { ReadsPages pages.now (D.state disk.old) (D.state disk.new) }
@@ -56,19 +59,25 @@ fn load_all<T: PageItem, D: Disk>(
     ensures pages { IfOk result (λ loaded. (stored_refs loaded.items ≡ pages.now)
         × HaveItems loaded.items) }
     ensures stored { IfOk result (λ loaded. All IsStored loaded.items) }
+    ensures room { IfOk result (λ loaded. length (items_of loaded.items) ≤ most_items) }
     ensures found { IfOk result (λ loaded. IsTrue (D.state disk.new).honest
-        → ArePages T.format pages.now (D.state disk.new).now.seen
+        → HoldItems T.format pages.now (D.state disk.new).now.seen
         (map (λ page. page.items) loaded.items)) }
     ensures damaged { IsErrOf result LoadFault.Damaged → IsTrue (D.state disk.new).honest
         → (held : List (List T))
-        → ¬ ArePages T.format pages.now (D.state disk.new).now.seen held }
+        → ¬ HoldItems T.format pages.now (D.state disk.new).now.seen held }
     ensures device { IsErrOf result LoadFault.Device
         → HasFailed (D.state disk.old) (D.state disk.new) }
     ensures reads { ReadsPages pages.now (D.state disk.old) (D.state disk.new) }
 {
     let mut loaded = Vec::new(alloc);
+    let mut room = MOST_ITEMS;
     for page in pages {
         let page = Page::load(alloc, disk, page)?;
+        let Some(left) = room.checked_sub(page.items().len()) else {
+            return Err(LoadFault::Damaged);
+        };
+        room = left;
         loaded.push(page).map_err(|_| LoadFault::NoMemory)?;
     }
     Ok(loaded)

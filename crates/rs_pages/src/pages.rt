@@ -1,5 +1,5 @@
 //! A list in pages.
-ghost use Rattle.std.specs.Prelude.{◌≡◌, ◌<◌, ◌≤◌, ◌+◌, ◌-◌, [], length, drop, slice_get, Some, IfOk, IsTrue};
+ghost use Rattle.std.specs.Prelude.{◌≡◌, ◌↔◌, ◌<◌, ◌≤◌, ◌+◌, ◌-◌, [], length, drop, slice_get, Some, IfOk, IsTrue};
 ghost use Rattle.std.specs.Option.{option_copied};
 ghost use Rattle.rs_model.specs.Names.{value_of, is_ordered};
 ghost use Rattle.rs_page.specs.Pages.{items_of};
@@ -61,6 +61,13 @@ impl<T: PageItem> Pages<T> {
         self.len
     }
 
+    /// How many pages there are.
+    pub fn page_count(&self) -> usize
+        ensures { result ≡ length self.now }
+    {
+        self.pages.len()
+    }
+
     /// The item at place `i`, counted from 0. It takes as many steps as the number of pages has bits.
     pub fn at(&self, i: usize) -> &T
         requires { i < length (items_of self.now) }
@@ -97,7 +104,7 @@ impl<T: PageItem> Pages<T> {
     }
 
     // The items of the page at i.
-    fn items_at(&self, i: usize) -> &[T]
+    pub(crate) fn items_at(&self, i: usize) -> &[T]
         ensures { result.now ≡ items_at i self.now }
     {
         match self.pages.get(i) {
@@ -168,7 +175,7 @@ impl<T: PageItem + Duplicate> Pages<T> {
 
 impl<T: Named> Pages<T> {
     // Where the name goes.
-    fn home_of(&self, name: &Name) -> usize
+    pub(crate) fn home_of(&self, name: &Name) -> usize
         requires { IsTrue (is_ordered (keyed T.name (items_of self.now))) }
         ensures value { result ≡ home T.name name.now self.now }
         ensures bound { result ≤ length self.now }
@@ -187,6 +194,18 @@ impl<T: Named> Pages<T> {
             Ok(i) => Some(&items[i]),
             Err(_) => None,
         }
+    }
+
+    /// Whether the names strictly ascend through all pages.
+    pub fn is_ordered(&self) -> bool
+        ensures { IsTrue result ↔ IsTrue (is_ordered (keyed T.name (items_of self.now))) }
+    {
+        for i in 1..self.len() {
+            if !self.at(i - 1).name().compare(self.at(i).name()).is_lt() {
+                return false;
+            }
+        }
+        true
     }
 
     /// The list with this item bound to its name, in the place of one that the name had. This list

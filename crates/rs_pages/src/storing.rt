@@ -4,7 +4,7 @@ ghost use Rattle.std.specs.List.{AllZip};
 ghost use Rattle.rs_disk.specs.Leaves.{HasFailed};
 ghost use Rattle.rs_extent.specs.Extents.{AreApart, AreOnDisk, AreTaken};
 ghost use Rattle.rs_page.specs.DiskPages.{IsWritten};
-ghost use Rattle.rs_page.specs.Pages.{IsTouched, placed_extents, stored, stored_refs};
+ghost use Rattle.rs_page.specs.Pages.{IsTouched, placed_extents, stored, stored_ref, stored_refs};
 ghost use Rattle.rs_page.specs.Placing.{Places, HasNoPlace};
 ghost use Rattle.rs_pages.specs.Storing.{StaysOrIsStored, WritesPages};
 
@@ -28,6 +28,8 @@ impl<T: PageItem> Pages<T> {
             → OnOk result (AreTaken used.old used.new (placed_extents self.new)) }
         ensures full { OnErr result (HasNoPlace T.format used.old self.old) }
         ensures items { map (λ page. page.items) self.new ≡ map (λ page. page.items) self.old }
+        ensures stored { map (λ page. stored_ref page.place) self.new
+            ≡ map (λ page. stored_ref page.place) self.old }
     {
         place_all(&mut self.pages, used)
     }
@@ -91,6 +93,8 @@ fn place_all<T: PageItem>(pages: &mut [Page<T>], used: &mut Used) -> Result<(), 
         → OnOk result (AreTaken used.old used.new (placed_extents pages.new)) }
     ensures full { OnErr result (HasNoPlace T.format used.old pages.old) }
     ensures items { map (λ page. page.items) pages.new ≡ map (λ page. page.items) pages.old }
+    ensures stored { map (λ page. stored_ref page.place) pages.new
+        ≡ map (λ page. stored_ref page.place) pages.old }
 {
     for page in pages.iter_mut() {
         page.place_in(used)?;

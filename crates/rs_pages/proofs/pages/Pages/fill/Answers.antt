@@ -1,89 +1,44 @@
-use Rattle.std.proofs.Common.{◌≡◌, ◌<◌, List, length, map, set, None, sym, ap, ◌∙◌, subst, arith}
-use Rattle.rs_page.specs.Pages.{Page, stored_ref}
-use Rattle.rs_pages.specs.Filled.{changed_at, page_filled, ref_of}
-use Rattle.rs_pages.specs.Rule.{items_at}
-use Rattle.rs_pages.proofs.Changed.{inside_pages, inside_page, not_on_disk, filled_is, set_is, places_stay, lengths_stay, counted_same}
+use Rattle.std.proofs.Common.{◌≡◌, ◌<◌, List, ℕ, None, length, sym, ap, ◌∙◌, subst, arith}
+use Rattle.std.specs.Prelude.{IsTrue, IfSome, slice_get}
+use Rattle.std.proofs.lemmas.List.{length-map}
+use Rattle.rs_model.specs.Names.{is_ordered, value_of, IsFoundAt}
+use Rattle.rs_page.specs.Pages.{Page}
+use Rattle.rs_pages.specs.Filled.{IsUnstored}
+use Rattle.rs_pages.specs.Items.{keyed}
+use Rattle.rs_pages.specs.Rule.{items_at, home}
+use Rattle.rs_pages.proofs.AtHome.{ordered_at}
+use Rattle.rs_pages.proofs.FilledAt.{not_both, stands_at_home, filled_where_found}
 use Rattle.rs_pages.proofs.pages.Pages.fill.Goals as goal
 
-pub index_mut-requires : goal.index_mut-requires
-index_mut-requires g c =
-    let pages : List (Page g.row.T.Denot) = c.self.inside.pages.items in
-    let within : c.args.i < length (items_at c.args.k pages) = subst (λ (ps : List (Page g.row.T.Denot)). c.args.i < length (items_at c.args.k ps)) (sym c.self.view_is) c.requires.within in
-    let inside : c.args.k < length pages = inside_pages c.args.k c.args.i pages within in
-    omega (arith, inside, c.self.inside.pages.ok.0)
+pub place_of-requires : goal.place_of-requires
+place_of-requires g c =
+    subst (λ (items : List g.row.T.Denot). IsTrue (is_ordered (keyed g.T.Named.name items))) (sym c.items_at.ensures)
+    (ordered_at g.T.Named.name c.home_of-home.result c.args.self.now c.requires.ordered)
 
-pub fill-requires-clause-within : goal.fill-requires-clause-within
-fill-requires-clause-within g c =
-    let pages : List (Page g.row.T.Denot) = c.self.inside.pages.items in
-    let within : c.args.i < length (items_at c.args.k pages) = subst (λ (ps : List (Page g.row.T.Denot)). c.args.i < length (items_at c.args.k ps)) (sym c.self.view_is) c.requires.within in
-    let inside : c.args.k < length pages = inside_pages c.args.k c.args.i pages within in
-    let x : Page g.row.T.Denot = c.index_mut.result.now in
-    let item : c.args.i < length x.items =
-    subst (λ (page : Page g.row.T.Denot). c.args.i < length page.items) (sym c.index_mut.ensures.value) (inside_page c.args.k c.args.i pages x within) in
-    item
+pub fill_at-requires-clause-within : goal.fill_at-requires-clause-within
+fill_at-requires-clause-within g c =
+    let keyed_within : c.in-Ok.i < length (keyed g.T.Named.name c.items_at.result.now) = c.in-Ok.ensures.within in
+    let within : c.in-Ok.i < length c.items_at.result.now = rw length-map at keyed_within in
+    omega (arith, within, ap length c.items_at.ensures)
 
-pub fill-requires-clause-not_stored : goal.fill-requires-clause-not_stored
-fill-requires-clause-not_stored g c =
-    let pages : List (Page g.row.T.Denot) = c.self.inside.pages.items in
-    let within : c.args.i < length (items_at c.args.k pages) = subst (λ (ps : List (Page g.row.T.Denot)). c.args.i < length (items_at c.args.k ps)) (sym c.self.view_is) c.requires.within in
-    let inside : c.args.k < length pages = inside_pages c.args.k c.args.i pages within in
-    let x : Page g.row.T.Denot = c.index_mut.result.now in
-    let none : ref_of c.args.k pages ≡ None = subst (λ (ps : List (Page g.row.T.Denot)). ref_of c.args.k ps ≡ None) (sym c.self.view_is) c.requires.not_stored in
-    subst (λ (page : Page g.row.T.Denot). stored_ref page.place ≡ None) (sym c.index_mut.ensures.value) (not_on_disk c.args.k pages x inside none)
+pub fill_at-requires-clause-not_stored : goal.fill_at-requires-clause-not_stored
+fill_at-requires-clause-not_stored g c =
+    subst (λ (k : ℕ). IfSome (slice_get c.args.self.now k) (IsUnstored {T = g.row.T.Denot})) (sym c.home_of-home.ensures.value)
+    (stands_at_home g.T.Named.name c.args.name.now c.args.self.now c.requires.ordered c.requires.unstored).1
 
-pub invariant_of-self : goal.invariant_of-self
-invariant_of-self g c =
-    let pages : List (Page g.row.T.Denot) = c.self.inside.pages.items in
-    let within : c.args.i < length (items_at c.args.k pages) = subst (λ (ps : List (Page g.row.T.Denot)). c.args.i < length (items_at c.args.k ps)) (sym c.self.view_is) c.requires.within in
-    let inside : c.args.k < length pages = inside_pages c.args.k c.args.i pages within in
-    let x : Page g.row.T.Denot = c.index_mut.result.now in
-    let item : c.args.i < length x.items =
-    subst (λ (page : Page g.row.T.Denot). c.args.i < length page.items) (sym c.index_mut.ensures.value) (inside_page c.args.k c.args.i pages x within) in
-    let f = g.T.Fill.filled c.args.digests in
-    let filled : c.fill.new.self ≡ page_filled f c.args.i x = filled_is f c.args.i x c.fill.new.self item c.fill.ensures.items c.fill.ensures.place in
-    let is : set pages c.args.k c.fill.new.self ≡ changed_at (page_filled f c.args.i) c.args.k pages =
-    set_is (page_filled f c.args.i) c.args.k pages x c.fill.new.self inside (filled ∙ ap (page_filled f c.args.i) c.index_mut.ensures.value) in
-    counted_same (set pages c.args.k c.fill.new.self) pages c.self.inside.starts.items c.self.inside.len
-    (ap (λ ps. map (λ p. length p.items) ps) is ∙ lengths_stay f c.args.i c.args.k pages) c.self.invariant
+pub returns-in-Ok-clause-pages : goal.returns-in-Ok-clause-pages
+returns-in-Ok-clause-pages g c =
+    let pages : List (Page g.row.T.Denot) = c.args.self.now in
+    let found : IsFoundAt (keyed g.T.Named.name (items_at c.home_of-home.result pages)) c.args.name.now c.in-Ok.i =
+    subst (λ (items : List g.row.T.Denot). IsFoundAt (keyed g.T.Named.name items) c.args.name.now c.in-Ok.i) c.items_at.ensures c.in-Ok.ensures in
+    c.fill_at.ensures.pages
+    ∙ filled_where_found g.T.Named.name (g.T.Fill.filled c.args.digests) c.args.name.now pages c.home_of-home.result c.in-Ok.i c.requires.ordered c.home_of-home.ensures.value found
 
-pub returns-clause-pages : goal.returns-clause-pages
-returns-clause-pages g c =
-    let pages : List (Page g.row.T.Denot) = c.self.inside.pages.items in
-    let within : c.args.i < length (items_at c.args.k pages) = subst (λ (ps : List (Page g.row.T.Denot)). c.args.i < length (items_at c.args.k ps)) (sym c.self.view_is) c.requires.within in
-    let inside : c.args.k < length pages = inside_pages c.args.k c.args.i pages within in
-    let x : Page g.row.T.Denot = c.index_mut.result.now in
-    let item : c.args.i < length x.items =
-    subst (λ (page : Page g.row.T.Denot). c.args.i < length page.items) (sym c.index_mut.ensures.value) (inside_page c.args.k c.args.i pages x within) in
-    let f = g.T.Fill.filled c.args.digests in
-    let filled : c.fill.new.self ≡ page_filled f c.args.i x = filled_is f c.args.i x c.fill.new.self item c.fill.ensures.items c.fill.ensures.place in
-    let is : set pages c.args.k c.fill.new.self ≡ changed_at (page_filled f c.args.i) c.args.k pages =
-    set_is (page_filled f c.args.i) c.args.k pages x c.fill.new.self inside (filled ∙ ap (page_filled f c.args.i) c.index_mut.ensures.value) in
-    is ∙ ap (changed_at (page_filled f c.args.i) c.args.k) c.self.view_is
-
-pub returns-clause-places : goal.returns-clause-places
-returns-clause-places g c =
-    let pages : List (Page g.row.T.Denot) = c.self.inside.pages.items in
-    let within : c.args.i < length (items_at c.args.k pages) = subst (λ (ps : List (Page g.row.T.Denot)). c.args.i < length (items_at c.args.k ps)) (sym c.self.view_is) c.requires.within in
-    let inside : c.args.k < length pages = inside_pages c.args.k c.args.i pages within in
-    let x : Page g.row.T.Denot = c.index_mut.result.now in
-    let item : c.args.i < length x.items =
-    subst (λ (page : Page g.row.T.Denot). c.args.i < length page.items) (sym c.index_mut.ensures.value) (inside_page c.args.k c.args.i pages x within) in
-    let f = g.T.Fill.filled c.args.digests in
-    let filled : c.fill.new.self ≡ page_filled f c.args.i x = filled_is f c.args.i x c.fill.new.self item c.fill.ensures.items c.fill.ensures.place in
-    let is : set pages c.args.k c.fill.new.self ≡ changed_at (page_filled f c.args.i) c.args.k pages =
-    set_is (page_filled f c.args.i) c.args.k pages x c.fill.new.self inside (filled ∙ ap (page_filled f c.args.i) c.index_mut.ensures.value) in
-    ap (λ ps. map (λ p. p.place) ps) is ∙ places_stay f c.args.i c.args.k pages ∙ ap (λ ps. map (λ p. p.place) ps) c.self.view_is
-
-pub returns-clause-lengths : goal.returns-clause-lengths
-returns-clause-lengths g c =
-    let pages : List (Page g.row.T.Denot) = c.self.inside.pages.items in
-    let within : c.args.i < length (items_at c.args.k pages) = subst (λ (ps : List (Page g.row.T.Denot)). c.args.i < length (items_at c.args.k ps)) (sym c.self.view_is) c.requires.within in
-    let inside : c.args.k < length pages = inside_pages c.args.k c.args.i pages within in
-    let x : Page g.row.T.Denot = c.index_mut.result.now in
-    let item : c.args.i < length x.items =
-    subst (λ (page : Page g.row.T.Denot). c.args.i < length page.items) (sym c.index_mut.ensures.value) (inside_page c.args.k c.args.i pages x within) in
-    let f = g.T.Fill.filled c.args.digests in
-    let filled : c.fill.new.self ≡ page_filled f c.args.i x = filled_is f c.args.i x c.fill.new.self item c.fill.ensures.items c.fill.ensures.place in
-    let is : set pages c.args.k c.fill.new.self ≡ changed_at (page_filled f c.args.i) c.args.k pages =
-    set_is (page_filled f c.args.i) c.args.k pages x c.fill.new.self inside (filled ∙ ap (page_filled f c.args.i) c.index_mut.ensures.value) in
-    ap (λ ps. map (λ p. length p.items) ps) is ∙ lengths_stay f c.args.i c.args.k pages ∙ ap (λ ps. map (λ p. length p.items) ps) c.self.view_is
+pub returns-in_default-clause-pages : goal.returns-in_default-clause-pages
+returns-in_default-clause-pages g c =
+    let pages : List (Page g.row.T.Denot) = c.args.self.now in
+    let n : List ℕ = c.args.name.now in
+    let none : value_of n (keyed g.T.Named.name (items_at (home g.T.Named.name n pages) pages)) ≡ None =
+    ap (λ k. value_of n (keyed g.T.Named.name (items_at k pages))) (sym c.home_of-home.ensures.value)
+    ∙ ap (λ items. value_of n (keyed g.T.Named.name items)) (sym c.items_at.ensures) ∙ c.in_default.ensures.value in
+    absurd (not_both (value_of n (keyed g.T.Named.name (items_at (home g.T.Named.name n pages) pages))) none (stands_at_home g.T.Named.name n pages c.requires.ordered c.requires.unstored).0)
