@@ -6,7 +6,7 @@
 #   make rows     runs the worked rows of examples/rows on the proved program
 #   make bench    measures speed (docs/BENCH.md has figures; it needs wrk, lighttpd and python3-lmdb of Debian)
 #   make memory   refuses each growth of memory of the program in turn
-#   make crash    stops the program at each of its calls on a file, thousands of images over nine sessions ('make test' has a short form)
+#   make crash    stops the program at each of its calls on a file, thousands of images over ten sessions ('make test' has a short form)
 
 SCRIPT ?= examples/first.script
 BASE ?= http://127.0.0.1:8080
@@ -41,6 +41,7 @@ rows: build
 bench: build
 	python3 bench/run.py
 	python3 bench/puts.py
+	python3 bench/many.py
 	python3 bench/loopback.py
 	/usr/bin/python3 bench/durable.py
 

@@ -8,7 +8,8 @@ its documents and all bodies. What is served has to be exactly what a model in p
 (crash_model.py) has after a number of commands: no fewer than were answered when the crash came,
 and no more than had begun. A destination (crash_lists.py) reads the Resource List and the changes
 after it, and has to get the resources held, with their lengths, digests and types. Some of the
-images are continued: further commands are recorded on them, and stopped again.
+images are continued: further commands are recorded on them, and stopped again. The last session is
+one over a disk whose lists have several pages.
 
 At the end recordings of three wrong programs are made up (crash_wrong.py). Each has to give a wrong
 image, which shows that this test can fail.
@@ -35,6 +36,7 @@ from recorded_calls import Unrecorded
 HERE = pathlib.Path(__file__).resolve().parent
 PROGRAM = HERE.parent / "crates/rs_source/out/rs_source"
 SEED = 20261124
+BASE = "http://127.0.0.1:8080"
 # The room that images are made in.
 MEMORY, ROOM = "/dev/shm", 100_000_000
 # The worked rows whose commands the first session has.
@@ -71,7 +73,7 @@ def lines_at_random(rng, count):
 
 def look(crashes, plan, rng):
     """All sessions of a plan. Gives the recordings that were made up and pass."""
-    state = State("http://127.0.0.1:8080", 2)
+    state = State(BASE, 2)
     disk = crashes.formatted(65_536, state)
     sessions = [crashes.session(disk, state, lines_of_rows(plan.rows))]
     first = sessions[0]
@@ -80,6 +82,7 @@ def look(crashes, plan, rng):
         chosen = rng.sample(images, min(count, len(images)))
         made = [lines_at_random(rng, plan.commands) for _ in chosen]
         sessions = [crashes.session(*it, lines) for it, lines in zip(chosen, made)]
+    crashes.look(crashes.paged(BASE), plan, 0)
     return [it for it in crash_wrong.WRONG if crashes.passes(first, it)]
 
 

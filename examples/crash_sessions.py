@@ -8,12 +8,18 @@ import subprocess
 import crash_images
 import crash_lists
 import crash_model
+import disk_reader
 from recorded_calls import ANSWER, SYNC, WRITE, Recorder, Unrecorded, replayed
 
 # No run of an image takes longer than this.
 SECONDS = 120
 # How many wrong images of a session are told.
 TOLD = 10
+# 128 names in ascending order fill pages of 32, 32 and 64 records, and their changes two pages of 64.
+FILLING = [f"put n{i:03d} - text/plain" for i in range(128)]
+# A put that cuts a page and begins a new one of changes, a publication of four pages, a put into one of those, and a
+# delete in another.
+PAGED = ["put n128 6e6577 text/plain", "publish", "put n040 61 text/plain", "delete n000"]
 # A session over a disk of these bytes: the record of its calls and answers, the states that its
 # commands make, how many of them each number of lines makes, and what is asked of an image.
 Session = collections.namedtuple("Session", "before calls states made questions")
@@ -46,6 +52,18 @@ class Crashes:
         print(f"session {self.sessions}: {len(states) - 1} commands accepted,", end=" ")
         print("%d writes, %d syncs, %d answers" % tuple(counts), flush=True)
         return Session(before, calls, states, made, crash_model.Questions(states))
+
+    def paged(self, base):
+        """A session over a disk whose lists have several pages, and are left with several."""
+        state = crash_model.State(base, 1000)
+        filling = self.session(self.formatted(131_072, state), state, FILLING)
+        session = self.session(replayed(filling.before, filling.calls), filling.states[-1], PAGED)
+        source = disk_reader.source_of(replayed(session.before, session.calls))
+        counts = [len(it) for it in (source.catalogue, source.changes, source.published)]
+        print("the lists have %d, %d and %d pages then" % tuple(counts), flush=True)
+        if min(counts) < 2:
+            raise Unrecorded("a list of the session over several pages has only one")
+        return session
 
     def served(self, image, questions):
         """What the program answers on this image, or None and why."""

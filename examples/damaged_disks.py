@@ -74,25 +74,28 @@ def source(pages, bodies=(), blocks=16, **header):
     return disk
 
 
-def many_records(count):
+def many_records(first, count):
     """The fields of a page of so many records of no bytes, put at 1001."""
     nameless = spelled(record_fields(b"", b"", 1001, 0))[1:]
-    return {**page_fields(RECORDS, {}), "count": number(count), "items": b"".join(b"\x05%05d" % i + nameless for i in range(count))}
+    items = b"".join(b"\x05%05d" % i + nameless for i in range(first, first + count))
+    return {**page_fields(RECORDS, {}), "count": number(count), "items": items}
 
 
-def many_changes(count):
+def many_changes(first, count):
     """The fields of a page of so many deletions, a millisecond apart."""
-    items = b"".join(b"\x03\x01z" + number(1001 + i, 8) for i in range(count))
+    items = b"".join(b"\x03\x01z" + number(1001 + i, 8) for i in range(first, first + count))
     return {**page_fields(CHANGES, {}), "count": number(count), "items": items}
 
 
-def crowded(name, count):
-    """A function that spells a disk with one page, of so many items."""
+def crowded(name, count, more=0):
+    """A function that spells a disk with a page of so many items of a list, and one of more items behind it, where there are any."""
 
     def disk(*changes):
-        page = many_changes(count) if name == "changes" else many_records(count)
-        last, at = (1000 + count, 1000) if name == "changes" else (1001, 1001)
-        return source({name: page}, blocks=20_000, start=1000, last=last, at=at)(*changes)
+        page = many_changes if name == "changes" else many_records
+        pages = {name: page(0, count), **({f"more_{name}": page(count, more)} if more else {})}
+        last, at = (1000 + count + more, 1000) if name == "changes" else (1001, 1001)
+        behind = [f"more_{name}.block=10000"] if more else []
+        return source(pages, blocks=20_000, start=1000, last=last, at=at)(*behind, *changes)
 
     return disk
 
@@ -117,6 +120,13 @@ MORE_CHANGES = page_fields(CHANGES, {"7": change_fields(DELETED, b"b", 1008)})
 MORE_LISTED = page_fields(RECORDS, {"d": record_fields(b"d", b"", 1002, 0)})
 AFTER_ALL = {"start": 1000, "last": 1007, "publication": 1, "at": 1003}
 PUBLISHED_LAST = {"start": 1000, "last": 1003, "publication": 1, "at": 1003}
+# Pages of 513 bytes, of which the last one is also the first one of a page of their kind, which could lie in their second block.
+PAST_A_BLOCK = page_fields(RECORDS, {"a": record_fields(b"a" * 174, OLD, 1001, 8), "c": record_fields(b"c" * 174, b"c", 1002, 10)})
+DELETIONS = enumerate((b"a" * 159, b"b" * 159, b"c" * 160), 1024)
+CHANGES_PAST_A_BLOCK = page_fields(CHANGES, {f"{it}": change_fields(DELETED, name, it) for it, name in DELETIONS})
+ONE_MORE_CHANGE = page_fields(CHANGES, {"1027": change_fields(DELETED, b"d", 1027)})
+# Two pages of records.
+TWO_HELD = {"held": LISTED, "more_held": MORE_LISTED, "changes": OLD_CHANGES}
 
 DISKS = {
     # a page of each list
@@ -131,5 +141,22 @@ DISKS = {
     "two_held_pages": source({**SOUND, "more_held": MORE_HELD}, BODIES, **AFTER_ALL),
     "two_change_pages": source({**SOUND, "more_changes": MORE_CHANGES}, BODIES, **{**AFTER_ALL, "last": 1008}),
     "two_listed_pages": source({**SOUND, "more_listed": MORE_LISTED}, BODIES, **AFTER_ALL),
+    # two pages in a list, and the published pages among those of the catalogue: both, the first, the last, and others
+    "both_shared": source({**TWO_HELD, "listed": "held", "more_listed": "more_held"}, OLD_BODIES, **PUBLISHED_LAST),
+    "first_shared": source({**TWO_HELD, "listed": "held", "more_listed": MORE_LISTED}, OLD_BODIES, **PUBLISHED_LAST),
+    "last_shared": source({**TWO_HELD, "listed": LISTED, "more_listed": "more_held"}, OLD_BODIES, **PUBLISHED_LAST),
+    "none_shared": source({**TWO_HELD, "listed": LISTED, "more_listed": MORE_LISTED}, OLD_BODIES, **PUBLISHED_LAST),
+    "last_alone_shared": source({**TWO_HELD, "listed": "more_held"}, OLD_BODIES, **PUBLISHED_LAST),
+    "shared_in_reverse": source({**TWO_HELD, "listed": "more_held", "more_listed": "held"}, OLD_BODIES, **PUBLISHED_LAST),
+    # one page twice in a list
+    "shared_twice": source({**TWO_HELD, "listed": "held", "more_listed": "held"}, OLD_BODIES, **PUBLISHED_LAST),
+    "listed_twice": source({**SOUND, "more_listed": "listed"}, BODIES, **AFTER_ALL),
+    "held_twice": source({**SOUND, "more_held": "held"}, BODIES, **AFTER_ALL),
+    "changes_twice": source({**SOUND, "more_changes": "changes"}, BODIES, **AFTER_ALL),
+    # two pages in a list, of which the first one has a byte in a second block
+    "held_past_a_block": source({"held": PAST_A_BLOCK, "more_held": MORE_LISTED, "changes": OLD_CHANGES}, OLD_BODIES, **PUBLISHED_LAST),
+    "changes_past_a_block": source({"changes": CHANGES_PAST_A_BLOCK, "more_changes": ONE_MORE_CHANGE}, start=1000, last=1027, at=1000),
+    "listed_past_a_block": source({**SOUND, "listed": PAST_A_BLOCK, "more_listed": MORE_LISTED}, BODIES, **AFTER_ALL),
     **{f"{count}_{name}": crowded(name, count) for name in LISTS for count in (50_000, 50_001)},
+    **{f"25000_and_{more}_{name}": crowded(name, 25_000, more) for name in LISTS for more in (25_000, 25_001)},
 }

@@ -9,6 +9,7 @@ import pathlib
 
 import commanded_disks
 import damaged_disks
+import disk_reader
 import made_disks
 import one_resource_disks
 from disk_formats import BLOCK
@@ -50,4 +51,11 @@ def differ(room, file, name):
     return "".join(f"block {at // BLOCK}\n" for at in starts if found[at : at + BLOCK] != wanted[at : at + BLOCK])
 
 
-COMMANDS = {"disk": disk, "zeros": zeros, "change": put_bytes, "bytes": shown, "differ": differ}
+def pages(room, file):
+    """How many items each page of each list has."""
+    source = disk_reader.source_of(pathlib.Path(room, file).read_bytes())
+    lists = {name: getattr(source, name) for name in ("catalogue", "changes", "published")}
+    return "".join(f"{' '.join([name, *(str(len(it.items)) for it in found)])}\n" for name, found in lists.items())
+
+
+COMMANDS = {"disk": disk, "zeros": zeros, "pages": pages, "change": put_bytes, "bytes": shown, "differ": differ}

@@ -1,6 +1,8 @@
 """Disks of whole sources, for the sessions: one that commands lead to, and sources at a limit that commands would
 take too long to reach.
 """
+from itertools import accumulate
+
 import disk_parts as parts_of
 from disk_formats import BLOCK, laid_out
 
@@ -43,6 +45,25 @@ def filled(names, changes, number=0, generation=1, blocks=128):
     return source(pages, header, generation, blocks)
 
 
+def lists_of_one_page(blocks=128):
+    """70 resources, `r00` to `r69`, in one page, put at the moments 1 to 69 and, after a publication at 70, at 71."""
+    names = [b"r%02d" % i for i in range(70)]
+    records = [parts_of.record(name, b"", moment, 0) for moment, name in enumerate(names[:-1], 1)]
+    created = [parts_of.change(1, name, moment, b"") for moment, name in enumerate(names[:-1], 1)]
+    created.append(parts_of.change(1, b"r69", 71, b"hello"))
+    pages = [parts_of.page(1, records), parts_of.page(2, created), parts_of.page(1, [*records, parts_of.record(b"r69", b"hello", 71, 3)])]
+    listed, changes, held = laid_behind(4, pages)
+    entries = [[parts_of.entry(*it)] for it in (held, changes, listed)]
+    header = parts_of.directory(71, number=1, at=70, lists=entries, limit=34)
+    return source([(3, b"hello"), held, changes, listed], header, 72, blocks)
+
+
+def laid_behind(first, pages):
+    """The pages one behind the other from a block on, each with its first block."""
+    starts = accumulate([first, *((len(it) + BLOCK - 1) // BLOCK for it in pages)])
+    return list(zip(starts, pages))
+
+
 # The bytes of a disk of `empty` with exactly as many blocks as a command takes, and one byte fewer.
 ROOM = (2048, 2047, 3072, 3071, 3584, 3583)
 
@@ -53,6 +74,7 @@ SIZES = (511, 512, 1023, 1024, 1536, 3071, 3583, 3584, 4096, 65536)
 DISKS = {
     **{f"empty_{size}": lambda size=size: empty(size) for size in ROOM},
     **{f"two_puts_{size}": lambda size=size: two_puts(size) for size in SIZES},
+    "lists_of_one_page": lists_of_one_page,
     "most_changes": lambda: filled([b"a"], MOST, blocks=1100),
     "most_resources": lambda: filled([b"%05d" % i for i in range(MOST)], MOST - 1, blocks=20_000),
     "generation_before_the_last": lambda: filled([b"a"], 1, generation=LAST - 1),

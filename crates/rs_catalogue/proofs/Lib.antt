@@ -1,8 +1,4 @@
-pub mod Places
-pub mod HeldRecords
-pub mod FilledIn
-pub mod Ascending
-pub mod Beside
 pub mod Shown
+pub mod Held
 pub mod Joined
-pub mod Taken
+pub mod Kept

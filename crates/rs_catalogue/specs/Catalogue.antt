@@ -1,13 +1,14 @@
 -- A catalogue: records in the strictly ascending order of their names, in pages.
-use Rattle.std.specs.Prelude.{◌≡◌, ◌≤◌, ◌⊎◌, ℕ, false, List, [], ◌∷◌, length, flat_map, All, is_some, IsTrue}
+use Rattle.std.specs.Prelude.{◌≤◌, ℕ, List, length, flat_map, All, IsTrue}
 use Rattle.rs_record.specs.declared.record.Record.{Record}
 use Rattle.rs_model.specs.Names.{is_ordered}
 use Rattle.rs_model.specs.State.{most_resources}
 use Rattle.rs_page.specs.declared.place.PageRef.{PageRef}
 use Rattle.rs_page.specs.Items.{record_format}
-use Rattle.rs_page.specs.Pages.{Page, items_of, stored_ref}
+use Rattle.rs_page.specs.Pages.{Page, items_of}
 use Rattle.rs_page.specs.DiskPages.{ArePages}
-use Rattle.rs_catalogue.specs.Named.{named, HasName}
+use Rattle.rs_pages.specs.Filled.{StandsUnstored as NameStandsUnstored}
+use Rattle.rs_catalogue.specs.Named.{named}
 
 -- the records of a list of pages, in their order
 abbrev pub records_of : List (Page Record) → List Record
@@ -25,11 +26,9 @@ pub record IsCatalogue (pages : List (Page Record)) : Type 0 where
 
 -- the name stands in a page that is not on the disk
 abbrev pub StandsUnstored : List ℕ → List (Page Record) → Type 0
-StandsUnstored name [] = ⊥
-StandsUnstored name (page ∷ pages) = (HasName name page.items × (is_some (stored_ref page.place) ≡ false)) ⊎ StandsUnstored name pages
+StandsUnstored name pages = NameStandsUnstored (λ (r : Record). r.name) name pages
 
--- What pages on the disk have to be: pages of records, one for one, through which the names strictly rise. A catalogue has one page, or none where it is empty.
+-- What pages on the disk have to be: pages of records, one for one, through which the names strictly rise.
 pub record HoldsCatalogue (refs : List PageRef) (image : List ℕ) (pages : List (List Record)) : Type 0 where
   pub hold : ArePages record_format refs image pages
   pub held : AreHeld (flat_map (λ items. items) pages)
-  pub one : length refs ≤ 1

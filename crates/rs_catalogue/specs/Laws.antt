@@ -1,5 +1,5 @@
 -- What follows from the definitions of catalogues alone.
-use Rattle.std.specs.Prelude.{◌≡◌, ◌≤◌, ℕ, Bool, true, List, length, map, option_map, All}
+use Rattle.std.specs.Prelude.{◌≡◌, ℕ, Bool, true, List, map, option_map, All}
 use Rattle.rs_extent.specs.Extents.{in_some}
 use Rattle.rs_body.specs.Outside.{Keeps}
 use Rattle.rs_record.specs.declared.record.Record.{Record}
@@ -22,7 +22,7 @@ CatalogueStays = (kept : ℕ → Bool) (refs : List PageRef) (old new : List ℕ
 
 -- Where each page of a catalogue stands on the disk, the references to them hold its records: so they load as this catalogue.
 abbrev pub StoredCatalogueIsHeld : Type 0
-StoredCatalogueIsHeld = (pages : List (Page Record)) (image : List ℕ) → IsCatalogue pages → length pages ≤ 1 → All IsStored pages
+StoredCatalogueIsHeld = (pages : List (Page Record)) (image : List ℕ) → IsCatalogue pages → All IsStored pages
     → All (Stands record_format image) pages → HoldsCatalogue (stored_refs pages) image (map (λ page. page.items) pages)
 
 -- What is shown of each record is bound as the record is, ..

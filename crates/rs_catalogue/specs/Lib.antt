@@ -1,5 +1,4 @@
 pub mod Named
 pub mod Filled
 pub mod Catalogue
-pub mod OnePage
 pub mod Laws

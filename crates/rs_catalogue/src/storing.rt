@@ -1,24 +1,23 @@
 //! A catalogue on the disk.
 
-ghost use Rattle.std.specs.Prelude.{◌≡◌, ◌⊎◌, ◌<◌, ◌≤◌, ◌+◌, ℕ, Bool, List, [], ◌∷◌, length, map, All, IfOk, OnOk, OnErr, IsErrOf, IsTrue};
+ghost use Rattle.std.specs.Prelude.{◌≡◌, ℕ, List, [], map, All, IfOk, OnOk, OnErr, IsErrOf, IsTrue};
 ghost use Rattle.std.specs.List.{AllZip};
-ghost use Rattle.rs_disk.specs.Leaves.{Advances, Rests, HasFailed};
-ghost use Rattle.rs_extent.specs.Extents.{AreBeside, AreApart, AreOnDisk, AreTaken};
-ghost use Rattle.rs_body.specs.Outside.{WritesOutside};
+ghost use Rattle.rs_disk.specs.Leaves.{HasFailed};
+ghost use Rattle.rs_extent.specs.Extents.{AreApart, AreOnDisk, AreTaken};
 ghost use Rattle.rs_record.specs.declared.record.Record.{Record};
 ghost use Rattle.rs_page.specs.Items.{record_format};
 ghost use Rattle.rs_page.specs.Placing.{Places, HasNoPlace};
 ghost use Rattle.rs_page.specs.DiskPages.{IsWritten};
-ghost use Rattle.rs_page.specs.Pages.{IsStored, IsTouched, placed_extents, page_stored, stored, stored_refs};
+ghost use Rattle.rs_page.specs.Pages.{IsStored, IsTouched, placed_extents, stored, stored_refs};
+ghost use Rattle.rs_pages.specs.Storing.{StaysOrIsStored, WritesPages, ReadsPages};
 ghost use Rattle.rs_catalogue.specs.Catalogue.{records_of, StandsUnstored, HoldsCatalogue};
 
 use crate::Catalogue;
-use crate::records::is_ordered;
-use rs_body::laws::outside_none;
 use rs_disk::Disk;
 use rs_extent::Used;
 use rs_page::laws::pages_hold_once;
-use rs_page::{Full, LoadFault, Page, PageRef, StoreFault};
+use rs_page::{Full, LoadFault, PageRef, StoreFault};
+use rs_pages::Pages;
 use rs_record::Record;
 use std::alloc::Global;
 
@@ -28,7 +27,7 @@ impl Catalogue {
     ///
     /// # Errors
     ///
-    /// [`Full`] where a page has no such run; nothing has changed then.
+    /// [`Full`] where a page has no such run. Pages before it may have been given blocks then.
     pub fn place_touched(&mut self, used: &mut Used) -> Result<(), Full>
         ensures places { OnOk result (Places record_format used.old self.old used.new self.new) }
         ensures placed { OnOk result (All (λ page. ¬ IsTouched page.place) self.new) }
@@ -38,13 +37,9 @@ impl Catalogue {
             → StandsUnstored name self.old
             → StandsUnstored name self.new }
         ensures full { OnErr result (HasNoPlace record_format used.old self.old) }
-        ensures used { OnErr result (used.new ≡ used.old) }
-        ensures unchanged { OnErr result (self.new ≡ self.old) }
+        ensures records { records_of self.new ≡ records_of self.old }
     {
-        let Some(page) = &mut self.page else {
-            return Ok(());
-        };
-        page.place_in(used)
+        self.pages.place_touched(used)
     }
 
     /// Writes each page that was given blocks, by one device call a page. Pages that are on the disk
@@ -57,8 +52,8 @@ impl Catalogue {
     ///
     /// # Errors
     ///
-    /// - [`StoreFault::NoMemory`] where the memory for a page's bytes is refused; the disk is as it
-    ///   was then.
+    /// - [`StoreFault::NoMemory`] where the memory for a page's bytes is refused. Pages before it may
+    ///   have been written then.
     /// - [`StoreFault::Device`] where the device fails. The extents may then hold anything.
     ///
     /// After each of them the records are as they were, and each page is as it was, or is written and
@@ -71,40 +66,26 @@ impl Catalogue {
         ensures reads { OnOk result
             (All (IsWritten record_format (D.state disk.new).now.seen) self.old) }
         ensures records { OnErr result (records_of self.new ≡ records_of self.old) }
-        ensures places { OnErr result (AllZip (λ old new. (new ≡ old)
-            ⊎ ((new ≡ page_stored record_format old)
-            × IsWritten record_format (D.state disk.new).now.seen old)) self.old self.new) }
+        ensures places { OnErr result
+            (AllZip (StaysOrIsStored record_format (D.state disk.new).now.seen) self.old self.new) }
         ensures device { IsErrOf result StoreFault.Device
             → HasFailed (D.state disk.old) (D.state disk.new) }
-        ensures no_memory { IsErrOf result StoreFault.NoMemory
-            → D.state disk.new ≡ D.state disk.old }
-
-        // Whatever it answers.
-        ensures outside { (kept : ℕ → Bool)
-            → AreBeside kept (placed_extents self.old)
-            → WritesOutside kept (D.state disk.old) (D.state disk.new) }
-        ensures advances { Advances (D.state disk.old) (D.state disk.new) }
-        ensures one_each { (D.state disk.new).calls ≤ (D.state disk.old).calls
-            + length (placed_extents self.old) }
+        ensures writes { WritesPages self.old (D.state disk.old) (D.state disk.new) }
     {
-        let Some(page) = &mut self.page else {
-            outside_none();
-            return Ok(());
-        };
-        page.store(alloc, disk)
+        self.pages.store_touched(alloc, disk)
     }
 
     /// Reads the catalogue that these references point to, whatever they say, by one device call a
     /// page. The disk stays as it is.
     ///
     /// No memory is asked for a page before its extent was found to lie on the disk and to have
-    /// exactly the blocks of its length.
+    /// exactly the blocks of its length, nor for any after 50,000 records were passed.
     ///
     /// # Errors
     ///
     /// - [`LoadFault::Device`] where the device fails.
     /// - [`LoadFault::Damaged`] where the disk holds no catalogue there: a page is damaged, the
-    ///   names do not strictly ascend, or there is more than one page.
+    ///   names do not strictly ascend through all pages, or there are more than 50,000 records.
     /// - [`LoadFault::NoMemory`] where the memory is refused.
     pub fn load<D: Disk>(
         alloc: Global,
@@ -124,42 +105,13 @@ impl Catalogue {
             → ¬ HoldsCatalogue pages.now (D.state disk.new).now.seen records }
         ensures device { IsErrOf result LoadFault.Device
             → HasFailed (D.state disk.old) (D.state disk.new) }
-
-        ensures rests { Rests (D.state disk.old) (D.state disk.new) }
-        ensures one_each { (D.state disk.new).calls ≤ (D.state disk.old).calls + length pages.now }
-    {
-        match pages {
-            [] => Ok(Catalogue::empty(alloc)),
-            [page] => Catalogue::load_page(alloc, disk, page),
-            _ => Err(LoadFault::Damaged),
-        }
-    }
-
-    // Reads the catalogue of one page.
-    fn load_page<D: Disk>(
-        alloc: Global,
-        disk: &mut D,
-        page: &PageRef,
-    ) -> Result<Catalogue, LoadFault>
-        ensures pages { IfOk result (λ loaded. stored_refs loaded ≡ page.now ∷ []) }
-        ensures stored { IfOk result (All IsStored) }
-        ensures found { IfOk result (λ loaded. IsTrue (D.state disk.new).honest
-            → HoldsCatalogue (page.now ∷ []) (D.state disk.new).now.seen
-            (map (λ page. page.items) loaded)) }
-        ensures damaged { IsErrOf result LoadFault.Damaged
-            → IsTrue (D.state disk.new).honest
-            → (records : List (List Record))
-            → ¬ HoldsCatalogue (page.now ∷ []) (D.state disk.new).now.seen records }
-        ensures device { IsErrOf result LoadFault.Device
-            → HasFailed (D.state disk.old) (D.state disk.new) }
-        ensures rests { Rests (D.state disk.old) (D.state disk.new) }
-        ensures one_call { (D.state disk.new).calls ≤ (D.state disk.old).calls + 1 }
+        ensures reads { ReadsPages pages.now (D.state disk.old) (D.state disk.new) }
     {
         pages_hold_once::<Record>();
-        let page = Page::load(alloc, disk, page)?;
-        if !is_ordered(page.items()) {
+        let pages = Pages::load(alloc, disk, pages)?;
+        if !pages.is_ordered() {
             return Err(LoadFault::Damaged);
         }
-        Ok(Catalogue { page: Some(page) })
+        Ok(Catalogue { pages })
     }
 }

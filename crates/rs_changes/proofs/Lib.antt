@@ -1,4 +1,4 @@
 pub mod Rising
 pub mod Filled
-pub mod OnePage
 pub mod Joined
+pub mod Kept

@@ -1,12 +1,13 @@
 -- A history: changes in the order of their moments, in pages.
-use Rattle.std.specs.Prelude.{◌≡◌, ◌≤◌, ◌+◌, ◌-◌, ◌*◌, ℕ, false, min, is_some, IsTrue, List, [], ◌∷◌, length, flat_map, slice_get, All, Option}
+use Rattle.std.specs.Prelude.{◌≤◌, ◌+◌, ◌-◌, ◌*◌, ℕ, min, IsTrue, List, length, flat_map, slice_get, All, Option}
 use Rattle.rs_record.specs.declared.change.Change.{Change}
 use Rattle.rs_model.specs.State.{most_changes}
 use Rattle.rs_model.specs.Regular.{is_rising}
 use Rattle.rs_page.specs.declared.place.PageRef.{PageRef}
 use Rattle.rs_page.specs.Items.{change_format}
-use Rattle.rs_page.specs.Pages.{Page, items_of, stored_ref}
+use Rattle.rs_page.specs.Pages.{Page, items_of}
 use Rattle.rs_page.specs.DiskPages.{ArePages}
+use Rattle.rs_pages.specs.Filled.{EndsUnstored as LastStandsUnstored}
 
 -- the changes of a list of pages, the earliest first
 abbrev pub changes_of : List (Page Change) → List Change
@@ -28,15 +29,12 @@ pub record IsHistory (pages : List (Page Change)) : Type 0 where
 
 -- the last change stands in a page that is not on the disk
 abbrev pub EndsUnstored : List (Page Change) → Type 0
-EndsUnstored [] = ⊥
-EndsUnstored (page ∷ []) = is_some (stored_ref page.place) ≡ false
-EndsUnstored (page ∷ next ∷ pages) = EndsUnstored (next ∷ pages)
+EndsUnstored pages = LastStandsUnstored pages
 
--- What pages on the disk have to be: pages of changes, one for one, through which the moments strictly rise. A history has one page, or none where it is empty.
+-- What pages on the disk have to be: pages of changes, one for one, through which the moments strictly rise.
 pub record HoldsHistory (refs : List PageRef) (image : List ℕ) (pages : List (List Change)) : Type 0 where
   pub hold : ArePages change_format refs image pages
   pub kept : AreKept (flat_map (λ items. items) pages)
-  pub one : length refs ≤ 1
 
 -- The places of n changes are dealt into parts 0, 1, 2, .. of `limit` each, as far as there are any.
 -- The place of part k's first change, which is n where there is no such part.

@@ -1,5 +1,5 @@
 -- What follows from the definitions of histories alone.
-use Rattle.std.specs.Prelude.{◌≡◌, ◌≤◌, ℕ, Bool, true, List, length, map, All}
+use Rattle.std.specs.Prelude.{◌≡◌, ℕ, Bool, true, List, map, All}
 use Rattle.rs_extent.specs.Extents.{in_some}
 use Rattle.rs_body.specs.Outside.{Keeps}
 use Rattle.rs_record.specs.declared.change.Change.{Change}
@@ -20,5 +20,5 @@ HistoryStays = (kept : ℕ → Bool) (refs : List PageRef) (old new : List ℕ) 
 
 -- Where each page of a history stands on the disk, the references to them hold its changes: so they load as this history.
 abbrev pub StoredHistoryIsHeld : Type 0
-StoredHistoryIsHeld = (pages : List (Page Change)) (image : List ℕ) → IsHistory pages → length pages ≤ 1 → All IsStored pages
+StoredHistoryIsHeld = (pages : List (Page Change)) (image : List ℕ) → IsHistory pages → All IsStored pages
     → All (Stands change_format image) pages → HoldsHistory (stored_refs pages) image (map (λ page. page.items) pages)

@@ -1,4 +1,3 @@
 pub mod History
 pub mod Filled
-pub mod OnePage
 pub mod Laws

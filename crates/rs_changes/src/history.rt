@@ -1,17 +1,19 @@
 //! A history in memory.
 
-ghost use Rattle.std.specs.Prelude.{◌≡◌, ◌≤◌, ◌<◌, ◌++◌, ℕ, List, [], ◌∷◌, length, map, slice_get, Some, None, IfOk, IfSome};
+ghost use Rattle.std.specs.Prelude.{◌≡◌, ◌<◌, ◌++◌, List, [], ◌∷◌, length, map, slice_get, Some, IfOk, IfSome};
 ghost use Rattle.rs_record.specs.declared.change.Change.{Change};
 ghost use Rattle.rs_model.specs.State.{most_changes};
 ghost use Rattle.rs_page.specs.Items.{change_filled};
-ghost use Rattle.rs_changes.specs.Filled.{fill_end, history_filled};
-ghost use Rattle.rs_page.specs.SharedPages.{KeepsPages, stored_pages};
-ghost use Rattle.rs_page.specs.Pages.{placed_extents, stored_ref, stored_refs};
-ghost use Rattle.rs_changes.specs.History.{changes_of, last_of, AreKept, IsHistory, EndsUnstored, part_start, part_end};
+ghost use Rattle.rs_page.specs.Pages.{placed_extents, stored_refs};
+ghost use Rattle.rs_page.specs.SharedPages.{KeepsPages};
+ghost use Rattle.rs_pages.specs.Rule.{appended_to};
+ghost use Rattle.rs_changes.specs.Filled.{history_filled};
+ghost use Rattle.rs_changes.specs.History.{changes_of, last_of, IsHistory, EndsUnstored, part_start, part_end};
 
-use crate::changes::with_change;
 use rs_fixity::Digests;
-use rs_page::{Page, PageRef, Place};
+use rs_page::PageRef;
+use rs_pages::Pages;
+use rs_pages::laws::{last_items_are_filled, pages_are_one_list};
 use rs_record::Change;
 use std::alloc::{AllocError, Global};
 use std::marker::Model;
@@ -24,41 +26,29 @@ const FIRST_PART: u64 = 0;
 /// at most 50,000 of them, in pages. Contracts see the list of the pages.
 #[derive(Debug, Drop)]
 pub struct History {
-    pub(crate) page: Option<Page<Change>>,
+    pub(crate) pages: Pages<Change>,
 }
 
 impl Model for History {
     ghost use Rattle.std.specs.Prelude.{List};
     ghost use Rattle.rs_record.specs.declared.change.Change.{Change};
     ghost use Rattle.rs_page.specs.Pages.{Page};
+    ghost use Rattle.rs_changes.specs.History.{changes_of, AreKept};
 
     ghost Value = { List (Page Change) };
 
-    ghost use Rattle.rs_changes.specs.OnePage.{page_or_none};
-    ghost use Rattle.rs_changes.specs.History.{IsHistory};
+    ghost view = { λ h. h.pages };
 
-    ghost view = { λ h. page_or_none h.page };
-
-    ghost invariant = { λ h. IsHistory (page_or_none h.page) };
+    ghost invariant = { λ h. AreKept (changes_of h.pages) };
 }
 
 impl History {
     /// A history of no changes, which has no pages.
-    pub fn empty(_alloc: Global) -> History
+    pub fn empty(alloc: Global) -> History
         ensures { result ≡ [] }
     {
-        History { page: None }
-    }
-
-    // The changes, in their order.
-    fn changes(&self) -> &[Change]
-        ensures value { result.now ≡ changes_of self.now }
-        ensures lawful { IsHistory self.now }
-        ensures one_page { length self.now ≤ 1 }
-    {
-        match &self.page {
-            None => &[],
-            Some(page) => page.items(),
+        History {
+            pages: Pages::empty(alloc),
         }
     }
 
@@ -66,9 +56,16 @@ impl History {
     pub fn len(&self) -> usize
         ensures value { result ≡ length (changes_of self.now) }
         ensures lawful { IsHistory self.now }
-        ensures one_page { length self.now ≤ 1 }
     {
-        self.changes().len()
+        self.pages.len()
+    }
+
+    /// How many pages there are.
+    pub fn page_count(&self) -> usize
+        ensures value { result ≡ length self.now }
+        ensures lawful { IsHistory self.now }
+    {
+        self.pages.page_count()
     }
 
     /// The number of the first part of the changes that is kept. None was dropped, so it is 0.
@@ -78,12 +75,13 @@ impl History {
         FIRST_PART
     }
 
-    /// The change at place `i`, counted from 0 at the earliest.
+    /// The change at place `i`, counted from 0 at the earliest. It takes as many steps as the number
+    /// of pages has bits.
     pub fn at(&self, i: usize) -> &Change
         requires { i < length (changes_of self.now) }
         ensures { slice_get (changes_of self.now) i ≡ Some result.now }
     {
-        &self.changes()[i]
+        self.pages.at(i)
     }
 
     /// The places of part `k`, counted from 0, where the changes are dealt into parts of `limit`
@@ -101,8 +99,9 @@ impl History {
         start..end
     }
 
-    /// The history with this change at its end. Its moment is after the last one's. This history
-    /// stays. At most the page that is touched is copied; all others stay the same pages.
+    /// The history with this change at its end, in the last page where that has fewer than 64
+    /// changes, else in a new page. Its moment is after the last one's. This history stays, and all
+    /// other pages stay the same pages.
     ///
     /// # Errors
     ///
@@ -111,16 +110,17 @@ impl History {
         requires rises { IfSome (last_of (changes_of self.now))
             (λ last. last.moment < «change».moment) }
         requires room { length (changes_of self.now) < most_changes }
+        ensures pages { IfOk result (λ next. next ≡ appended_to «change» self.now) }
         ensures appended { IfOk result (λ next. changes_of next ≡ changes_of self.now
             ++ «change» ∷ []) }
         ensures kept { IfOk result (KeepsPages self.now) }
         ensures unstored { IfOk result EndsUnstored }
-        ensures unplaced { IfOk result (λ next. placed_extents next ≡ []) }
+        ensures unplaced { placed_extents self.now ≡ []
+            → IfOk result (λ next. placed_extents next ≡ []) }
     {
-        let changes = with_change(alloc, self.changes(), change)?;
-        Ok(History {
-            page: Some(Page::new(changes)),
-        })
+        pages_are_one_list::<Change>();
+        let pages = self.pages.append(alloc, change)?;
+        Ok(History { pages })
     }
 
     /// The same history once more, in the same pages.
@@ -131,13 +131,8 @@ impl History {
     pub fn copy(&self, alloc: Global) -> Result<History, AllocError>
         ensures { IfOk result (λ copied. copied ≡ self.now) }
     {
-        match &self.page {
-            None => Ok(History::empty(alloc)),
-            Some(page) => {
-                let page = page.copy(alloc)?;
-                Ok(History { page: Some(page) })
-            }
-        }
+        let pages = self.pages.copy(alloc)?;
+        Ok(History { pages })
     }
 
     /// Gives the facts of the last change these digests; a deletion, which has no facts, stays as
@@ -153,10 +148,8 @@ impl History {
             ≡ map (λ page. length page.items) self.old }
         ensures pages { self.new ≡ history_filled digests self.old }
     {
-        let Some(page) = &mut self.page else {
-            return;
-        };
-        fill_last_of(page, digests);
+        last_items_are_filled::<Change>();
+        self.pages.fill_last(digests);
     }
 
     /// The references to the pages that are on the disk, in their order.
@@ -167,27 +160,6 @@ impl History {
     pub fn pages(&self, alloc: Global) -> Result<Vec<PageRef>, AllocError>
         ensures { IfOk result (λ pages. pages.items ≡ stored_refs self.now) }
     {
-        let mut pages = Vec::new(alloc);
-        if let Some(page) = &self.page {
-            if let Place::Stored(stored) = page.place() {
-                pages.push(stored)?;
-            }
-        }
-        Ok(pages)
+        self.pages.pages(alloc)
     }
-}
-
-// Gives the facts of the last change of a page, where it has some, these digests.
-fn fill_last_of(page: &mut Page<Change>, digests: Digests)
-    requires some { 1 ≤ length page.old.items }
-    requires not_stored { stored_ref page.old.place ≡ None }
-    ensures filled { (before : List Change) (last : Change)
-        → page.old.items ≡ before ++ last ∷ []
-        → page.new.items ≡ before ++ change_filled digests last ∷ [] }
-    ensures place { page.new.place ≡ page.old.place }
-    ensures lengths { length page.new.items ≡ length page.old.items }
-    ensures items { page.new.items ≡ fill_end digests page.old.items }
-{
-    let last = page.items().len() - 1;
-    page.fill(last, digests);
 }

@@ -1,7 +1,6 @@
 //! The changes that a source keeps, in the order of their moments, in pages.
 #![tactic(auto)]
 
-mod changes;
 mod history;
 pub mod laws;
 mod storing;

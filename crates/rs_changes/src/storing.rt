@@ -1,24 +1,24 @@
 //! A history on the disk.
 
-ghost use Rattle.std.specs.Prelude.{◌≡◌, ◌⊎◌, ◌<◌, ◌≤◌, ◌+◌, ℕ, Bool, List, [], ◌∷◌, length, map, All, IfOk, OnOk, OnErr, IsErrOf, IsTrue};
+ghost use Rattle.std.specs.Prelude.{◌≡◌, ◌↔◌, List, [], map, All, IfOk, OnOk, OnErr, IsErrOf, IsTrue};
 ghost use Rattle.std.specs.List.{AllZip};
-ghost use Rattle.rs_disk.specs.Leaves.{Advances, Rests, HasFailed};
-ghost use Rattle.rs_extent.specs.Extents.{AreBeside, AreApart, AreOnDisk, AreTaken};
-ghost use Rattle.rs_body.specs.Outside.{WritesOutside};
+ghost use Rattle.rs_disk.specs.Leaves.{HasFailed};
+ghost use Rattle.rs_extent.specs.Extents.{AreApart, AreOnDisk, AreTaken};
 ghost use Rattle.rs_record.specs.declared.change.Change.{Change};
 ghost use Rattle.rs_page.specs.Items.{change_format};
 ghost use Rattle.rs_page.specs.Placing.{Places, HasNoPlace};
 ghost use Rattle.rs_page.specs.DiskPages.{IsWritten};
-ghost use Rattle.rs_page.specs.Pages.{IsStored, IsTouched, placed_extents, page_stored, stored, stored_refs};
+ghost use Rattle.rs_page.specs.Pages.{IsStored, IsTouched, items_of, placed_extents, stored, stored_refs};
+ghost use Rattle.rs_pages.specs.Storing.{StaysOrIsStored, WritesPages, ReadsPages};
+ghost use Rattle.rs_model.specs.Regular.{is_rising as rising};
 ghost use Rattle.rs_changes.specs.History.{changes_of, EndsUnstored, HoldsHistory};
 
 use crate::History;
-use crate::changes::is_rising;
-use rs_body::laws::outside_none;
 use rs_disk::Disk;
 use rs_extent::Used;
 use rs_page::laws::pages_hold_once;
-use rs_page::{Full, LoadFault, Page, PageRef, StoreFault};
+use rs_page::{Full, LoadFault, PageRef, StoreFault};
+use rs_pages::Pages;
 use rs_record::Change;
 use std::alloc::Global;
 
@@ -28,7 +28,7 @@ impl History {
     ///
     /// # Errors
     ///
-    /// [`Full`] where a page has no such run; nothing has changed then.
+    /// [`Full`] where a page has no such run. Pages before it may have been given blocks then.
     pub fn place_touched(&mut self, used: &mut Used) -> Result<(), Full>
         ensures places { OnOk result (Places change_format used.old self.old used.new self.new) }
         ensures placed { OnOk result (All (λ page. ¬ IsTouched page.place) self.new) }
@@ -36,13 +36,9 @@ impl History {
             → OnOk result (AreTaken used.old used.new (placed_extents self.new)) }
         ensures unstored { EndsUnstored self.old → EndsUnstored self.new }
         ensures full { OnErr result (HasNoPlace change_format used.old self.old) }
-        ensures used { OnErr result (used.new ≡ used.old) }
-        ensures unchanged { OnErr result (self.new ≡ self.old) }
+        ensures changes { changes_of self.new ≡ changes_of self.old }
     {
-        let Some(page) = &mut self.page else {
-            return Ok(());
-        };
-        page.place_in(used)
+        self.pages.place_touched(used)
     }
 
     /// Writes each page that was given blocks, by one device call a page. Pages that are on the disk
@@ -55,8 +51,8 @@ impl History {
     ///
     /// # Errors
     ///
-    /// - [`StoreFault::NoMemory`] where the memory for a page's bytes is refused; the disk is as it
-    ///   was then.
+    /// - [`StoreFault::NoMemory`] where the memory for a page's bytes is refused. Pages before it may
+    ///   have been written then.
     /// - [`StoreFault::Device`] where the device fails. The extents may then hold anything.
     ///
     /// After each of them the changes are as they were, and each page is as it was, or is written and
@@ -69,40 +65,26 @@ impl History {
         ensures reads { OnOk result
             (All (IsWritten change_format (D.state disk.new).now.seen) self.old) }
         ensures changes { OnErr result (changes_of self.new ≡ changes_of self.old) }
-        ensures places { OnErr result (AllZip (λ old new. (new ≡ old)
-            ⊎ ((new ≡ page_stored change_format old)
-            × IsWritten change_format (D.state disk.new).now.seen old)) self.old self.new) }
+        ensures places { OnErr result
+            (AllZip (StaysOrIsStored change_format (D.state disk.new).now.seen) self.old self.new) }
         ensures device { IsErrOf result StoreFault.Device
             → HasFailed (D.state disk.old) (D.state disk.new) }
-        ensures no_memory { IsErrOf result StoreFault.NoMemory
-            → D.state disk.new ≡ D.state disk.old }
-
-        // Whatever it answers.
-        ensures outside { (kept : ℕ → Bool)
-            → AreBeside kept (placed_extents self.old)
-            → WritesOutside kept (D.state disk.old) (D.state disk.new) }
-        ensures advances { Advances (D.state disk.old) (D.state disk.new) }
-        ensures one_each { (D.state disk.new).calls ≤ (D.state disk.old).calls
-            + length (placed_extents self.old) }
+        ensures writes { WritesPages self.old (D.state disk.old) (D.state disk.new) }
     {
-        let Some(page) = &mut self.page else {
-            outside_none();
-            return Ok(());
-        };
-        page.store(alloc, disk)
+        self.pages.store_touched(alloc, disk)
     }
 
     /// Reads the history that these references point to, whatever they say, by one device call a
     /// page. The disk stays as it is.
     ///
     /// No memory is asked for a page before its extent was found to lie on the disk and to have
-    /// exactly the blocks of its length.
+    /// exactly the blocks of its length, nor for any after 50,000 changes were passed.
     ///
     /// # Errors
     ///
     /// - [`LoadFault::Device`] where the device fails.
     /// - [`LoadFault::Damaged`] where the disk holds no history there: a page is damaged, the
-    ///   moments do not strictly rise, or there is more than one page.
+    ///   moments do not strictly rise through all pages, or there are more than 50,000 changes.
     /// - [`LoadFault::NoMemory`] where the memory is refused.
     pub fn load<D: Disk>(
         alloc: Global,
@@ -122,38 +104,25 @@ impl History {
             → ¬ HoldsHistory pages.now (D.state disk.new).now.seen changes }
         ensures device { IsErrOf result LoadFault.Device
             → HasFailed (D.state disk.old) (D.state disk.new) }
-
-        ensures rests { Rests (D.state disk.old) (D.state disk.new) }
-        ensures one_each { (D.state disk.new).calls ≤ (D.state disk.old).calls + length pages.now }
-    {
-        match pages {
-            [] => Ok(History::empty(alloc)),
-            [page] => History::load_page(alloc, disk, page),
-            _ => Err(LoadFault::Damaged),
-        }
-    }
-
-    // Reads the history of one page.
-    fn load_page<D: Disk>(alloc: Global, disk: &mut D, page: &PageRef) -> Result<History, LoadFault>
-        ensures pages { IfOk result (λ loaded. stored_refs loaded ≡ page.now ∷ []) }
-        ensures stored { IfOk result (All IsStored) }
-        ensures found { IfOk result (λ loaded. IsTrue (D.state disk.new).honest
-            → HoldsHistory (page.now ∷ []) (D.state disk.new).now.seen
-            (map (λ page. page.items) loaded)) }
-        ensures damaged { IsErrOf result LoadFault.Damaged
-            → IsTrue (D.state disk.new).honest
-            → (changes : List (List Change))
-            → ¬ HoldsHistory (page.now ∷ []) (D.state disk.new).now.seen changes }
-        ensures device { IsErrOf result LoadFault.Device
-            → HasFailed (D.state disk.old) (D.state disk.new) }
-        ensures rests { Rests (D.state disk.old) (D.state disk.new) }
-        ensures one_call { (D.state disk.new).calls ≤ (D.state disk.old).calls + 1 }
+        ensures reads { ReadsPages pages.now (D.state disk.old) (D.state disk.new) }
     {
         pages_hold_once::<Change>();
-        let page = Page::load(alloc, disk, page)?;
-        if !is_rising(page.items()) {
+        let pages = Pages::load(alloc, disk, pages)?;
+        if !is_rising(&pages) {
             return Err(LoadFault::Damaged);
         }
-        Ok(History { page: Some(page) })
+        Ok(History { pages })
     }
+}
+
+// Whether the moments strictly rise through all pages.
+fn is_rising(changes: &Pages<Change>) -> bool
+    ensures { IsTrue result ↔ IsTrue (rising (items_of changes.now)) }
+{
+    for i in 1..changes.len() {
+        if changes.at(i).moment <= changes.at(i - 1).moment {
+            return false;
+        }
+    }
+    true
 }

@@ -14,7 +14,7 @@ pub const BLOCK_SIZE: usize = 512;
 /// A run of blocks of a disk: `blocks` blocks from block `first` on, counted from 0.
 ///
 /// A run of no blocks has none, whatever its `first` is.
-#[derive(Clone, Copy, Debug, PartialEq, Eq)]
+#[derive(Clone, Copy, Debug, PartialEq, Eq, PartialOrd, Ord)]
 pub struct Extent {
     /// The number of the first block.
     pub first: u32,

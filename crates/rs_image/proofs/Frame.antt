@@ -29,11 +29,11 @@ use Rattle.rs_image.proofs.Reaching.{reaches_directory, reaches_catalogue, reach
 -- pages of records, and of changes
 pub catalogue_stays : CatalogueStays
 catalogue_stays kept refs old new pages inside keeps holds =
-    record { hold = pages_stay record_format kept refs old new pages inside keeps holds.hold; held = holds.held; one = holds.one }
+    record { hold = pages_stay record_format kept refs old new pages inside keeps holds.hold; held = holds.held }
 
 pub history_stays : HistoryStays
 history_stays kept refs old new pages inside keeps holds =
-    record { hold = pages_stay change_format kept refs old new pages inside keeps holds.hold; kept = holds.kept; one = holds.one }
+    record { hold = pages_stay change_format kept refs old new pages inside keeps holds.hold; kept = holds.kept }
 
 -- the records with their bodies
 pub held_stays : (kept : ℕ → Bool) (low high : ℕ) (records : List Record) (old new : List ℕ) → All (IsSoundRecord low high) records

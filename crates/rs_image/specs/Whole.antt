@@ -5,7 +5,7 @@ use Rattle.rs_commit.specs.declared.root.Root.{Root}
 use Rattle.rs_record.specs.declared.record.Record.{Record}
 use Rattle.rs_record.specs.declared.change.Change.{Change}
 use Rattle.rs_record.specs.Limits.{longest_body}
-use Rattle.rs_page.specs.Pages.{IsStored}
+use Rattle.rs_page.specs.Pages.{IsStored, extents_of, stored_refs}
 use Rattle.rs_extent.specs.Extents.{AreApart}
 use Rattle.rs_catalogue.specs.Catalogue.{records_of}
 use Rattle.rs_changes.specs.History.{changes_of, last_of}
@@ -38,7 +38,7 @@ pub record AreMoments (h : Header) (c : Contents) : Type 0 where
 
 -- What a root and the lists behind it keep: all pages are stored; the moments are in order; each record and each change is
 -- sound, where what was published is up to the publication; the directory has exactly its blocks; and what the root
--- reaches lies on a disk of this many bytes behind the slots, no two things with a block in common.
+-- reaches lies on a disk of this many bytes behind the slots, no two things with a block in common, nor two published pages.
 pub record IsWhole (size : ℕ) (root : Root) (c : Contents) : Type 0 where
   pub catalogue : All IsStored c.catalogue
   pub history : All IsStored c.history
@@ -49,4 +49,5 @@ pub record IsWhole (size : ℕ) (root : Root) (c : Contents) : Type 0 where
   pub listed : All (IsSoundRecord c.header.start c.header.at) (records_of c.published)
   pub directory : IsSized root.directory root.length
   pub apart : AreApart (reach root c)
+  pub published_apart : AreApart (extents_of (stored_refs c.published))
   pub inside : AreInside size (reach root c)

@@ -1,6 +1,7 @@
 //! The blocks that a root reaches, marked in the set of the used blocks of its disk.
-ghost use Rattle.std.specs.Prelude.{◌≡◌, ◌≤◌, ◌<◌, ℕ, [], ◌∷◌, ◌++◌, true, false, IfOk, IfSome, IfNone, length};
+ghost use Rattle.std.specs.Prelude.{◌≡◌, ◌↔◌, ◌≤◌, ◌<◌, ℕ, [], ◌∷◌, ◌++◌, true, false, IfOk, IfSome, IfNone, IsTrue, length};
 ghost use Rattle.std.specs.List.{list_any};
+ghost use Rattle.std.specs.List.Sorted.{IsSorted};
 ghost use Rattle.rs_extent.specs.Blocks.{is_used};
 ghost use Rattle.rs_extent.specs.Extents.{AreApart, AreTaken, CanTake};
 ghost use Rattle.rs_page.specs.Pages.{extents_of, stored_refs};
@@ -21,8 +22,9 @@ const MOST_BLOCKS: u64 = 8_388_608;
 /// The blocks of a disk that are in use: those of the slots, and those that the root reaches. All
 /// others are free.
 ///
-/// It takes time for each record and for each block that is reached, and asks for a bit a block of
-/// memory and for that of the page entries.
+/// It takes time for each record and for each block that is reached, and to sort the entries of the
+/// catalogue's pages and search each published page among them. It asks for a bit a block of memory
+/// and for that of the page entries.
 ///
 /// # Errors
 ///
@@ -71,6 +73,21 @@ pub(crate) fn reached(
     }
 }
 
+/// Whether no two of these pages have a block in common, all of which lie on a disk of `size` bytes
+/// behind the slots.
+///
+/// # Errors
+///
+/// [`AllocError`] where the memory is refused.
+pub(crate) fn are_apart(alloc: Global, size: u64, pages: &[PageRef]) -> Result<bool, AllocError>
+    requires room { 1024 ≤ size }
+    requires inside { AreInside size (extents_of pages.now) }
+    ensures { IfOk result (λ apart. IsTrue apart ↔ AreApart (extents_of pages.now)) }
+{
+    let mut used = Used::new(alloc, block_count(size))?;
+    Ok(take_pages(&mut used, pages))
+}
+
 /// How many blocks of a disk of `size` bytes are used: whole ones, and no more than 8,388,608.
 pub(crate) fn block_count(size: u64) -> u32
     ensures { result ≡ blocks_of_disk size }
@@ -101,8 +118,8 @@ fn take_reached(
     Ok(take(used, root.directory))
 }
 
-// The pages that a root reaches: a published page that is a catalogue page too counts once. Each
-// published page is looked for among the catalogue's pages, of which there is one at most.
+// The pages that a root reaches: a published page that is a catalogue page too counts once. The
+// catalogue's pages are sorted once, and each published page is searched among them by halves.
 fn reached_pages(alloc: Global, contents: &Contents) -> Result<Vec<PageRef>, AllocError>
     ensures { IfOk result (λ pages. pages.items ≡ stored_refs contents.now.catalogue
         ++ stored_refs contents.now.history
@@ -114,8 +131,10 @@ fn reached_pages(alloc: Global, contents: &Contents) -> Result<Vec<PageRef>, All
     let mut pages = Vec::new(alloc);
     pages.extend_from_slice(&catalogue)?;
     pages.extend_from_slice(&history)?;
+    let mut sorted = catalogue;
+    sorted.sort_unstable();
     for page in &published {
-        if !is_among(page, &catalogue) {
+        if !is_among(page, &sorted) {
             pages.push(*page)?;
         }
     }
@@ -165,9 +184,10 @@ fn take_pages(used: &mut Used, pages: &[PageRef]) -> bool
     true
 }
 
-// Whether a page is one of these pages.
-fn is_among(page: &PageRef, pages: &[PageRef]) -> bool
-    ensures { result ≡ list_any (same_page page.now) pages.now }
+// Whether a page is one of these pages, which are sorted.
+fn is_among(page: &PageRef, sorted: &[PageRef]) -> bool
+    requires { IsSorted ⟦<PageRef as Ord>⟧.cmp sorted.now }
+    ensures { result ≡ list_any (same_page page.now) sorted.now }
 {
-    pages.iter().any(|other| page == other)
+    sorted.binary_search(page).is_ok()
 }

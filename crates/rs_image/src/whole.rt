@@ -6,7 +6,7 @@ ghost use Rattle.rs_changes.specs.History.{changes_of, last_of};
 ghost use Rattle.rs_image.specs.Whole.{IsWithin, IsSoundRecord, IsSoundChange, AreMoments, IsWhole};
 
 use crate::Contents;
-use crate::used::reached;
+use crate::used::{are_apart, reached};
 use rs_body::is_sized;
 use rs_catalogue::Catalogue;
 use rs_changes::History;
@@ -18,7 +18,7 @@ use std::alloc::{AllocError, Global};
 /// Whether a root and the lists behind it keep the rules of an image of `size` bytes, whatever they
 /// say: the moments are in order, each record and each change is sound, the directory has exactly
 /// its blocks, and what the root reaches lies on the disk behind the slots, no two things with a
-/// block in common. All pages of the lists are on the disk.
+/// block in common, nor two published pages. All pages of the lists are on the disk.
 ///
 /// # Errors
 ///
@@ -42,10 +42,11 @@ pub(crate) fn is_whole(
         && are_sound_records(header.start, header.last, &contents.catalogue)
         && are_sound_changes(header.start, header.last, &contents.history)
         && are_sound_records(header.start, header.at, &contents.published);
-    if !is_sound {
+    if !is_sound || reached(alloc, size, root, contents)?.is_none() {
         return Ok(false);
     }
-    Ok(reached(alloc, size, root, contents)?.is_some())
+    let published = contents.published.pages(alloc)?;
+    are_apart(alloc, size, &published)
 }
 
 // Whether formatting, the latest publication and the last command are in order, and the last command

@@ -3,7 +3,7 @@
 use rs_extent::Extent;
 
 /// Where a page lies on the disk, and what it is.
-#[derive(Clone, Copy, Debug, PartialEq, Eq)]
+#[derive(Clone, Copy, Debug, PartialEq, Eq, PartialOrd, Ord)]
 pub struct PageRef {
     /// The blocks that it has.
     pub extent: Extent,

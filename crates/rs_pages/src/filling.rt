@@ -3,7 +3,7 @@ ghost use Rattle.std.specs.Prelude.{◌≡◌, ◌<◌, length, map, slice_get, 
 ghost use Rattle.rs_model.specs.Names.{is_ordered};
 ghost use Rattle.rs_page.specs.Pages.{items_of};
 ghost use Rattle.rs_pages.specs.Changed.{changed_at, page_filled};
-ghost use Rattle.rs_pages.specs.Filled.{named_filled, last_filled, IsUnstored, StandsUnstored, EndsUnstored};
+ghost use Rattle.rs_pages.specs.Filled.{named_filled, end_filled, last_filled, IsUnstored, StandsUnstored, EndsUnstored};
 ghost use Rattle.rs_pages.specs.Items.{keyed};
 ghost use Rattle.rs_pages.specs.Rule.{items_at};
 
@@ -37,6 +37,7 @@ impl<T: Fill> Pages<T> {
     pub fn fill_last(&mut self, digests: Digests)
         requires { EndsUnstored self.old }
         ensures pages { self.new ≡ last_filled (T.filled digests) self.old }
+        ensures items { items_of self.new ≡ end_filled (T.filled digests) (items_of self.old) }
         ensures places { map (λ page. page.place) self.new ≡ map (λ page. page.place) self.old }
         ensures lengths { map (λ page. length page.items) self.new
             ≡ map (λ page. length page.items) self.old }

@@ -56,14 +56,16 @@ impl<T: PageItem> Pages<T> {
 
     /// How many items there are.
     pub fn len(&self) -> usize
-        ensures { result ≡ length (items_of self.now) }
+        ensures value { result ≡ length (items_of self.now) }
+        ensures some { HaveItems self.now }
     {
         self.len
     }
 
     /// How many pages there are.
     pub fn page_count(&self) -> usize
-        ensures { result ≡ length self.now }
+        ensures value { result ≡ length self.now }
+        ensures some { HaveItems self.now }
     {
         self.pages.len()
     }

@@ -1,4 +1,4 @@
-//! A directory with two pages in one list, which no disk has today.
+//! A directory with two pages in one list.
 
 use crate::values::SHA256_OF_NOTHING;
 use rs_directory::{Directory, directory_bytes, directory_size, read_directory};

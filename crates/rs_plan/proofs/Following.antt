@@ -4,11 +4,13 @@ use Rattle.std.specs.Prelude.{All, IsSome, is_some}
 use Rattle.std.specs.List.{cons_option}
 use Rattle.std.proofs.lemmas.List.Elements.{All-head, All-tail}
 use Rattle.rs_extent.specs.declared.Extent.{Extent}
+use Rattle.rs_record.specs.declared.record.Record.{Record}
 use Rattle.rs_record.specs.Changes.{bound, deleted}
 use Rattle.rs_page.specs.declared.place.Place.{Place}
 use Rattle.rs_page.specs.declared.place.Place.TheVariants.{Touched, Placed, Stored}
 use Rattle.rs_page.specs.Pages.{Page, IsStored, placed_extent, placed_extents, stored_ref}
 use Rattle.rs_page.specs.SharedPages.{IsSublist, KeepsPages, stored_pages}
+use Rattle.rs_pages.specs.Rule.{bound_in, unbound_in, appended_to}
 use Rattle.rs_catalogue.specs.Catalogue.{records_of}
 use Rattle.rs_catalogue.specs.Named.{named}
 use Rattle.rs_changes.specs.History.{changes_of}
@@ -19,7 +21,7 @@ use Rattle.rs_model.specs.State.{facts_of}
 use Rattle.rs_image.specs.declared.contents.Contents.{Contents}
 use Rattle.rs_image.specs.Rooted.{Rooted, AreUsed}
 use Rattle.rs_plan.specs.Room.{Takes, HasNoRoom, lists_needed, body_needed}
-use Rattle.rs_plan.specs.Plans.{AreInOnePage, IsNext, LacksRoom}
+use Rattle.rs_plan.specs.Plans.{MayHavePlaces, change_put, IsNext, LacksRoom}
 use Rattle.rs_plan.specs.Placed.{AreUnplaced, record_made}
 use Rattle.rs_plan.proofs.Turns.{put_turns, delete_turns, publish_turns}
 use Rattle.rs_plan.proofs.Bodies.{itself}
@@ -28,25 +30,28 @@ use Rattle.rs_plan.proofs.Bodies.{itself}
 pub put_next : (old c : Contents) (name kind bytes : List ℕ) (body : Extent) (moment : ℕ) → c.header ≡ record old.header { last = moment }
     → named (records_of c.catalogue) ≡ bind name (record_made name kind bytes body moment) (named (records_of old.catalogue))
     → changes_of c.history ≡ changes_of old.history ++ bound name (is_some (value_of name (named (records_of old.catalogue)))) moment (facts_of kind bytes) ∷ []
-    → c.published ≡ old.published → KeepsPages old.catalogue c.catalogue → KeepsPages old.history c.history → AreInOnePage c.catalogue → AreInOnePage c.history
+    → c.published ≡ old.published → KeepsPages old.catalogue c.catalogue → KeepsPages old.history c.history
+    → MayHavePlaces (bound_in (λ (r : Record). r.name) (record_made name kind bytes body moment) old.catalogue) c.catalogue
+    → MayHavePlaces (appended_to (change_put old name kind bytes moment) old.history) c.history
     → IsNext old (Put name kind bytes) moment body c
-put_next old c name kind bytes body moment header records changes published catalogue history few few' = record {
+put_next old c name kind bytes body moment header records changes published catalogue history ruled ruled' = record {
   turns = put_turns old c name kind bytes body moment header records changes published;
   catalogue = catalogue;
   history = history;
-  pages = (few, few', published);
+  pages = (ruled, ruled', published);
 }
 
 -- a delete
 pub delete_next : (old c : Contents) (name : List ℕ) (body : Extent) (moment : ℕ) → c.header ≡ record old.header { last = moment }
     → named (records_of c.catalogue) ≡ unbind name (named (records_of old.catalogue)) → changes_of c.history ≡ changes_of old.history ++ deleted name moment ∷ []
-    → c.published ≡ old.published → KeepsPages old.catalogue c.catalogue → KeepsPages old.history c.history → AreInOnePage c.catalogue → AreInOnePage c.history
+    → c.published ≡ old.published → KeepsPages old.catalogue c.catalogue → KeepsPages old.history c.history
+    → MayHavePlaces (unbound_in (λ (r : Record). r.name) name old.catalogue) c.catalogue → MayHavePlaces (appended_to (deleted name moment) old.history) c.history
     → IsNext old (Delete name) moment body c
-delete_next old c name body moment header records changes published catalogue history few few' = record {
+delete_next old c name body moment header records changes published catalogue history ruled ruled' = record {
   turns = λ image there. delete_turns old c name moment header records changes published image;
   catalogue = catalogue;
   history = history;
-  pages = (few, few', published);
+  pages = (ruled, ruled', published);
 }
 
 -- a publish

@@ -1,19 +1,26 @@
 -- How many pages a list has.
-use Rattle.std.proofs.Common.{◌≡◌, ◌≤◌, List, [], ◌∷◌, length, refl, arith, length-append}
+use Rattle.std.proofs.Common.{◌≤◌, List, [], ◌∷◌, length, arith, length-append}
 use Rattle.std.specs.Prelude.{All}
-use Rattle.std.proofs.lemmas.List.Elements.{All-head}
+use Rattle.std.proofs.lemmas.List.Elements.{All-head, All-tail}
+use Rattle.rs_record.specs.declared.record.Record.{Record}
+use Rattle.rs_record.specs.declared.change.Change.{Change}
+use Rattle.rs_record.specs.Limits.{most_items}
 use Rattle.rs_page.specs.Pages.{Page, items_of}
+use Rattle.rs_catalogue.specs.Catalogue.{IsCatalogue}
+use Rattle.rs_changes.specs.History.{IsHistory}
 
 -- a page has items
 abbrev pub HasItems : {T : Type 0} → Page T → Type 0
 HasItems page = 1 ≤ length page.items
 
--- no page, where there are no items
-pub no_pages : {T : Type 0} (pages : List (Page T)) → All HasItems pages → length (items_of pages) ≡ 0 → 0 ≡ length pages
-no_pages [] some none = refl
-no_pages (page ∷ pages) some none = absurd (omega (arith, All-head HasItems page pages some, length-append page.items (items_of pages)))
+-- so there are no more pages than items
+few_pages : {T : Type 0} (pages : List (Page T)) → All HasItems pages → length pages ≤ length (items_of pages)
+few_pages [] some = omega arith
+few_pages (page ∷ pages) some =
+    omega (arith, All-head HasItems page pages some, length-append page.items (items_of pages), few_pages pages (All-tail HasItems page pages some))
 
--- and one, where there are some
-pub one_page : {T : Type 0} (pages : List (Page T)) → length pages ≤ 1 → (length (items_of pages) ≡ 0 → ⊥) → 1 ≡ length pages
-one_page [] most some = absurd (some refl)
-one_page (page ∷ pages) most some = omega arith
+pub few_catalogue : (pages : List (Page Record)) → IsCatalogue pages → length pages ≤ most_items
+few_catalogue pages lawful = omega (arith, few_pages pages lawful.some, lawful.held.room)
+
+pub few_history : (pages : List (Page Change)) → IsHistory pages → length pages ≤ most_items
+few_history pages lawful = omega (arith, few_pages pages lawful.some, lawful.kept.room)

@@ -4,6 +4,8 @@ use Rattle.std.specs.Prelude.{All}
 use Rattle.rs_extent.specs.declared.Extent.{Extent}
 use Rattle.rs_extent.specs.Extents.{in_some, AreApart}
 use Rattle.rs_body.specs.Blocks.{blocks_of, IsSized}
+use Rattle.rs_record.specs.declared.record.Record.{Record}
+use Rattle.rs_record.specs.declared.change.Change.{Change}
 use Rattle.rs_page.specs.declared.place.PageRef.{PageRef}
 use Rattle.rs_page.specs.Format.{ItemFormat}
 use Rattle.rs_page.specs.Placing.{Places}
@@ -16,7 +18,7 @@ use Rattle.rs_image.specs.declared.contents.Contents.{Contents}
 use Rattle.rs_image.specs.Reach.{unshared, bodies_of}
 use Rattle.rs_plan.specs.declared.plan.Plan.{Plan}
 use Rattle.rs_plan.specs.Room.{Takes, body_needed}
-use Rattle.rs_plan.specs.Plans.{body_of_command, AreInOnePage, ArePagesAfter, once_stored, places}
+use Rattle.rs_plan.specs.Plans.{body_of_command, MayHavePlaces, ArePagesAfter, once_stored, places}
 use Rattle.rs_extent.specs.Extents.{AreDisjoint}
 use Rattle.rs_plan.proofs.Sublists.{filter_mapped}
 use Rattle.rs_plan.proofs.Placing.{places_stored}
@@ -83,17 +85,20 @@ unshared_none before kept after published old none = record {
 abbrev pub IsPublished : Contents → Contents → Type 0
 IsPublished old c = (c.published ≡ old.published) ⊎ ((c.published ≡ old.catalogue) × (c.catalogue ≡ old.catalogue))
 
-pub published_is : (old c : Contents) (command : Command) → ArePagesAfter old command c → IsPublished old c
-published_is old c (Put name kind bytes) pages = inl pages.2
-published_is old c (Delete name) pages = inl pages.2
-published_is old c Publish pages = inr (pages.2, pages.0)
+pub published_is : (old c : Contents) (command : Command) (moment : ℕ) (body : Extent) → ArePagesAfter old command moment body c → IsPublished old c
+published_is old c (Put name kind bytes) moment body pages = inl pages.2
+published_is old c (Delete name) moment body pages = inl pages.2
+published_is old c Publish moment body pages = inr (pages.2, pages.0)
 
 -- the pages after a command, once they are placed
-pub pages_placed : (old c next : Contents) (command : Command) → ArePagesAfter old command c → (AreInOnePage c.catalogue → AreInOnePage next.catalogue) → (AreInOnePage c.history → AreInOnePage next.history) → next.published ≡ c.published
-    → (All IsStored c.catalogue → next.catalogue ≡ c.catalogue) → (All IsStored c.history → next.history ≡ c.history) → All IsStored old.catalogue → All IsStored old.history → ArePagesAfter old command next
-pages_placed old c next (Put name kind bytes) pages few few' published catalogue history of_old of_old' = (few pages.0, few' pages.1, published ∙ pages.2)
-pages_placed old c next (Delete name) pages few few' published catalogue history of_old of_old' = (few pages.0, few' pages.1, published ∙ pages.2)
-pages_placed old c next Publish pages few few' published catalogue history of_old of_old' = (
+pub pages_placed : (old c next : Contents) (command : Command) (moment : ℕ) (body : Extent) → ArePagesAfter old command moment body c
+    → ((pages : List (Page Record)) → MayHavePlaces pages c.catalogue → MayHavePlaces pages next.catalogue)
+    → ((pages : List (Page Change)) → MayHavePlaces pages c.history → MayHavePlaces pages next.history) → next.published ≡ c.published
+    → (All IsStored c.catalogue → next.catalogue ≡ c.catalogue) → (All IsStored c.history → next.history ≡ c.history) → All IsStored old.catalogue → All IsStored old.history
+    → ArePagesAfter old command moment body next
+pages_placed old c next (Put name kind bytes) moment body pages ruled ruled' published catalogue history of_old of_old' = (ruled _ pages.0, ruled' _ pages.1, published ∙ pages.2)
+pages_placed old c next (Delete name) moment body pages ruled ruled' published catalogue history of_old of_old' = (ruled _ pages.0, ruled' _ pages.1, published ∙ pages.2)
+pages_placed old c next Publish moment body pages ruled ruled' published catalogue history of_old of_old' = (
   catalogue (subst (All IsStored) (sym pages.0) of_old) ∙ pages.0,
   history (subst (All IsStored) (sym pages.1) of_old') ∙ pages.1,
   published ∙ pages.2,

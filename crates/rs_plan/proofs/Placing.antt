@@ -12,8 +12,7 @@ use Rattle.rs_page.specs.Pages.{Page, IsStored, placed_extent, stored_ref, block
 use Rattle.rs_page.specs.Placing.{PlacesOne, Places, HasNoPlace, PageHasNoRun as HasNoPageRun}
 use Rattle.rs_page.specs.SharedPages.{stored_pages}
 use Rattle.rs_plan.specs.Room.{HasNoRoom, pages_needed}
-use Rattle.rs_plan.specs.Plans.{AreInOnePage}
-use Rattle.rs_plan.proofs.Pages.{HasItems}
+use Rattle.rs_plan.specs.Plans.{MayHavePlace, MayHavePlaces}
 
 -- a page of these items, at this place
 abbrev at : {T : Type 0} → List T → Place → Page T
@@ -32,20 +31,43 @@ places_length format used used' [] (y ∷ ys) h = absurd h
 places_length format used used' (x ∷ xs) [] h = absurd h
 places_length format used used' (x ∷ xs) (y ∷ ys) h = omega (arith, places_length format h.0 used' xs ys h.2)
 
--- so does the page rule
-places_some : {T : Type 0} (format : ItemFormat T) (used used' : List Bool) (xs ys : List (Page T)) → Places format used xs used' ys → All HasItems xs → All HasItems ys
-places_some format used used' [] [] h some = All-nil HasItems
-places_some format used used' [] (y ∷ ys) h some = absurd h
-places_some format used used' (x ∷ xs) [] h some = absurd h
-places_some {T} format used used' (x ∷ xs) (y ∷ ys) h some =
-    All-cons HasItems y ys (subst (λ (items : List T). 1 ≤ length items) (sym h.1.0) (All-head HasItems x xs some))
-    (places_some format h.0 used' xs ys h.2 (All-tail HasItems x xs some))
+-- Pages of the page rule, that may have been given blocks, are such pages after others of them were given blocks.
+ruled_one : {T : Type 0} (format : ItemFormat T) (used used' : List Bool) (items items' : List T) (place place' : Place) (y : Page T)
+    → PlacesOne format used (at items' place') used' y → MayHavePlace (at items place) (at items' place') → MayHavePlace (at items place) y
+ruled_one format used used' items items' Touched Touched y h ruled = (h.0 ∙ ruled.0, ap stored_ref h.1.placed)
+ruled_one format used used' items items' Touched (Placed e) y h ruled = (h.0 ∙ ruled.0, ap stored_ref h.1.1)
+ruled_one format used used' items items' Touched (Stored ref) y h ruled = let other : Some ref ≡ None = ruled.1 in cc
+ruled_one format used used' items items' (Placed e) Touched y h ruled = let other : Touched ≡ Placed e = ruled.1 in cc
+ruled_one format used used' items items' (Placed e) (Placed e') y h ruled = (h.0 ∙ ruled.0, h.1.1 ∙ ruled.1)
+ruled_one format used used' items items' (Placed e) (Stored ref) y h ruled = (h.0 ∙ ruled.0, h.1.1 ∙ ruled.1)
+ruled_one format used used' items items' (Stored ref) Touched y h ruled = let other : Touched ≡ Stored ref = ruled.1 in cc
+ruled_one format used used' items items' (Stored ref) (Placed e) y h ruled = (h.0 ∙ ruled.0, h.1.1 ∙ ruled.1)
+ruled_one format used used' items items' (Stored ref) (Stored ref') y h ruled = (h.0 ∙ ruled.0, h.1.1 ∙ ruled.1)
 
-pub places_one_page : {T : Type 0} (format : ItemFormat T) (used used' : List Bool) (xs ys : List (Page T)) → Places format used xs used' ys → AreInOnePage xs → AreInOnePage ys
-places_one_page format used used' xs ys h one = record {
-  count = omega (arith, places_length format used used' xs ys h, one.count);
-  some = places_some format used used' xs ys h one.some;
-}
+pub places_ruled : {T : Type 0} (format : ItemFormat T) (used used' : List Bool) (pages xs ys : List (Page T)) → Places format used xs used' ys → MayHavePlaces pages xs → MayHavePlaces pages ys
+places_ruled format used used' [] [] [] h ruled = tt
+places_ruled format used used' [] [] (y ∷ ys) h ruled = absurd h
+places_ruled format used used' [] (x ∷ xs) ys h ruled = absurd ruled
+places_ruled format used used' (page ∷ pages) [] ys h ruled = absurd ruled
+places_ruled format used used' (page ∷ pages) (x ∷ xs) [] h ruled = absurd h
+places_ruled format used used' (page ∷ pages) (x ∷ xs) (y ∷ ys) h ruled = (
+  ruled_one format used h.0 page.items x.items page.place x.place y h.1 ruled.0,
+  places_ruled format h.0 used' pages xs ys h.2 ruled.1,
+)
+
+-- a list has its own pages
+rest_none : {A : Type 0} (o : Option A) (rest : List A) → cons_option o rest ≡ [] → rest ≡ []
+rest_none None rest h = h
+rest_none (Some a) rest h = cc
+
+itself_one : {T : Type 0} (items : List T) (place : Place) → MayHavePlace (at items place) (at items place)
+itself_one items Touched = (refl, refl)
+itself_one items (Placed e) = (refl, refl)
+itself_one items (Stored ref) = (refl, refl)
+
+pub ruled_itself : {T : Type 0} (pages : List (Page T)) → placed_extents pages ≡ [] → MayHavePlaces pages pages
+ruled_itself [] none = tt
+ruled_itself (page ∷ pages) none = (itself_one page.items page.place, ruled_itself pages (rest_none (placed_extent page.place) (placed_extents pages) none))
 
 -- so do the pages that are stored
 stored_one : {T : Type 0} (format : ItemFormat T) (used used' : List Bool) (items : List T) (place : Place) (y : Page T) (xs ys : List (Page T))
@@ -76,10 +98,6 @@ fitted_one {T} format used used' items Touched y rest h none =
 fitted_one format used used' items (Placed e) y rest h none = cc
 fitted_one format used used' items (Stored ref) y rest h none =
     subst (λ (p : Place). IfSome (placed_extent p) (λ extent. extent.blocks ≡ blocks_needed format y.items)) (sym h.1.1) tt
-
-rest_none : {A : Type 0} (o : Option A) (rest : List A) → cons_option o rest ≡ [] → rest ≡ []
-rest_none None rest h = h
-rest_none (Some a) rest h = cc
 
 pub places_fitted : {T : Type 0} (format : ItemFormat T) (used used' : List Bool) (xs ys : List (Page T)) → Places format used xs used' ys → placed_extents xs ≡ [] → All (IsFitted format) ys
 places_fitted format used used' [] [] h none = All-nil (IsFitted format)

@@ -1,6 +1,7 @@
 -- What a command plans keeps all rules.
-use Rattle.std.proofs.Common.{◌≡◌, inl, inr, ℕ, ◌+◌, ◌<◌, ◌≤◌, Bool, true, false, ◌||◌, nat_lt, List, [], ◌∷◌, ◌++◌, length, map, max, refl, sym, ◌∙◌, ap, subst, arith}
+use Rattle.std.proofs.Common.{◌≡◌, inl, inr, ℕ, ◌+◌, ◌<◌, ◌≤◌, Bool, true, false, nat_lt, List, [], ◌∷◌, ◌++◌, length, map, max, sym, ◌∙◌, ap, subst, arith}
 use Rattle.std.specs.Prelude.{All, MatchOption}
+use Rattle.std.proofs.lemmas.Bool.{or_parts, or_right}
 use Rattle.std.proofs.lemmas.Bool.Decides.{nat_tests}
 use Rattle.rs_extent.specs.declared.Extent.{Extent}
 use Rattle.rs_extent.specs.Extents.{in_some, AreBeside, AreApart, AreTaken}
@@ -10,10 +11,10 @@ use Rattle.rs_record.specs.declared.record.Record.{Record}
 use Rattle.rs_record.specs.declared.change.Change.{Change}
 use Rattle.rs_page.specs.declared.place.PageRef.{PageRef}
 use Rattle.rs_page.specs.Items.{record_format, change_format}
-use Rattle.rs_page.specs.Pages.{Page, IsStored, stored_refs, stored}
+use Rattle.rs_page.specs.Pages.{Page, IsStored, stored_refs, extents_of, stored}
 use Rattle.rs_page.specs.SharedPages.{IsSublist, stored_pages}
-use Rattle.rs_catalogue.specs.Catalogue.{records_of}
-use Rattle.rs_changes.specs.History.{changes_of, last_of}
+use Rattle.rs_catalogue.specs.Catalogue.{records_of, IsCatalogue}
+use Rattle.rs_changes.specs.History.{changes_of, last_of, IsHistory}
 use Rattle.rs_directory.specs.declared.header.Header.{Header}
 use Rattle.rs_directory.specs.Directory.{directory_length, IsLawfulHeader, IsLawfulRef, AreLawfulRefs}
 use Rattle.rs_model.specs.declared.command.Command.{Command}
@@ -33,7 +34,8 @@ use Rattle.rs_extent.proofs.Sets.{not_true, not_both, turned, some_front, some_b
 use Rattle.rs_extent.proofs.Taken.{taken_both}
 use Rattle.rs_plan.proofs.Extents.{taken_lowest}
 use Rattle.rs_plan.proofs.Sublists.{mapped, all_of, some_of, apart_of}
-use Rattle.rs_plan.proofs.Placing.{places_items, places_length, places_stored, places_fitted, places_same, places_one_page}
+use Rattle.rs_plan.proofs.Placing.{places_items, places_length, places_stored, places_fitted, places_same, places_ruled}
+use Rattle.rs_plan.proofs.Pages.{few_catalogue, few_history}
 use Rattle.rs_plan.proofs.Stored.{stored_items, all_stored, count_refs, length_stored, same_refs, stored_some, stored_apart, lawful_refs, kept_refs}
 use Rattle.rs_plan.proofs.Listing.{length-directory}
 use Rattle.rs_plan.proofs.Separate.{AreSeparate, separated, apart_again, five_of, a_in, b_in, c_in, e_in, AreNew, separate_next}
@@ -43,15 +45,6 @@ use Rattle.rs_plan.proofs.Bodies.{AreBodies}
 use Rattle.rs_plan.proofs.Rules.{KeepsRules}
 use Rattle.rs_plan.proofs.Parts.{pages_in, changes_in, shown_in, bodies_in, written, given_pages, given_changes, sized_body, kept_part, IsUnshared, unshared_none, IsPublished, published_is, pages_placed}
 
--- one of two tests
-or_left : (a b : Bool) → (a || b) ≡ false → a ≡ false
-or_left true b is = is
-or_left false b is = refl
-
-or_right : (a b : Bool) → b ≡ true → (a || b) ≡ true
-or_right true b is = refl
-or_right false b is = is
-
 not_low : (b : ℕ) → nat_lt b 2 ≡ false → 2 ≤ b
 not_low b is = grind (arith, nat_tests)
 
@@ -59,7 +52,7 @@ module _ (size : ℕ) (root : Root) (old : Contents) (sound : IsRooted (rooted s
     (used used₁ : List Bool) (are_used : AreUsed (rooted size root old) used) (body : Extent) (takes : Takes used (body_needed command) body used₁)
     (c : Contents) (next : IsNext old command moment body c) (rules : KeepsRules old body c) (unplaced : AreUnplaced c) (p : Plan) (placed : IsPlaced used₁ body c p)
     (reply : (image : List ℕ) → p.reply ≡ reply_to (state_in image old) command moment)
-    (few_old : length old.catalogue ≤ 1) (few_catalogue : length c.catalogue ≤ 1) (few_history : length c.history ≤ 1) (few_published : length c.published ≤ 1) where
+    (of_catalogue : IsCatalogue c.catalogue) (of_history : IsHistory c.history) (of_published : IsCatalogue c.published) where
   whole : IsWhole size root old
   whole = sound.whole
 
@@ -81,7 +74,7 @@ module _ (size : ℕ) (root : Root) (old : Contents) (sound : IsRooted (rooted s
   free b is = sym (are_used.each b (below b is)) ∙ taken.before b is
 
   inside : AreInside size (places p)
-  inside b is = (not_low b (or_left (nat_lt b 2) (in_some (reach root old) b) (free b is)), below b is)
+  inside b is = (not_low b (or_parts (nat_lt b 2) (in_some (reach root old) b) (free b is)).0, below b is)
 
   reached : IsSubset (in_some (reach root old)) (is_kept root old)
   reached b is = or_right (nat_lt b 2) (in_some (reach root old) b) is
@@ -122,17 +115,18 @@ module _ (size : ℕ) (root : Root) (old : Contents) (sound : IsRooted (rooted s
   long_history = places_length change_format placed.after_catalogue placed.after_history c.history p.contents.history placed.history
 
   -- the pages after the command
-  pages : ArePagesAfter old command p.contents
+  pages : ArePagesAfter old command moment p.body p.contents
   pages =
-      pages_placed old c p.contents command next.pages
-      (places_one_page record_format used₁ placed.after_catalogue c.catalogue p.contents.catalogue placed.catalogue)
-      (places_one_page change_format placed.after_catalogue placed.after_history c.history p.contents.history placed.history) placed.published
+      subst (λ (e : Extent). ArePagesAfter old command moment e p.contents) (sym placed.body_is)
+      (pages_placed old c p.contents command moment body next.pages
+      (λ ruled. places_ruled record_format used₁ placed.after_catalogue ruled c.catalogue p.contents.catalogue placed.catalogue)
+      (λ ruled. places_ruled change_format placed.after_catalogue placed.after_history ruled c.history p.contents.history placed.history) placed.published
       (λ all. places_same record_format used₁ placed.after_catalogue c.catalogue p.contents.catalogue all placed.catalogue)
       (λ all. places_same change_format placed.after_catalogue placed.after_history c.history p.contents.history all placed.history)
-      whole.catalogue whole.history
+      whole.catalogue whole.history)
 
   published : IsPublished old p.contents
-  published = published_is old p.contents command pages
+  published = published_is old p.contents command moment p.body pages
 
   -- the items
   same_records : records_of p.contents.catalogue ≡ records_of c.catalogue
@@ -216,8 +210,8 @@ module _ (size : ℕ) (root : Root) (old : Contents) (sound : IsRooted (rooted s
   listable_next : AreListable (written p)
   listable_next = record {
     header = subst (λ (h : Header). IsLawfulHeader h) (sym placed.header) rules.header;
-    catalogue = record { each = lawful_catalogue; count = omega (arith, count_catalogue, few_catalogue) };
-    history = record { each = lawful_history; count = omega (arith, count_history, few_history) };
+    catalogue = record { each = lawful_catalogue; count = omega (arith, count_catalogue, few_catalogue c.catalogue of_catalogue) };
+    history = record { each = lawful_history; count = omega (arith, count_history, few_history c.history of_history) };
     published = lawful_published;
   }
 
@@ -238,9 +232,6 @@ module _ (size : ℕ) (root : Root) (old : Contents) (sound : IsRooted (rooted s
   was =
       separated root.directory (pages_in old) (changes_in old) (shown_in old) (bodies_in old) whole.apart
 
-  few_refs : length (stored_refs old.catalogue) ≤ 1
-  few_refs = omega (arith, count_refs old.catalogue whole.catalogue, few_old)
-
   alone : IsUnshared (stored_refs old.catalogue) (stored_refs p.contents.catalogue) (stored_refs (written p).catalogue) (stored_refs p.contents.published)
       (shown_in old)
   alone = elim published [
@@ -252,9 +243,8 @@ module _ (size : ℕ) (root : Root) (old : Contents) (sound : IsRooted (rooted s
           comes = λ b is. published_some (stored_refs old.published) (stored_refs old.catalogue) b
               (unshared_some (stored_refs old.published) (stored_refs (written p).catalogue) b is);
           beside = beside_kept (stored_refs old.published) (stored_refs old.catalogue) (stored_refs (written p).catalogue) (stored_refs p.contents.catalogue)
-              few_refs (omega (arith, count_catalogue, few_catalogue)) kept_catalogue (kept_refs record_format p.contents.catalogue) was.ac;
-          apart = unshared_apart (stored_refs old.published) (stored_refs (written p).catalogue)
-              (omega (arith, ap (λ (l : List PageRef). length l) refs, count_published, few_published));
+              kept_catalogue (kept_refs record_format p.contents.catalogue) was.in_a was.ac;
+          apart = unshared_apart (stored_refs old.published) (stored_refs (written p).catalogue) whole.published_apart;
         })
     | inr listed ↦
         let shown : stored_refs p.contents.published ≡ stored_refs old.catalogue = ap (λ (pages : List (Page Record)). stored_refs pages) listed.0 in
@@ -263,7 +253,7 @@ module _ (size : ℕ) (root : Root) (old : Contents) (sound : IsRooted (rooted s
         unshared_none (stored_refs old.catalogue) (stored_refs p.contents.catalogue) (stored_refs (written p).catalogue) (stored_refs p.contents.published)
         (shown_in old)
         (ap (λ (l : List PageRef). unshared l (stored_refs (written p).catalogue)) shown
-        ∙ ap (λ (l : List PageRef). unshared (stored_refs old.catalogue) l) held ∙ unshared_itself (stored_refs old.catalogue) few_refs)
+        ∙ ap (λ (l : List PageRef). unshared (stored_refs old.catalogue) l) held ∙ unshared_itself (stored_refs old.catalogue))
   ]
 
   new : AreNew (is_kept root old) p.body (given_pages p) (given_changes p) p.directory
@@ -319,6 +309,12 @@ module _ (size : ℕ) (root : Root) (old : Contents) (sound : IsRooted (rooted s
       placed.takes_history.apart
       (unwritten (changes_in p.contents) (given_changes p) (λ b is. old_history_in b (some_kept_history b is)) in_history)
 
+  apart_published : AreApart (extents_of (stored_refs p.contents.published))
+  apart_published = elim published [
+    | inl same ↦ subst (λ (pages : List (Page Record)). AreApart (extents_of (stored_refs pages))) (sym same) whole.published_apart
+    | inr listed ↦ subst (λ (pages : List (Page Record)). AreApart (extents_of (stored_refs pages))) (sym listed.0) was.in_a
+  ]
+
   apart_bodies : AreApart (bodies_in (written p))
   apart_bodies = bodies.apart was.in_e (turned (in_some (bodies_in old)) (in_some (p.body ∷ [])) (unwritten (bodies_in old) (p.body ∷ []) old_bodies_in in_body))
 
@@ -334,19 +330,16 @@ module _ (size : ℕ) (root : Root) (old : Contents) (sound : IsRooted (rooted s
       (stored_some record_format p.contents.catalogue) (stored_some change_format p.contents.history) alone.comes bodies.comes alone.beside
       apart_catalogue apart_history alone.apart apart_bodies
 
-  inside_old : (b : ℕ) → in_some (reach root old) b ≡ true → (2 ≤ b) × (b < blocks_of_disk size)
-  inside_old b is = whole.inside b is
-
   inside_next : AreInside size (reach (planned_root root p) (written p))
   inside_next b is =
       five_of p.directory (pages_in (written p)) (changes_in (written p))
       (shown_in (written p)) (bodies_in (written p))
       ((2 ≤ b) × (b < blocks_of_disk size)) b is
       (λ here. inside b (in_directory b here))
-      (λ here. elim (stored_some record_format p.contents.catalogue b here) [ inl was ↦ inside_old b (old_catalogue_in b (some_kept_catalogue b was)) | inr is_new ↦ inside b (in_catalogue b is_new) ])
-      (λ here. elim (stored_some change_format p.contents.history b here) [ inl was ↦ inside_old b (old_history_in b (some_kept_history b was)) | inr is_new ↦ inside b (in_history b is_new) ])
-      (λ here. elim (alone.comes b here) [ inl was ↦ inside_old b (old_catalogue_in b was) | inr shown ↦ inside_old b (old_published_in b shown) ])
-      (λ here. elim (bodies.comes b here) [ inl was ↦ inside_old b (old_bodies_in b was) | inr is_new ↦ inside b (in_body b is_new) ])
+      (λ here. elim (stored_some record_format p.contents.catalogue b here) [ inl was ↦ whole.inside b (old_catalogue_in b (some_kept_catalogue b was)) | inr is_new ↦ inside b (in_catalogue b is_new) ])
+      (λ here. elim (stored_some change_format p.contents.history b here) [ inl was ↦ whole.inside b (old_history_in b (some_kept_history b was)) | inr is_new ↦ inside b (in_history b is_new) ])
+      (λ here. elim (alone.comes b here) [ inl was ↦ whole.inside b (old_catalogue_in b was) | inr shown ↦ whole.inside b (old_published_in b shown) ])
+      (λ here. elim (bodies.comes b here) [ inl was ↦ whole.inside b (old_bodies_in b was) | inr is_new ↦ inside b (in_body b is_new) ])
 
   -- the rules of the lists
   moments_next : AreMoments p.contents.header (written p)
@@ -373,6 +366,7 @@ module _ (size : ℕ) (root : Root) (old : Contents) (sound : IsRooted (rooted s
     directory = sized_directory;
     apart = apart_again p.directory (pages_in (written p)) (changes_in (written p))
         (shown_in (written p)) (bodies_in (written p)) separate;
+    published_apart = apart_published;
     inside = inside_next;
   }
 

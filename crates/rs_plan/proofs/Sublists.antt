@@ -1,7 +1,8 @@
 -- Lists of which another one has some elements, in their order.
-use Rattle.std.proofs.Common.{true≢false, ◌≡◌, inl, inr, ℕ, true, List, [], ◌∷◌, map, Option, Some, None, refl, sym, ap, subst}
-use Rattle.std.specs.Prelude.{All, filter_map}
-use Rattle.std.specs.List.{cons_option}
+use Rattle.std.proofs.Common.{true≢false, ◌≡◌, inl, inr, ℕ, Bool, true, false, ◌||◌, cond, List, [], ◌∷◌, map, Option, Some, None, refl, sym, ap, subst}
+use Rattle.std.specs.Prelude.{All, filter, filter_map}
+use Rattle.std.specs.List.{cons_option, list_any}
+use Rattle.std.proofs.lemmas.Bool.{or_left, or_right}
 use Rattle.std.proofs.lemmas.List.Elements.{All-nil, All-cons, All-head, All-tail}
 use Rattle.rs_extent.specs.declared.Extent.{Extent}
 use Rattle.rs_extent.specs.Extents.{within, in_some, AreApart}
@@ -44,6 +45,28 @@ all_of P (x ∷ xs) [] h all = absurd h
 all_of {A} P (x ∷ xs) (y ∷ ys) h all = elim h [
   | inl both ↦ All-cons P x xs (subst P (sym both.0) (All-head P y ys all)) (all_of P xs ys both.1 (All-tail P y ys all))
   | inr later ↦ all_of P (x ∷ xs) ys later (All-tail P y ys all)
+]
+
+-- those that pass a test
+pub filtered : {A : Type 0} (p : A → Bool) (xs : List A) → IsSublist (filter p xs) xs
+filtered p [] = tt
+filtered p (x ∷ xs) = one (p x) (filtered p xs)
+  where
+    one : (t : Bool) → IsSublist (filter p xs) xs → IsSublist (cond t (x ∷ filter p xs) (filter p xs)) (x ∷ xs)
+    one true rest = inl (refl, rest)
+    one false rest = skipped (filter p xs) xs x rest
+
+-- where one of them passes a test, one of all does
+any_split : (s s' t t' : Bool) → s ≡ s' → (t ≡ true → t' ≡ true) → (s || t) ≡ true → (s' || t') ≡ true
+any_split true s' t t' same rest is = or_left s' t' (sym same)
+any_split false s' t t' same rest is = or_right s' t' (rest is)
+
+pub any_of : {A : Type 0} (p : A → Bool) (xs ys : List A) → IsSublist xs ys → list_any p xs ≡ true → list_any p ys ≡ true
+any_of p [] ys h is = absurd (true≢false (sym is))
+any_of p (x ∷ xs) [] h is = absurd h
+any_of p (x ∷ xs) (y ∷ ys) h is = elim h [
+  | inl both ↦ any_split (p x) (p y) (list_any p xs) (list_any p ys) (ap p both.0) (any_of p xs ys both.1) is
+  | inr later ↦ or_right (p y) (list_any p ys) (any_of p (x ∷ xs) ys later is)
 ]
 
 -- blocks of extents

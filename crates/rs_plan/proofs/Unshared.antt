@@ -1,19 +1,21 @@
 -- The published pages that a root reaches beside those of its catalogue.
-use Rattle.std.proofs.Common.{true≢false, ◌≡◌, ◌⊎◌, inl, inr, ℕ, ◌≤◌, Bool, true, false, ◌&&◌, ◌||◌, cond, not, List, [], ◌∷◌, length, nat_eq, refl, sym, ◌∙◌, ap, ap₂, subst, arith}
+use Rattle.std.proofs.Common.{true≢false, ◌≡◌, ◌⊎◌, inl, inr, ℕ, Bool, true, false, ◌&&◌, ◌||◌, cond, not, List, [], ◌∷◌, nat_eq, refl, sym, ◌∙◌, ap, ap₂, subst, arith}
 use Rattle.std.specs.Prelude.{bytes_eq}
 use Rattle.std.specs.Cmp.{first_so, second_so}
 use Rattle.std.specs.List.{list_any}
-use Rattle.std.proofs.lemmas.Bool.{and_from}
+use Rattle.std.proofs.lemmas.Bool.{and_from, or_left, or_right}
 use Rattle.std.proofs.lemmas.Bool.Decides.{nat_tests}
 use Rattle.std.proofs.lemmas.Slice.Eq.{bytes_eq-Decides}
 use Rattle.rs_extent.specs.declared.Extent.{Extent}
 use Rattle.rs_extent.specs.Extents.{within, in_some, AreApart}
-use Rattle.rs_extent.proofs.Sets.{some_first, some_rest, some_split}
+use Rattle.rs_extent.proofs.Sets.{not_true, not_both, some_first, some_rest, some_split}
 use Rattle.rs_page.specs.declared.place.PageRef.{PageRef}
 use Rattle.rs_page.specs.Pages.{extents_of}
 use Rattle.rs_page.specs.SharedPages.{IsSublist}
 use Rattle.rs_image.specs.Reach.{same_page, unshared}
 use Rattle.rs_extent.specs.Extents.{AreDisjoint}
+use Rattle.rs_plan.proofs.Sublists.{mapped, filtered, any_of, skipped, some_of, apart_of}
+use Rattle.rs_plan.proofs.Bodies.{itself as itself_all}
 
 same_number : (m n : ℕ) → nat_eq m n ≡ true → m ≡ n
 same_number m n h = grind (arith, nat_tests)
@@ -48,13 +50,18 @@ shared_some ref (x ∷ refs) b h is = one (same_page ref x) refl (λ rest. share
     one true same later = some_first x.extent (extents_of refs) b (subst (λ (e : Extent). within e b ≡ true) (same_extent ref x same) is)
     one false other later = some_rest x.extent (extents_of refs) b (later (sym (ap (λ (t : Bool). t || list_any (same_page ref) refs) other) ∙ h))
 
+-- a block of some pages is one of theirs with one more or without
+still : (ref : PageRef) (refs : List PageRef) (b : ℕ) (t : Bool) → in_some (extents_of refs) b ≡ true → in_some (extents_of (cond (not t) (ref ∷ refs) refs)) b ≡ true
+still ref refs b true is = is
+still ref refs b false is = some_rest ref.extent (extents_of refs) b is
+
 -- Each block of the published pages is one of the catalogue's or one of those that are not shared.
 pub published_some : (refs catalogue : List PageRef) (b : ℕ) → in_some (extents_of refs) b ≡ true
     → (in_some (extents_of catalogue) b ≡ true) ⊎ (in_some (extents_of (unshared refs catalogue)) b ≡ true)
 published_some [] catalogue b is = absurd (true≢false (sym is))
 published_some (ref ∷ refs) catalogue b is = elim (some_split ref.extent (extents_of refs) b is) [
   | inl here ↦ here_is (list_any (same_page ref) catalogue) refl here
-  | inr there ↦ elim (published_some refs catalogue b there) [ inl shared ↦ inl shared | inr alone ↦ inr (still (list_any (same_page ref) catalogue) alone) ]
+  | inr there ↦ elim (published_some refs catalogue b there) [ inl shared ↦ inl shared | inr alone ↦ inr (still ref (unshared refs catalogue) b (list_any (same_page ref) catalogue) alone) ]
 ]
   where
     here_is : (t : Bool) → list_any (same_page ref) catalogue ≡ t → within ref.extent b ≡ true
@@ -63,10 +70,6 @@ published_some (ref ∷ refs) catalogue b is = elim (some_split ref.extent (exte
     here_is false h here =
         inr (subst (λ (t : Bool). in_some (extents_of (cond (not t) (ref ∷ unshared refs catalogue) (unshared refs catalogue))) b ≡ true) (sym h)
         (some_first ref.extent (extents_of (unshared refs catalogue)) b here))
-
-    still : (t : Bool) → in_some (extents_of (unshared refs catalogue)) b ≡ true → in_some (extents_of (cond (not t) (ref ∷ unshared refs catalogue) (unshared refs catalogue))) b ≡ true
-    still true alone = alone
-    still false alone = some_rest ref.extent (extents_of (unshared refs catalogue)) b alone
 
 -- and those that are not shared are published
 pub unshared_some : (refs catalogue : List PageRef) (b : ℕ) → in_some (extents_of (unshared refs catalogue)) b ≡ true → in_some (extents_of refs) b ≡ true
@@ -81,48 +84,85 @@ unshared_some (ref ∷ refs) catalogue b is = one (list_any (same_page ref) cata
       | inr there ↦ some_rest ref.extent (extents_of refs) b (later there)
     ]
 
--- one page at most is apart from all others
-pub unshared_apart : (refs catalogue : List PageRef) → length refs ≤ 1 → AreApart (extents_of (unshared refs catalogue))
-unshared_apart [] catalogue few = tt
-unshared_apart (ref ∷ []) catalogue few = one (list_any (same_page ref) catalogue)
+-- pages that are apart are so without those that are shared
+pub unshared_apart : (refs catalogue : List PageRef) → AreApart (extents_of refs) → AreApart (extents_of (unshared refs catalogue))
+unshared_apart refs catalogue apart =
+    apart_of (extents_of (unshared refs catalogue)) (extents_of refs)
+    (mapped (λ ref. ref.extent) (unshared refs catalogue) refs (filtered (λ ref. not (list_any (same_page ref) catalogue)) refs)) apart
+
+-- what is shared with some pages is shared with more
+shared_more : (refs few more : List PageRef) → IsSublist few more → unshared refs few ≡ [] → unshared refs more ≡ []
+shared_more [] few more of_more none = refl
+shared_more (ref ∷ refs) few more of_more none = one (list_any (same_page ref) few) refl none (shared_more refs few more of_more)
   where
-    one : (t : Bool) → AreApart (extents_of (cond (not t) (ref ∷ []) []))
-    one true = tt
-    one false = (λ b is. refl, tt)
-unshared_apart (ref ∷ x ∷ refs) catalogue few = absurd (omega arith)
+    one : (t : Bool) → list_any (same_page ref) few ≡ t → cond (not t) (ref ∷ unshared refs few) (unshared refs few) ≡ [] → (unshared refs few ≡ [] → unshared refs more ≡ [])
+        → unshared (ref ∷ refs) more ≡ []
+    one true shared none rest =
+        ap (λ (t : Bool). cond (not t) (ref ∷ unshared refs more) (unshared refs more)) (any_of (same_page ref) few more of_more shared) ∙ rest none
+    one false shared none rest = cc
 
--- what is published alone is shared with itself
+-- all pages are shared with themselves
+pub unshared_itself : (refs : List PageRef) → unshared refs refs ≡ []
+unshared_itself [] = refl
+unshared_itself (ref ∷ refs) =
+    ap (λ (t : Bool). cond (not (t || list_any (same_page ref) refs)) (ref ∷ unshared refs (ref ∷ refs)) (unshared refs (ref ∷ refs))) (itself ref)
+    ∙ shared_more refs refs (ref ∷ refs) (skipped refs refs ref (itself_all refs)) (unshared_itself refs)
 
-pub unshared_itself : (refs : List PageRef) → length refs ≤ 1 → unshared refs refs ≡ []
-unshared_itself [] few = refl
-unshared_itself (ref ∷ []) few = ap (λ (t : Bool). cond (not (t || false)) (ref ∷ []) []) (itself ref)
-unshared_itself (ref ∷ x ∷ refs) few = absurd (omega arith)
+-- Of pages that are apart, only the one that is the same as a page has a block of that page: where a kept one has such a block, it is that one.
+abbrev KeepsShared : PageRef → ℕ → List PageRef → List PageRef → Type 0
+KeepsShared ref b kept before =
+    IsSublist kept before → AreApart (extents_of before) → list_any (same_page ref) before ≡ true → in_some (extents_of kept) b ≡ true → list_any (same_page ref) kept ≡ true
 
--- Where a catalogue of one page at most keeps its page, it has that page alone; so what is not shared is apart from it.
-pub beside_kept : (refs before after : List PageRef) (kept : List PageRef) → length before ≤ 1 → length after ≤ 1 → IsSublist kept before → IsSublist kept after
+kept_shared : (ref : PageRef) (b : ℕ) → within ref.extent b ≡ true → (kept before : List PageRef) → KeepsShared ref b kept before
+kept_shared ref b here [] before of_before apart shared is = absurd (true≢false (sym is))
+kept_shared ref b here (k ∷ kept) [] of_before apart shared is = absurd of_before
+kept_shared ref b here (k ∷ kept) (x ∷ before) of_before apart shared is =
+    one (same_page ref x) refl shared (kept_shared ref b here kept before) (kept_shared ref b here (k ∷ kept) before)
+  where
+    first_alone : within x.extent b ≡ true → in_some (extents_of before) b ≡ true → ⊥
+    first_alone in_first in_rest = not_both (in_some (extents_of before) b) in_rest (apart.0 b in_first)
+
+    one : (t : Bool) → same_page ref x ≡ t → (t || list_any (same_page ref) before) ≡ true → KeepsShared ref b kept before → KeepsShared ref b (k ∷ kept) before
+        → list_any (same_page ref) (k ∷ kept) ≡ true
+    one true same shared rest later = elim of_before [
+      | inl both ↦ or_left (same_page ref k) (list_any (same_page ref) kept) (subst (λ (v : PageRef). same_page ref v ≡ true) (sym both.0) same)
+      | inr skips ↦ absurd (first_alone (subst (λ (e : Extent). within e b ≡ true) (same_extent ref x same) here)
+          (some_of (extents_of (k ∷ kept)) (extents_of before) (mapped (λ v. v.extent) (k ∷ kept) before skips) b is))
+    ]
+    one false other shared rest later = elim of_before [
+      | inl both ↦ elim (some_split k.extent (extents_of kept) b is) [
+        | inl first ↦ absurd (first_alone (subst (λ (v : PageRef). within v.extent b ≡ true) both.0 first) (shared_some ref before b shared here))
+        | inr there ↦ or_right (same_page ref k) (list_any (same_page ref) kept) (rest both.1 apart.1 shared there)
+      ]
+      | inr skips ↦ later skips apart.1 shared is
+    ]
+
+-- A block of a page that is kept, if a published page has it that is not shared after, is that of one that was not shared before.
+unshared_before : (refs before after kept : List PageRef) (b : ℕ) → IsSublist kept before → IsSublist kept after → AreApart (extents_of before)
+    → in_some (extents_of kept) b ≡ true → in_some (extents_of (unshared refs after)) b ≡ true → in_some (extents_of (unshared refs before)) b ≡ true
+unshared_before [] before after kept b of_before of_after apart here is = is
+unshared_before (ref ∷ refs) before after kept b of_before of_after apart here is =
+    one (list_any (same_page ref) after) refl is (unshared_before refs before after kept b of_before of_after apart here)
+  where
+    alone : (t : Bool) → list_any (same_page ref) before ≡ t → list_any (same_page ref) after ≡ false → within ref.extent b ≡ true
+        → in_some (extents_of (cond (not t) (ref ∷ unshared refs before) (unshared refs before))) b ≡ true
+    alone true shared none first =
+        absurd (not_both (list_any (same_page ref) after) (any_of (same_page ref) kept after of_after (kept_shared ref b first kept before of_before apart shared here)) none)
+    alone false shared none first = some_first ref.extent (extents_of (unshared refs before)) b first
+
+    one : (t : Bool) → list_any (same_page ref) after ≡ t → in_some (extents_of (cond (not t) (ref ∷ unshared refs after) (unshared refs after))) b ≡ true
+        → (in_some (extents_of (unshared refs after)) b ≡ true → in_some (extents_of (unshared refs before)) b ≡ true) → in_some (extents_of (unshared (ref ∷ refs) before)) b ≡ true
+    one true shared is rest = still ref (unshared refs before) b (list_any (same_page ref) before) (rest is)
+    one false none is rest = elim (some_split ref.extent (extents_of (unshared refs after)) b is) [
+      | inl first ↦ alone (list_any (same_page ref) before) refl none first
+      | inr there ↦ still ref (unshared refs before) b (list_any (same_page ref) before) (rest there)
+    ]
+
+-- So no published page that is not shared after has a block of a page that is kept, where none did before.
+pub beside_kept : (refs before after kept : List PageRef) → IsSublist kept before → IsSublist kept after → AreApart (extents_of before)
     → AreDisjoint (in_some (extents_of before)) (in_some (extents_of (unshared refs before)))
     → AreDisjoint (in_some (extents_of kept)) (in_some (extents_of (unshared refs after)))
-beside_kept refs before after [] few few' of_before of_after apart = λ b is. absurd (true≢false (sym is))
-beside_kept refs [] after (k ∷ kept) few few' of_before of_after apart = absurd of_before
-beside_kept refs (x ∷ before) [] (k ∷ kept) few few' of_before of_after apart = absurd of_after
-beside_kept refs (x ∷ y ∷ before) after (k ∷ kept) few few' of_before of_after apart = absurd (omega arith)
-beside_kept refs (x ∷ []) (z ∷ w ∷ after) (k ∷ kept) few few' of_before of_after apart = absurd (omega arith)
-beside_kept refs (x ∷ []) (z ∷ []) (k ∷ kept) few few' of_before of_after apart =
-    elim of_before [
-      | inr later ↦ absurd later
-      | inl was ↦ elim of_after [
-        | inr later ↦ absurd later
-        | inl is ↦ λ b here. subst (λ (v : PageRef). in_some (extents_of (unshared refs (v ∷ []))) b ≡ false) (sym was.0 ∙ is.0)
-            (apart b (only b here was.0 (kept_none kept was.1)))
-      ]
-    ]
-  where
-    kept_none : (l : List PageRef) → IsSublist l [] → (b : ℕ) → in_some (extents_of l) b ≡ true → ⊥
-    kept_none [] h b is = true≢false (sym is)
-    kept_none (v ∷ l) h b is = h
-
-    only : (b : ℕ) → in_some (extents_of (k ∷ kept)) b ≡ true → k ≡ x → ((b : ℕ) → in_some (extents_of kept) b ≡ true → ⊥) → in_some (extents_of (x ∷ [])) b ≡ true
-    only b here same rest = elim (some_split k.extent (extents_of kept) b here) [
-      | inl first ↦ some_first x.extent [] b (subst (λ (v : PageRef). within v.extent b ≡ true) same first)
-      | inr there ↦ absurd (rest b there)
-    ]
+beside_kept refs before after kept of_before of_after apart beside b here =
+    not_true (in_some (extents_of (unshared refs after)) b) (λ is. not_both (in_some (extents_of (unshared refs before)) b)
+    (unshared_before refs before after kept b of_before of_after apart here is)
+    (beside b (some_of (extents_of kept) (extents_of before) (mapped (λ ref. ref.extent) kept before of_before) b here)))

@@ -1,6 +1,9 @@
 -- Plans of a put whose body has not come yet.
 use Rattle.std.specs.Prelude.{ℕ, List}
 use Rattle.rs_fixity.specs.declared.Digests.{Digests}
+use Rattle.rs_record.specs.declared.record.Record.{Record}
+use Rattle.rs_record.specs.declared.change.Change.{Change}
+use Rattle.rs_pages.specs.Laws.{BindsAsOne, AppendsAsOne, FillingBound, FillingAppended, BindingTouchesOne, UnbindingTouchesOne, AppendingTouchesOne}
 use Rattle.rs_catalogue.specs.Catalogue.{StandsUnstored}
 use Rattle.rs_catalogue.specs.Filled.{pages_filled}
 use Rattle.rs_changes.specs.History.{EndsUnstored}
@@ -27,3 +30,14 @@ plan_filled name digests p =
 pub record AwaitsBody (name : List ℕ) (p : Plan) : Type 0 where
   pub catalogue : StandsUnstored name p.contents.catalogue
   pub history : EndsUnstored p.contents.history
+
+-- What the page rule keeps of the lists of a draft: the item that is bound or appended stands in a page that is not stored, and filling it
+-- gives the pages that have it filled from the start.
+pub record IsPageRuleKept : Type 0 where
+  pub bound : BindsAsOne (λ (r : Record). r.name)
+  pub appended : AppendsAsOne Change
+  pub filled : FillingBound (λ (r : Record). r.name)
+  pub filled_last : FillingAppended Change
+  pub touches_bound : BindingTouchesOne (λ (r : Record). r.name)
+  pub touches_unbound : UnbindingTouchesOne (λ (r : Record). r.name)
+  pub touches_appended : AppendingTouchesOne Change

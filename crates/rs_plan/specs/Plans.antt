@@ -1,18 +1,27 @@
 -- What a command is about to write.
-use Rattle.std.specs.Prelude.{◌≡◌, ◌⊎◌, ◌≤◌, ℕ, Bool, List, [], ◌∷◌, ◌++◌, length, All}
+use Rattle.std.specs.Prelude.{◌≡◌, ◌⊎◌, ℕ, Bool, List, [], ◌∷◌, ◌++◌, length, All, None, is_some}
+use Rattle.std.specs.List.{AllZip}
 use Rattle.rs_extent.specs.declared.Extent.{Extent}
 use Rattle.rs_fixity.specs.Digests.{digests}
 use Rattle.rs_body.specs.Blocks.{part, IsSized}
 use Rattle.rs_extent.specs.Extents.{AreBeside, AreApart}
 use Rattle.rs_commit.specs.declared.root.Root.{Root}
 use Rattle.rs_commit.specs.Commit.{next}
+use Rattle.rs_record.specs.declared.record.Record.{Record}
+use Rattle.rs_record.specs.declared.change.Change.{Change}
+use Rattle.rs_record.specs.Changes.{bound, deleted}
+use Rattle.rs_model.specs.Names.{value_of}
+use Rattle.rs_model.specs.State.{facts_of}
 use Rattle.rs_model.specs.Step.{next_state, reply_to}
 use Rattle.rs_model.specs.declared.command.Command.{Command}
 use Rattle.rs_model.specs.declared.command.Command.TheVariants.{Put, Delete, Publish}
 use Rattle.rs_page.specs.Items.{record_format, change_format}
-use Rattle.rs_page.specs.Pages.{Page, IsTouched, placed_extents, stored}
+use Rattle.rs_page.specs.Pages.{Page, IsTouched, WhereTouched, placed_extents, stored, stored_ref}
 use Rattle.rs_page.specs.DiskPages.{IsWritten}
 use Rattle.rs_page.specs.SharedPages.{KeepsPages}
+use Rattle.rs_pages.specs.Rule.{bound_in, unbound_in, appended_to}
+use Rattle.rs_catalogue.specs.Catalogue.{records_of}
+use Rattle.rs_catalogue.specs.Named.{named}
 use Rattle.rs_image.specs.declared.contents.Contents.{Contents}
 use Rattle.rs_image.specs.Reach.{is_kept, AreInside}
 use Rattle.rs_image.specs.Whole.{IsWhole}
@@ -20,7 +29,7 @@ use Rattle.rs_image.specs.StateOfImage.{state_in, listing, AreListable}
 use Rattle.rs_image.specs.Rooted.{Rooted, AreUsed}
 use Rattle.rs_plan.specs.declared.plan.Plan.{Plan}
 use Rattle.rs_plan.specs.Room.{Takes, HasNoRun, HasNoRoom, lists_needed, body_needed}
-use Rattle.rs_plan.specs.Placed.{AreUnplaced, IsPlaced}
+use Rattle.rs_plan.specs.Placed.{AreUnplaced, IsPlaced, record_made}
 
 -- the body that a command writes
 abbrev pub body_of_command : Command → List ℕ
@@ -28,17 +37,29 @@ body_of_command (Put name kind bytes) = bytes
 body_of_command (Delete name) = []
 body_of_command Publish = []
 
--- The items of a list stand in one page, or in none where there are none.
-pub record AreInOnePage {T : Type 0} (pages : List (Page T)) : Type 0 where
-  pub count : length pages ≤ 1
-  pub some : All (λ page. 1 ≤ length page.items) pages
+-- a page that is touched may have been given blocks; any other stays as it is
+abbrev pub MayHavePlace : {T : Type 0} → Page T → Page T → Type 0
+MayHavePlace page placed = (placed.items ≡ page.items) × WhereTouched page.place (stored_ref placed.place ≡ None) (placed.place ≡ page.place)
 
--- The pages after a command: a publication lists the pages of the catalogue, and touches none; any other command leaves what is
--- published. A catalogue and a history have one page, or none where they are empty.
-abbrev pub ArePagesAfter : Contents → Command → Contents → Type 0
-ArePagesAfter old (Put name kind bytes) c = AreInOnePage c.catalogue × AreInOnePage c.history × (c.published ≡ old.published)
-ArePagesAfter old (Delete name) c = AreInOnePage c.catalogue × AreInOnePage c.history × (c.published ≡ old.published)
-ArePagesAfter old Publish c = (c.catalogue ≡ old.catalogue) × (c.history ≡ old.history) × (c.published ≡ old.catalogue)
+-- the same pages, of which each that is touched may have been given blocks
+abbrev pub MayHavePlaces : {T : Type 0} → List (Page T) → List (Page T) → Type 0
+MayHavePlaces pages placed = AllZip MayHavePlace pages placed
+
+-- the change that a put of these bytes makes, where these are the lists before it
+abbrev pub change_put : Contents → List ℕ → List ℕ → List ℕ → ℕ → Change
+change_put old name kind bytes moment = bound name (is_some (value_of name (named (records_of old.catalogue)))) moment (facts_of kind bytes)
+
+-- The pages after a command at its moment, whose body stands in an extent, are those of the page rule: a record is bound or unbound in
+-- the pages of the catalogue, and a change is appended to those of the history. A publication lists the pages of the catalogue,
+-- and touches none; any other command leaves what is published.
+abbrev pub ArePagesAfter : Contents → Command → ℕ → Extent → Contents → Type 0
+ArePagesAfter old (Put name kind bytes) moment body c =
+    MayHavePlaces (bound_in (λ (r : Record). r.name) (record_made name kind bytes body moment) old.catalogue) c.catalogue
+    × MayHavePlaces (appended_to (change_put old name kind bytes moment) old.history) c.history × (c.published ≡ old.published)
+ArePagesAfter old (Delete name) moment body c =
+    MayHavePlaces (unbound_in (λ (r : Record). r.name) name old.catalogue) c.catalogue
+    × MayHavePlaces (appended_to (deleted name moment) old.history) c.history × (c.published ≡ old.published)
+ArePagesAfter old Publish moment body c = (c.catalogue ≡ old.catalogue) × (c.history ≡ old.history) × (c.published ≡ old.catalogue)
 
 -- The lists after a command at its moment: where its body stands in an extent, they tell the next state, of whatever the old
 -- lists tell; and their stored pages are pages of the old ones.
@@ -47,7 +68,7 @@ pub record IsNext (old : Contents) (command : Command) (moment : ℕ) (body : Ex
       → state_in image c ≡ next_state (state_in image old) command moment
   pub catalogue : KeepsPages old.catalogue c.catalogue
   pub history : KeepsPages old.history c.history
-  pub pages : ArePagesAfter old command c
+  pub pages : ArePagesAfter old command moment body c
 
 -- A command lacks room: with those blocks used that the root reaches, its body has no run; or it takes the lowest, and then
 -- the pages that it touches and its directory have not all one, each being given the lowest of its own size in turn.

@@ -5,7 +5,7 @@ ghost use Rattle.rs_model.specs.declared.command.Command.TheVariants.{Put, Delet
 ghost use Rattle.rs_fixity.specs.Digests.{digests};
 ghost use Rattle.rs_plan.specs.Allowed.{MayPut, MayDelete, MayPublish};
 ghost use Rattle.rs_plan.specs.Plans.{IsPlanned, LacksRoom};
-ghost use Rattle.rs_plan.specs.Drafts.{AwaitsBody, plan_filled};
+ghost use Rattle.rs_plan.specs.Drafts.{AwaitsBody, IsPageRuleKept, plan_filled};
 
 mod lists;
 mod placing;
@@ -18,7 +18,11 @@ use rs_fixity::{Digests, digests_of};
 use rs_image::{Rooted, used_of};
 use rs_model::Reply;
 use rs_page::Full;
-use rs_record::{MediaType, Name};
+use rs_pages::laws::{
+    items_are_filled_as_one, last_items_are_filled, one_page_is_touched, pages_are_one_list,
+    pages_are_one_map,
+};
+use rs_record::{Change, MediaType, Name, Record};
 use rs_time::Moment;
 use std::alloc::{AllocError, Global};
 use thiserror::Error;
@@ -78,6 +82,7 @@ pub fn draft_put(
     ensures full { IsErrOf result PlanFault.Full → (bytes : List ℕ) → length bytes ≡ body_length
         → LacksRoom old.now (Put name.now kind.now bytes) moment }
 {
+    page_rule_is_kept();
     let contents = old.contents();
     let mut used = used_of(alloc, old)?;
     let Some(body) = take_lowest(&mut used, body_length) else {
@@ -146,6 +151,7 @@ pub fn plan_delete(
     ensures planned { IfOk result (IsPlanned old.now (Delete name.now) moment) }
     ensures full { IsErrOf result PlanFault.Full → LacksRoom old.now (Delete name.now) moment }
 {
+    page_rule_is_kept();
     let contents = old.contents();
     let used = used_of(alloc, old)?;
     let lists = lists_after_delete(alloc, contents, name, moment)?;
@@ -178,3 +184,14 @@ const NO_BODY: Extent = Extent {
     first: 0,
     blocks: 0,
 };
+
+// What the page rule keeps of the lists of a draft.
+fn page_rule_is_kept()
+    ensures { IsPageRuleKept }
+{
+    pages_are_one_map::<Record>();
+    pages_are_one_list::<Change>();
+    one_page_is_touched::<Record>();
+    items_are_filled_as_one::<Record>();
+    last_items_are_filled::<Change>();
+}

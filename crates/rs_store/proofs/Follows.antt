@@ -1,7 +1,8 @@
 -- What stands after all of a plan is written: the next root tells the next state.
-use Rattle.std.proofs.Common.{true≢false, ◌≡◌, ◌⊎◌, inl, inr, ⊎_elim, ℕ, ◌≤◌, Bool, true, false, List, [], ◌∷◌, ◌++◌, map, filter, length, refl, sym, ◌∙◌, ap, ap₂, subst, arith, Option, Some, None}
+use Rattle.std.proofs.Common.{true≢false, ◌≡◌, ◌⊎◌, inl, inr, ⊎_elim, ℕ, Bool, true, false, List, [], ◌∷◌, ◌++◌, map, filter, length, refl, sym, ◌∙◌, ap, ap₂, subst, Option, Some, None}
 use Rattle.std.specs.Prelude.{All, IfSome, is_some}
 use Rattle.std.proofs.lemmas.List.Elements.{All-nil, All-cons, All-head, All-tail, All-filter}
+use Rattle.rs_extent.specs.declared.Extent.{Extent}
 use Rattle.rs_body.specs.Blocks.{part}
 use Rattle.rs_commit.specs.declared.root.Root.{Root}
 use Rattle.rs_record.specs.declared.record.Record.{Record}
@@ -18,9 +19,9 @@ use Rattle.rs_page.specs.DiskPages.{IsPage, Stands}
 use Rattle.rs_page.specs.SharedPages.{IsSublist, stored_pages, KeepsPages}
 use Rattle.rs_page.proofs.Standing.{written_stand, standing_are_pages, pages_stand}
 use Rattle.rs_catalogue.specs.Catalogue.{AreHeld, IsCatalogue, HoldsCatalogue}
-use Rattle.rs_catalogue.proofs.Joined.{joined, fewer_refs}
+use Rattle.rs_catalogue.proofs.Joined.{joined}
 use Rattle.rs_changes.specs.History.{AreKept, IsHistory, HoldsHistory}
-use Rattle.rs_changes.proofs.Joined.{joined as joined_changes, fewer_refs as fewer_changes}
+use Rattle.rs_changes.proofs.Joined.{joined as joined_changes}
 use Rattle.rs_image.specs.declared.contents.Contents.{Contents}
 use Rattle.rs_image.specs.Rooted.{rooted}
 use Rattle.rs_image.specs.Whole.{IsWhole}
@@ -81,32 +82,33 @@ once_state image c =
     (items_stored record_format c.catalogue) (items_stored change_format c.history)
 
 -- The lists are on the disk as what was kept of the old ones and what was written.
-held_catalogue : (pages : List (Page Record)) (image : List ℕ) → IsCatalogue pages → length pages ≤ 1 → All IsStored pages
+held_catalogue : (pages : List (Page Record)) (image : List ℕ) → IsCatalogue pages → All IsStored pages
     → All (Stands record_format image) pages → HoldsCatalogue (stored_refs pages) image (map (λ page. page.items) pages)
-held_catalogue pages image is one all stand =
+held_catalogue pages image is all stand =
     record {
       hold = standing_are_pages record_format pages image all stand;
       held = subst AreHeld (sym (joined pages)) is.held;
-      one = omega (arith, fewer_refs pages);
     }
 
-held_history : (pages : List (Page Change)) (image : List ℕ) → IsHistory pages → length pages ≤ 1 → All IsStored pages
+held_history : (pages : List (Page Change)) (image : List ℕ) → IsHistory pages → All IsStored pages
     → All (Stands change_format image) pages → HoldsHistory (stored_refs pages) image (map (λ page. page.items) pages)
-held_history pages image is one all stand =
+held_history pages image is all stand =
     record {
       hold = standing_are_pages change_format pages image all stand;
       kept = subst AreKept (sym (joined_changes pages)) is.kept;
-      one = omega (arith, fewer_changes pages);
     }
 
 abbrev HoldsPagesInMemory : List (Page Record) → List ℕ → Type 0
 HoldsPagesInMemory pages image = HoldsCatalogue (stored_refs pages) image (map (λ page. page.items) pages)
 
-held_published : (command : Command) (old c : Contents) (image : List ℕ) → ArePagesAfter old command c → HoldsPagesInMemory old.catalogue image → HoldsPagesInMemory old.published image
-    → HoldsPagesInMemory c.published image
-held_published (Put name kind bytes) old c image after catalogue published = subst (λ (l : List (Page Record)). HoldsPagesInMemory l image) (sym after.2) published
-held_published (Delete name) old c image after catalogue published = subst (λ (l : List (Page Record)). HoldsPagesInMemory l image) (sym after.2) published
-held_published Publish old c image after catalogue published = subst (λ (l : List (Page Record)). HoldsPagesInMemory l image) (sym after.2) catalogue
+held_published : (command : Command) (moment : ℕ) (body : Extent) (old c : Contents) (image : List ℕ) → ArePagesAfter old command moment body c
+    → HoldsPagesInMemory old.catalogue image → HoldsPagesInMemory old.published image → HoldsPagesInMemory c.published image
+held_published (Put name kind bytes) moment body old c image after catalogue published =
+    subst (λ (l : List (Page Record)). HoldsPagesInMemory l image) (sym after.2) published
+held_published (Delete name) moment body old c image after catalogue published =
+    subst (λ (l : List (Page Record)). HoldsPagesInMemory l image) (sym after.2) published
+held_published Publish moment body old c image after catalogue published =
+    subst (λ (l : List (Page Record)). HoldsPagesInMemory l image) (sym after.2) catalogue
 
 -- The state of the lists is the next one, where the body stands.
 pub state_follows : (size : ℕ) (root : Root) (old : Contents) (command : Command) (moment : ℕ) (p : Plan) (bytes image : List ℕ)
@@ -129,11 +131,11 @@ tells_next size root old command moment p bytes image s planned body there lists
       listable = planned.listable;
       directory = there.directory;
       digest = refl;
-      catalogue = held_catalogue (stored record_format c.catalogue) image lists.catalogue lists.one_catalogue_page planned.whole.catalogue
+      catalogue = held_catalogue (stored record_format c.catalogue) image lists.catalogue planned.whole.catalogue
           (written_stand record_format c.catalogue image (kept_stand record_format old.catalogue c.catalogue image planned.next.catalogue records) there.catalogue);
-      history = held_history (stored change_format c.history) image lists.history lists.one_history_page planned.whole.history
+      history = held_history (stored change_format c.history) image lists.history planned.whole.history
           (written_stand change_format c.history image (kept_stand change_format old.history c.history image planned.next.history changes) there.history);
-      published = held_published command old c image planned.next.pages told.catalogue told.published;
+      published = held_published command moment p.body old c image planned.next.pages told.catalogue told.published;
       whole = subst (λ (n : ℕ). IsWhole n (planned_root root p) (once_stored c)) (sym long) planned.whole;
       state = state_follows size root old command moment p bytes image planned body there ∙ ap (λ (t : Source). next_state t command moment) told.state;
     }

@@ -59,6 +59,7 @@ first_whole base limit moment size small room =
       listed = All-nil (IsSoundRecord moment moment);
       directory = (refl, λ none. absurd (omega (arith, some_bytes c)));
       apart = (λ b is. refl, tt);
+      published_apart = tt;
       inside = λ b is. one_block (first_root c).directory (length (listing c)) size b refl refl small room is;
     }
 
@@ -77,9 +78,9 @@ first_told base limit moment image lawful small room reads =
       };
       directory = reads;
       digest = refl;
-      catalogue = record { hold = tt; held = record { ordered = refl; room = omega arith }; one = omega arith };
-      history = record { hold = tt; kept = record { rising = refl; room = omega arith }; one = omega arith };
-      published = record { hold = tt; held = record { ordered = refl; room = omega arith }; one = omega arith };
+      catalogue = record { hold = tt; held = record { ordered = refl; room = omega arith } };
+      history = record { hold = tt; kept = record { rising = refl; room = omega arith } };
+      published = record { hold = tt; held = record { ordered = refl; room = omega arith } };
       whole = first_whole base limit moment (length image) small room;
       state = refl;
     }

@@ -1,5 +1,5 @@
 -- What it is to write a plan.
-use Rattle.std.specs.Prelude.{◌≡◌, ◌≤◌, ℕ, List, length, All}
+use Rattle.std.specs.Prelude.{◌≡◌, ℕ, List, length, All}
 use Rattle.rs_extent.specs.Extents.{AreApart}
 use Rattle.rs_fixity.specs.Digests.{digests}
 use Rattle.rs_model.specs.declared.command.Command.{Command}
@@ -38,13 +38,11 @@ pub record IsDigestOf (c : Contents) (w : Written) : Type 0 where
   pub len : w.length ≡ length (listing c)
   pub sha256 : w.sha256 ≡ (digests (listing c)).sha256
 
--- The lists of a catalogue and of a history, which have one page, or none where they are empty.
+-- The lists are those of a catalogue, of a history and of what a catalogue had when it was published.
 pub record AreLists (c : Contents) : Type 0 where
   pub catalogue : IsCatalogue c.catalogue
   pub history : IsHistory c.history
-  pub one_catalogue_page : length c.catalogue ≤ 1
-  pub one_history_page : length c.history ≤ 1
-  pub one_published_page : length c.published ≤ 1
+  pub published : IsCatalogue c.published
 
 -- A plan is of some command that writes these bytes.
 pub record IsPlanOfSome (old : Rooted) (bytes : List ℕ) (p : Plan) : Type 0 where

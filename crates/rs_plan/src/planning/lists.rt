@@ -5,7 +5,8 @@ ghost use Rattle.rs_time.specs.Moment.{IsMoment};
 ghost use Rattle.rs_record.specs.Changes.{bound, deleted};
 ghost use Rattle.rs_page.specs.SharedPages.{KeepsPages};
 ghost use Rattle.rs_page.specs.Pages.{placed_extents};
-ghost use Rattle.rs_catalogue.specs.Catalogue.{records_of, StandsUnstored};
+ghost use Rattle.rs_pages.specs.Rule.{bound_in, unbound_in, appended_to};
+ghost use Rattle.rs_catalogue.specs.Catalogue.{records_of, IsCatalogue, StandsUnstored};
 ghost use Rattle.rs_catalogue.specs.Named.{named};
 ghost use Rattle.rs_changes.specs.History.{changes_of, last_of, EndsUnstored};
 ghost use Rattle.rs_model.specs.Names.{value_of, bind, unbind};
@@ -55,11 +56,16 @@ pub(crate) fn lists_after_put(
     ensures published { IfOk result (λ lists. lists.published ≡ old.now.published) }
     ensures catalogue_pages { IfOk result (λ lists. KeepsPages old.now.catalogue lists.catalogue) }
     ensures history_pages { IfOk result (λ lists. KeepsPages old.now.history lists.history) }
-    ensures unplaced { IfOk result AreUnplaced }
+    ensures unplaced { AreUnplaced old.now → IfOk result AreUnplaced }
     ensures moment { IfOk result (λ _. IsMoment moment) }
-    ensures one_page { IfOk result (λ _. length old.now.catalogue ≤ 1) }
+    ensures catalogue { IfOk result (λ lists. lists.catalogue ≡ bound_in (λ r. r.name)
+        (record_of_body name.now kind.now body_length digests body moment) old.now.catalogue) }
+    ensures history { IfOk result (λ lists. lists.history ≡ appended_to (bound name.now
+        (is_some (value_of name.now (named (records_of old.now.catalogue)))) moment
+        (facts_of_body kind.now body_length digests)) old.now.history) }
     ensures unstored { IfOk result (λ lists. StandsUnstored name.now lists.catalogue
         × EndsUnstored lists.history) }
+    ensures lawful { IfOk result (λ _. IsCatalogue old.now.catalogue) }
 {
     let record = Record {
         name: name.copy(alloc)?,
@@ -116,9 +122,12 @@ pub(crate) fn lists_after_delete(
     ensures published { IfOk result (λ lists. lists.published ≡ old.now.published) }
     ensures catalogue_pages { IfOk result (λ lists. KeepsPages old.now.catalogue lists.catalogue) }
     ensures history_pages { IfOk result (λ lists. KeepsPages old.now.history lists.history) }
-    ensures unplaced { IfOk result AreUnplaced }
+    ensures unplaced { AreUnplaced old.now → IfOk result AreUnplaced }
     ensures moment { IfOk result (λ _. IsMoment moment) }
-    ensures one_page { IfOk result (λ _. length old.now.catalogue ≤ 1) }
+    ensures catalogue { IfOk result (λ lists. lists.catalogue
+        ≡ unbound_in (λ r. r.name) name.now old.now.catalogue) }
+    ensures history { IfOk result (λ lists. lists.history
+        ≡ appended_to (deleted name.now moment) old.now.history) }
 {
     let change = Change::deleted(name.copy(alloc)?, moment);
     lists_with(alloc, old, old.catalogue.without(alloc, name)?, change)
@@ -141,12 +150,12 @@ fn lists_with(
     ensures published { IfOk result (λ lists. lists.published ≡ old.now.published) }
     ensures history_pages { IfOk result (λ lists. KeepsPages old.now.history lists.history) }
     ensures unstored { IfOk result (λ lists. EndsUnstored lists.history) }
-    ensures unplaced { IfOk result (λ lists. placed_extents lists.history ≡ []) }
+    ensures unplaced { placed_extents old.now.history ≡ []
+        → IfOk result (λ lists. placed_extents lists.history ≡ []) }
     ensures moment { IfOk result (λ _. IsMoment «change».moment) }
-    ensures one_page { IfOk result (λ _. length old.now.catalogue ≤ 1) }
+    ensures history { IfOk result (λ lists. lists.history
+        ≡ appended_to «change» old.now.history) }
 {
-    // Reading it shows what its type keeps.
-    let _resources = old.catalogue.len();
     let header = header_at(alloc, &old.header, change.moment)?;
     Ok(Contents {
         header,

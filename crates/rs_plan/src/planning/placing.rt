@@ -2,14 +2,13 @@
 
 ghost use Rattle.std.specs.Prelude.{◌≡◌, ◌+◌, length, IfOk, OnErr, MatchOption};
 ghost use Rattle.rs_body.specs.Blocks.{blocks_of};
+ghost use Rattle.rs_catalogue.specs.Catalogue.{IsCatalogue};
+ghost use Rattle.rs_changes.specs.History.{IsHistory};
 ghost use Rattle.rs_plan.specs.Room.{Takes, HasNoRun, HasNoRoom, lists_needed};
 ghost use Rattle.rs_plan.specs.Placed.{AreUnplaced, IsPlaced};
-ghost use Rattle.rs_plan.specs.Plans.{AreInOnePage};
 
 use crate::plan::Plan;
 use rs_body::blocks_for;
-use rs_catalogue::Catalogue;
-use rs_changes::History;
 use rs_directory::directory_size;
 use rs_extent::{Extent, Used};
 use rs_image::Contents;
@@ -51,9 +50,9 @@ pub(crate) fn place_lists(
     ensures placed { IfOk result (IsPlaced used body lists) }
     ensures reply { IfOk result (λ plan. plan.reply ≡ reply) }
     ensures full { OnErr result (HasNoRoom used (lists_needed lists)) }
-    ensures catalogue { AreInOnePage lists.catalogue }
-    ensures history { AreInOnePage lists.history }
-    ensures published { AreInOnePage lists.published }
+    ensures catalogue { IsCatalogue lists.catalogue }
+    ensures history { IsHistory lists.history }
+    ensures published { IsCatalogue lists.published }
 {
     let length = directory_size(&lists.header, pages_of(&lists));
     lists.catalogue.place_touched(&mut used)?;
@@ -73,27 +72,9 @@ pub(crate) fn place_lists(
 fn pages_of(lists: &Contents) -> usize
     ensures pages { result ≡ length lists.now.catalogue + length lists.now.history
         + length lists.now.published }
-    ensures catalogue { AreInOnePage lists.now.catalogue }
-    ensures history { AreInOnePage lists.now.history }
-    ensures published { AreInOnePage lists.now.published }
+    ensures catalogue { IsCatalogue lists.now.catalogue }
+    ensures history { IsHistory lists.now.history }
+    ensures published { IsCatalogue lists.now.published }
 {
-    catalogue_pages(&lists.catalogue)
-        + history_pages(&lists.history)
-        + catalogue_pages(&lists.published)
-}
-
-// How many pages a catalogue has: one, or none where it is empty.
-fn catalogue_pages(catalogue: &Catalogue) -> usize
-    ensures pages { result ≡ length catalogue.now }
-    ensures one { AreInOnePage catalogue.now }
-{
-    if catalogue.len() == 0 { 0 } else { 1 }
-}
-
-// How many pages a history has: one, or none where it is empty.
-fn history_pages(history: &History) -> usize
-    ensures pages { result ≡ length history.now }
-    ensures one { AreInOnePage history.now }
-{
-    if history.len() == 0 { 0 } else { 1 }
+    lists.catalogue.page_count() + lists.history.page_count() + lists.published.page_count()
 }

@@ -2,4 +2,4 @@ use Rattle.rs_catalogue.proofs.laws.catalogue_stays.Goals as goal
 
 pub returns : goal.returns
 returns c kept refs old new pages inside keeps holds =
-    record { hold = c.pages_stay.ensures.pages kept refs old new pages inside keeps holds.hold; held = holds.held; one = holds.one }
+    record { hold = c.pages_stay.ensures.pages kept refs old new pages inside keeps holds.hold; held = holds.held }

@@ -5,10 +5,10 @@ pub returns-in_err-published-clause-rests : goal.returns-in_err-published-clause
 returns-in_err-published-clause-rests g c =
     let state = g.D.Disk.state in
     rest_on (state c.args.disk.now) (state c.load-2.new.disk) (state c.load-3.new.disk)
-    (rest_on (state c.args.disk.now) (state c.load.new.disk) (state c.load-2.new.disk) c.load.ensures.rests c.load-2.ensures.rests) c.load-3.ensures.rests
+    (rest_on (state c.args.disk.now) (state c.load.new.disk) (state c.load-2.new.disk) c.load.ensures.reads.rests c.load-2.ensures.reads.rests) c.load-3.ensures.reads.rests
 
 pub returns-clause-rests : goal.returns-clause-rests
 returns-clause-rests g c =
     let state = g.D.Disk.state in
     rest_on (state c.args.disk.now) (state c.load-2.new.disk) (state c.load-3.new.disk)
-    (rest_on (state c.args.disk.now) (state c.load.new.disk) (state c.load-2.new.disk) c.load.ensures.rests c.load-2.ensures.rests) c.load-3.ensures.rests
+    (rest_on (state c.args.disk.now) (state c.load.new.disk) (state c.load-2.new.disk) c.load.ensures.reads.rests c.load-2.ensures.reads.rests) c.load-3.ensures.reads.rests

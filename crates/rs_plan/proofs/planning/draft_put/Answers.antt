@@ -1,20 +1,22 @@
-use Rattle.std.proofs.Common.{◌≤◌, ◌∙◌, ℕ, List, length, sym, subst, inl, refl, arith}
+use Rattle.std.proofs.Common.{◌≤◌, ◌∙◌, ℕ, List, length, sym, subst, inl, refl}
 use Rattle.std.specs.Prelude.{replicate}
 use Rattle.rs_fixity.specs.declared.Digests.{Digests}
 use Rattle.rs_fixity.specs.Digests.{digests}
 use Rattle.rs_image.specs.Rooted.{IsRooted, rooted}
+use Rattle.rs_record.specs.declared.record.Record.{Record}
 use Rattle.rs_record.specs.Limits.{longest_body}
+use Rattle.rs_page.specs.Items.{record_format, change_format}
 use Rattle.rs_plan.specs.Drafts.{lists_filled, plan_filled}
-use Rattle.rs_plan.proofs.Drafts.{AreLong}
+use Rattle.rs_plan.proofs.Drafts.{AreLong, placed_stands, placed_ends}
 use Rattle.rs_body.specs.Blocks.{blocks_of}
 use Rattle.rs_model.specs.declared.command.Command.TheVariants.{Put}
 use Rattle.rs_plan.specs.Room.{HasNoRun, HasNoRoom, Takes}
-use Rattle.rs_plan.proofs.Drafted.{IsDraft, next_is, needed_is, unplaced_is, placed_is, records_are, changes_are, catalogue_is, history_is}
-use Rattle.rs_plan.proofs.Following.{lacking}
+use Rattle.rs_plan.specs.Placed.{AreUnplaced, facts_of_body}
+use Rattle.rs_plan.proofs.Drafted.{IsDraft, next_is, needed_is, unplaced_is, placed_is, records_are, changes_are, lawful_catalogue, lawful_history}
+use Rattle.rs_plan.proofs.Following.{all_unplaced, lacking}
 use Rattle.rs_plan.proofs.Here.{sound_here, used_here, later_here, planned_there, lacking_there}
 use Rattle.rs_plan.proofs.Rules.{put_rules}
 use Rattle.rs_plan.proofs.Parts.{sized_body}
-use Rattle.rs_plan.specs.Placed.{facts_of_body}
 use Rattle.rs_plan.proofs.Planned.{planned}
 use Rattle.rs_plan.proofs.Replies.{put_told}
 use Rattle.rs_plan.proofs.planning.draft_put.Goals as goal
@@ -26,6 +28,25 @@ unknown = record { md5 = replicate 16 0; sha256 = replicate 32 0 }
 unknown_long : AreLong unknown
 unknown_long = record { md5 = refl; sha256 = refl }
 
+pub place_lists-requires : goal.place_lists-requires
+place_lists-requires c =
+    let r = c.args.old.now in
+    let old = c.contents-contents.result.now in
+    let sound : IsRooted (rooted r.size r.root old) = sound_here r old c.contents-contents.ensures.contents c.contents-contents.ensures.sound in
+    c.in_ok-lists.ensures.unplaced (all_unplaced old old sound.whole.catalogue sound.whole.history refl refl)
+
+pub returns-clause-awaits : goal.returns-clause-awaits
+returns-clause-awaits c =
+    let unstored = c.in_ok-lists.ensures.unstored in
+    let lists = c.in_ok-lists.lists in
+    let plan = c.in_ok-plan.plan in
+    let placed = c.in_ok-plan.ensures.placed in
+    record {
+      catalogue = placed_stands record_format (λ (r : Record). r.name) c.args.name.now c.take_lowest.new.used placed.after_catalogue lists.catalogue plan.contents.catalogue
+          placed.catalogue unstored.0;
+      history = placed_ends change_format placed.after_catalogue placed.after_history lists.history plan.contents.history placed.history unstored.1;
+    }
+
 pub returns-in_default-clause-full : goal.returns-in_default-clause-full
 returns-in_default-clause-full c full bytes is = record {
   used = c.in_ok-used.used;
@@ -35,6 +56,7 @@ returns-in_default-clause-full c full bytes is = record {
 
 pub returns-in_err-plan-clause-full : goal.returns-in_err-plan-clause-full
 returns-in_err-plan-clause-full c full bytes is =
+    let law = c.page_rule_is_kept.ensures in
     let old = c.contents-contents.result.now in
     let at = c.contents-contents.ensures.contents in
     let r = c.args.old.now in
@@ -42,21 +64,33 @@ returns-in_err-plan-clause-full c full bytes is =
     let kind = c.args.kind.now in
     let lists = c.in_ok-lists.lists in
     let made = c.in_ok-lists.ensures in
-    let placing = c.in_err-plan.ensures in
     let body = c.in-Some.body in
+    let moment = c.args.moment in
     let used = c.take_lowest.new.used in
-    let draft : IsDraft old lists name kind (length bytes) unknown body c.args.moment =
-    subst (λ (n : ℕ). IsDraft old lists name kind n unknown body c.args.moment) (sym is)
-    (record { header = made.header; records = made.records; changes = made.changes; published = made.published; stands = made.unstored.0; ends = made.unstored.1; few = placing.catalogue; few' = placing.history; long = unknown_long }) in
-    let takes : Takes c.in_ok-used.used (blocks_of (length bytes)) body used = subst (λ (n : ℕ). Takes c.in_ok-used.used (blocks_of n) body used) (sym is) c.in-Some.ensures in
-    lacking_there r old at (Put name kind bytes) c.args.moment
-    (lacking (rooted r.size r.root old) (Put name kind bytes) c.args.moment c.in_ok-used.used used body (lists_filled name (digests bytes) lists)
+    let sound : IsRooted (rooted r.size r.root old) = sound_here r old at c.contents-contents.ensures.sound in
+    let unplaced : AreUnplaced lists = made.unplaced (all_unplaced old old sound.whole.catalogue sound.whole.history refl refl) in
+    let draft : IsDraft old lists name kind (length bytes) unknown body moment =
+    subst (λ (n : ℕ). IsDraft old lists name kind n unknown body moment) (sym is)
+    (record {
+      header = made.header;
+      published = made.published;
+      catalogue = made.catalogue;
+      history = made.history;
+      old_lawful = made.lawful;
+      unplaced = unplaced;
+      long = unknown_long;
+    }) in
+    let takes : Takes c.in_ok-used.used (blocks_of (length bytes)) body used =
+    subst (λ (n : ℕ). Takes c.in_ok-used.used (blocks_of n) body used) (sym is) c.in-Some.ensures in
+    lacking_there r old at (Put name kind bytes) moment
+    (lacking (rooted r.size r.root old) (Put name kind bytes) moment c.in_ok-used.used used body (lists_filled name (digests bytes) lists)
     (used_here r old at c.in_ok-used.used c.in_ok-used.ensures) takes
-    (next_is old lists name kind bytes unknown body c.args.moment draft)
-    (subst (λ (ns : List ℕ). HasNoRoom used ns) (sym (needed_is old lists name kind bytes unknown body c.args.moment draft)) placing.full))
+    (next_is law old lists name kind bytes unknown body moment draft)
+    (subst (λ (ns : List ℕ). HasNoRoom used ns) (sym (needed_is law old lists name kind bytes unknown body moment draft)) c.in_err-plan.ensures.full))
 
 pub returns-clause-planned : goal.returns-clause-planned
 returns-clause-planned c bytes is =
+    let law = c.page_rule_is_kept.ensures in
     let old = c.contents-contents.result.now in
     let at = c.contents-contents.ensures.contents in
     let r = c.args.old.now in
@@ -68,24 +102,38 @@ returns-clause-planned c bytes is =
     let body = c.in-Some.body in
     let used = c.take_lowest.new.used in
     let moment = c.args.moment in
+    let sound : IsRooted (rooted r.size r.root old) = sound_here r old at c.contents-contents.ensures.sound in
+    let unplaced : AreUnplaced lists = made.unplaced (all_unplaced old old sound.whole.catalogue sound.whole.history refl refl) in
     let draft : IsDraft old lists name kind (length bytes) unknown body moment =
     subst (λ (n : ℕ). IsDraft old lists name kind n unknown body moment) (sym is)
-    (record { header = made.header; records = made.records; changes = made.changes; published = made.published; stands = made.unstored.0; ends = made.unstored.1; few = placing.catalogue; few' = placing.history; long = unknown_long }) in
-    let takes : Takes c.in_ok-used.used (blocks_of (length bytes)) body used = subst (λ (n : ℕ). Takes c.in_ok-used.used (blocks_of n) body used) (sym is) c.in-Some.ensures in
+    (record {
+      header = made.header;
+      published = made.published;
+      catalogue = made.catalogue;
+      history = made.history;
+      old_lawful = made.lawful;
+      unplaced = unplaced;
+      long = unknown_long;
+    }) in
+    let takes : Takes c.in_ok-used.used (blocks_of (length bytes)) body used =
+    subst (λ (n : ℕ). Takes c.in_ok-used.used (blocks_of n) body used) (sym is) c.in-Some.ensures in
     let filled = lists_filled name (digests bytes) lists in
     let short : length bytes ≤ longest_body = subst (λ (n : ℕ). n ≤ longest_body) (sym is) c.requires.body in
-    let sound : IsRooted (rooted r.size r.root old) = sound_here r old at c.contents-contents.ensures.sound in
     planned_there r old at (Put name kind bytes) moment (plan_filled name (digests bytes) c.in_ok-plan.plan)
     (planned r.size r.root old sound (Put name kind bytes) moment c.in_ok-used.used used
     (used_here r old at c.in_ok-used.used c.in_ok-used.ensures)
     body takes filled
-    (next_is old lists name kind bytes unknown body moment draft)
-    (put_rules r.size r.root old filled name kind bytes body moment sound.whole sound.listable.header made.moment (later_here r old at moment c.requires.change.later) short
+    (next_is law old lists name kind bytes unknown body moment draft)
+    (put_rules r.size r.root old filled name kind bytes body moment sound.whole sound.listable.header made.moment
+    (later_here r old at moment c.requires.change.later) short
     (sized_body (Put name kind bytes) c.in_ok-used.used used body takes) made.header
-    (records_are old lists name kind bytes unknown body moment draft) (changes_are old lists name kind bytes unknown body moment draft) made.published)
-    (unplaced_is old lists name kind bytes unknown body moment draft made.unplaced)
-    (plan_filled name (digests bytes) c.in_ok-plan.plan) (placed_is old lists name kind bytes unknown body moment draft used c.in_ok-plan.plan placing.placed)
-    (λ image. placing.reply ∙ put_told image old lists name kind bytes moment (facts_of_body kind c.args.body_length unknown) c.reply_told-reply.result made.changes c.reply_told-reply.ensures)
-    made.one_page
-    (omega (arith, (catalogue_is old lists name kind bytes unknown body moment draft).count, placing.catalogue.count))
-    (omega (arith, (history_is old lists name kind bytes unknown body moment draft).count, placing.history.count)) placing.published.count)
+    (records_are law old lists name kind bytes unknown body moment draft) (changes_are law old lists name kind bytes unknown body moment draft) made.published)
+    (unplaced_is law old lists name kind bytes unknown body moment draft)
+    (plan_filled name (digests bytes) c.in_ok-plan.plan) (placed_is law old lists name kind bytes unknown body moment draft used c.in_ok-plan.plan placing.placed)
+    (λ image.
+    placing.reply
+    ∙ put_told image old lists name kind bytes moment (facts_of_body kind c.args.body_length unknown) c.reply_told-reply.result made.changes
+    c.reply_told-reply.ensures)
+    (lawful_catalogue law old lists name kind bytes unknown body moment draft placing.catalogue)
+    (lawful_history law old lists name kind bytes unknown body moment draft placing.history)
+    placing.published)

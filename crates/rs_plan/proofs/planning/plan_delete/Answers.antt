@@ -1,11 +1,35 @@
+use Rattle.std.proofs.Common.{◌≡◌, ℕ, List, [], refl, subst}
 use Rattle.rs_extent.specs.declared.Extent.{Extent}
+use Rattle.rs_commit.specs.declared.root.Root.{Root}
+use Rattle.rs_record.specs.declared.record.Record.{Record}
+use Rattle.rs_record.specs.Changes.{deleted}
+use Rattle.rs_page.specs.Pages.{Page, placed_extents}
+use Rattle.rs_pages.specs.Rule.{unbound_in, appended_to}
+use Rattle.rs_image.specs.declared.contents.Contents.{Contents}
 use Rattle.rs_image.specs.Rooted.{IsRooted, rooted}
 use Rattle.rs_model.specs.declared.command.Command.TheVariants.{Delete}
-use Rattle.rs_plan.proofs.Following.{delete_next, takes_none, lacking}
+use Rattle.rs_plan.specs.Placed.{AreUnplaced}
+use Rattle.rs_plan.specs.Plans.{MayHavePlaces}
+use Rattle.rs_plan.proofs.Following.{delete_next, all_unplaced, takes_none, lacking}
+use Rattle.rs_plan.proofs.Placing.{ruled_itself}
 use Rattle.rs_plan.proofs.Here.{sound_here, used_here, later_here, planned_there, lacking_there}
 use Rattle.rs_plan.proofs.Rules.{delete_rules}
 use Rattle.rs_plan.proofs.Planned.{planned}
 use Rattle.rs_plan.proofs.planning.plan_delete.Goals as goal
+
+-- the pages of a list that has no places are its own
+ruled : {T : Type 0} (pages made : List (Page T)) → made ≡ pages → placed_extents made ≡ [] → MayHavePlaces pages made
+ruled {T} pages made is none = subst (λ (l : List (Page T)). MayHavePlaces l made) is (ruled_itself made none)
+
+-- where a root reaches the lists, none of their pages waits to be written
+unplaced : (old : Contents) (size : ℕ) (root : Root) → IsRooted (rooted size root old) → AreUnplaced old
+unplaced old size root sound = all_unplaced old old sound.whole.catalogue sound.whole.history refl refl
+
+pub place_lists-requires : goal.place_lists-requires
+place_lists-requires c =
+    let r = c.args.old.now in
+    let old = c.contents-contents.result.now in
+    c.in_ok-lists.ensures.unplaced (unplaced old r.size r.root (sound_here r old c.contents-contents.ensures.contents c.contents-contents.ensures.sound))
 
 pub returns-in_err-plan-clause-full : goal.returns-in_err-plan-clause-full
 returns-in_err-plan-clause-full c full =
@@ -13,14 +37,18 @@ returns-in_err-plan-clause-full c full =
     let old = c.contents-contents.result.now in
     let at = c.contents-contents.ensures.contents in
     let name = c.args.name.now in
+    let moment = c.args.moment in
     let used = c.in_ok-used.used in
     let lists = c.in_ok-lists.lists in
     let made = c.in_ok-lists.ensures in
     let placing = c.in_err-plan.ensures in
     let body : Extent = record { first = 0; blocks = 0 } in
-    lacking_there r old at (Delete name) c.args.moment
-    (lacking (rooted r.size r.root old) (Delete name) c.args.moment used used body lists (used_here r old at used c.in_ok-used.ensures) (takes_none used)
-    (delete_next old lists name body c.args.moment made.header made.records made.changes made.published made.catalogue_pages made.history_pages placing.catalogue placing.history)
+    let none : AreUnplaced lists = made.unplaced (unplaced old r.size r.root (sound_here r old at c.contents-contents.ensures.sound)) in
+    lacking_there r old at (Delete name) moment
+    (lacking (rooted r.size r.root old) (Delete name) moment used used body lists (used_here r old at used c.in_ok-used.ensures) (takes_none used)
+    (delete_next old lists name body moment made.header made.records made.changes made.published made.catalogue_pages made.history_pages
+    (ruled (unbound_in (λ (r : Record). r.name) name old.catalogue) lists.catalogue made.catalogue none.catalogue)
+    (ruled (appended_to (deleted name moment) old.history) lists.history made.history none.history))
     placing.full)
 
 pub returns-clause-planned : goal.returns-clause-planned
@@ -36,9 +64,12 @@ returns-clause-planned c =
     let made = c.in_ok-lists.ensures in
     let placing = c.in_ok-plan.ensures in
     let body : Extent = record { first = 0; blocks = 0 } in
+    let none : AreUnplaced lists = made.unplaced (unplaced old r.size r.root sound) in
     planned_there r old at (Delete name) moment c.in_ok-plan.plan
     (planned r.size r.root old sound (Delete name) moment used used (used_here r old at used c.in_ok-used.ensures) body (takes_none used) lists
-    (delete_next old lists name body moment made.header made.records made.changes made.published made.catalogue_pages made.history_pages placing.catalogue placing.history)
+    (delete_next old lists name body moment made.header made.records made.changes made.published made.catalogue_pages made.history_pages
+    (ruled (unbound_in (λ (r : Record). r.name) name old.catalogue) lists.catalogue made.catalogue none.catalogue)
+    (ruled (appended_to (deleted name moment) old.history) lists.history made.history none.history))
     (delete_rules r.size r.root old lists name body moment sound.whole sound.listable.header made.moment (later_here r old at moment c.requires.change.later)
     made.header made.records made.changes made.published)
-    made.unplaced c.in_ok-plan.plan placing.placed (λ image. placing.reply) made.one_page placing.catalogue.count placing.history.count placing.published.count)
+    none c.in_ok-plan.plan placing.placed (λ image. placing.reply) placing.catalogue placing.history placing.published)

@@ -1,7 +1,5 @@
-use Rattle.std.proofs.Common.{◌≤◌, ◌∙◌, ap, ℕ, List, length, subst}
+use Rattle.std.proofs.Common.{◌∙◌, ap, ℕ}
 use Rattle.rs_extent.specs.declared.Extent.{Extent}
-use Rattle.rs_record.specs.declared.record.Record.{Record}
-use Rattle.rs_page.specs.Pages.{Page}
 use Rattle.rs_directory.specs.declared.header.Header.{Header}
 use Rattle.rs_image.specs.Rooted.{IsRooted, rooted}
 use Rattle.rs_model.specs.declared.command.Command.TheVariants.{Publish}
@@ -52,4 +50,4 @@ returns-clause-planned c =
     (all_unplaced old lists sound.whole.catalogue sound.whole.history made.catalogue made.history)
     c.in_ok-plan.plan placing.placed
     (λ image. placing.reply ∙ ap (λ (n : ℕ). replies.Published n moment) (ap (λ (h : Header). h.number) made.header))
-    (subst (λ (pages : List (Page Record)). length pages ≤ 1) made.catalogue placing.catalogue.count) placing.catalogue.count placing.history.count placing.published.count)
+    placing.catalogue placing.history placing.published)

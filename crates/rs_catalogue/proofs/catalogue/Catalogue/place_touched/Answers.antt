@@ -1,11 +1,19 @@
-use Rattle.std.proofs.Common.{◌≡◌, [], ◌∷◌, sym, ap, ◌∙◌}
-use Rattle.std.proofs.lemmas.Result.{on_ok_weaker}
-use Rattle.rs_page.specs.Pages.{placed_extents}
-use Rattle.rs_catalogue.specs.OnePage.{page_or_none}
-use Rattle.rs_catalogue.proofs.Taken.{taken_one}
+use Rattle.std.proofs.Common.{List, sym, ap, ◌∙◌, subst}
+use Rattle.rs_record.specs.declared.record.Record.{Record}
+use Rattle.rs_page.specs.Pages.{Page}
+use Rattle.rs_catalogue.specs.Catalogue.{StandsUnstored, records_of}
+use Rattle.rs_catalogue.proofs.Kept.{same_held, same_records, stands_again}
 use Rattle.rs_catalogue.proofs.catalogue.Catalogue.place_touched.Goals as goal
 
-pub returns-clause-taken : goal.returns-clause-taken
-returns-clause-taken c none =
-    let before : placed_extents (c.in-Some.page ∷ []) ≡ [] = ap (λ page. placed_extents (page_or_none page)) (sym c.in-Some.is) ∙ (ap placed_extents c.self.view_is ∙ none) in
-    on_ok_weaker c.place_in.result (λ places. taken_one c.args.used.now c.place_in.new.used c.in-Some.page c.place_in.new.self places before) c.place_in.ensures.ok
+pub invariant_of-self : goal.invariant_of-self
+invariant_of-self c =
+    same_held c.self.inside.pages c.place_touched.new.self c.place_touched.ensures.items c.self.invariant
+
+pub returns-clause-unstored : goal.returns-clause-unstored
+returns-clause-unstored c name h =
+    stands_again name c.self.inside.pages c.place_touched.new.self c.place_touched.ensures.items c.place_touched.ensures.stored
+    (subst (StandsUnstored name) (sym c.self.view_is) h)
+
+pub returns-clause-records : goal.returns-clause-records
+returns-clause-records c =
+    same_records c.self.inside.pages c.place_touched.new.self c.place_touched.ensures.items ∙ ap (λ (pages : List (Page Record)). records_of pages) c.self.view_is

@@ -1,29 +1,19 @@
-use Rattle.std.proofs.Common.{◌≡◌, ◌≤◌, ◌+◌, List, [], ◌∷◌, length, sym, ap, ◌∙◌, subst}
-use Rattle.std.specs.Prelude.{All}
-use Rattle.std.proofs.lemmas.List.Elements.{All-head}
+use Rattle.std.proofs.Common.{List, Result, Ok, Err, ap, ◌∙◌}
+use Rattle.std.specs.Prelude.{OnErr}
 use Rattle.rs_record.specs.declared.change.Change.{Change}
-use Rattle.rs_extent.specs.Extents.{AreBeside, AreOnDisk}
-use Rattle.rs_page.specs.Pages.{Page, IsTouched, placed_extents}
-use Rattle.rs_changes.specs.OnePage.{page_or_none}
-use Rattle.rs_changes.proofs.OnePage.{beside_one, on_disk_one, calls_one}
+use Rattle.rs_page.specs.Pages.{Page}
+use Rattle.rs_changes.specs.History.{changes_of}
+use Rattle.rs_changes.proofs.Kept.{same_kept, same_changes}
 use Rattle.rs_changes.proofs.history.History.store_touched.Goals as goal
 
-pub store-requires-clause-room : goal.store-requires-clause-room
-store-requires-clause-room g c =
-    let view : c.args.self.now ≡ c.in-Some.page ∷ [] = sym c.self.view_is ∙ ap page_or_none c.in-Some.is in
-    on_disk_one c.in-Some.page (g.D.Disk.state c.args.disk.now).size
-    (subst (λ (pages : List (Page Change)). AreOnDisk (placed_extents pages) (g.D.Disk.state c.args.disk.now).size) view c.requires.room)
+on_err : {T E : Type 0} (P : Type 0) (r : Result T E) → P → OnErr r P
+on_err P (Ok x) p = tt
+on_err P (Err e) p = p
 
-pub returns-clause-outside : goal.returns-clause-outside
-returns-clause-outside g c kept beside =
-    let view : c.args.self.now ≡ c.in-Some.page ∷ [] = sym c.self.view_is ∙ ap page_or_none c.in-Some.is in
-    c.store.ensures.outside kept (beside_one kept c.in-Some.page (subst (λ (pages : List (Page Change)). AreBeside kept (placed_extents pages)) view beside))
+pub invariant_of-self : goal.invariant_of-self
+invariant_of-self g c =
+    same_kept c.self.inside.pages c.store_touched.new.self c.store_touched.ensures.items c.self.invariant
 
-pub returns-clause-one_each : goal.returns-clause-one_each
-returns-clause-one_each g c =
-    let view : c.args.self.now ≡ c.in-Some.page ∷ [] = sym c.self.view_is ∙ ap page_or_none c.in-Some.is in
-    let placed : ¬ IsTouched c.in-Some.page.place = All-head (λ (page : Page Change). ¬ IsTouched page.place) c.in-Some.page []
-    (subst (λ (pages : List (Page Change)). All (λ page. ¬ IsTouched page.place) pages) view c.requires.placed) in
-    subst (λ (pages : List (Page Change)). (g.D.Disk.state c.store.new.disk).calls ≤ (g.D.Disk.state c.args.disk.now).calls + length (placed_extents pages)) (sym view)
-    (calls_one c.in-Some.page (g.D.Disk.state c.args.disk.now).calls (g.D.Disk.state c.store.new.disk).calls placed c.store.ensures.one_call
-    (λ stored. ap (λ state. state.calls) (c.store.ensures.stored stored).1))
+pub returns-clause-changes : goal.returns-clause-changes
+returns-clause-changes g c =
+    on_err _ c.store_touched.result (same_changes c.self.inside.pages c.store_touched.new.self c.store_touched.ensures.items ∙ ap (λ (pages : List (Page Change)). changes_of pages) c.self.view_is)

@@ -1,14 +1,16 @@
-use Rattle.std.proofs.Common.{◌≡◌, ◌∷◌, [], ◌++◌, ◌+◌, length, length-append, ap, ◌∙◌, arith}
-use Rattle.rs_changes.specs.History.{changes_of}
+use Rattle.std.proofs.Common.{◌<◌, List, length, ap, ◌∙◌, sym, subst}
+use Rattle.std.specs.Prelude.{IfSome}
+use Rattle.rs_record.specs.declared.change.Change.{Change}
+use Rattle.rs_model.specs.State.{most_changes}
+use Rattle.rs_page.specs.Pages.{Page}
+use Rattle.rs_changes.specs.History.{changes_of, last_of}
 use Rattle.rs_changes.proofs.Rising.{kept-append}
-use Rattle.rs_changes.proofs.OnePage.{history_of_one}
 use Rattle.rs_changes.proofs.history.History.with.Goals as goal
 
 pub invariant_of-result : goal.invariant_of-result
 invariant_of-result c =
-    let old = changes_of c.args.self.now in
-    let new = c.new.result.items in
-    let appended : new ≡ old ++ c.args.change ∷ [] =
-    c.new.ensures.items ∙ (c.in_ok-changes.ensures ∙ ap (λ changes. changes ++ c.args.change ∷ []) c.changes.ensures.value) in
-    let sizes : length new ≡ length old + 1 = ap length appended ∙ length-append old (c.args.change ∷ []) in
-    history_of_one c.new.result (omega (arith, sizes)) (kept-append old new c.args.change c.changes.ensures.lawful.kept c.requires.rises c.requires.room appended)
+    let pages : List (Page Change) = c.self.inside.pages in
+    kept-append (changes_of pages) (changes_of c.in_ok-pages.pages) c.args.change c.self.invariant
+    (subst (λ (now : List (Page Change)). IfSome (last_of (changes_of now)) (λ last. last.moment < c.args.change.moment)) (sym c.self.view_is) c.requires.rises)
+    (subst (λ (now : List (Page Change)). length (changes_of now) < most_changes) (sym c.self.view_is) c.requires.room)
+    (ap (λ (next : List (Page Change)). changes_of next) c.in_ok-pages.ensures ∙ c.pages_are_one_list.ensures.appended c.args.change pages)

@@ -1,7 +1,8 @@
 use Rattle.std.proofs.Common.{◌≡◌, ◌-◌, ◌≤◌, ℕ, suc, List, length, sym, ap, ◌∙◌, subst, arith}
-use Rattle.rs_page.specs.Pages.{Page}
+use Rattle.rs_page.specs.Pages.{Page, items_of}
 use Rattle.rs_pages.specs.Rule.{HaveItems, items_at}
 use Rattle.rs_pages.proofs.FilledAt.{ends_some, ends_unstored, some_at, filled_at_end}
+use Rattle.rs_pages.proofs.LastFilled.{last_is_filled}
 use Rattle.rs_pages.proofs.pages.Pages.fill_last.Goals as goal
 
 pub overflow_sub-i : goal.overflow_sub-i
@@ -25,8 +26,9 @@ fill_at-requires-clause-not_stored g c =
     let last : suc k ≡ length pages = omega (arith, c.len-k.ensures, c.self.inside.pages.ok.0, ap length c.self.view_is, ends_some pages c.requires) in
     ends_unstored k pages last c.requires
 
-pub returns-clause-pages : goal.returns-clause-pages
-returns-clause-pages g c =
+-- the pages, with the last item filled
+filled : goal.returns-clause-pages
+filled g c =
     let pages : List (Page g.row.T.Denot) = c.args.self.now in
     let k : ℕ = c.len-k.result - 1 in
     let i : ℕ = length c.items_at.result.now - 1 in
@@ -34,3 +36,10 @@ returns-clause-pages g c =
     let some : 1 ≤ length (items_at k pages) = some_at k pages (omega arith) (subst HaveItems c.self.view_is c.self.invariant.some) in
     let end : suc i ≡ length (items_at k pages) = omega (arith, ap length c.items_at.ensures, some) in
     c.fill_at.ensures.pages ∙ sym (filled_at_end (g.T.Fill.filled c.args.digests) k i pages last end)
+
+pub returns-clause-pages : goal.returns-clause-pages
+returns-clause-pages = filled
+
+pub returns-clause-items : goal.returns-clause-items
+returns-clause-items g c =
+    ap (λ pages. items_of pages) (filled g c) ∙ last_is_filled (g.T.Fill.filled c.args.digests) c.args.self.now (subst HaveItems c.self.view_is c.self.invariant.some)

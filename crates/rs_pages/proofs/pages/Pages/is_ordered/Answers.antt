@@ -31,5 +31,5 @@ returns-then-not-is_lt g c =
 
 pub returns : goal.returns
 returns g c =
-    let whole : take c.loop-i.i (items_of c.args.self.now) ≡ items_of c.args.self.now = take_all c.loop-i.i (items_of c.args.self.now) (omega (arith, c.len-i-end.ensures, c.loop-i-test.false)) in
+    let whole : take c.loop-i.i (items_of c.args.self.now) ≡ items_of c.args.self.now = take_all c.loop-i.i (items_of c.args.self.now) (omega (arith, c.len-i-end.ensures.value, c.loop-i-test.false)) in
     (λ _. subst (λ (items : List g.row.T.Denot). IsTrue (is_ordered (keyed g.T.Named.name items))) whole c.loop-i.invariant, λ _. refl)

@@ -1,7 +1,0 @@
-use Rattle.std.proofs.Common.{ℕ, suc, ◌<◌}
-use Rattle.rs_record.specs.declared.change.Change.{Change}
-use Rattle.rs_changes.proofs.Rising.{Rises}
-use Rattle.rs_changes.proofs.changes.is_rising.Given as goal
-
-abbrev pub invariant-loop-i : goal.invariant-loop-i
-invariant-loop-i l = (k : ℕ) (d : Change) → suc k < l.i → Rises l.changes k d

@@ -1,0 +1,80 @@
+"""The page rule, as plain and slow as can be: a list in pages is a list of lists, and nothing is shared with the program.
+
+A command touches one page of a list at most and makes new lists of its items. All other pages stay the very lists that
+they were, so whoever keeps pages can tell by `is` which ones no command has touched.
+"""
+
+# A touched page of records is cut above so many items, into pages of so many. A page of changes has as many at most.
+MOST, CUT = 64, 32
+
+
+def cut(page):
+    """The pages that a touched page of records becomes: none where nothing is left in it."""
+    pages = []
+    while len(page) > MOST:
+        pages.append(page[:CUT])
+        page = page[CUT:]
+    return [*pages, page] if page else pages
+
+
+def home(pages, name):
+    """The place of the last page whose first name is not above this one, or of the first page."""
+    places = [place for place, page in enumerate(pages) if page[0][0] <= name]
+    return places[-1] if places else 0
+
+
+def holds(pages, name):
+    return any(name == item[0] for page in pages for item in page)
+
+
+def bound(pages, item):
+    """A list of records with this one, whose name comes first in it, in the place of any of that name."""
+    if not pages:
+        return [[item]]
+    place = home(pages, item[0])
+    others = [it for it in pages[place] if it[0] != item[0]]
+    return [*pages[:place], *cut(sorted([*others, item])), *pages[place + 1 :]]
+
+
+def unbound(pages, name):
+    """A list of records without the one of this name, which it has."""
+    place = home(pages, name)
+    others = [it for it in pages[place] if it[0] != name]
+    return [*pages[:place], *cut(others), *pages[place + 1 :]]
+
+
+def appended(pages, change):
+    """A list of changes with one more."""
+    if pages and len(pages[-1]) < MOST:
+        return [*pages[:-1], [*pages[-1], change]]
+    return [*pages, [change]]
+
+
+class Lists:
+    """The three lists of a source in pages. A record is its name and moment; a change is its name, what happened and its moment."""
+
+    def __init__(self, catalogue=(), changes=(), published=(), last=0):
+        self.catalogue, self.changes, self.published = list(catalogue), list(changes), list(published)
+        self.last = last
+
+    def put(self, name):
+        """Puts a name, and tells what happened."""
+        what = "updated" if holds(self.catalogue, name) else "created"
+        self.last += 1
+        self.catalogue = bound(self.catalogue, (name, self.last))
+        self.changes = appended(self.changes, (name, what, self.last))
+        return what
+
+    def delete(self, name):
+        """Deletes a name, and tells what happened, or that the name is not held."""
+        if not holds(self.catalogue, name):
+            return "refused"
+        self.last += 1
+        self.catalogue = unbound(self.catalogue, name)
+        self.changes = appended(self.changes, (name, "deleted", self.last))
+        return "deleted"
+
+    def publish(self):
+        self.last += 1
+        self.published = self.catalogue
+        return "published"
