@@ -14,4 +14,6 @@ mod lists;
 #[cfg(test)]
 mod pages;
 #[cfg(test)]
+mod paging;
+#[cfg(test)]
 mod values;

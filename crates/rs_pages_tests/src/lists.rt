@@ -1,5 +1,5 @@
 //! Catalogues and histories on a device that fails, and the parts of a history.
-ghost use Rattle.std.specs.Prelude.{◌≡◌, []};
+ghost use Rattle.std.specs.Prelude.{◌≡◌, [], IfOk};
 ghost use Rattle.rs_page.specs.Pages.{placed_extents};
 
 use crate::values::deletion;
@@ -87,7 +87,13 @@ fn a_history_is_not_stored_by_a_failing_write(rt: HostRuntime) -> Result<(), Fai
 }
 
 // The history with one more change, at this moment.
-fn with(rt: &(impl Abort + AllocGlobal), history: &History, ms: u64) -> Result<History, Fail> {
+pub(super) fn with(
+    rt: &(impl Abort + AllocGlobal),
+    history: &History,
+    ms: u64,
+) -> Result<History, Fail>
+    ensures { placed_extents history.now ≡ [] → IfOk result (λ next. placed_extents next ≡ []) }
+{
     let change = deletion(rt, b"a", ms)?;
     let len = history.len();
     assert!(rt; len < 50_000);

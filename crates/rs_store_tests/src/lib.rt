@@ -12,6 +12,8 @@ mod failing;
 #[cfg(test)]
 mod filling;
 #[cfg(test)]
+mod paging;
+#[cfg(test)]
 mod reading;
 #[cfg(test)]
 mod receiving;
