@@ -27,7 +27,7 @@ impl Catalogue {
     ///
     /// # Errors
     ///
-    /// [`Full`] where a page has no such run. Pages before it may have been given blocks then.
+    /// [`Full`] where a page has no such run; nothing has changed then.
     pub fn place_touched(&mut self, used: &mut Used) -> Result<(), Full>
         ensures places { OnOk result (Places record_format used.old self.old used.new self.new) }
         ensures placed { OnOk result (All (λ page. ¬ IsTouched page.place) self.new) }
@@ -37,6 +37,8 @@ impl Catalogue {
             → StandsUnstored name self.old
             → StandsUnstored name self.new }
         ensures full { OnErr result (HasNoPlace record_format used.old self.old) }
+        ensures used { OnErr result (used.new ≡ used.old) }
+        ensures unchanged { OnErr result (self.new ≡ self.old) }
         ensures records { records_of self.new ≡ records_of self.old }
     {
         self.pages.place_touched(used)

@@ -28,7 +28,7 @@ impl History {
     ///
     /// # Errors
     ///
-    /// [`Full`] where a page has no such run. Pages before it may have been given blocks then.
+    /// [`Full`] where a page has no such run; nothing has changed then.
     pub fn place_touched(&mut self, used: &mut Used) -> Result<(), Full>
         ensures places { OnOk result (Places change_format used.old self.old used.new self.new) }
         ensures placed { OnOk result (All (λ page. ¬ IsTouched page.place) self.new) }
@@ -36,6 +36,8 @@ impl History {
             → OnOk result (AreTaken used.old used.new (placed_extents self.new)) }
         ensures unstored { EndsUnstored self.old → EndsUnstored self.new }
         ensures full { OnErr result (HasNoPlace change_format used.old self.old) }
+        ensures used { OnErr result (used.new ≡ used.old) }
+        ensures unchanged { OnErr result (self.new ≡ self.old) }
         ensures changes { changes_of self.new ≡ changes_of self.old }
     {
         self.pages.place_touched(used)

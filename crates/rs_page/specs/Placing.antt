@@ -1,9 +1,9 @@
 -- How pages are given blocks: one by one in their order, each touched page the lowest run of its size.
-use Rattle.std.specs.Prelude.{◌≡◌, ◌⊎◌, ℕ, Bool, true, List, [], ◌∷◌}
+use Rattle.std.specs.Prelude.{◌≡◌, ◌⊎◌, ℕ, Bool, true, false, List, [], ◌∷◌}
 use Rattle.rs_extent.specs.declared.Extent.{Extent}
 use Rattle.rs_extent.specs.Blocks.{IsFreeRun, IsLowest, Sets}
 use Rattle.rs_page.specs.declared.place.Place.{Place}
-use Rattle.rs_page.specs.declared.place.Place.TheVariants.{Placed}
+use Rattle.rs_page.specs.declared.place.Place.TheVariants.{Touched, Placed, Stored}
 use Rattle.rs_page.specs.Format.{ItemFormat}
 use Rattle.rs_page.specs.Pages.{Page, WhereTouched, blocks_needed}
 
@@ -39,3 +39,15 @@ HasNoPlace format used [] = ⊥
 HasNoPlace {T} format used (page ∷ pages) =
     PageHasNoRun format used page
     ⊎ ((between : List Bool) × (page' : Page T) × PlacesOne format used page between page' × HasNoPlace format between pages)
+
+-- where a page stands once its blocks were given back
+abbrev pub place_taken_back : Place → Place
+place_taken_back Touched = Touched
+place_taken_back (Placed extent) = Touched
+place_taken_back (Stored ref) = Stored ref
+
+-- the blocks that a page was given are free again, and no others change
+abbrev pub GivesBack : Place → List Bool → List Bool → Type 0
+GivesBack Touched used used' = used' ≡ used
+GivesBack (Placed extent) used used' = Sets used used' extent false
+GivesBack (Stored ref) used used' = used' ≡ used

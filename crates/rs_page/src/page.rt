@@ -3,9 +3,9 @@ pub(crate) mod load;
 pub(crate) mod store;
 
 ghost use Rattle.std.specs.Prelude.{ℕ, ◌≡◌, ◌<◌, ◌≤◌, length, slice_get, slice_set, IfOk, IfSome, OnOk, OnErr};
-ghost use Rattle.rs_extent.specs.Blocks.{IsFreeRun};
-ghost use Rattle.rs_page.specs.Pages.{stored_ref};
-ghost use Rattle.rs_page.specs.Placing.{PlacesOne, PageHasNoRun};
+ghost use Rattle.rs_extent.specs.Blocks.{IsFreeRun, IsTaken};
+ghost use Rattle.rs_page.specs.Pages.{placed_extent, stored_ref};
+ghost use Rattle.rs_page.specs.Placing.{PlacesOne, PageHasNoRun, place_taken_back, GivesBack};
 
 use crate::format::page_size;
 use crate::shared::SharedItems;
@@ -109,6 +109,20 @@ impl<T: PageItem> Page<T> {
                 self.place = Place::Placed(extent);
                 Ok(())
             }
+        }
+    }
+
+    /// Gives back the blocks that the page was given, and the page is touched again. A page that was
+    /// not given blocks, or that is on the disk, stays as it is. It takes no memory.
+    pub fn take_back(&mut self, used: &mut Used)
+        requires taken { IfSome (placed_extent self.old.place) (IsTaken used.old) }
+        ensures items { self.new.items ≡ self.old.items }
+        ensures place { self.new.place ≡ place_taken_back self.old.place }
+        ensures used { GivesBack self.old.place used.old used.new }
+    {
+        if let Place::Placed(extent) = self.place {
+            used.give(extent);
+            self.place = Place::Touched;
         }
     }
 }

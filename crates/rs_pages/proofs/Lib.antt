@@ -7,6 +7,7 @@ pub mod AtHome
 pub mod Touched
 pub mod Counted
 pub mod Placed
+pub mod GivenBack
 pub mod Standing
 pub mod Taken
 pub mod Writing

@@ -1,45 +1,108 @@
 -- Pages that are given blocks, one after the other.
-use Rattle.std.proofs.Common.{◌≡◌, ℕ, zero, suc, ◌+◌, ◌<◌, ◌≤◌, List, [], ◌∷◌, ◌++◌, length, get_or, set, take, drop, map, Bool, refl, sym, ap, ◌∙◌, subst, inl, inr, arith, add-one}
+use Rattle.std.proofs.Common.{◌≡◌, ℕ, zero, suc, ◌+◌, ◌<◌, ◌≤◌, List, [], ◌∷◌, ◌++◌, length, get_or, set, take, drop, map, Bool, refl, sym, ap, ap₂, ◌∙◌, subst, inl, inr, arith, add-one}
+use Rattle.std.specs.Prelude.{All}
 use Rattle.std.proofs.lemmas.List.{append-nil, length-map}
-use Rattle.std.proofs.lemmas.List.Elements.{All-cons, All-head, All-tail}
+use Rattle.std.proofs.lemmas.List.Elements.{All-cons, All-head, All-tail, All-push}
 use Rattle.std.proofs.Math.Seq.{drop-length, take-length}
+use Rattle.rs_pages.proofs.Writing.{front_set}
 use Rattle.rs_pages.specs.Rule.{HaveItems}
 use Rattle.rs_pages.specs.Starts.{AreCounted, starts_of}
 use Rattle.rs_page.specs.Format.{ItemFormat}
 use Rattle.rs_page.specs.declared.place.Place.{Place}
 use Rattle.rs_page.specs.declared.place.Place.TheVariants.{Touched, Placed, Stored}
-use Rattle.rs_page.specs.Pages.{Page, stored_ref, items_of}
+use Rattle.rs_page.specs.Pages.{Page, IsTouched, stored_ref, items_of}
 use Rattle.rs_page.specs.Placing.{PlacesOne, PageHasNoRun, Places, HasNoPlace}
 
+-- pages of the same items at the same place are the same
+pub same_page : {T : Type 0} (x y : Page T) → x.items ≡ y.items → x.place ≡ y.place → x ≡ y
+same_page {T} x y items place = ap₂ (λ (xs : List T) (p : Place). record { items = xs; place = p }) items place
+
 module _ {T : Type 0} (format : ItemFormat T) where
-  place_on : (u v w : List Bool) (k : ℕ) (old now : List (Page T)) (x y : Page T) → k < length now → Places format u (take k old) v (take k now) → drop k now ≡ drop k old
-      → x ≡ get_or now k x → PlacesOne format v x w y → Places format u (take (suc k) old) w (take (suc k) (set now k y)) × (drop (suc k) (set now k y) ≡ drop (suc k) old)
-  place_on u v w k old [] x y inside so_far rest is one = absurd (omega arith)
-  place_on u v w zero [] (n ∷ now) x y inside so_far rest is one = cc
-  place_on u v w zero (o ∷ old) (n ∷ now) x y inside so_far rest is one =
-      let same : n ≡ o = cc in
-      let tail : now ≡ old = cc in
-      ((w, subst (λ (page : Page T). PlacesOne format u page w y) (is ∙ same) (subst (λ (b : List Bool). PlacesOne format b x w y) so_far one), refl), tail)
-  place_on u v w (suc k) [] (n ∷ now) x y inside so_far rest is one = absurd so_far
-  place_on u v w (suc k) (o ∷ old) (n ∷ now) x y inside so_far rest is one =
-      let next = place_on so_far.0 v w k old now x y (omega arith) so_far.2 rest is one in
-      ((so_far.0, so_far.1, next.0), next.1)
+  -- a page that is not touched stays, and takes nothing
+  stays : (u v : List Bool) (items : List T) (place : Place) (page : Page T) → ¬ IsTouched place → PlacesOne format u (record { items = items; place = place }) v page
+      → (v ≡ u) × (page ≡ record { items = items; place = place })
+  stays u v items Touched page settled one = absurd (settled tt)
+  stays u v items (Placed e) page settled one = (one.1.0, same_page page (record { items = items; place = Placed e }) one.0 one.1.1)
+  stays u v items (Stored ref) page settled one = (one.1.0, same_page page (record { items = items; place = Stored ref }) one.0 one.1.1)
 
-  pub place_step : (u v w : List Bool) (k : ℕ) (old now : List (Page T)) (x y : Page T) → k < length now → Places format u (take k old) v (take k now) → drop k now ≡ drop k old
-      → x ≡ get_or now k x → PlacesOne format v x w y → Places format u (take (k + 1) old) w (take (k + 1) (set now k y)) × (drop (k + 1) (set now k y) ≡ drop (k + 1) old)
-  place_step u v w k old now x y inside so_far rest is one =
-      subst (λ (j : ℕ). Places format u (take j old) w (take j (set now k y)) × (drop j (set now k y) ≡ drop j old)) (sym (add-one k)) (place_on u v w k old now x y inside so_far rest is one)
+  leaves : (u : List Bool) (items : List T) (place : Place) → ¬ IsTouched place → PlacesOne format u (record { items = items; place = place }) u (record { items = items; place = place })
+  leaves u items Touched settled = absurd (settled tt)
+  leaves u items (Placed e) settled = (refl, (refl, refl))
+  leaves u items (Stored ref) settled = (refl, (refl, refl))
 
-  pub place_stop : (u v : List Bool) (k : ℕ) (old now : List (Page T)) (x : Page T) → k < length now → Places format u (take k old) v (take k now) → drop k now ≡ drop k old
-      → x ≡ get_or now k x → PageHasNoRun format v x → HasNoPlace format u old
-  place_stop u v k old [] x inside so_far rest is none = absurd (omega arith)
-  place_stop u v zero [] (n ∷ now) x inside so_far rest is none = cc
-  place_stop u v zero (o ∷ old) (n ∷ now) x inside so_far rest is none =
-      let same : n ≡ o = cc in
-      inl (subst (λ (page : Page T). PageHasNoRun format u page) (is ∙ same) (subst (λ (b : List Bool). PageHasNoRun format b x) so_far none))
-  place_stop u v (suc k) [] (n ∷ now) x inside so_far rest is none = absurd so_far
-  place_stop u v (suc k) (o ∷ old) (n ∷ now) x inside so_far rest is none =
-      inr (so_far.0, n, so_far.1, place_stop so_far.0 v k old now x (omega arith) so_far.2 rest is none)
+  -- pages none of which is touched are placed as they are
+  pub places_none : (u : List Bool) (pages : List (Page T)) → All (λ page. ¬ IsTouched page.place) pages → Places format u pages u pages
+  places_none u [] settled = refl
+  places_none u (page ∷ pages) settled =
+      let P : Page T → Type 0 = λ it. ¬ IsTouched it.place in
+      (u, leaves u page.items page.place (All-head P page pages settled), places_none u pages (All-tail P page pages settled))
+
+  -- the first touched page is placed, and the others behind it
+  pub places_behind : (u v w : List Bool) (k : ℕ) (old new : List (Page T)) (x y : Page T) → k < length old → x ≡ get_or old k x → All (λ page. ¬ IsTouched page.place) (take k old)
+      → ¬ IsTouched y.place → PlacesOne format u x v y → Places format v (set old k y) w new → Places format u old w new
+  places_behind u v w k [] new x y inside is before settled one places = absurd (omega arith)
+  places_behind u v w zero (o ∷ old) [] x y inside is before settled one places = absurd places
+  places_behind u v w zero (o ∷ old) (n ∷ new) x y inside is before settled one places =
+      let kept = stays v places.0 y.items y.place n settled places.1 in (
+        v,
+        subst (λ (page : Page T). PlacesOne format u page v n) is (subst (λ (page : Page T). PlacesOne format u x v page) (sym kept.1) one),
+        subst (λ (b : List Bool). Places format b old w new) kept.0 places.2,
+      )
+  places_behind u v w (suc k) (o ∷ old) [] x y inside is before settled one places = absurd places
+  places_behind u v w (suc k) (o ∷ old) (n ∷ new) x y inside is before settled one places =
+      let P : Page T → Type 0 = λ it. ¬ IsTouched it.place in
+      let first : ¬ IsTouched o.place = All-head P o (take k old) before in
+      let kept = stays v places.0 o.items o.place n first places.1 in
+      let rest : Places format v (set old k y) w new = subst (λ (b : List Bool). Places format b (set old k y) w new) kept.0 places.2 in (
+        u,
+        subst (λ (page : Page T). PlacesOne format u o u page) (sym kept.1) (leaves u o.items o.place first),
+        places_behind u v w k old new x y (omega arith) is (All-tail P o (take k old) before) settled one rest,
+      )
+
+  -- it has no run ..
+  pub full_at : (u : List Bool) (k : ℕ) (old : List (Page T)) (x : Page T) → k < length old → x ≡ get_or old k x → All (λ page. ¬ IsTouched page.place) (take k old)
+      → PageHasNoRun format u x → HasNoPlace format u old
+  full_at u k [] x inside is before none = absurd (omega arith)
+  full_at u zero (o ∷ old) x inside is before none = inl (subst (λ (page : Page T). PageHasNoRun format u page) is none)
+  full_at u (suc k) (o ∷ old) x inside is before none =
+      let P : Page T → Type 0 = λ it. ¬ IsTouched it.place in
+      inr (u, o, leaves u o.items o.place (All-head P o (take k old) before), full_at u k old x (omega arith) is (All-tail P o (take k old) before) none)
+
+  not_full : (u : List Bool) (items : List T) (place : Place) → ¬ IsTouched place → PageHasNoRun format u (record { items = items; place = place }) → ⊥
+  not_full u items Touched settled none = settled tt
+  not_full u items (Placed e) settled none = none
+  not_full u items (Stored ref) settled none = none
+
+  -- .. or one behind it has none
+  pub full_behind : (u v : List Bool) (k : ℕ) (old : List (Page T)) (x y : Page T) → k < length old → x ≡ get_or old k x → All (λ page. ¬ IsTouched page.place) (take k old)
+      → ¬ IsTouched y.place → PlacesOne format u x v y → HasNoPlace format v (set old k y) → HasNoPlace format u old
+  full_behind u v k [] x y inside is before settled one none = absurd (omega arith)
+  full_behind u v zero (o ∷ old) x y inside is before settled one none = elim none [
+    | inl here ↦ absurd (not_full v y.items y.place settled here)
+    | inr there ↦
+        inr (
+          v,
+          y,
+          subst (λ (page : Page T). PlacesOne format u page v y) is one,
+          subst (λ (b : List Bool). HasNoPlace format b old) (stays v there.0 y.items y.place there.1 settled there.2).0 there.3,
+        )
+  ]
+  full_behind u v (suc k) (o ∷ old) x y inside is before settled one none =
+      let P : Page T → Type 0 = λ it. ¬ IsTouched it.place in
+      let first : ¬ IsTouched o.place = All-head P o (take k old) before in
+      elim none [
+        | inl here ↦ absurd (not_full v o.items o.place first here)
+        | inr there ↦
+            let rest : HasNoPlace format v (set old k y) = subst (λ (b : List Bool). HasNoPlace format b (set old k y)) (stays v there.0 o.items o.place there.1 first there.2).0 there.3 in
+            inr (u, o, leaves u o.items o.place first, full_behind u v k old x y (omega arith) is (All-tail P o (take k old) before) settled one rest)
+      ]
+
+-- The first page that is touched is not after it was placed, nor is any before it.
+pub settled_behind : {T : Type 0} (k : ℕ) (old : List (Page T)) (y : Page T) → k < length old → All (λ page. ¬ IsTouched page.place) (take k old) → ¬ IsTouched y.place
+    → All (λ page. ¬ IsTouched page.place) (take (k + 1) (set old k y))
+settled_behind {T} k old y inside before settled =
+    subst (λ (pages : List (Page T)). All (λ page. ¬ IsTouched page.place) pages) (sym (ap (λ n. take n (set old k y)) (add-one k) ∙ (front_set k old y inside).0))
+    (All-push (λ (page : Page T). ¬ IsTouched page.place) (take k old) y before settled)
 
 -- the items stay
 pub same_items : {T : Type 0} (k : ℕ) (now : List (Page T)) (x y : Page T) → x ≡ get_or now k x → y.items ≡ x.items → map (λ p. p.items) (set now k y) ≡ map (λ p. p.items) now
@@ -94,12 +157,15 @@ module _ {T : Type 0} where
   counted_along new old starts len h counted =
       record { some = have_along new old h counted.some; starts = counted.starts ∙ sym (starts_along 0 new old h); len = counted.len ∙ ap length (sym (items_along new old h)) }
 
-  -- the same where a slice of all pages was written
+  -- a slice of all pages was written
+  pub slice_whole : (n : ℕ) (new old : List (Page T)) → n ≡ length old → map (λ p. p.items) new ≡ map (λ p. p.items) old → take n (new ++ drop (length new) old) ≡ new
+  slice_whole n new old size h =
+      let long : length new ≡ length old = sym (length-map new (λ p. p.items)) ∙ (ap length h ∙ length-map old (λ p. p.items)) in
+      let none : drop (length new) old ≡ [] = ap (λ m. drop m old) long ∙ drop-length old in
+      ap (λ xs. take n (new ++ xs)) none ∙ (ap (take n) (append-nil new) ∙ (ap (λ m. take m new) (size ∙ sym long) ∙ take-length new))
+
+  -- and is counted the same
   pub counted_slice : (n : ℕ) (new old : List (Page T)) (starts : List ℕ) (len : ℕ) → n ≡ length old → map (λ p. p.items) new ≡ map (λ p. p.items) old → AreCounted old starts len
       → AreCounted (take n (new ++ drop (length new) old)) starts len
   counted_slice n new old starts len size h counted =
-      let long : length new ≡ length old = sym (length-map new (λ p. p.items)) ∙ (ap length h ∙ length-map old (λ p. p.items)) in
-      let none : drop (length new) old ≡ [] = ap (λ m. drop m old) long ∙ drop-length old in
-      let is : take n (new ++ drop (length new) old) ≡ new =
-      ap (λ xs. take n (new ++ xs)) none ∙ (ap (take n) (append-nil new) ∙ (ap (λ m. take m new) (size ∙ sym long) ∙ take-length new)) in
-      subst (λ (pages : List (Page T)). AreCounted pages starts len) (sym is) (counted_along new old starts len h counted)
+      subst (λ (pages : List (Page T)). AreCounted pages starts len) (sym (slice_whole n new old size h)) (counted_along new old starts len h counted)

@@ -90,12 +90,13 @@ taken_places format old new (s ∷ pages) (s' ∷ pages') places none =
     let both = rest_none (placed_extent s.place) (placed_extents pages) none in
     taken_by format old places.0 new s.items s.place s' (placed_extents pages') places.1 both.0 (taken_places format places.0 new pages pages' places.2 both.1)
 
-settled_by : {T : Type 0} (format : ItemFormat T) (old new : List Bool) (items : List T) (place : Place) (page : Page T) → PlacesOne format old (record { items = items; place = place }) new page → ¬ IsTouched page.place
+-- a page that was placed is not touched
+pub settled_by : {T : Type 0} (format : ItemFormat T) (old new : List Bool) (items : List T) (place : Place) (page : Page T) → PlacesOne format old (record { items = items; place = place }) new page → ¬ IsTouched page.place
 settled_by format old new items Touched page one = subst (λ (p : Place). ¬ IsTouched p) (sym one.1.placed) (λ h. h)
 settled_by format old new items (Placed e) page one = subst (λ (p : Place). ¬ IsTouched p) (sym one.1.1) (λ h. h)
 settled_by format old new items (Stored ref) page one = subst (λ (p : Place). ¬ IsTouched p) (sym one.1.1) (λ h. h)
 
--- and none of them is touched then
+-- nor is any of several
 pub settled_places : {T : Type 0} (format : ItemFormat T) (old new : List Bool) (pages pages' : List (Page T)) → Places format old pages new pages' → All (λ page. ¬ IsTouched page.place) pages'
 settled_places format old new [] [] places = λ k d inside. absurd (omega arith)
 settled_places format old new [] (s' ∷ pages') places = absurd places

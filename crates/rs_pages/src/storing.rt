@@ -1,5 +1,5 @@
 //! Pages on the disk.
-ghost use Rattle.std.specs.Prelude.{◌≡◌, [], map, All, IfOk, OnOk, OnErr, IsErrOf};
+ghost use Rattle.std.specs.Prelude.{◌≡◌, ◌≤◌, [], length, take, map, slice_get, All, IfOk, IfSome, OnOk, OnErr, IsErrOf};
 ghost use Rattle.std.specs.List.{AllZip};
 ghost use Rattle.rs_disk.specs.Leaves.{HasFailed};
 ghost use Rattle.rs_extent.specs.Extents.{AreApart, AreOnDisk, AreTaken};
@@ -20,18 +20,20 @@ impl<T: PageItem> Pages<T> {
     ///
     /// # Errors
     ///
-    /// [`Full`] where a page has no such run. Pages before it may have been given blocks then.
+    /// [`Full`] where a page has no such run; nothing has changed then.
     pub fn place_touched(&mut self, used: &mut Used) -> Result<(), Full>
         ensures places { OnOk result (Places T.format used.old self.old used.new self.new) }
         ensures placed { OnOk result (All (λ page. ¬ IsTouched page.place) self.new) }
         ensures taken { placed_extents self.old ≡ []
             → OnOk result (AreTaken used.old used.new (placed_extents self.new)) }
         ensures full { OnErr result (HasNoPlace T.format used.old self.old) }
+        ensures used { OnErr result (used.new ≡ used.old) }
+        ensures unchanged { OnErr result (self.new ≡ self.old) }
         ensures items { map (λ page. page.items) self.new ≡ map (λ page. page.items) self.old }
         ensures stored { map (λ page. stored_ref page.place) self.new
             ≡ map (λ page. stored_ref page.place) self.old }
     {
-        place_all(&mut self.pages, used)
+        place_from(&mut self.pages, 0, used)
     }
 
     /// Writes each page that was given blocks, by one device call a page. Pages that are on the disk
@@ -85,21 +87,46 @@ impl<T: PageItem> Pages<T> {
     }
 }
 
-// Gives each touched page the lowest run of free blocks of its size, one page after the other.
-fn place_all<T: PageItem>(pages: &mut [Page<T>], used: &mut Used) -> Result<(), Full>
+// Gives each touched page the lowest run of free blocks of its size, one page after the other, from
+// the one at `start` on. It goes as deep as there are touched pages.
+fn place_from<T: PageItem>(pages: &mut [Page<T>], start: usize, used: &mut Used) -> Result<(), Full>
+    requires bound { start ≤ length pages.old }
+    requires before { All (λ page. ¬ IsTouched page.place) (take start pages.old) }
     ensures places { OnOk result (Places T.format used.old pages.old used.new pages.new) }
-    ensures placed { OnOk result (All (λ page. ¬ IsTouched page.place) pages.new) }
-    ensures taken { placed_extents pages.old ≡ []
-        → OnOk result (AreTaken used.old used.new (placed_extents pages.new)) }
     ensures full { OnErr result (HasNoPlace T.format used.old pages.old) }
+    ensures used { OnErr result (used.new ≡ used.old) }
+    ensures unchanged { OnErr result (pages.new ≡ pages.old) }
     ensures items { map (λ page. page.items) pages.new ≡ map (λ page. page.items) pages.old }
     ensures stored { map (λ page. stored_ref page.place) pages.new
         ≡ map (λ page. stored_ref page.place) pages.old }
 {
-    for page in pages.iter_mut() {
-        page.place_in(used)?;
+    let k = next_touched(pages, start);
+    if k == pages.len() {
+        return Ok(());
+    }
+    pages[k].place_in(used)?;
+    if let Err(full) = place_from(pages, k + 1, used) {
+        pages[k].take_back(used);
+        return Err(full);
     }
     Ok(())
+}
+
+// The place of the first touched page from `start` on, or the number of pages where there is none.
+fn next_touched<T: PageItem>(pages: &[Page<T>], start: usize) -> usize
+    requires bound { start ≤ length pages.now }
+    requires before { All (λ page. ¬ IsTouched page.place) (take start pages.now) }
+    ensures start { start ≤ result }
+    ensures bound { result ≤ length pages.now }
+    ensures before { All (λ page. ¬ IsTouched page.place) (take result pages.now) }
+    ensures touched { IfSome (slice_get pages.now result) (λ page. IsTouched page.place) }
+{
+    for k in start..pages.len() {
+        if matches!(pages[k].place(), Place::Touched) {
+            return k;
+        }
+    }
+    pages.len()
 }
 
 // Writes each page that was given blocks, one page after the other.
