@@ -141,6 +141,8 @@ note: src/m.rt:9:5: `search` found no proof (`invariant_of-self`)
 fn low::m::Kept::change: no proof: `search` did not prove `invariant_of-self`
 ./proofs/m/answered/Answers.antt:3:1: error: `returns`: the two types differ
 fn low::m::answered: not proved
+./proofs/m/+calls_itself/Answers.antt:3:1: error: `returns`: the two types differ
+fn low::m::calls_itself: not proved
 ./proofs/m/renamed/Answers.antt:3:1: error: `returns`: record `Lts.At-match` (nearest: .stored)
 fn low::m::renamed: not proved
 fn low::m::above: no proof: it calls `low::m::open`, which is not proved
@@ -152,7 +154,7 @@ logic=not-proved
 class Reading(unittest.TestCase):
     def test_whose_goals_a_check_leaves_open(self):
         found = verdict.read("low", kit.Told(1, TOLD))
-        self.assertEqual({*found.own}, {"low::m::open", "low::m::Kept::change", "low::m::answered"})
+        self.assertEqual({*found.own}, {"low::m::open", "low::m::Kept::change", "low::m::answered", "low::m::calls_itself"})
         self.assertTrue(found.is_read)
         self.assertFalse(verdict.read("low", kit.Told(1, "src/m.rt:1:1: error[unexpected-token]: no\n" + TOLD)).is_read)
         self.assertFalse(verdict.read("low", kit.Told(2, TOLD)).is_read)

@@ -35,7 +35,8 @@ def read(crate, told):
             is_own = not SECOND_HAND.search(found[2])
             is_read = is_read and (found[1].startswith("proofs/") or (found[2].startswith("`") and is_own))
             if is_own:
-                place = "::".join([crate, *found[1].split("/")[1:-1]])
+                # The folder of a function that calls itself has a + before its name.
+                place = "::".join([crate, *(it.removeprefix("+") for it in found[1].split("/")[1:-1])])
                 in_files.setdefault(owner(place), found[2])
         elif found := OPEN.match(line):
             goals.append(found[1])
