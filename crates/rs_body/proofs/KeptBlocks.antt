@@ -1,6 +1,6 @@
 -- Runs of calls that keep what a set of blocks holds.
-use Rattle.std.proofs.Common.{rules, ◌≡◌, ◌⊎◌, inl, inr, ⊎_elim, ℕ, ◌+◌, ◌*◌, ◌-◌, ◌/◌, ◌%◌, ◌<◌, ◌≤◌, Bool, true, false, List, length, drop, get_or, refl, sym, ◌∙◌, subst, arith, Result, Ok, Err, OnOk, OnErr, length-take, length-drop}
-use Rattle.std.proofs.lemmas.List.{ext_get_or, get_or-take, get_or-drop, places}
+use Rattle.std.proofs.Common.{rules, ◌≡◌, ◌⊎◌, inl, inr, ⊎_elim, ℕ, ◌+◌, ◌*◌, ◌-◌, ◌/◌, ◌%◌, ◌<◌, ◌≤◌, Bool, true, false, List, ◌++◌, length, take, drop, get_or, refl, sym, ◌∙◌, ap, subst, arith, Result, Ok, Err, OnOk, OnErr, length-append, length-take, length-drop}
+use Rattle.std.proofs.lemmas.List.{append_assoc, drop-append-le, drop-take, ext_get_or, get_or-take, get_or-drop, length-take-le, places, take_at}
 use Rattle.rs_disk.specs.Medium.{Medium, DiskState, IsImage, IsImageAt, IsMedium, over, marked, written}
 use Rattle.rs_disk.specs.Calls.{CountsCall, Writes, Tears}
 use Rattle.rs_disk.specs.Leaves.{Torn, TornFrom, Rests}
@@ -33,13 +33,13 @@ keeps_on kept a b c first behind = record { size = behind.size ∙ first.size; s
 pub keeps_less : (kept more : ℕ → Bool) → ((b : ℕ) → kept b ≡ true → more b ≡ true) → (a b : List ℕ) → Keeps more a b → Keeps kept a b
 keeps_less kept more from a b keeps = record { size = keeps.size; same = λ k i is lt. keeps.same k i (from k is) lt }
 
--- What is torn at the front of an extent alone keeps each set beside it.
-pub keeps_torn : (kept : ℕ → Bool) (e : Extent) (n : ℕ) → IsBeside kept e → n ≤ block_size * e.blocks → (old new : List ℕ) → Torn (block_size * e.first) n old new → Keeps kept old new
-keeps_torn kept e n beside fits old new torn = record {
+-- What is torn in an extent alone keeps each set beside it.
+pub keeps_torn : (kept : ℕ → Bool) (e : Extent) (at n : ℕ) → IsBeside kept e → at + n ≤ block_size * e.blocks → (old new : List ℕ) → Torn (block_size * e.first + at) n old new → Keeps kept old new
+keeps_torn kept e at n beside fits old new torn = record {
   size = torn.size;
   same = λ b i is lt. elim (apart_from kept e beside b is) [
-    | inl below ↦ torn_below (block_size * e.first) n old new torn (block_size * b + i) (omega arith)
-    | inr above ↦ torn_above (block_size * e.first) n old new torn (block_size * b + i) (omega arith)
+    | inl below ↦ torn_below (block_size * e.first + at) n old new torn (block_size * b + i) (omega arith)
+    | inr above ↦ torn_above (block_size * e.first + at) n old new torn (block_size * b + i) (omega arith)
   ];
 }
 
@@ -50,11 +50,11 @@ marked_below set at n i le lt = search (rules, places)
 marked_above : (set : List Bool) (at n i : ℕ) → at + n ≤ length set → at + n ≤ i → get_or (marked set at n) i false ≡ get_or set i false
 marked_above set at n i le lt = search (rules, places)
 
-keeps_marked : (kept : ℕ → Bool) (e : Extent) (n : ℕ) → IsBeside kept e → n ≤ block_size * e.blocks → (set : List Bool) → block_size * e.first + n ≤ length set → KeepsMarks kept set (marked set (block_size * e.first) n)
-keeps_marked kept e n beside fits set room = record {
+keeps_marked : (kept : ℕ → Bool) (e : Extent) (at n : ℕ) → IsBeside kept e → at + n ≤ block_size * e.blocks → (set : List Bool) → block_size * e.first + at + n ≤ length set → KeepsMarks kept set (marked set (block_size * e.first + at) n)
+keeps_marked kept e at n beside fits set room = record {
   same = λ b i is lt. elim (apart_from kept e beside b is) [
-    | inl below ↦ marked_below set (block_size * e.first) n (block_size * b + i) (omega arith) (omega arith)
-    | inr above ↦ marked_above set (block_size * e.first) n (block_size * b + i) room (omega arith)
+    | inl below ↦ marked_below set (block_size * e.first + at) n (block_size * b + i) (omega arith) (omega arith)
+    | inr above ↦ marked_above set (block_size * e.first + at) n (block_size * b + i) room (omega arith)
   ];
 }
 
@@ -102,34 +102,51 @@ outside_rests kept old new rests =
     }
 
 -- what one write keeps in what is held
-wrote : (kept : ℕ → Bool) (e : Extent) (old : DiskState) (bytes : List ℕ) → IsBeside kept e → length bytes ≤ block_size * e.blocks → IsMedium old.size old.now → block_size * e.first + length bytes ≤ old.size
-    → (now : Medium) → now ≡ written old.now (block_size * e.first) bytes → Keeps kept old.now.seen now.seen × KeepsMarks kept old.now.unsettled now.unsettled
-wrote kept e old bytes beside fits is room now are =
+wrote : (kept : ℕ → Bool) (e : Extent) (at : ℕ) (old : DiskState) (bytes : List ℕ) → IsBeside kept e → at + length bytes ≤ block_size * e.blocks → IsMedium old.size old.now → block_size * e.first + at + length bytes ≤ old.size
+    → (now : Medium) → now ≡ written old.now (block_size * e.first + at) bytes → Keeps kept old.now.seen now.seen × KeepsMarks kept old.now.unsettled now.unsettled
+wrote kept e at old bytes beside fits is room now are =
+    let from : ℕ = block_size * e.first + at in
     subst (λ (m : Medium). Keeps kept old.now.seen m.seen × KeepsMarks kept old.now.unsettled m.unsettled) (sym are) (
-      keeps_torn kept e (length bytes) beside fits old.now.seen (over old.now.seen (block_size * e.first) bytes) (over_torn old.now.seen (block_size * e.first) bytes (omega (arith, is.image.size, is.settled))),
-      keeps_marked kept e (length bytes) beside fits old.now.unsettled (omega (arith, is.unsettled)),
+      keeps_torn kept e at (length bytes) beside fits old.now.seen (over old.now.seen from bytes) (over_torn old.now.seen from bytes (omega (arith, is.image.size, is.settled))),
+      keeps_marked kept e at (length bytes) beside fits old.now.unsettled (omega (arith, is.unsettled)),
     )
 
-held_on : {E : Type 0} (kept : ℕ → Bool) (e : Extent) (old new : DiskState) (bytes : List ℕ) (result : Result (Unit {0}) E) → IsBeside kept e → length bytes ≤ block_size * e.blocks → IsMedium old.size old.now → block_size * e.first + length bytes ≤ old.size
-    → OnOk result (Writes (block_size * e.first) bytes old new) → OnErr result (Tears (block_size * e.first) (length bytes) old new) → Keeps kept old.now.seen new.now.seen × KeepsMarks kept old.now.unsettled new.now.unsettled
-held_on kept e old new bytes (Ok x) beside fits is room ok err = wrote kept e old bytes beside fits is room new.now ok.now
-held_on kept e old new bytes (Err x) beside fits is room ok err = ⊎_elim
-    (λ torn. wrote kept e old torn.0 beside (omega (arith, torn.1)) is (omega (arith, torn.1)) new.now torn.2.now)
+held_on : {E : Type 0} (kept : ℕ → Bool) (e : Extent) (at : ℕ) (old new : DiskState) (bytes : List ℕ) (result : Result (Unit {0}) E) → IsBeside kept e → at + length bytes ≤ block_size * e.blocks → IsMedium old.size old.now
+    → block_size * e.first + at + length bytes ≤ old.size → OnOk result (Writes (block_size * e.first + at) bytes old new) → OnErr result (Tears (block_size * e.first + at) (length bytes) old new)
+    → Keeps kept old.now.seen new.now.seen × KeepsMarks kept old.now.unsettled new.now.unsettled
+held_on kept e at old new bytes (Ok x) beside fits is room ok err = wrote kept e at old bytes beside fits is room new.now ok.now
+held_on kept e at old new bytes (Err x) beside fits is room ok err = ⊎_elim
+    (λ torn. wrote kept e at old torn.0 beside (omega (arith, torn.1)) is (omega (arith, torn.1)) new.now torn.2.now)
     (λ refused. stayed kept old new.now refused.now)
     err
 
--- one write at the front of an extent, whether it succeeded or not
-pub outside_write : {E : Type 0} (kept : ℕ → Bool) (e : Extent) (old new : DiskState) (bytes : List ℕ) (result : Result (Unit {0}) E) → CountsCall old new result → IsMedium old.size old.now → IsBeside kept e → length bytes ≤ block_size * e.blocks → block_size * e.first + length bytes ≤ old.size
-    → OnOk result (Writes (block_size * e.first) bytes old new) → OnErr result (Tears (block_size * e.first) (length bytes) old new) → WritesOutside kept old new
-outside_write kept e old new bytes result counts is beside fits room ok err =
-    let held = held_on kept e old new bytes result beside fits is room ok err in
+-- one write in an extent, whether it succeeded or not
+pub outside_write : {E : Type 0} (kept : ℕ → Bool) (e : Extent) (at : ℕ) (old new : DiskState) (bytes : List ℕ) (result : Result (Unit {0}) E) → CountsCall old new result → IsMedium old.size old.now → IsBeside kept e
+    → at + length bytes ≤ block_size * e.blocks → block_size * e.first + at + length bytes ≤ old.size
+    → OnOk result (Writes (block_size * e.first + at) bytes old new) → OnErr result (Tears (block_size * e.first + at) (length bytes) old new) → WritesOutside kept old new
+outside_write kept e at old new bytes result counts is beside fits room ok err =
+    let from : ℕ = block_size * e.first + at in
+    let held = held_on kept e at old new bytes result beside fits is room ok err in
     record {
       seen = held.0;
       marks = held.1;
-      leaves = weaker old new (λ _. TornFrom old.now (block_size * e.first) (length bytes)) (λ _. KeptFrom kept old.now)
-          (λ m image left. (left.0, left.1, keeps_torn kept e (length bytes) beside fits left.0 image left.2))
-          (write_leaves old new (block_size * e.first) bytes result counts is room ok err);
+      leaves = weaker old new (λ _. TornFrom old.now from (length bytes)) (λ _. KeptFrom kept old.now)
+          (λ m image left. (left.0, left.1, keeps_torn kept e at (length bytes) beside fits left.0 image left.2))
+          (write_leaves old new from bytes result counts is room ok err);
     }
+
+-- A write at a place of an extent leaves what is before it, and its bytes follow.
+pub piece_follows : (e : Extent) (at : ℕ) (old bytes : List ℕ) → block_size * e.first + at ≤ length old → part e (at + length bytes) (over old (block_size * e.first + at) bytes) ≡ part e at old ++ bytes
+piece_follows e at old bytes le =
+    let from : ℕ = block_size * e.first + at in
+    let rest : List ℕ = drop (from + length bytes) old in
+    let front : length (take from old) ≡ from = length-take-le from old le in
+    let long : length (part e at old ++ bytes) ≡ at + length bytes =
+    omega (arith, length-append (part e at old) bytes, length-take at (drop (block_size * e.first) old), length-drop (block_size * e.first) old) in
+    let here : drop (block_size * e.first) (over old from bytes) ≡ part e at old ++ bytes ++ rest =
+    drop-append-le (block_size * e.first) (take from old) (bytes ++ rest) (omega (arith, front))
+    ∙ ap (λ (l : List ℕ). l ++ (bytes ++ rest)) (drop-take (block_size * e.first) at old) ∙ sym (append_assoc (part e at old) bytes rest) in
+    ap (λ (l : List ℕ). take (at + length bytes) l) here ∙ take_at (part e at old ++ bytes) rest (at + length bytes) long
 
 -- The first bytes of an extent in the set stay.
 pub part_kept : (kept : ℕ → Bool) (e : Extent) (n : ℕ) → n ≤ block_size * e.blocks → ((b : ℕ) → within e b ≡ true → kept b ≡ true) → (old new : List ℕ) → Keeps kept old new → part e n new ≡ part e n old

@@ -1,9 +1,10 @@
 //! Bodies in extents of a disk.
 //!
 //! A body is bytes of a known length and SHA-256. [`write_body`] puts one at the front of an
-//! extent, and [`read_body`] reads it back, or finds it damaged. What else the disk holds stays:
-//! the contracts say it of each set of blocks beside the extent, also where the device fails and
-//! of a crash in between. [`laws`] states what follows from their definitions alone.
+//! extent, or [`write_piece`] does so piece by piece, and [`read_body`] reads it back, or finds it
+//! damaged. What else the disk holds stays: the contracts say it of each set of blocks beside the
+//! extent, also where the device fails and of a crash in between. [`laws`] states what follows
+//! from their definitions alone.
 #![tactic(auto)]
 
 mod blocks;
@@ -13,4 +14,4 @@ mod write;
 
 pub use blocks::{blocks_for, is_on_disk, is_sized};
 pub use read::{BodyFault, read_body};
-pub use write::write_body;
+pub use write::{write_body, write_piece};

@@ -1,5 +1,5 @@
 //! Writing a body.
-ghost use Rattle.std.specs.Prelude.{◌≡◌, ◌+◌, ◌*◌, ◌≤◌, ℕ, Bool, length, OnOk};
+ghost use Rattle.std.specs.Prelude.{◌≡◌, ◌+◌, ◌*◌, ◌≤◌, ℕ, Bool, ◌++◌, length, OnOk};
 ghost use Rattle.rs_disk.specs.Leaves.{Runs};
 ghost use Rattle.rs_extent.specs.Blocks.{block_size};
 ghost use Rattle.rs_extent.specs.Extents.{IsOnDisk, IsBeside};
@@ -33,8 +33,42 @@ pub fn write_body<D: Disk>(disk: &mut D, extent: Extent, bytes: &[u8]) -> Result
     ensures outside { (kept : ℕ → Bool) → IsBeside kept extent
         → WritesOutside kept (D.state disk.old) (D.state disk.new) }
 {
-    if bytes.is_empty() {
+    write_piece(disk, extent, 0, bytes)
+}
+
+/// Writes a piece of a body at byte `at` of an extent, by one device call. A piece of no bytes
+/// needs none.
+///
+/// The place is counted in bytes from the front of the extent. The blocks of the extent have to
+/// lie on the disk, and the piece has to end within them. A read gives the piece from then on,
+/// behind the bytes that stood before it, so pieces that are written one after the other, each
+/// where the last one ended, spell the body. A crash may leave anything in the place of a piece
+/// until the next sync. Nothing beside the extent changes, whether it succeeds or not: each set of
+/// blocks beside it stays as it is, at every moment of the call.
+///
+/// # Errors
+/// [`Fault`] where the device fails. The extent may then hold anything.
+pub fn write_piece<D: Disk>(
+    disk: &mut D,
+    extent: Extent,
+    at: u32,
+    piece: &[u8],
+) -> Result<(), Fault>
+    requires room { IsOnDisk extent (D.state disk.old).size }
+    requires fits { at + length piece.now ≤ block_size * extent.blocks }
+    ensures runs { Runs (D.state disk.old) (D.state disk.new) result }
+    ensures keeps { (D.state disk.new).honest ≡ (D.state disk.old).honest }
+    ensures one_call { (D.state disk.new).calls ≤ (D.state disk.old).calls + 1 }
+    ensures no_call { length piece.now ≡ 0 → D.state disk.new ≡ D.state disk.old }
+    ensures reads { OnOk result (part extent (at + length piece.now) (D.state disk.new).now.seen
+        ≡ part extent at (D.state disk.old).now.seen ++ piece.now) }
+
+    // Also where the device failed.
+    ensures outside { (kept : ℕ → Bool) → IsBeside kept extent
+        → WritesOutside kept (D.state disk.old) (D.state disk.new) }
+{
+    if piece.is_empty() {
         return Ok(());
     }
-    disk.write(offset_of(extent), bytes)
+    disk.write(offset_of(extent) + at as u64, piece)
 }

@@ -2,8 +2,8 @@
 //! FIPS 180-4, the others are by Python's `hashlib`.
 
 use crate::images::image_is;
-use rs_body::{BodyFault, blocks_for, is_on_disk, is_sized, read_body, write_body};
-use rs_disk::{Disk, MemoryDisk};
+use rs_body::{BodyFault, blocks_for, is_on_disk, is_sized, read_body, write_body, write_piece};
+use rs_disk::{Disk, Fault, MemoryDisk};
 use rs_extent::Extent;
 use std::alloc::Global;
 use std::process::Abort;
@@ -121,6 +121,62 @@ fn bodies_are_read_back(rt: HostRuntime) -> Result<(), Fail> {
         let mut disk = MemoryDisk::from_bytes(rt.alloc(), &with_body(&rt, &[]))?;
         is_kept(&rt, &mut disk, row, &body);
     }
+    Ok(())
+}
+
+/// The place of a body of 1,113 bytes.
+const PLACE: Extent = Extent {
+    first: 3,
+    blocks: 3,
+};
+
+/// Where the pieces of that body begin and end.
+const PIECES: [(u32, u32); 3] = [(0, 512), (512, 513), (513, 1113)];
+
+/// Writes the piece of a body from one byte to another.
+fn piece_so(
+    rt: &impl Abort,
+    disk: &mut MemoryDisk,
+    body: &[u8],
+    (from, to): (u32, u32),
+) -> Result<(), Fault> {
+    assert!(rt; is_on_disk(PLACE, disk.size()));
+    assert!(rt; from <= to && to <= 1113 && body.len() == 1113);
+    write_piece(disk, PLACE, from, &body[from as usize..to as usize])
+}
+
+#[test]
+fn pieces_are_read_as_one_body(rt: HostRuntime) -> Result<(), Fail> {
+    let body = body_of(rt.alloc(), 1113)?;
+    let mut disk = MemoryDisk::from_bytes(rt.alloc(), &with_body(&rt, &[]))?;
+    for piece in PIECES {
+        assert_eq!(rt; piece_so(&rt, &mut disk, &body, piece), Ok(()));
+        let front = body_of(rt.alloc(), piece.1)?;
+        assert!(rt; image_is(&disk, &[], &with_body(&rt, &front)), "{piece:?}");
+    }
+    let digest = sha256(
+        0xeb7f5243cd2bec8092a8c03ee78bac90,
+        0xe20afacc359e097241c03b268b72bdaf,
+    );
+    let mut into: Vec<u8> = Vec::new(rt.alloc());
+    let read = read_so(&rt, &mut disk, PLACE, &digest, &mut into, 1113);
+    assert_eq!(rt; (read, into.as_slice()), (Ok(()), body.as_slice()));
+    assert_eq!(rt; disk.calls(), 4);
+    Ok(())
+}
+
+#[test]
+fn device_stops_at_the_second_piece(rt: HostRuntime) -> Result<(), Fail> {
+    let body = body_of(rt.alloc(), 1113)?;
+    let mut disk = MemoryDisk::from_bytes(rt.alloc(), &with_body(&rt, &[]))?;
+    disk.stop_after(2);
+    assert_eq!(rt; piece_so(&rt, &mut disk, &body, PIECES[0]), Ok(()));
+    assert_eq!(rt; disk.sync(), Ok(()));
+    assert_eq!(rt; piece_so(&rt, &mut disk, &body, PIECES[1]), Err(Fault));
+    let mut left = body_of(rt.alloc(), 512)?;
+    assert!(rt; image_is(&disk, &[], &with_body(&rt, &left)));
+    left.push(254)?;
+    assert!(rt; image_is(&disk, &[254], &with_body(&rt, &left)));
     Ok(())
 }
 
