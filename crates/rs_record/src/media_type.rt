@@ -6,6 +6,7 @@ ghost use Rattle.rs_record.specs.Bytes.{is_between};
 ghost use Rattle.rs_record.specs.MediaType.{is_media_type, is_tchar as token_byte, begins_token as token_first, begins_subtype as subtype_first, after_token as token_rest};
 
 use crate::bytes::{is_alphanumeric, is_one_of};
+use smallvec::SmallVec;
 use std::alloc::{AllocError, Global};
 use std::marker::Model;
 use thiserror::Error;
@@ -26,9 +27,12 @@ pub enum MediaTypeError {
 /// It begins with a token, `/` and a token (RFC 9110, sections 8.3.1 and 5.6.2), each byte is
 /// printable ASCII (32 to 126), and the last one is no space. What follows the second token is
 /// kept as it was given.
+///
+/// A media type of at most 24 bytes, as `application/octet-stream`, lies in the value, and a longer
+/// one in memory of its own.
 #[derive(Debug, Drop)]
 pub struct MediaType {
-    bytes: Vec<u8>,
+    bytes: SmallVec<u8, 24>,
 }
 
 impl Model for MediaType {
@@ -43,7 +47,7 @@ impl Model for MediaType {
 }
 
 impl MediaType {
-    /// The media type of these bytes, copied into memory of its own.
+    /// The media type of these bytes, copied.
     ///
     /// # Errors
     ///
@@ -86,7 +90,7 @@ impl MediaType {
         ensures { IfOk result (λ kind. kind ≡ bytes.now) }
     {
         Ok(MediaType {
-            bytes: Vec::from_slice(alloc, bytes)?,
+            bytes: SmallVec::from_slice(alloc, bytes)?,
         })
     }
 }

@@ -7,6 +7,7 @@ ghost use Rattle.std.specs.List.{list_all};
 ghost use Rattle.rs_record.specs.Name.{is_name, is_segment as segment_bytes, segments, are_pchars as pchar_bytes, is_plain as plain_byte, two_hex as two_hex_bytes};
 
 use crate::bytes::{is_alphanumeric, is_hex, is_one_of};
+use smallvec::SmallVec;
 use std::alloc::{AllocError, Global};
 use std::cmp::Ordering;
 use std::marker::Model;
@@ -29,9 +30,11 @@ pub enum NameError {
 /// A segment is one or more `pchar`: a letter, a digit, one of `-._~!$&'()*+,;=:@`, or `%` and
 /// two hexadecimal digits. No segment is empty, `.` or `..`. Names are compared byte for byte:
 /// `%2E` is no dot, and `%41` is another name than `A`.
+///
+/// A name of at most 16 bytes lies in the value, and a longer one in memory of its own.
 #[derive(Debug, Drop)]
 pub struct Name {
-    bytes: Vec<u8>,
+    bytes: SmallVec<u8, 16>,
 }
 
 impl Model for Name {
@@ -46,7 +49,7 @@ impl Model for Name {
 }
 
 impl Name {
-    /// The name of these bytes, copied into memory of its own.
+    /// The name of these bytes, copied.
     ///
     /// # Errors
     ///
@@ -96,7 +99,7 @@ impl Name {
         ensures { IfOk result (λ name. name ≡ bytes.now) }
     {
         Ok(Name {
-            bytes: Vec::from_slice(alloc, bytes)?,
+            bytes: SmallVec::from_slice(alloc, bytes)?,
         })
     }
 }
