@@ -6,3 +6,4 @@ pub mod Places
 pub mod Ends
 pub mod Scan
 pub mod Bitmaps
+pub mod InTurn

@@ -54,3 +54,15 @@ pub record AreTaken (old new : List Bool) (extents : List Extent) : Type 0 where
   pub after : (b : ℕ) → in_some extents b ≡ true → is_used new b ≡ true
   pub others : (b : ℕ) → in_some extents b ≡ false → is_used new b ≡ is_used old b
   pub apart : AreApart extents
+
+-- Each block of the extents is on the disk and used, and no two of them have a block in common.
+pub record CanGive (used : List Bool) (extents : List Extent) : Type 0 where
+  pub apart : AreApart extents
+  pub on_disk : (b : ℕ) → in_some extents b ≡ true → b < length used
+  pub are_used : (b : ℕ) → in_some extents b ≡ true → is_used used b ≡ true
+
+-- The extents are free now, and all other blocks are as they were.
+pub record AreGiven (old new : List Bool) (extents : List Extent) : Type 0 where
+  pub size : length new ≡ length old
+  pub after : (b : ℕ) → in_some extents b ≡ true → is_used new b ≡ false
+  pub others : (b : ℕ) → in_some extents b ≡ false → is_used new b ≡ is_used old b

@@ -1,8 +1,8 @@
 -- What follows from the definitions of extents alone.
-use Rattle.std.specs.Prelude.{◌↔◌, Bool, true, List, [], ◌∷◌, ◌++◌}
+use Rattle.std.specs.Prelude.{◌≡◌, ◌↔◌, Bool, true, List, [], ◌∷◌, ◌++◌}
 use Rattle.rs_extent.specs.declared.Extent.{Extent}
 use Rattle.rs_extent.specs.Blocks.{IsFree, Sets}
-use Rattle.rs_extent.specs.Extents.{in_some, AreDisjoint, AreApart, CanTake, AreTaken}
+use Rattle.rs_extent.specs.Extents.{in_some, AreDisjoint, AreApart, CanTake, AreTaken, AreGiven}
 
 -- Extents are apart where those in front are, those behind are, and no block is of both.
 abbrev pub ApartInParts : Type 0
@@ -21,3 +21,7 @@ TakenInTurn = (old mid new : List Bool) (xs ys : List Extent) → AreTaken old m
 abbrev pub CanTakeInTurn : Type 0
 CanTakeInTurn = (old mid : List Bool) (xs ys : List Extent) → CanTake old (xs ++ ys)
     → CanTake old ys × (AreTaken old mid ys → CanTake mid xs)
+
+-- What was taken and is given back leaves the set as it was.
+abbrev pub TakenIsGivenBack : Type 0
+TakenIsGivenBack = (old mid new : List Bool) (extents : List Extent) → AreTaken old mid extents → AreGiven mid new extents → new ≡ old

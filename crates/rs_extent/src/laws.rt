@@ -1,7 +1,7 @@
 //! Laws of extents, over their definitions alone.
 //!
 //! Each function here does nothing: its contract is the law, which the check proves.
-ghost use Rattle.rs_extent.specs.Laws.{ApartInParts, FreeIsTaken, TakenInTurn, CanTakeInTurn};
+ghost use Rattle.rs_extent.specs.Laws.{ApartInParts, FreeIsTaken, TakenInTurn, CanTakeInTurn, TakenIsGivenBack};
 
 /// Extents are apart where two parts of them are, each and from one another.
 pub fn apart_in_parts()
@@ -17,4 +17,9 @@ pub fn free_is_taken()
 pub fn taken_in_turn()
     ensures taken { TakenInTurn }
     ensures can { CanTakeInTurn }
+{}
+
+/// What was taken and is given back leaves the set as it was.
+pub fn taken_is_given_back()
+    ensures { TakenIsGivenBack }
 {}

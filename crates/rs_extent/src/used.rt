@@ -1,6 +1,7 @@
 //! The set of the used blocks of a disk.
 ghost use Rattle.std.specs.Prelude.{ℕ, ◌≡◌, ◌↔◌, ◌<◌, ◌≤◌, true, false, nat_lt, length, IsTrue, IfOk, MatchOption};
 ghost use Rattle.rs_extent.specs.Blocks.{is_used, IsFreeRun, IsFree, IsTaken, IsLowest, Sets};
+ghost use Rattle.rs_extent.specs.Extents.{CanTake, AreTaken, CanGive, AreGiven};
 
 use crate::Extent;
 use crate::words::{all_set, lowest_run, set_bits, skip_zeros};
@@ -100,6 +101,32 @@ impl Used {
         let first = extent.first as usize;
         set_bits(&mut self.free, first, first + extent.blocks as usize, true);
         self.full_words = self.full_words.min(first / 64);
+    }
+
+    /// Adds the blocks of each of these extents, all of which are free and no two of which have a
+    /// block in common, and no others.
+    pub fn take_each(&mut self, extents: &[Extent])
+        requires { CanTake self.old extents.now }
+        ensures { AreTaken self.old self.new extents.now }
+    {
+        let mut i = extents.len();
+        while i > 0 {
+            i -= 1;
+            self.take(extents[i]);
+        }
+    }
+
+    /// Removes the blocks of each of these extents, all of which are used and no two of which have a
+    /// block in common, and no others.
+    pub fn give_each(&mut self, extents: &[Extent])
+        requires { CanGive self.old extents.now }
+        ensures { AreGiven self.old self.new extents.now }
+    {
+        let mut i = extents.len();
+        while i > 0 {
+            i -= 1;
+            self.give(extents[i]);
+        }
     }
 
     /// The lowest run of `blocks` free blocks, or `None` where the disk has no such run.
