@@ -1,20 +1,20 @@
 //! A catalogue on the disk.
 
-ghost use Rattle.std.specs.Prelude.{◌≡◌, ℕ, List, [], map, All, IfOk, OnOk, OnErr, IsErrOf, IsTrue};
+ghost use Rattle.std.specs.Prelude.{◌≡◌, ℕ, List, [], map, All, IfOk, OnOk, OnErr, IsErrOf, IsTrue, ◌≤◌, ◌+◌, ◌++◌, length, vec_len, vec_capacity};
 ghost use Rattle.std.specs.List.{AllZip};
 ghost use Rattle.rs_disk.specs.Leaves.{HasFailed};
 ghost use Rattle.rs_extent.specs.Extents.{AreApart, AreOnDisk, AreTaken};
 ghost use Rattle.rs_record.specs.declared.record.Record.{Record};
 ghost use Rattle.rs_page.specs.Items.{record_format};
 ghost use Rattle.rs_page.specs.Placing.{Places, HasNoPlace};
-ghost use Rattle.rs_page.specs.DiskPages.{IsWritten};
+ghost use Rattle.rs_page.specs.DiskPages.{IsWritten, Stands};
 ghost use Rattle.rs_page.specs.Pages.{IsStored, IsTouched, placed_extents, stored, stored_refs};
-ghost use Rattle.rs_pages.specs.Storing.{StaysOrIsStored, WritesPages, ReadsPages};
+ghost use Rattle.rs_pages.specs.Storing.{StaysOrIsStored, WritesPages, ReadsPages, unshared};
 ghost use Rattle.rs_catalogue.specs.Catalogue.{records_of, StandsUnstored, HoldsCatalogue};
 
 use crate::Catalogue;
 use rs_disk::Disk;
-use rs_extent::Used;
+use rs_extent::{Extent, Used};
 use rs_page::laws::pages_hold_once;
 use rs_page::{Full, LoadFault, PageRef, StoreFault};
 use rs_pages::Pages;
@@ -42,6 +42,17 @@ impl Catalogue {
         ensures records { records_of self.new ≡ records_of self.old }
     {
         self.pages.place_touched(used)
+    }
+
+    /// Adds the blocks that pages were given, and are not written to yet, in the order of the pages, to
+    /// a list that has room for as many as there are pages. It takes no memory.
+    pub fn list_placed(&self, extents: &mut Vec<Extent>)
+        requires { vec_len extents.old + length self.now ≤ vec_capacity extents.old }
+        ensures items { extents.new.items ≡ extents.old.items ++ placed_extents self.now }
+        ensures len { vec_len extents.new ≤ vec_len extents.old + length self.now }
+        ensures capacity { vec_capacity extents.old ≤ vec_capacity extents.new }
+    {
+        self.pages.list_placed(extents);
     }
 
     /// Writes each page that was given blocks, by one device call a page. Pages that are on the disk
@@ -115,5 +126,50 @@ impl Catalogue {
             return Err(LoadFault::Damaged);
         }
         Ok(Catalogue { pages })
+    }
+
+    /// Reads the catalogue that these references point to, as [`Catalogue::load`] does, beside one that
+    /// is held. A page that has the entry of a page on the disk of that one is that page, whose
+    /// records it shares: it is not read. Each other page takes one device call. The disk stays as
+    /// it is.
+    ///
+    /// # Errors
+    ///
+    /// - [`LoadFault::Device`] where the device fails.
+    /// - [`LoadFault::Damaged`] where the disk holds no catalogue there, if the pages of the one that
+    ///   is held stand on it.
+    /// - [`LoadFault::NoMemory`] where the memory is refused.
+    pub fn load_beside<D: Disk>(
+        alloc: Global,
+        disk: &mut D,
+        pages: &[PageRef],
+        beside: &Catalogue,
+    ) -> Result<Catalogue, LoadFault>
+        ensures pages { IfOk result (λ loaded. stored_refs loaded ≡ pages.now) }
+        ensures stored { IfOk result (All IsStored) }
+
+        // What the disk holds is said of a device that has followed the model, on which the pages of
+        // the catalogue that is held stand.
+        ensures found { IfOk result (λ loaded. IsTrue (D.state disk.new).honest
+            → All (Stands record_format (D.state disk.new).now.seen) beside.now
+            → HoldsCatalogue pages.now (D.state disk.new).now.seen
+            (map (λ page. page.items) loaded)) }
+        ensures damaged { IsErrOf result LoadFault.Damaged
+            → IsTrue (D.state disk.new).honest
+            → All (Stands record_format (D.state disk.new).now.seen) beside.now
+            → (records : List (List Record))
+            → ¬ HoldsCatalogue pages.now (D.state disk.new).now.seen records }
+        ensures device { IsErrOf result LoadFault.Device
+            → HasFailed (D.state disk.old) (D.state disk.new) }
+        ensures reads { ReadsPages (unshared pages.now (stored_refs beside.now))
+            (D.state disk.old) (D.state disk.new) }
+    {
+        pages_hold_once::<Record>();
+        let found = Pages::load_beside(alloc, disk, pages, &beside.pages)?;
+        if found.is_ordered() {
+            Ok(Catalogue { pages: found })
+        } else {
+            Err(LoadFault::Damaged)
+        }
     }
 }

@@ -7,6 +7,7 @@ ghost use Rattle.rs_page.specs.Items.{change_filled};
 ghost use Rattle.rs_page.specs.Pages.{placed_extents, stored_refs};
 ghost use Rattle.rs_page.specs.SharedPages.{KeepsPages};
 ghost use Rattle.rs_pages.specs.Rule.{appended_to};
+ghost use Rattle.rs_pages.specs.Entries.{open_entry};
 ghost use Rattle.rs_changes.specs.Filled.{history_filled};
 ghost use Rattle.rs_changes.specs.History.{changes_of, last_of, IsHistory, EndsUnstored, part_start, part_end};
 
@@ -158,8 +159,16 @@ impl History {
     ///
     /// [`AllocError`] where the memory is refused.
     pub fn pages(&self, alloc: Global) -> Result<Vec<PageRef>, AllocError>
-        ensures { IfOk result (λ pages. pages.items ≡ stored_refs self.now) }
+        ensures pages { IfOk result (λ pages. pages.items ≡ stored_refs self.now) }
+        ensures lawful { IsHistory self.now }
     {
         self.pages.pages(alloc)
+    }
+
+    /// The entry of the last page, where that page is on the disk and the next change goes into it.
+    pub fn open_entry(&self) -> Option<PageRef>
+        ensures { result ≡ open_entry self.now }
+    {
+        self.pages.open_entry()
     }
 }

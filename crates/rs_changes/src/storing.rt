@@ -1,6 +1,6 @@
 //! A history on the disk.
 
-ghost use Rattle.std.specs.Prelude.{◌≡◌, ◌↔◌, List, [], map, All, IfOk, OnOk, OnErr, IsErrOf, IsTrue};
+ghost use Rattle.std.specs.Prelude.{◌≡◌, ◌↔◌, List, [], map, All, IfOk, OnOk, OnErr, IsErrOf, IsTrue, ◌≤◌, ◌+◌, ◌++◌, length, vec_len, vec_capacity};
 ghost use Rattle.std.specs.List.{AllZip};
 ghost use Rattle.rs_disk.specs.Leaves.{HasFailed};
 ghost use Rattle.rs_extent.specs.Extents.{AreApart, AreOnDisk, AreTaken};
@@ -15,7 +15,7 @@ ghost use Rattle.rs_changes.specs.History.{changes_of, EndsUnstored, HoldsHistor
 
 use crate::History;
 use rs_disk::Disk;
-use rs_extent::Used;
+use rs_extent::{Extent, Used};
 use rs_page::laws::pages_hold_once;
 use rs_page::{Full, LoadFault, PageRef, StoreFault};
 use rs_pages::Pages;
@@ -41,6 +41,17 @@ impl History {
         ensures changes { changes_of self.new ≡ changes_of self.old }
     {
         self.pages.place_touched(used)
+    }
+
+    /// Adds the blocks that pages were given, and are not written to yet, in the order of the pages, to
+    /// a list that has room for as many as there are pages. It takes no memory.
+    pub fn list_placed(&self, extents: &mut Vec<Extent>)
+        requires { vec_len extents.old + length self.now ≤ vec_capacity extents.old }
+        ensures items { extents.new.items ≡ extents.old.items ++ placed_extents self.now }
+        ensures len { vec_len extents.new ≤ vec_len extents.old + length self.now }
+        ensures capacity { vec_capacity extents.old ≤ vec_capacity extents.new }
+    {
+        self.pages.list_placed(extents);
     }
 
     /// Writes each page that was given blocks, by one device call a page. Pages that are on the disk

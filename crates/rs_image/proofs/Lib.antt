@@ -5,4 +5,5 @@ pub mod Each
 pub mod Searched
 pub mod Once
 pub mod Frame
-pub mod Loaded
+pub mod Found
+pub mod Standing

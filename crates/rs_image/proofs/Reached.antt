@@ -1,13 +1,13 @@
 -- What a root reaches, taken from the bodies on: its lists of extents are a directory, catalogue pages, change pages, published pages and bodies.
-use Rattle.std.proofs.Common.{◌≡◌, ℕ, ◌+◌, ◌<◌, Bool, true, false, List, [], ◌∷◌, ◌++◌, length, take, get_or, append_assoc, append-nil, sym, ◌∙◌, ap}
+use Rattle.std.proofs.Common.{◌≡◌, ℕ, ◌+◌, ◌<◌, Bool, true, false, List, [], ◌∷◌, ◌++◌, length, take, get_or, append-nil, sym, ◌∙◌, ap}
 use Rattle.std.specs.Prelude.{cond, not}
 use Rattle.std.specs.List.{list_any}
 use Rattle.std.proofs.lemmas.List.{map-append}
 use Rattle.std.proofs.lemmas.List.Elements.{filter_more}
 use Rattle.rs_extent.specs.declared.Extent.{Extent}
 use Rattle.rs_page.specs.declared.place.PageRef.{PageRef}
-use Rattle.rs_page.specs.Pages.{extents_of}
-use Rattle.rs_image.specs.Reach.{same_page, unshared}
+use Rattle.rs_page.specs.Pages.{same_page, extents_of}
+use Rattle.rs_pages.specs.Storing.{unshared}
 
 -- the extents that a root reaches, by its pages and bodies
 pub reach_by : (directory : Extent) (catalogue history published pages : List PageRef) (bodies : List Extent) → pages ≡ catalogue ++ history ++ published
@@ -28,14 +28,13 @@ unshared_more published catalogue i d shared lt is =
     ∙ ap (λ (b : Bool). unshared (take i published) catalogue ++ cond (not b) (get_or published i d ∷ []) []) (sym is)
 
 -- a page is pushed where it is not shared ..
-pub one_pushed : (new old front before after : List PageRef) (ref : PageRef) (shared : Bool) → new ≡ old ++ ref ∷ [] → old ≡ front ++ before → shared ≡ false
-    → after ≡ before ++ cond (not shared) (ref ∷ []) [] → new ≡ front ++ after
-one_pushed new old front before after ref true pushed was is more = absurd cc
-one_pushed new old front before after ref false pushed was is more =
-    pushed ∙ ap (λ (l : List PageRef). l ++ ref ∷ []) was ∙ append_assoc front before (ref ∷ []) ∙ ap (λ (l : List PageRef). front ++ l) (sym more)
+pub one_pushed : (new old before after : List PageRef) (ref : PageRef) (shared : Bool) → new ≡ old ++ ref ∷ [] → old ≡ before → shared ≡ false
+    → after ≡ before ++ cond (not shared) (ref ∷ []) [] → new ≡ after
+one_pushed new old before after ref true pushed was is more = absurd cc
+one_pushed new old before after ref false pushed was is more = pushed ∙ ap (λ (l : List PageRef). l ++ ref ∷ []) was ∙ sym more
 
 -- .. and not where it is shared
-pub none_pushed : (old front before after : List PageRef) (ref : PageRef) (shared : Bool) → old ≡ front ++ before → shared ≡ true
-    → after ≡ before ++ cond (not shared) (ref ∷ []) [] → old ≡ front ++ after
-none_pushed old front before after ref true was is more = was ∙ ap (λ (l : List PageRef). front ++ l) (sym (append-nil before) ∙ sym more)
-none_pushed old front before after ref false was is more = absurd cc
+pub none_pushed : (old before after : List PageRef) (ref : PageRef) (shared : Bool) → old ≡ before → shared ≡ true
+    → after ≡ before ++ cond (not shared) (ref ∷ []) [] → old ≡ after
+none_pushed old before after ref true was is more = was ∙ sym (append-nil before) ∙ sym more
+none_pushed old before after ref false was is more = absurd cc

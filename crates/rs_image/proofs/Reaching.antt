@@ -4,16 +4,17 @@ use Rattle.std.specs.Prelude.{nat_eq, not, bytes_eq, cond, ◌&&◌}
 use Rattle.std.specs.List.{list_any}
 use Rattle.std.proofs.lemmas.Bool.{and_parts, or_cases}
 use Rattle.std.proofs.lemmas.Bool.Decides.{nat_tests}
-use Rattle.rs_extent.proofs.Sets.{some_front, some_behind, some_of_both}
+use Rattle.rs_extent.proofs.Sets.{some_front, some_behind}
 use Rattle.rs_extent.specs.declared.Extent.{Extent}
 use Rattle.rs_extent.specs.Extents.{within, in_some}
 use Rattle.rs_extent.proofs.Sets.{within_true, within_is, some_first, some_rest, some_split}
 use Rattle.rs_commit.specs.declared.root.Root.{Root}
 use Rattle.rs_page.specs.declared.place.PageRef.{PageRef}
-use Rattle.rs_page.specs.Pages.{stored_refs, extents_of}
+use Rattle.rs_page.specs.Pages.{same_page, stored_refs, extents_of}
 use Rattle.rs_catalogue.specs.Catalogue.{records_of}
 use Rattle.rs_image.specs.declared.contents.Contents.{Contents}
-use Rattle.rs_image.specs.Reach.{same_page, unshared, bodies_of, reach}
+use Rattle.rs_pages.specs.Storing.{unshared}
+use Rattle.rs_image.specs.Reach.{bodies_of, reach}
 
 same_number : (m n : ℕ) → nat_eq m n ≡ true → m ≡ n
 same_number m n is = grind (arith, nat_tests)

@@ -1,10 +1,12 @@
--- Words of the loader's contracts: where a directory may lie, a directory as it was read, and lists that stand where it says.
+-- Words of the loader's contracts: where a directory and its pages may lie, a directory as it was read, and lists that stand where it says.
 use Rattle.std.specs.Prelude.{◌≡◌, ◌<◌, ◌≤◌, List, ℕ, true, All}
 use Rattle.rs_extent.specs.Extents.{within}
-use Rattle.rs_body.specs.Blocks.{IsSized}
+use Rattle.rs_extent.specs.declared.Extent.{Extent}
+use Rattle.rs_body.specs.Blocks.{IsSized, part}
 use Rattle.rs_commit.specs.declared.root.Root.{Root}
 use Rattle.rs_record.specs.declared.record.Record.{Record}
 use Rattle.rs_record.specs.declared.change.Change.{Change}
+use Rattle.rs_page.specs.declared.place.PageRef.{PageRef}
 use Rattle.rs_page.specs.Pages.{IsStored, stored_refs}
 use Rattle.rs_catalogue.specs.Catalogue.{HoldsCatalogue}
 use Rattle.rs_changes.specs.History.{HoldsHistory}
@@ -13,11 +15,24 @@ use Rattle.rs_directory.specs.declared.directory.Directory.{Directory}
 use Rattle.rs_image.specs.declared.contents.Contents.{Contents}
 use Rattle.rs_image.specs.Reach.{blocks_of_disk}
 
--- The directory of a root has exactly the blocks of its length, all of them behind the slots in what is used of a disk of
--- this many bytes.
-pub record IsDirectoryPlaced (size : ℕ) (root : Root) : Type 0 where
-  pub sized : IsSized root.directory root.length
-  pub inside : (b : ℕ) → within root.directory b ≡ true → (2 ≤ b) × (b < blocks_of_disk size)
+-- An extent has exactly the blocks of n bytes, all of them behind the slots in what is used of a disk of this many bytes.
+pub record IsPlaced (size : ℕ) (extent : Extent) (n : ℕ) : Type 0 where
+  pub sized : IsSized extent n
+  pub inside : (b : ℕ) → within extent b ≡ true → (2 ≤ b) × (b < blocks_of_disk size)
+
+-- the directory of a root is placed so ..
+abbrev pub IsDirectoryPlaced : ℕ → Root → Type 0
+IsDirectoryPlaced size root = IsPlaced size root.directory root.length
+
+-- .. and so is a page
+abbrev pub IsPagePlaced : ℕ → PageRef → Type 0
+IsPagePlaced size ref = IsPlaced size ref.extent ref.length
+
+-- All pages that a directory names are placed so.
+pub record ArePlaced (size : ℕ) (d : Directory) : Type 0 where
+  pub catalogue : All (IsPagePlaced size) d.catalogue.items
+  pub changes : All (IsPagePlaced size) d.changes.items
+  pub published : All (IsPagePlaced size) d.published.items
 
 -- the bytes of a directory
 abbrev pub spelled : Directory → List ℕ
@@ -29,6 +44,10 @@ pub record IsLawfulDirectory (d : Directory) : Type 0 where
   pub catalogue : AreLawfulRefs d.catalogue.items
   pub changes : AreLawfulRefs d.changes.items
   pub published : AreLawfulRefs d.published.items
+
+-- Where the root's extent holds the bytes of a directory, all pages that it names are placed.
+abbrev pub NamesPlaced : ℕ → Root → List ℕ → Type 0
+NamesPlaced size root image = (d : Directory) → IsLawfulDirectory d → part root.directory root.length image ≡ spelled d → ArePlaced size d
 
 -- The lists are those of a directory: they have its header, and all their pages are stored where it says.
 pub record AreOf (d : Directory) (c : Contents) : Type 0 where

@@ -1,28 +1,18 @@
 -- Which blocks of a disk a root reaches.
-use Rattle.std.specs.Prelude.{◌<◌, ◌≤◌, ◌/◌, ◌≡◌, ℕ, Bool, true, not, ◌&&◌, ◌||◌, nat_eq, nat_lt, bytes_eq, min, List, ◌∷◌, ◌++◌, map, filter}
-use Rattle.std.specs.List.{list_any}
+use Rattle.std.specs.Prelude.{◌<◌, ◌≤◌, ◌/◌, ◌≡◌, ℕ, Bool, true, ◌||◌, nat_lt, min, List, ◌∷◌, ◌++◌, map}
 use Rattle.rs_extent.specs.Blocks.{block_size}
 use Rattle.rs_extent.specs.declared.Extent.{Extent}
 use Rattle.rs_extent.specs.Extents.{in_some}
 use Rattle.rs_commit.specs.declared.root.Root.{Root}
 use Rattle.rs_record.specs.declared.record.Record.{Record}
-use Rattle.rs_page.specs.declared.place.PageRef.{PageRef}
 use Rattle.rs_page.specs.Pages.{stored_refs, extents_of}
+use Rattle.rs_pages.specs.Storing.{unshared}
 use Rattle.rs_catalogue.specs.Catalogue.{records_of}
 use Rattle.rs_image.specs.declared.contents.Contents.{Contents}
 
 -- how many blocks of a disk of this many bytes are used: whole ones, and no more than 8,388,608
 abbrev pub blocks_of_disk : ℕ → ℕ
 blocks_of_disk size = min (size / block_size) 8388608
-
--- two entries of pages are equal
-abbrev pub same_page : PageRef → PageRef → Bool
-same_page a b =
-    nat_eq a.extent.first b.extent.first && nat_eq a.extent.blocks b.extent.blocks && nat_eq a.length b.length && bytes_eq a.sha256 b.sha256
-
--- the published pages that are not pages of the catalogue too
-abbrev pub unshared : List PageRef → List PageRef → List PageRef
-unshared published catalogue = filter (λ ref. not (list_any (same_page ref) catalogue)) published
 
 -- the blocks of the bodies of these records
 abbrev pub bodies_of : List Record → List Extent

@@ -8,7 +8,7 @@ mod rooted;
 mod used;
 mod whole;
 
-pub use contents::Contents;
+pub use contents::{Contents, Loaded};
 pub use loading::load;
 pub use rooted::Rooted;
-pub use used::used_of;
+pub use used::{unshared_pages, used_of};

@@ -1,6 +1,6 @@
 //! Reading what stands behind a root.
 
-ghost use Rattle.std.specs.Prelude.{◌≡◌, ◌↔◌, ◌<◌, ◌≤◌, ◌+◌, ℕ, List, true, map, IfOk, OnOk, IsErrOf, IsTrue};
+ghost use Rattle.std.specs.Prelude.{◌≡◌, ◌↔◌, ◌<◌, ◌≤◌, ◌+◌, ℕ, List, true, false, All, map, IfOk, OnOk, IsErrOf, IsTrue};
 ghost use Rattle.rs_disk.specs.Leaves.{Rests, HasFailed};
 ghost use Rattle.rs_fixity.specs.Digests.{digests};
 ghost use Rattle.rs_extent.specs.Extents.{within};
@@ -10,13 +10,13 @@ ghost use Rattle.rs_record.specs.declared.change.Change.{Change};
 ghost use Rattle.rs_model.specs.State.{Source};
 ghost use Rattle.rs_image.specs.declared.contents.Contents.{Contents};
 ghost use Rattle.rs_image.specs.Reach.{blocks_of_disk};
-ghost use Rattle.rs_image.specs.Whole.{IsWhole};
-ghost use Rattle.rs_image.specs.StateOfImage.{AreListable, Tells, state_in};
-ghost use Rattle.rs_image.specs.Loading.{IsDirectoryPlaced, spelled, IsLawfulDirectory, AreOf, Hold};
+ghost use Rattle.rs_image.specs.StateOfImage.{Tells, state_in};
+ghost use Rattle.rs_image.specs.Rooted.{IsRooted, AreUsed, rooted};
+ghost use Rattle.rs_image.specs.Loading.{IsPlaced, IsDirectoryPlaced, IsPagePlaced, ArePlaced, NamesPlaced, spelled, IsLawfulDirectory, AreOf, Hold};
 
-use crate::Contents;
 use crate::used::block_count;
-use crate::whole::is_whole;
+use crate::whole::whole_set;
+use crate::{Contents, Loaded};
 use rs_body::{is_sized, read_body};
 use rs_catalogue::{Catalogue, LoadFault};
 use rs_changes::History;
@@ -24,13 +24,15 @@ use rs_commit::Root;
 use rs_directory::{Directory, read_directory};
 use rs_disk::Disk;
 use rs_extent::Extent;
+use rs_page::PageRef;
 use std::alloc::Global;
 
 /// Reads what stands behind a root, whatever the root and the disk say, and checks each rule of the
 /// format. The disk stays as it is.
 ///
-/// No memory is asked for the directory or a page before its extent was found to lie on the disk
-/// and to have exactly the blocks of its length.
+/// No memory is asked for the directory, and nothing read of it, before its extent was found to lie
+/// behind the slots in what is used of the disk, and to have exactly the blocks of its length. The
+/// same was found of each page that it names before the first page is given memory or read.
 ///
 /// # Errors
 ///
@@ -39,13 +41,16 @@ use std::alloc::Global;
 ///   of a page are not those of their digests and formats, or a rule of the lists or of their blocks
 ///   is broken.
 /// - [`LoadFault::NoMemory`] where the memory is refused.
-pub fn load<D: Disk>(alloc: Global, disk: &mut D, root: &Root) -> Result<Contents, LoadFault>
-    ensures whole { IfOk result (λ c. IsWhole (D.state disk.new).size root.now c) }
-    ensures listable { IfOk result AreListable }
+pub fn load<D: Disk>(alloc: Global, disk: &mut D, root: &Root) -> Result<Loaded, LoadFault>
+    ensures rooted { IfOk result
+        (λ found. IsRooted (rooted (D.state disk.new).size root.now found.contents)) }
+    ensures used { IfOk result
+        (λ found. AreUsed (rooted (D.state disk.new).size root.now found.contents) found.used) }
 
     // What the disk holds is said of a device that has followed the model.
-    ensures told { IfOk result (λ c. IsTrue (D.state disk.new).honest
-        → Tells root.now c (D.state disk.new).now.seen (state_in (D.state disk.new).now.seen c)) }
+    ensures told { IfOk result (λ found. IsTrue (D.state disk.new).honest
+        → Tells root.now found.contents (D.state disk.new).now.seen
+        (state_in (D.state disk.new).now.seen found.contents)) }
     ensures damaged { IsErrOf result LoadFault.Damaged
         → IsTrue (D.state disk.new).honest
         → (c : Contents) (s : Source)
@@ -55,13 +60,18 @@ pub fn load<D: Disk>(alloc: Global, disk: &mut D, root: &Root) -> Result<Content
     ensures no_memory { IsErrOf result LoadFault.NoMemory
         → IsDirectoryPlaced (D.state disk.new).size root.now }
 
+    // After the directory nothing is read unless all pages that it names are placed.
+    ensures placed { (D.state disk.old).calls + 1 < (D.state disk.new).calls
+        → IsTrue (D.state disk.new).honest
+        → NamesPlaced (D.state disk.new).size root.now (D.state disk.new).now.seen }
+
     ensures rests { Rests (D.state disk.old) (D.state disk.new) }
 {
     let directory = load_directory(alloc, disk, root)?;
     let contents = load_lists(alloc, disk, directory)?;
-    match is_whole(alloc, disk.size(), root, &contents) {
-        Ok(true) => Ok(contents),
-        Ok(false) => Err(LoadFault::Damaged),
+    match whole_set(alloc, disk.size(), root, &contents) {
+        Ok(Some(used)) => Ok(Loaded { contents, used }),
+        Ok(None) => Err(LoadFault::Damaged),
         Err(_) => Err(LoadFault::NoMemory),
     }
 }
@@ -83,13 +93,36 @@ fn load_directory<D: Disk>(alloc: Global, disk: &mut D, root: &Root) -> Result<D
     ensures no_memory { IsErrOf result LoadFault.NoMemory
         → IsDirectoryPlaced (D.state disk.new).size root.now }
     ensures rests { Rests (D.state disk.old) (D.state disk.new) }
+    ensures one_call { (D.state disk.new).calls ≤ (D.state disk.old).calls + 1 }
 {
-    if !is_sized(root.directory, root.length) || !is_inside(root.directory, disk.size()) {
+    if !is_placed(root.directory, root.length, disk.size()) {
         return Err(LoadFault::Damaged);
     }
     let mut bytes = Vec::new(alloc);
     read_body(disk, root.directory, root.length, &root.sha256, &mut bytes)?;
     Ok(read_directory(alloc, &bytes)?)
+}
+
+// Whether each of these pages has exactly the blocks of its length, all of them behind the slots in
+// what is used of a disk of `size` bytes.
+fn are_placed(pages: &[PageRef], size: u64) -> bool
+    ensures yes { result ≡ true → All (IsPagePlaced size) pages.now }
+    ensures no { result ≡ false → ¬ All (IsPagePlaced size) pages.now }
+{
+    for page in pages {
+        if !is_placed(page.extent, page.length, size) {
+            return false;
+        }
+    }
+    true
+}
+
+// Whether an extent has exactly the blocks of `length` bytes, all of them behind the slots in what is
+// used of a disk of `size` bytes.
+fn is_placed(extent: Extent, length: u32, size: u64) -> bool
+    ensures { IsTrue result ↔ IsPlaced size extent length }
+{
+    is_sized(extent, length) && is_inside(extent, size)
 }
 
 // Whether each block of an extent is behind the slots, and one of those that are used of a disk of
@@ -102,7 +135,9 @@ fn is_inside(extent: Extent, size: u64) -> bool
     extent.blocks == 0 || 2 <= extent.first && end <= block_count(size) as u64
 }
 
-// Reads the lists whose pages a directory names.
+// Reads the lists whose pages a directory names; a published page that is a page of the catalogue
+// too is not read again. Where one of these is not placed, it is found Damaged
+// before any page is given memory or read.
 fn load_lists<D: Disk>(
     alloc: Global,
     disk: &mut D,
@@ -116,14 +151,28 @@ fn load_lists<D: Disk>(
         → IsTrue (D.state disk.new).honest
         → (catalogue : List (List Record)) (changes : List (List Change))
         (published : List (List Record))
+        → ArePlaced (D.state disk.new).size directory
         → ¬ Hold directory (D.state disk.new).now.seen catalogue changes published }
     ensures device { IsErrOf result LoadFault.Device
         → HasFailed (D.state disk.old) (D.state disk.new) }
+    ensures no_memory { IsErrOf result LoadFault.NoMemory
+        → ArePlaced (D.state disk.new).size directory }
+    ensures read { (D.state disk.old).calls < (D.state disk.new).calls
+        → ArePlaced (D.state disk.new).size directory }
+    ensures unplaced { ¬ ArePlaced (D.state disk.new).size directory
+        → IsErrOf result LoadFault.Damaged × (D.state disk.new ≡ D.state disk.old) }
     ensures rests { Rests (D.state disk.old) (D.state disk.new) }
 {
+    let size = disk.size();
+    let all_placed = are_placed(&directory.catalogue, size)
+        && are_placed(&directory.changes, size)
+        && are_placed(&directory.published, size);
+    if !all_placed {
+        return Err(LoadFault::Damaged);
+    }
     let catalogue = Catalogue::load(alloc, disk, &directory.catalogue)?;
     let history = History::load(alloc, disk, &directory.changes)?;
-    let published = Catalogue::load(alloc, disk, &directory.published)?;
+    let published = Catalogue::load_beside(alloc, disk, &directory.published, &catalogue)?;
     Ok(Contents {
         header: directory.header,
         catalogue,

@@ -4,9 +4,10 @@ ghost use Rattle.std.specs.List.{list_any};
 ghost use Rattle.std.specs.List.Sorted.{IsSorted};
 ghost use Rattle.rs_extent.specs.Blocks.{is_used};
 ghost use Rattle.rs_extent.specs.Extents.{AreApart, AreTaken, CanTake};
-ghost use Rattle.rs_page.specs.Pages.{extents_of, stored_refs};
+ghost use Rattle.rs_page.specs.Pages.{same_page, extents_of, stored_refs};
 ghost use Rattle.rs_catalogue.specs.Catalogue.{records_of};
-ghost use Rattle.rs_image.specs.Reach.{blocks_of_disk, same_page, unshared, bodies_of, reach, is_kept, AreInside};
+ghost use Rattle.rs_pages.specs.Storing.{unshared};
+ghost use Rattle.rs_image.specs.Reach.{blocks_of_disk, bodies_of, reach, is_kept, AreInside};
 ghost use Rattle.rs_image.specs.Rooted.{AreUsed};
 
 use crate::{Contents, Rooted};
@@ -118,26 +119,41 @@ fn take_reached(
     Ok(take(used, root.directory))
 }
 
-// The pages that a root reaches: a published page that is a catalogue page too counts once. The
-// catalogue's pages are sorted once, and each published page is searched among them by halves.
-fn reached_pages(alloc: Global, contents: &Contents) -> Result<Vec<PageRef>, AllocError>
-    ensures { IfOk result (λ pages. pages.items ≡ stored_refs contents.now.catalogue
-        ++ stored_refs contents.now.history
-        ++ unshared (stored_refs contents.now.published) (stored_refs contents.now.catalogue)) }
+/// The published pages that are not pages of the catalogue too, in the order of the publication.
+///
+/// The catalogue's pages are sorted once, and each published page is searched among them by halves.
+/// It asks for the memory of three lists of page entries.
+///
+/// # Errors
+///
+/// [`AllocError`] where the memory is refused.
+pub fn unshared_pages(alloc: Global, contents: &Contents) -> Result<Vec<PageRef>, AllocError>
+    ensures { IfOk result (λ pages. pages.items
+        ≡ unshared (stored_refs contents.now.published) (stored_refs contents.now.catalogue)) }
 {
-    let catalogue = contents.catalogue.pages(alloc)?;
-    let history = contents.history.pages(alloc)?;
     let published = contents.published.pages(alloc)?;
-    let mut pages = Vec::new(alloc);
-    pages.extend_from_slice(&catalogue)?;
-    pages.extend_from_slice(&history)?;
-    let mut sorted = catalogue;
+    let mut sorted = contents.catalogue.pages(alloc)?;
     sorted.sort_unstable();
+    let mut pages = Vec::new(alloc);
     for page in &published {
         if !is_among(page, &sorted) {
             pages.push(*page)?;
         }
     }
+    Ok(pages)
+}
+
+// The pages that a root reaches: a published page that is a catalogue page too counts once.
+fn reached_pages(alloc: Global, contents: &Contents) -> Result<Vec<PageRef>, AllocError>
+    ensures { IfOk result (λ pages. pages.items ≡ stored_refs contents.now.catalogue
+        ++ stored_refs contents.now.history
+        ++ unshared (stored_refs contents.now.published) (stored_refs contents.now.catalogue)) }
+{
+    let mut pages = contents.catalogue.pages(alloc)?;
+    let history = contents.history.pages(alloc)?;
+    pages.extend_from_slice(&history)?;
+    let unshared = unshared_pages(alloc, contents)?;
+    pages.extend_from_slice(&unshared)?;
     Ok(pages)
 }
 

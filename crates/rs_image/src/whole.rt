@@ -1,9 +1,10 @@
 //! Whether what a root says, and the lists behind it, keep the rules of an image.
-ghost use Rattle.std.specs.Prelude.{◌≡◌, ◌≤◌, true, false, max, All, IfOk, MatchOption};
+ghost use Rattle.std.specs.Prelude.{◌≡◌, ◌≤◌, true, false, max, All, IfOk, IfSome, IfNone, MatchOption};
 ghost use Rattle.rs_page.specs.Pages.{IsStored};
 ghost use Rattle.rs_catalogue.specs.Catalogue.{records_of};
 ghost use Rattle.rs_changes.specs.History.{changes_of, last_of};
 ghost use Rattle.rs_image.specs.Whole.{IsWithin, IsSoundRecord, IsSoundChange, AreMoments, IsWhole};
+ghost use Rattle.rs_image.specs.Rooted.{AreUsed, rooted};
 
 use crate::Contents;
 use crate::used::{are_apart, reached};
@@ -11,30 +12,35 @@ use rs_body::is_sized;
 use rs_catalogue::Catalogue;
 use rs_changes::History;
 use rs_commit::Root;
+use rs_extent::Used;
 use rs_record::{Change, LONGEST_BODY, Record};
 use rs_time::Moment;
 use std::alloc::{AllocError, Global};
 
-/// Whether a root and the lists behind it keep the rules of an image of `size` bytes, whatever they
-/// say: the moments are in order, each record and each change is sound, the directory has exactly
-/// its blocks, and what the root reaches lies on the disk behind the slots, no two things with a
-/// block in common, nor two published pages. All pages of the lists are on the disk.
+/// The blocks of the slots and those that a root reaches, where the root and the lists behind it keep
+/// the rules of an image of `size` bytes, whatever they say: the moments are in order, each record
+/// and each change is sound, the directory has exactly its blocks, and what the root reaches lies on
+/// the disk behind the slots, no two things with a block in common, nor two published pages. `None`
+/// where a rule is broken. All pages of the lists are on the disk.
 ///
 /// # Errors
 ///
 /// [`AllocError`] where the memory is refused.
-pub(crate) fn is_whole(
+pub(crate) fn whole_set(
     alloc: Global,
     size: u64,
     root: &Root,
     contents: &Contents,
-) -> Result<bool, AllocError>
+) -> Result<Option<Used>, AllocError>
     requires room { 1024 ≤ size }
     requires catalogue { All IsStored contents.now.catalogue }
     requires history { All IsStored contents.now.history }
     requires published { All IsStored contents.now.published }
-    ensures yes { IfOk result (λ whole. whole ≡ true → IsWhole size root.now contents.now) }
-    ensures no { IfOk result (λ whole. whole ≡ false → ¬ IsWhole size root.now contents.now) }
+    ensures whole { IfOk result
+        (λ found. IfSome found (λ _. IsWhole size root.now contents.now)) }
+    ensures used { IfOk result
+        (λ found. IfSome found (AreUsed (rooted size root.now contents.now))) }
+    ensures none { IfOk result (λ found. IfNone found (¬ IsWhole size root.now contents.now)) }
 {
     let header = &contents.header;
     let is_sound = is_sized(root.directory, root.length)
@@ -42,11 +48,18 @@ pub(crate) fn is_whole(
         && are_sound_records(header.start, header.last, &contents.catalogue)
         && are_sound_changes(header.start, header.last, &contents.history)
         && are_sound_records(header.start, header.at, &contents.published);
-    if !is_sound || reached(alloc, size, root, contents)?.is_none() {
-        return Ok(false);
+    if !is_sound {
+        return Ok(None);
     }
+    let Some(used) = reached(alloc, size, root, contents)? else {
+        return Ok(None);
+    };
     let published = contents.published.pages(alloc)?;
-    are_apart(alloc, size, &published)
+    if are_apart(alloc, size, &published)? {
+        Ok(Some(used))
+    } else {
+        Ok(None)
+    }
 }
 
 // Whether formatting, the latest publication and the last command are in order, and the last command

@@ -1,5 +1,5 @@
 -- Pages as a program holds them: the items of each, and where it stands.
-use Rattle.std.specs.Prelude.{◌≡◌, ◌≤◌, ℕ, List, length, map, flat_map, filter_map, Option, Some, None, IsSome, IfSome}
+use Rattle.std.specs.Prelude.{◌≡◌, ◌≤◌, ℕ, Bool, ◌&&◌, nat_eq, bytes_eq, List, length, map, flat_map, filter_map, Option, Some, None, IsSome, IfSome}
 use Rattle.rs_record.specs.Limits.{most_items}
 use Rattle.rs_extent.specs.declared.Extent.{Extent}
 use Rattle.rs_fixity.specs.Digests.{digests}
@@ -70,6 +70,11 @@ placed_extents pages = filter_map (λ page. placed_extent page.place) pages
 -- the references to the pages that are on the disk, in order
 abbrev pub stored_refs : {T : Type 0} → List (Page T) → List PageRef
 stored_refs pages = filter_map (λ page. stored_ref page.place) pages
+
+-- two entries of pages are equal
+abbrev pub same_page : PageRef → PageRef → Bool
+same_page a b =
+    nat_eq a.extent.first b.extent.first && nat_eq a.extent.blocks b.extent.blocks && nat_eq a.length b.length && bytes_eq a.sha256 b.sha256
 
 -- the extents of pages on the disk, in order
 abbrev pub extents_of : List PageRef → List Extent

@@ -11,6 +11,7 @@ pub mod GivenBack
 pub mod Standing
 pub mod Taken
 pub mod Writing
+pub mod ListedUpTo
 pub mod StoredUpTo
 pub mod LoadedUpTo
 pub mod Changed
@@ -18,3 +19,6 @@ pub mod NamedFilled
 pub mod LastFilled
 pub mod Ascending
 pub mod FilledAt
+pub mod FoundEntries
+pub mod ByEntry
+pub mod LoadedBeside

@@ -32,7 +32,7 @@ pub record LoadedUpTo {T : Type 0} (format : ItemFormat T) (k room : ℕ) (refs 
   pub reads : ReadsPages (take k refs) old new
 
 -- an element that is there, whatever stands for one that is not
-same_at : {A : Type 0} (xs : List A) (k : ℕ) (d other : A) → k < length xs → get_or xs k d ≡ get_or xs k other
+pub same_at : {A : Type 0} (xs : List A) (k : ℕ) (d other : A) → k < length xs → get_or xs k d ≡ get_or xs k other
 same_at [] k d other inside = absurd (omega arith)
 same_at (x ∷ xs) zero d other inside = refl
 same_at (x ∷ xs) (suc k) d other inside = same_at xs k d other (omega arith)
@@ -53,7 +53,7 @@ module _ {T : Type 0} (format : ItemFormat T) where
       }
 
   -- pages and one more
-  zip_push : (image : List ℕ) (refs : List PageRef) (pages : List (List T)) (ref : PageRef) (items : List T) → ArePages format refs image pages → IsPage format ref image items
+  pub zip_push : (image : List ℕ) (refs : List PageRef) (pages : List (List T)) (ref : PageRef) (items : List T) → ArePages format refs image pages → IsPage format ref image items
       → ArePages format (refs ++ ref ∷ []) image (pages ++ items ∷ [])
   zip_push image [] [] ref items are is = (is, tt)
   zip_push image [] (page ∷ pages) ref items are is = absurd are
@@ -81,12 +81,12 @@ module _ {T : Type 0} (format : ItemFormat T) where
       let sizes = length-take k refs in
       record { rests = rest_on old mid new reads.rests rest; one_each = omega (arith, reads.one_each, one, inside, sizes) }
 
-  refs_push : (loaded : List (Page T)) (page : Page T) (ref : PageRef) → page.place ≡ Stored ref → stored_refs (loaded ++ page ∷ []) ≡ stored_refs loaded ++ ref ∷ []
+  pub refs_push : (loaded : List (Page T)) (page : Page T) (ref : PageRef) → page.place ≡ Stored ref → stored_refs (loaded ++ page ∷ []) ≡ stored_refs loaded ++ ref ∷ []
   refs_push loaded page ref is =
       filter_map-append (λ (p : Page T). stored_ref p.place) loaded (page ∷ [])
       ∙ ap (λ refs. stored_refs loaded ++ refs) (subst (λ (place : Place). stored_refs (record { items = page.items; place = place } ∷ []) ≡ ref ∷ []) (sym is) refl)
 
-  sum_push : (loaded : List (Page T)) (page : Page T) → sum_of (map (λ p. p.items) (loaded ++ page ∷ [])) ≡ sum_of (map (λ p. p.items) loaded) + length page.items
+  pub sum_push : (loaded : List (Page T)) (page : Page T) → sum_of (map (λ p. p.items) (loaded ++ page ∷ [])) ≡ sum_of (map (λ p. p.items) loaded) + length page.items
   sum_push [] page = omega (arith, ap length (append-nil page.items))
   sum_push (p ∷ loaded) page =
       omega (arith, sum_push loaded page, length-append p.items (flat_map (λ items. items) (map (λ p. p.items) (loaded ++ page ∷ []))), length-append p.items (flat_map (λ items. items) (map (λ p. p.items) loaded)))
@@ -137,7 +137,7 @@ module _ {T : Type 0} (format : ItemFormat T) where
       omega (arith, sum_is pages, length-append page.items (items_of pages), length-append page.items (flat_map (λ items. items) (map (λ p. p.items) pages)))
 
   -- pages hold no fewer items than some of them that were read
-  sum_within : AreApart format → (image : List ℕ) (front : List PageRef) (ref : PageRef) (rest : List PageRef) (read : List (List T)) (items : List T) (pages : List (List T)) → ArePages format front image read
+  pub sum_within : AreApart format → (image : List ℕ) (front : List PageRef) (ref : PageRef) (rest : List PageRef) (read : List (List T)) (items : List T) (pages : List (List T)) → ArePages format front image read
       → IsPage format ref image items → ArePages format (front ++ ref ∷ rest) image pages → sum_of read + length items ≤ sum_of pages
   sum_within apart image [] ref rest [] items [] of_read of_items of_pages = absurd of_pages
   sum_within apart image [] ref rest [] items (page ∷ pages) of_read of_items of_pages =

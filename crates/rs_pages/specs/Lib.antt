@@ -5,3 +5,5 @@ pub mod Laws
 pub mod Storing
 pub mod Filled
 pub mod Changed
+pub mod Entries
+pub mod Beside

@@ -1,5 +1,6 @@
 -- What reading and writing pages leaves.
-use Rattle.std.specs.Prelude.{◌≡◌, ◌≤◌, ◌+◌, ◌⊎◌, ℕ, Bool, List, length, flat_map}
+use Rattle.std.specs.Prelude.{◌≡◌, ◌≤◌, ◌+◌, ◌⊎◌, ℕ, Bool, not, List, length, filter, flat_map}
+use Rattle.std.specs.List.{list_any}
 use Rattle.rs_disk.specs.Medium.{DiskState}
 use Rattle.rs_disk.specs.Leaves.{Advances, Rests}
 use Rattle.rs_extent.specs.Extents.{AreBeside}
@@ -7,7 +8,7 @@ use Rattle.rs_body.specs.Outside.{WritesOutside}
 use Rattle.rs_record.specs.Limits.{most_items}
 use Rattle.rs_page.specs.declared.place.PageRef.{PageRef}
 use Rattle.rs_page.specs.Format.{ItemFormat}
-use Rattle.rs_page.specs.Pages.{Page, placed_extents, page_stored}
+use Rattle.rs_page.specs.Pages.{Page, same_page, placed_extents, page_stored}
 use Rattle.rs_page.specs.DiskPages.{IsWritten, ArePages}
 
 -- a page is as it was, or it is written and stored
@@ -25,6 +26,10 @@ pub record WritesPages {T : Type 0} (pages : List (Page T)) (old new : DiskState
 pub record ReadsPages (refs : List PageRef) (old new : DiskState) : Type 0 where
   pub rests : Rests old new
   pub one_each : new.calls ≤ old.calls + length refs
+
+-- the references to pages that are none of these
+abbrev pub unshared : List PageRef → List PageRef → List PageRef
+unshared refs others = filter (λ ref. not (list_any (same_page ref) others)) refs
 
 -- What the pages of references hold: items, page for page, no more than 50,000 in all.
 pub record HoldItems {T : Type 0} (format : ItemFormat T) (refs : List PageRef) (image : List ℕ) (pages : List (List T)) : Type 0 where

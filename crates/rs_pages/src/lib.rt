@@ -6,10 +6,12 @@
 //! `specs/Rule.antt`, and the contracts say that the new list is exactly it.
 //! [`Pages::fill`] and [`Pages::fill_last`] change an item where it stands, in a page that is not
 //! on the disk. [`Pages::place_touched`] and [`Pages::store_touched`] bring the pages onto the disk,
-//! and [`Pages::load`] reads them back, up to 50,000 items; [`laws`] states what follows from the
-//! rule.
+//! and [`Pages::load`] reads them back, up to 50,000 items; [`Pages::pages`], [`Pages::entry_for`] and
+//! [`Pages::open_entry`] tell their entries. [`laws`] states what follows from the rule.
 #![tactic(auto)]
 
+mod beside;
+mod entries;
 mod filling;
 pub mod laws;
 mod loading;

@@ -2,14 +2,16 @@
 ghost use Rattle.std.specs.Prelude.{◌≡◌, ◌≤◌, List, length, map, All, IfOk, IsErrOf, IsTrue};
 ghost use Rattle.rs_disk.specs.Leaves.{HasFailed};
 ghost use Rattle.rs_record.specs.Limits.{most_items};
+ghost use Rattle.rs_page.specs.DiskPages.{Stands};
 ghost use Rattle.rs_page.specs.Pages.{IsStored, items_of, stored_refs};
 ghost use Rattle.rs_pages.specs.Rule.{HaveItems};
-ghost use Rattle.rs_pages.specs.Storing.{HoldItems, ReadsPages};
+ghost use Rattle.rs_pages.specs.Storing.{HoldItems, ReadsPages, unshared};
 
 use crate::Pages;
+use crate::beside::load_all_beside;
 use rs_disk::Disk;
 use rs_page::{LoadFault, Page, PageItem, PageRef};
-use rs_record::MOST_ITEMS;
+use rs_record::{Duplicate, MOST_ITEMS};
 use std::alloc::Global;
 
 impl<T: PageItem> Pages<T> {
@@ -47,6 +49,49 @@ impl<T: PageItem> Pages<T> {
     {
         let loaded = load_all(alloc, disk, pages)?;
         Pages::of_pages(alloc, loaded).map_err(|_| LoadFault::NoMemory)
+    }
+}
+
+impl<T: PageItem + Duplicate> Pages<T> {
+    /// Reads the pages that these references point to, as [`Pages::load`] does, beside a list that is
+    /// held. A page that has the entry of a page on the disk of that list is that page, whose items
+    /// it shares: it is not read. Each other page takes one device call. The disk stays as it is.
+    ///
+    /// The entries of that list are sorted once, and each reference is searched among them by halves.
+    ///
+    /// # Errors
+    ///
+    /// - [`LoadFault::Device`] where the device fails.
+    /// - [`LoadFault::Damaged`] where the disk holds no such page at one of them, or more than
+    ///   50,000 items in all, if the pages of the list that is held stand on it.
+    /// - [`LoadFault::NoMemory`] where the memory is refused.
+    pub fn load_beside<D: Disk>(
+        alloc: Global,
+        disk: &mut D,
+        pages: &[PageRef],
+        beside: &Pages<T>,
+    ) -> Result<Pages<T>, LoadFault>
+        ensures pages { IfOk result (λ loaded. stored_refs loaded ≡ pages.now) }
+        ensures stored { IfOk result (All IsStored) }
+        ensures room { IfOk result (λ loaded. length (items_of loaded) ≤ most_items) }
+
+        // What the disk holds is said of a device that has followed the model, on which the pages of
+        // the list that is held stand.
+        ensures found { IfOk result (λ loaded. IsTrue (D.state disk.new).honest
+            → All (Stands T.format (D.state disk.new).now.seen) beside.now
+            → HoldItems T.format pages.now (D.state disk.new).now.seen
+            (map (λ page. page.items) loaded)) }
+        ensures damaged { IsErrOf result LoadFault.Damaged → IsTrue (D.state disk.new).honest
+            → All (Stands T.format (D.state disk.new).now.seen) beside.now
+            → (held : List (List T))
+            → ¬ HoldItems T.format pages.now (D.state disk.new).now.seen held }
+        ensures device { IsErrOf result LoadFault.Device
+            → HasFailed (D.state disk.old) (D.state disk.new) }
+        ensures reads { ReadsPages (unshared pages.now (stored_refs beside.now))
+            (D.state disk.old) (D.state disk.new) }
+    {
+        let found = load_all_beside(alloc, disk, pages, &beside.pages)?;
+        Pages::of_pages(alloc, found).map_err(|_| LoadFault::NoMemory)
     }
 }
 

@@ -15,7 +15,7 @@ use std::alloc::{AllocError, Global};
 use std::marker::Model;
 
 // The most items that the last page has where one more goes into it is one less than these.
-const MOST: usize = 64;
+pub(crate) const MOST: usize = 64;
 
 /// A list in pages, none of which is empty. Contracts see the list of the pages.
 ///

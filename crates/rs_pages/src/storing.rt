@@ -1,16 +1,17 @@
 //! Pages on the disk.
-ghost use Rattle.std.specs.Prelude.{◌≡◌, ◌≤◌, [], length, take, map, slice_get, All, IfOk, IfSome, OnOk, OnErr, IsErrOf};
-ghost use Rattle.std.specs.List.{AllZip};
+ghost use Rattle.std.specs.Prelude.{◌≡◌, ◌≤◌, ◌<◌, ◌+◌, ◌++◌, [], length, take, map, slice_get, vec_len, vec_capacity, All, IfOk, IfSome, OnOk, OnErr, IsErrOf};
+ghost use Rattle.std.specs.List.{AllZip, cons_option};
 ghost use Rattle.rs_disk.specs.Leaves.{HasFailed};
 ghost use Rattle.rs_extent.specs.Extents.{AreApart, AreOnDisk, AreTaken};
 ghost use Rattle.rs_page.specs.DiskPages.{IsWritten};
-ghost use Rattle.rs_page.specs.Pages.{IsTouched, placed_extents, stored, stored_ref, stored_refs};
+ghost use Rattle.rs_page.specs.Pages.{IsTouched, placed_extent, placed_extents, stored, stored_ref, stored_refs};
 ghost use Rattle.rs_page.specs.Placing.{Places, HasNoPlace};
+ghost use Rattle.rs_pages.specs.Rule.{HaveItems};
 ghost use Rattle.rs_pages.specs.Storing.{StaysOrIsStored, WritesPages};
 
 use crate::Pages;
 use rs_disk::Disk;
-use rs_extent::Used;
+use rs_extent::{Extent, Used};
 use rs_page::{Full, Page, PageItem, PageRef, Place, StoreFault};
 use std::alloc::{AllocError, Global};
 
@@ -34,6 +35,19 @@ impl<T: PageItem> Pages<T> {
             ≡ map (λ page. stored_ref page.place) self.old }
     {
         place_from(&mut self.pages, 0, used)
+    }
+
+    /// Adds the blocks that pages were given, and are not written to yet, in the order of the pages, to
+    /// a list that has room for as many as there are pages. It takes no memory.
+    pub fn list_placed(&self, extents: &mut Vec<Extent>)
+        requires { vec_len extents.old + length self.now ≤ vec_capacity extents.old }
+        ensures items { extents.new.items ≡ extents.old.items ++ placed_extents self.now }
+        ensures len { vec_len extents.new ≤ vec_len extents.old + length self.now }
+        ensures capacity { vec_capacity extents.old ≤ vec_capacity extents.new }
+    {
+        for page in &self.pages {
+            add_placed(extents, page.place());
+        }
     }
 
     /// Writes each page that was given blocks, by one device call a page. Pages that are on the disk
@@ -75,7 +89,8 @@ impl<T: PageItem> Pages<T> {
     ///
     /// [`AllocError`] where the memory is refused.
     pub fn pages(&self, alloc: Global) -> Result<Vec<PageRef>, AllocError>
-        ensures { IfOk result (λ pages. pages.items ≡ stored_refs self.now) }
+        ensures pages { IfOk result (λ pages. pages.items ≡ stored_refs self.now) }
+        ensures some { HaveItems self.now }
     {
         let mut pages = Vec::with_capacity(alloc, self.pages.len())?;
         for page in &self.pages {
@@ -127,6 +142,18 @@ fn next_touched<T: PageItem>(pages: &[Page<T>], start: usize) -> usize
         }
     }
     pages.len()
+}
+
+// Adds the blocks of a place, where a page was given some and is not written yet.
+fn add_placed(extents: &mut Vec<Extent>, place: Place)
+    requires { vec_len extents.old < vec_capacity extents.old }
+    ensures items { extents.new.items ≡ extents.old.items ++ cons_option (placed_extent place) [] }
+    ensures len { vec_len extents.new ≤ vec_len extents.old + 1 }
+    ensures capacity { vec_capacity extents.old ≤ vec_capacity extents.new }
+{
+    if let Place::Placed(extent) = place {
+        extents.push(extent).unwrap();
+    }
 }
 
 // Writes each page that was given blocks, one page after the other.

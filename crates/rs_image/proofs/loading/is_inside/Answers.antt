@@ -1,6 +1,6 @@
 use Rattle.std.proofs.Common.{ℕ, ◌+◌, ◌≤◌, nat_le, IsTrue, arith, subst, sym}
 use Rattle.std.proofs.lemmas.Bool.Decides.{nat_tests}
-use Rattle.rs_image.proofs.Loaded.{ends_inside, low_inside, high_inside}
+use Rattle.rs_image.proofs.Found.{ends_inside, low_inside, high_inside}
 use Rattle.rs_image.specs.Reach.{blocks_of_disk}
 use Rattle.rs_image.proofs.loading.is_inside.Goals as goal
 

@@ -1,7 +1,7 @@
 use Rattle.std.proofs.Common.{rules, ◌≡◌, length, ◌<◌, ◌≤◌, arith, sym, ap, ◌∙◌, Err}
 use Rattle.rs_body.specs.Blocks.{part}
 use Rattle.rs_image.specs.StateOfImage.{listing}
-use Rattle.rs_image.proofs.Loaded.{has_slots, still_read, malformed, some_bytes}
+use Rattle.rs_image.proofs.Found.{has_slots, still_read, malformed, some_bytes}
 use Rattle.rs_image.proofs.loading.load_directory.Goals as goal
 
 pub returns-in_err-read_directory-clause-damaged : goal.returns-in_err-read_directory-clause-damaged

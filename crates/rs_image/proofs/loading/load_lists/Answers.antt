@@ -1,14 +1,60 @@
+use Rattle.std.proofs.Common.{rules, sym, subst}
+use Rattle.std.specs.Prelude.{map, List}
+use Rattle.std.proofs.lemmas.Result.{err_from_is_err_and}
 use Rattle.rs_disk.proofs.Steps.{rest_on}
+use Rattle.rs_page.specs.declared.place.PageRef.{PageRef}
+use Rattle.rs_catalogue.specs.Catalogue.{HoldsCatalogue}
+use Rattle.rs_image.proofs.Standing.{still_held, catalogue_stands}
 use Rattle.rs_image.proofs.loading.load_lists.Goals as goal
 
 pub returns-in_err-published-clause-rests : goal.returns-in_err-published-clause-rests
 returns-in_err-published-clause-rests g c =
     let state = g.D.Disk.state in
-    rest_on (state c.args.disk.now) (state c.load-2.new.disk) (state c.load-3.new.disk)
-    (rest_on (state c.args.disk.now) (state c.load.new.disk) (state c.load-2.new.disk) c.load.ensures.reads.rests c.load-2.ensures.reads.rests) c.load-3.ensures.reads.rests
+    rest_on (state c.args.disk.now) (state c.load-2.new.disk) (state c.load_beside.new.disk)
+    (rest_on (state c.args.disk.now) (state c.load.new.disk) (state c.load-2.new.disk) c.load.ensures.reads.rests c.load-2.ensures.reads.rests) c.load_beside.ensures.reads.rests
 
 pub returns-clause-rests : goal.returns-clause-rests
 returns-clause-rests g c =
     let state = g.D.Disk.state in
-    rest_on (state c.args.disk.now) (state c.load-2.new.disk) (state c.load-3.new.disk)
-    (rest_on (state c.args.disk.now) (state c.load.new.disk) (state c.load-2.new.disk) c.load.ensures.reads.rests c.load-2.ensures.reads.rests) c.load-3.ensures.reads.rests
+    rest_on (state c.args.disk.now) (state c.load-2.new.disk) (state c.load_beside.new.disk)
+    (rest_on (state c.args.disk.now) (state c.load.new.disk) (state c.load-2.new.disk) c.load.ensures.reads.rests c.load-2.ensures.reads.rests) c.load_beside.ensures.reads.rests
+
+-- pages are loaded only where all of them are placed
+pub returns-in_err-catalogue-clause-unplaced : goal.returns-in_err-catalogue-clause-unplaced
+returns-in_err-catalogue-clause-unplaced g c unplaced = absurd (unplaced (search rules))
+
+pub returns-in_err-history-clause-unplaced : goal.returns-in_err-history-clause-unplaced
+returns-in_err-history-clause-unplaced g c unplaced = absurd (unplaced (search rules))
+
+pub returns-in_err-published-clause-unplaced : goal.returns-in_err-published-clause-unplaced
+returns-in_err-published-clause-unplaced g c unplaced = absurd (unplaced (search rules))
+
+pub returns-clause-unplaced : goal.returns-clause-unplaced
+returns-clause-unplaced g c unplaced = absurd (unplaced (search rules))
+
+-- the catalogue that was read stands where the published list is read beside it
+pub returns-in_err-published-clause-damaged : goal.returns-in_err-published-clause-damaged
+returns-in_err-published-clause-damaged g c =
+    let state = g.D.Disk.state in
+    let rest = rest_on (state c.load.new.disk) (state c.load-2.new.disk) (state c.load_beside.new.disk) c.load-2.ensures.reads.rests c.load_beside.ensures.reads.rests in
+    let p = err_from_is_err_and c.from_residual-in_err-published.result c.from_residual-in_err-published.ensures.1 in
+    rw (p.1, p.2)
+    (λ damaged honest catalogue changes published placed holds.
+    c.in_err-published.ensures.damaged (cc) honest
+    (catalogue_stands c.deref-2.result.now c.in_ok-catalogue.catalogue (state c.load.new.disk) (state c.load_beside.new.disk) rest
+    c.in_ok-catalogue.ensures.pages c.in_ok-catalogue.ensures.stored c.in_ok-catalogue.ensures.found honest)
+    published (subst (λ (refs : List PageRef). HoldsCatalogue refs (state c.load_beside.new.disk).now.seen published) (sym c.deref-4.ensures.value) holds.published))
+
+pub returns-clause-found : goal.returns-clause-found
+returns-clause-found g c honest =
+    let state = g.D.Disk.state in
+    let rest = rest_on (state c.load.new.disk) (state c.load-2.new.disk) (state c.load_beside.new.disk) c.load-2.ensures.reads.rests c.load_beside.ensures.reads.rests in
+    let stand = catalogue_stands c.deref-2.result.now c.in_ok-catalogue.catalogue (state c.load.new.disk) (state c.load_beside.new.disk) rest
+    c.in_ok-catalogue.ensures.pages c.in_ok-catalogue.ensures.stored c.in_ok-catalogue.ensures.found honest in
+    record {
+      catalogue = subst (λ (refs : List PageRef). HoldsCatalogue refs (state c.load_beside.new.disk).now.seen (map (λ page. page.items) c.in_ok-catalogue.catalogue)) c.deref-2.ensures.value
+          (still_held c.deref-2.result.now c.in_ok-catalogue.catalogue (state c.load.new.disk) (state c.load_beside.new.disk) rest c.in_ok-catalogue.ensures.found honest);
+      changes = search rules;
+      published = subst (λ (refs : List PageRef). HoldsCatalogue refs (state c.load_beside.new.disk).now.seen (map (λ page. page.items) c.in_ok-published.published)) c.deref-4.ensures.value
+          (c.in_ok-published.ensures.found honest stand);
+    }

@@ -2,7 +2,7 @@ use Rattle.std.proofs.Common.{◌∙◌}
 use Rattle.std.specs.Prelude.{nat_eq, bytes_eq, ◌&&◌}
 use Rattle.rs_page.specs.declared.place.PageRef.{PageRef}
 use Rattle.rs_page.specs.contracts.place.PageRefOrd.TheImpl.Laws.{total-law, matches_eq-law}
-use Rattle.rs_image.specs.Reach.{same_page}
+use Rattle.rs_page.specs.Pages.{same_page}
 use Rattle.rs_image.proofs.Searched.{search_finds, level, grouped}
 use Rattle.rs_image.proofs.used.is_among.Goals as goal
 

@@ -2,7 +2,8 @@ use Rattle.std.proofs.Common.{◌≡◌, [], ◌∷◌, ◌++◌, sym, subst}
 use Rattle.rs_extent.specs.Extents.{AreTaken, CanTake}
 use Rattle.rs_page.specs.Pages.{stored_refs, extents_of}
 use Rattle.rs_catalogue.specs.Catalogue.{records_of}
-use Rattle.rs_image.specs.Reach.{bodies_of, unshared, reach}
+use Rattle.rs_pages.specs.Storing.{unshared}
+use Rattle.rs_image.specs.Reach.{bodies_of, reach}
 use Rattle.rs_extent.proofs.Taken.{taken_before, can_behind, can_front}
 use Rattle.rs_image.proofs.Reached.{reach_by}
 use Rattle.rs_image.proofs.used.take_reached.Goals as goal

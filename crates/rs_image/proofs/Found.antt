@@ -1,13 +1,14 @@
 -- What a loader of a root's lists finds.
-use Rattle.std.proofs.Common.{◌≡◌, ℕ, ◌+◌, ◌-◌, ◌<◌, ◌≤◌, true, List, length, map, refl, subst, arith, sym, ◌∙◌, ap, Result, Ok, Err}
-use Rattle.std.specs.Prelude.{IsErrOf}
+use Rattle.std.proofs.Common.{◌≡◌, ℕ, ◌+◌, ◌-◌, ◌<◌, ◌≤◌, true, List, [], ◌∷◌, length, map, refl, subst, arith, sym, ◌∙◌, ap, Result, Ok, Err}
+use Rattle.std.specs.Prelude.{IsErrOf, All, IsTrue}
 use Rattle.std.specs.Result.{IsErrAnd}
+use Rattle.std.proofs.lemmas.List.Elements.{All-nil, All-cons}
 use Rattle.rs_disk.specs.Medium.{Medium, DiskState, IsMedium}
 use Rattle.rs_disk.specs.Leaves.{Rests}
 use Rattle.rs_extent.specs.declared.Extent.{Extent}
 use Rattle.rs_extent.specs.Extents.{within}
 use Rattle.rs_body.specs.Blocks.{part, IsSized}
-use Rattle.rs_extent.proofs.Sets.{within_true, within_is}
+use Rattle.rs_extent.proofs.Sets.{within_true, within_is, some_first, some_rest}
 use Rattle.rs_record.specs.declared.fields.FieldFault.{FieldFault}
 use Rattle.rs_record.specs.declared.fields.FieldFault.TheVariants.{Malformed, NoMemory as NoFieldMemory}
 use Rattle.rs_page.specs.declared.page.load.LoadFault.{LoadFault}
@@ -19,15 +20,19 @@ use Rattle.rs_directory.specs.Directory.{directory_bytes, IsLawfulHeader, AreLaw
 use Rattle.rs_fixity.specs.Digests.{digests}
 use Rattle.rs_commit.specs.declared.root.Root.{Root}
 use Rattle.rs_model.specs.State.{Source}
-use Rattle.rs_page.specs.Pages.{Page, stored_refs}
+use Rattle.rs_page.specs.Format.{ItemFormat}
+use Rattle.rs_page.specs.Items.{record_format, change_format}
+use Rattle.rs_page.specs.Pages.{Page, stored_refs, extents_of}
+use Rattle.rs_page.specs.DiskPages.{ArePages}
 use Rattle.rs_catalogue.specs.Catalogue.{HoldsCatalogue}
 use Rattle.rs_changes.specs.History.{HoldsHistory}
 use Rattle.rs_directory.specs.declared.directory.Directory.{Directory}
 use Rattle.rs_image.specs.declared.contents.Contents.{Contents}
-use Rattle.rs_image.specs.Reach.{blocks_of_disk}
+use Rattle.rs_image.specs.Reach.{blocks_of_disk, reach, AreInside}
 use Rattle.rs_image.specs.Whole.{IsWhole}
 use Rattle.rs_image.specs.StateOfImage.{Tells, state_in, listing}
-use Rattle.rs_image.specs.Loading.{spelled, IsLawfulDirectory, AreOf, Hold}
+use Rattle.rs_image.specs.Loading.{IsPagePlaced, ArePlaced, NamesPlaced, spelled, IsLawfulDirectory, AreOf, Hold}
+use Rattle.rs_image.proofs.Reaching.{reaches_catalogue, reaches_history, reaches_published}
 use Rattle.rs_image.proofs.Once.{pages_once, catalogue_held_once, history_held_once}
 use Rattle.rs_directory.proofs.OneDirectory.{one_directory}
 
@@ -152,3 +157,51 @@ none_told root d c image size lawful found of hold long broken other s tells =
     let of_other = told_of root d other image s lawful found tells in
     let same : other ≡ c = same_lists d other c image of_other of (told_hold root d other image s of_other tells) hold in
     broken (subst (λ (n : ℕ). IsWhole n root c) (sym long) (subst (λ (lists : Contents). IsWhole (length image) root lists) same tells.whole))
+
+-- pages whose extents lie inside, and have their blocks, are placed
+pub are_pages_placed : {T : Type 0} (format : ItemFormat T) (size : ℕ) (refs : List PageRef) (image : List ℕ) (pages : List (List T)) → ArePages format refs image pages
+    → AreInside size (extents_of refs) → All (IsPagePlaced size) refs
+are_pages_placed format size [] image pages are inside = All-nil (IsPagePlaced size)
+are_pages_placed format size (ref ∷ refs) image [] are inside = absurd are
+are_pages_placed format size (ref ∷ refs) image (items ∷ pages) are inside =
+    All-cons (IsPagePlaced size) ref refs
+    (record { sized = are.0.blocks.sized; inside = λ b is. inside b (some_first ref.extent (extents_of refs) b is) })
+    (are_pages_placed format size refs image pages are.1 (λ b is. inside b (some_rest ref.extent (extents_of refs) b is)))
+
+-- The pages of lists that a root tells are placed.
+pub told_placed : (root : Root) (d : Directory) (c : Contents) (image : List ℕ) (s : Source) (size : ℕ) → AreOf d c → Tells root c image s → size ≡ length image
+    → ArePlaced size d
+told_placed root d c image s size of tells long =
+    let hold = told_hold root d c image s of tells in
+    let inside : AreInside size (reach root c) = subst (λ (n : ℕ). AreInside n (reach root c)) (sym long) tells.whole.inside in
+    let catalogue : AreInside size (extents_of (stored_refs c.catalogue)) = λ b is. inside b (reaches_catalogue root c b is) in
+    let changes : AreInside size (extents_of (stored_refs c.history)) = λ b is. inside b (reaches_history root c b is) in
+    let published : AreInside size (extents_of (stored_refs c.published)) = λ b is. inside b (reaches_published root c b is) in
+    record {
+      catalogue = are_pages_placed record_format size d.catalogue.items image (items_in c.catalogue) hold.catalogue.hold
+          (subst (λ (refs : List PageRef). AreInside size (extents_of refs)) of.catalogue catalogue);
+      changes = are_pages_placed change_format size d.changes.items image (items_in c.history) hold.changes.hold
+          (subst (λ (refs : List PageRef). AreInside size (extents_of refs)) of.changes changes);
+      published = are_pages_placed record_format size d.published.items image (items_in c.published) hold.published.hold
+          (subst (λ (refs : List PageRef). AreInside size (extents_of refs)) of.published published);
+    }
+
+-- A directory that was read names what each one with its bytes names.
+pub names_placed : (size : ℕ) (root : Root) (image : List ℕ) (d : Directory) → IsLawfulDirectory d → part root.directory root.length image ≡ spelled d → ArePlaced size d
+    → NamesPlaced size root image
+names_placed size root image d lawful found placed other lawful_too reads =
+    let same = one_directory d.header other.header d.catalogue.items other.catalogue.items d.changes.items other.changes.items
+    d.published.items other.published.items lawful.header lawful.catalogue lawful.changes lawful.published
+    lawful_too.header lawful_too.catalogue lawful_too.changes lawful_too.published (sym found ∙ reads) in
+    record {
+      catalogue = subst (All (IsPagePlaced size)) same.1 placed.catalogue;
+      changes = subst (All (IsPagePlaced size)) same.2 placed.changes;
+      published = subst (All (IsPagePlaced size)) same.3 placed.published;
+    }
+
+-- After the directory nothing is read unless all pages that it names are placed.
+pub placed_before : (old mid new : DiskState) (root : Root) (d : Directory) → IsLawfulDirectory d → (IsTrue mid.honest → part root.directory root.length mid.now.seen ≡ spelled d)
+    → mid.calls ≤ old.calls + 1 → Rests mid new → (mid.calls < new.calls → ArePlaced new.size d)
+    → old.calls + 1 < new.calls → IsTrue new.honest → NamesPlaced new.size root new.now.seen
+placed_before old mid new root d lawful found one rests placed more honest =
+    names_placed new.size root new.now.seen d lawful (still_read root (spelled d) mid new rests (found (rests.lasts honest))) (placed (omega arith))
