@@ -27,6 +27,7 @@ SYSTEM = r"""
 #define _GNU_SOURCE
 #include <dlfcn.h>
 #include <errno.h>
+#include <stdio.h>
 #include <stdlib.h>
 #include <sys/socket.h>
 #include <sys/time.h>
@@ -61,7 +62,10 @@ int fsync(int fd) { return fails() ? -1 : NEXT(fsync)(fd); }
 int fdatasync(int fd) { return fails() ? -1 : NEXT(fdatasync)(fd); }
 /* So are the growths of memory, from the first connection on. */
 extern void *__libc_malloc(size_t), *__libc_realloc(void *, size_t);
-static int refused(void) { static long growths = 0; return accepts && ++growths == number("GROWTH_REFUSED_AT", 0); }
+static long growths = 0;
+static int refused(void) { return accepts && ++growths == number("GROWTH_REFUSED_AT", 0); }
+/* How many there were is told at the end. */
+__attribute__((destructor)) static void told(void) { if (getenv("GROWTHS_TOLD")) dprintf(2, "%ld growths\n", growths); }
 void *malloc(size_t n) { return refused() ? 0 : __libc_malloc(n); }
 void *realloc(void *p, size_t n) { return refused() ? 0 : __libc_realloc(p, n); }
 """
@@ -84,10 +88,11 @@ def ran(program, room, *words, given=b"", env=None, **ends):
 
 
 @contextlib.contextmanager
-def served(program, room, count, port="0", **settings):
+def served(program, room, count, port="0", stderr=None, **settings):
     """The port of a server, and the server, of so many connections to a.disk, with these settings of the system."""
     env = interposed(room, "system", SYSTEM) | settings
-    with subprocess.Popen([program, "serve", "a.disk", port, str(count)], cwd=room, stdout=subprocess.PIPE, env=env) as server:
+    words = [program, "serve", "a.disk", port, str(count)]
+    with subprocess.Popen(words, cwd=room, stdout=subprocess.PIPE, stderr=stderr, env=env) as server:
         try:
             yield int(server.stdout.readline().removeprefix(b"listening 127.0.0.1:")), server
             compare("the server's status", b"0", b"%d" % server.wait(SECONDS))
@@ -340,11 +345,42 @@ def refused_memory_is_told_over_http(program, room):
     compare("growths refused", b"True", str(refusals > 10).encode())
 
 
+def peak(server):
+    """The most memory that a server had so far, in KiB."""
+    lines = pathlib.Path(f"/proc/{server.pid}/status").read_text().splitlines()
+    return next(int(it.split()[1]) for it in lines if it.startswith("VmHWM:"))
+
+
+def put_of(length):
+    return b"PUT /resource/c " + HOST + b"Content-Length: %d\r\n\r\n" % length + b"x" * length
+
+
+def a_body_takes_no_memory(program, room):
+    """A body goes to the file as it comes: as many growths of memory for 1,000,000 bytes as for 5,000, and no more memory for the longest."""
+    counts, file = [], pathlib.Path(room, "a.disk")
+    for length in [5_000, 1_000_000]:
+        file.unlink(missing_ok=True)
+        formatted(program, room, size="4000000")
+        with served(program, room, 1, stderr=subprocess.PIPE, GROWTHS_TOLD="1") as (port, server):
+            compare(f"{length} bytes", b"HTTP/1.1 201 Created\r\n", asked(port, put_of(length))[:22])
+            counts.append(server.stderr.read())
+    compare("the growths", *counts)
+    file.unlink()
+    formatted(program, room, size="40000000")
+    with served(program, room, 3) as (port, server):
+        asked(port, put_of(5_000))
+        before = peak(server)
+        compare("the longest body", b"HTTP/1.1 204 No Content\r\n", asked(port, put_of(16_777_216))[:25])
+        grown = peak(server) - before
+        asked(port, b"GET /resource/zz " + HOST + b"\r\n")
+    compare("at most 64 KiB more", b"True", str(grown <= 64).encode())
+
+
 EDGES = [
     listens_on_loopback_alone, faults_of_standard_ends_are_told, each_line_is_answered_before_the_next, the_word_to_go_on_is_sent_at_once,
     a_refused_request_is_read_on, a_response_that_cannot_be_sent_ends_the_connection, a_fault_ends_its_connection_alone, each_cut_of_a_head_is_bad,
     commands_come_when_their_connection_is_taken, clocks_show_moments, a_device_that_fails_closes_the_source, a_device_that_fails_is_told_over_http,
-    refused_memory_is_told_over_http,
+    refused_memory_is_told_over_http, a_body_takes_no_memory,
 ]
 
 

@@ -14,7 +14,8 @@ use Rattle.rs_record.specs.declared.facts.Facts.{Facts}
 use Rattle.rs_record.specs.Changes.{bound}
 use Rattle.rs_record.proofs.Changes.{same_change}
 use Rattle.rs_page.specs.Items.{record_format, change_format, record_filled, change_filled, facts_filled}
-use Rattle.rs_page.specs.Pages.{Page}
+use Rattle.rs_page.specs.Pages.{Page, stored_refs}
+use Rattle.rs_pages.specs.Entries.{open_entry}
 use Rattle.rs_page.specs.SharedPages.{KeepsPages}
 use Rattle.rs_pages.specs.Rule.{bound_in, appended_to}
 use Rattle.rs_pages.specs.Laws.{Ascend}
@@ -33,8 +34,12 @@ use Rattle.rs_model.proofs.MapLemmas.{value-bind}
 use Rattle.rs_image.specs.declared.contents.Contents.{Contents}
 use Rattle.rs_plan.specs.declared.plan.Plan.{Plan}
 use Rattle.rs_plan.specs.Room.{Takes, lists_needed}
-use Rattle.rs_plan.specs.Plans.{MayHavePlaces, change_put, IsNext}
+use Rattle.rs_plan.specs.Plans.{MayHavePlaces, change_put, IsNext, places}
 use Rattle.rs_plan.specs.Placed.{AreUnplaced, IsPlaced, directory_bytes_of, record_of_body, record_made, facts_of_body}
+use Rattle.rs_plan.specs.Freed.{entry_of_name}
+use Rattle.rs_plan.proofs.FreedPages.{LosesOne, bind_takes, append_takes}
+use Rattle.rs_plan.proofs.FreedBodies.{body_bound}
+use Rattle.rs_plan.proofs.GivenBack.{Frees}
 use Rattle.rs_plan.specs.Drafts.{IsPageRuleKept, lists_filled, plan_filled}
 use Rattle.rs_plan.proofs.Following.{put_next}
 use Rattle.rs_plan.proofs.Placing.{places_items, ruled_itself}
@@ -178,18 +183,45 @@ module _ (law : IsPageRuleKept) (old c : Contents) (name kind bytes : List ℕ) 
     };
   }
 
+  -- so are those of a plan of the draft
+  placed_catalogue_is : (used : List Bool) (p : Plan) → IsPlaced used body c p
+      → AreRefilled record_format p.contents.catalogue (pages_filled name (digests bytes) p.contents.catalogue)
+  placed_catalogue_is used p placed =
+      let same_records : records_of p.contents.catalogue ≡ records_of c.catalogue =
+      places_items record_format used placed.after_catalogue c.catalogue p.contents.catalogue placed.catalogue in
+      each_refilled record_format (filling name (digests bytes) (digests_long bytes)) p.contents.catalogue
+      (subst (AllByRecursion (StaysAsLong name (digests bytes) (digests_long bytes))) (sym same_records) stay_long)
+
+  placed_history_is : (used : List Bool) (p : Plan) → IsPlaced used body c p
+      → AreRefilled change_format p.contents.history (history_filled (digests bytes) p.contents.history)
+  placed_history_is used p placed =
+      let same_changes : changes_of p.contents.history ≡ changes_of c.history =
+      places_items change_format placed.after_catalogue placed.after_history c.history p.contents.history placed.history in
+      last_refilled change_format (change_filled (digests bytes)) p.contents.history (subst LastStaysLong (sym same_changes) last_stays_long)
+
+  -- and it has the same places
+  pub places_are : (used : List Bool) (p : Plan) → IsPlaced used body c p → places p ≡ places (plan_filled name (digests bytes) p)
+  places_are used p placed =
+      ap₂ (λ (a b : List Extent). p.body ∷ a ++ b ++ p.directory ∷ [])
+      (sym (same_extents record_format p.contents.catalogue (pages_filled name (digests bytes) p.contents.catalogue) (placed_catalogue_is used p placed)))
+      (sym (same_extents change_format p.contents.history (history_filled (digests bytes) p.contents.history) (placed_history_is used p placed)))
+
+  -- what goes from the old lists
+  pub frees_is : Frees (Put name kind bytes) old body filled
+  frees_is = record {
+    catalogue = subst (λ (pages : List (Page Record)). LosesOne (entry_of_name old name) (stored_refs old.catalogue) (stored_refs pages)) (sym catalogue_ruled)
+        (bind_takes (λ (r : Record). r.name) made old.catalogue);
+    history = subst (λ (pages : List (Page Change)). LosesOne (open_entry old.history) (stored_refs old.history) (stored_refs pages)) (sym history_ruled)
+        (append_takes (change_put old name kind bytes moment) old.history);
+    bodies = body_bound name made (records_of old.catalogue) (records_of filled.catalogue) records_are;
+    published = draft.published;
+  }
+
   -- a plan of the draft, once it is filled, is a plan of the filled lists
   pub placed_is : (used : List Bool) (p : Plan) → IsPlaced used body c p → IsPlaced used body filled (plan_filled name (digests bytes) p)
   placed_is used p placed =
-      let same_records : records_of p.contents.catalogue ≡ records_of c.catalogue =
-      places_items record_format used placed.after_catalogue c.catalogue p.contents.catalogue placed.catalogue in
-      let same_changes : changes_of p.contents.history ≡ changes_of c.history =
-      places_items change_format placed.after_catalogue placed.after_history c.history p.contents.history placed.history in
-      let of_catalogue : AreRefilled record_format p.contents.catalogue (pages_filled name (digests bytes) p.contents.catalogue) =
-      each_refilled record_format (filling name (digests bytes) (digests_long bytes)) p.contents.catalogue
-      (subst (AllByRecursion (StaysAsLong name (digests bytes) (digests_long bytes))) (sym same_records) stay_long) in
-      let of_history : AreRefilled change_format p.contents.history (history_filled (digests bytes) p.contents.history) =
-      last_refilled change_format (change_filled (digests bytes)) p.contents.history (subst LastStaysLong (sym same_changes) last_stays_long) in
+      let of_catalogue = placed_catalogue_is used p placed in
+      let of_history = placed_history_is used p placed in
       let bytes_of : directory_bytes_of filled ≡ directory_bytes_of c =
       ap₂ (λ (a b : ℕ). directory_length c.header (a + b + length c.published))
       (same_count record_format c.catalogue filled.catalogue catalogue_is) (same_count change_format c.history filled.history history_is) in

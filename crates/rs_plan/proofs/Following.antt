@@ -1,17 +1,21 @@
 -- The lists after each command, and that there is no room for one.
-use Rattle.std.proofs.Common.{◌≡◌, inr, ℕ, ◌+◌, Bool, List, [], ◌∷◌, ◌++◌, refl, sym, subst, arith}
+use Rattle.std.proofs.Common.{◌≡◌, inr, ℕ, ◌+◌, Bool, true, List, [], ◌∷◌, ◌++◌, Option, refl, sym, ◌∙◌, ap, subst}
 use Rattle.std.specs.Prelude.{All, IsSome, is_some}
 use Rattle.std.specs.List.{cons_option}
 use Rattle.std.proofs.lemmas.List.Elements.{All-head, All-tail}
 use Rattle.rs_extent.specs.declared.Extent.{Extent}
 use Rattle.rs_record.specs.declared.record.Record.{Record}
+use Rattle.rs_record.specs.declared.change.Change.{Change}
 use Rattle.rs_record.specs.Changes.{bound, deleted}
 use Rattle.rs_page.specs.declared.place.Place.{Place}
 use Rattle.rs_page.specs.declared.place.Place.TheVariants.{Touched, Placed, Stored}
-use Rattle.rs_page.specs.Pages.{Page, IsStored, placed_extent, placed_extents, stored_ref}
+use Rattle.rs_page.specs.Pages.{Page, IsStored, placed_extent, placed_extents, stored_ref, stored_refs}
 use Rattle.rs_page.specs.SharedPages.{IsSublist, KeepsPages, stored_pages}
-use Rattle.rs_pages.specs.Rule.{bound_in, unbound_in, appended_to}
-use Rattle.rs_catalogue.specs.Catalogue.{records_of}
+use Rattle.rs_pages.specs.Items.{keyed}
+use Rattle.rs_pages.specs.Rule.{items_at, home, bound_in, unbound_in, appended_to}
+use Rattle.rs_pages.specs.Entries.{open_entry}
+use Rattle.rs_pages.proofs.Flat.{found_at_home}
+use Rattle.rs_catalogue.specs.Catalogue.{records_of, IsCatalogue}
 use Rattle.rs_catalogue.specs.Named.{named}
 use Rattle.rs_changes.specs.History.{changes_of}
 use Rattle.rs_model.specs.declared.command.Command.{Command}
@@ -24,7 +28,11 @@ use Rattle.rs_plan.specs.Room.{Takes, HasNoRoom, lists_needed, body_needed}
 use Rattle.rs_plan.specs.Plans.{MayHavePlaces, change_put, IsNext, LacksRoom}
 use Rattle.rs_plan.specs.Placed.{AreUnplaced, record_made}
 use Rattle.rs_plan.proofs.Turns.{put_turns, delete_turns, publish_turns}
+use Rattle.rs_plan.specs.Freed.{entry_of_name}
 use Rattle.rs_plan.proofs.Bodies.{itself}
+use Rattle.rs_plan.proofs.FreedPages.{LosesOne, unbind_takes, append_takes}
+use Rattle.rs_plan.proofs.FreedBodies.{body_unbound}
+use Rattle.rs_plan.proofs.GivenBack.{Frees}
 
 -- a put
 pub put_next : (old c : Contents) (name kind bytes : List ℕ) (body : Extent) (moment : ℕ) → c.header ≡ record old.header { last = moment }
@@ -83,22 +91,32 @@ all_unplaced old c of_catalogue of_history catalogue history = record {
   history = none_placed c.history (subst (All IsStored) (sym history) of_history);
 }
 
--- no block is taken for no body
-pub takes_none : (used : List Bool) → Takes used 0 (record { first = 0; blocks = 0 }) used
-takes_none used = record {
-  blocks = refl;
-  nowhere = λ none. refl;
-  lowest = λ some. absurd (omega arith);
-  sets = record {
-    size = refl;
-    within = λ b low high. absurd (omega arith);
-    before = λ b lt. refl;
-    after = λ b le. refl;
-  };
-}
-
 -- There is no room for lists where the body took its place.
 pub lacking : (old : Rooted) (command : Command) (moment : ℕ) (used used' : List Bool) (body : Extent) (c : Contents) → AreUsed old used
     → Takes used (body_needed command) body used' → IsNext old.contents command moment body c → HasNoRoom used' (lists_needed c) → LacksRoom old command moment
 lacking old command moment used used' body c are_used takes next none =
     record { used = used; are_used = are_used; fails = inr (used', body, c, takes, next, none) }
+
+-- what goes from the old lists, where a name is unbound that is held
+pub delete_frees : (old c : Contents) (name : List ℕ) (body : Extent) (moment : ℕ) → IsCatalogue old.catalogue → IsSome (value_of name (named (records_of old.catalogue)))
+    → c.catalogue ≡ unbound_in (λ (r : Record). r.name) name old.catalogue → c.history ≡ appended_to (deleted name moment) old.history
+    → named (records_of c.catalogue) ≡ unbind name (named (records_of old.catalogue)) → c.published ≡ old.published → body.blocks ≡ 0
+    → Frees (Delete name) old body c
+delete_frees old c name body moment lawful held catalogue history records published none =
+    let there : is_some (value_of name (keyed (λ (r : Record). r.name) (items_at (home (λ (r : Record). r.name) name old.catalogue) old.catalogue))) ≡ true =
+    ap (λ (o : Option Record). is_some o) (sym (found_at_home (λ (r : Record). r.name) name old.catalogue lawful.held.ordered)) ∙ held in (
+      record {
+        catalogue = subst (λ (pages : List (Page Record)). LosesOne (entry_of_name old name) (stored_refs old.catalogue) (stored_refs pages)) (sym catalogue)
+            (unbind_takes (λ (r : Record). r.name) name old.catalogue there);
+        history = subst (λ (pages : List (Page Change)). LosesOne (open_entry old.history) (stored_refs old.history) (stored_refs pages)) (sym history)
+            (append_takes (deleted name moment) old.history);
+        bodies = body_unbound name (records_of old.catalogue) (records_of c.catalogue) records;
+        published = published;
+      },
+      none,
+    )
+
+-- and with a publication
+pub publish_frees : (old c : Contents) (body : Extent) → c.catalogue ≡ old.catalogue → c.history ≡ old.history → c.published ≡ old.catalogue → body.blocks ≡ 0
+    → Frees Publish old body c
+publish_frees old c body catalogue history published none = (record { catalogue = catalogue; history = history; published = published }, none)

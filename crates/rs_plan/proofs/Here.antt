@@ -1,10 +1,20 @@
 -- What is said of a root with its lists is said of these lists.
-use Rattle.std.proofs.Common.{◌≡◌, ◌<◌, ◌+◌, ◌^◌, ℕ, Bool, List, sym, subst}
+use Rattle.std.proofs.Common.{◌≡◌, ◌<◌, ◌+◌, ◌^◌, ℕ, Bool, List, Result, Ok, Err, IsErrAnd, IsErrOf, IsSome, sym, ◌∙◌, subst}
 use Rattle.rs_image.specs.declared.contents.Contents.{Contents}
 use Rattle.rs_image.specs.Rooted.{Rooted, rooted, IsRooted, AreUsed}
 use Rattle.rs_model.specs.declared.command.Command.{Command}
+use Rattle.rs_extent.specs.declared.Extent.{Extent}
+use Rattle.rs_plan.specs.Freed.{freed_by}
+use Rattle.rs_model.specs.Names.{value_of}
+use Rattle.rs_catalogue.specs.Catalogue.{records_of}
+use Rattle.rs_catalogue.specs.Named.{named}
 use Rattle.rs_plan.specs.declared.plan.Plan.{Plan}
 use Rattle.rs_plan.specs.Plans.{IsPlanned, LacksRoom}
+
+-- a fault that is passed on is the same one
+pub same_fault : {T E : Type 0} (r : Result T E) (e fault : E) → IsErrAnd r (λ y. y ≡ e) → IsErrOf r fault → e ≡ fault
+same_fault (Ok x) e fault told is = absurd told
+same_fault (Err y) e fault told is = let same : y ≡ fault = cc in sym told ∙ same
 
 module _ (r : Rooted) (c : Contents) (at : c ≡ r.contents) where
   pub sound_here : IsRooted r → IsRooted (rooted r.size r.root c)
@@ -24,3 +34,9 @@ module _ (r : Rooted) (c : Contents) (at : c ≡ r.contents) where
 
   pub number_here : r.contents.header.number + 1 < 2 ^ 64 → c.header.number + 1 < 2 ^ 64
   number_here few = subst (λ (x : Contents). x.header.number + 1 < 2 ^ 64) (sym at) few
+
+  pub freed_here : (command : Command) (freed : List Extent) → freed ≡ freed_by command r → freed ≡ freed_by command (rooted r.size r.root c)
+  freed_here command freed is = subst (λ (x : Contents). freed ≡ freed_by command (rooted r.size r.root x)) (sym at) is
+
+  pub held_here : (name : List ℕ) → IsSome (value_of name (named (records_of r.contents.catalogue))) → IsSome (value_of name (named (records_of c.catalogue)))
+  held_here name held = subst (λ (x : Contents). IsSome (value_of name (named (records_of x.catalogue)))) (sym at) held

@@ -16,3 +16,9 @@ pub mod Planned
 pub mod Following
 pub mod Drafts
 pub mod Drafted
+pub mod Freed
+pub mod FreedPages
+pub mod FreedParts
+pub mod FreedBodies
+pub mod FreedPublished
+pub mod GivenBack

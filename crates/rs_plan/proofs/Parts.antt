@@ -15,7 +15,8 @@ use Rattle.rs_catalogue.specs.Catalogue.{records_of}
 use Rattle.rs_model.specs.declared.command.Command.{Command}
 use Rattle.rs_model.specs.declared.command.Command.TheVariants.{Put, Delete, Publish}
 use Rattle.rs_image.specs.declared.contents.Contents.{Contents}
-use Rattle.rs_image.specs.Reach.{unshared, bodies_of}
+use Rattle.rs_pages.specs.Storing.{unshared}
+use Rattle.rs_image.specs.Reach.{bodies_of}
 use Rattle.rs_plan.specs.declared.plan.Plan.{Plan}
 use Rattle.rs_plan.specs.Room.{Takes, body_needed}
 use Rattle.rs_plan.specs.Plans.{body_of_command, MayHavePlaces, ArePagesAfter, once_stored, places}

@@ -21,14 +21,16 @@ use Rattle.rs_model.specs.declared.command.Command.{Command}
 use Rattle.rs_model.specs.Step.{next_state, reply_to}
 use Rattle.rs_model.specs.Listed.{entry_of}
 use Rattle.rs_image.specs.declared.contents.Contents.{Contents}
-use Rattle.rs_image.specs.Reach.{blocks_of_disk, reach, is_kept, unshared, AreInside}
+use Rattle.rs_pages.specs.Storing.{unshared}
+use Rattle.rs_image.specs.Reach.{blocks_of_disk, reach, is_kept, AreInside}
 use Rattle.rs_image.specs.Whole.{IsWhole, AreMoments, IsSoundRecord, IsSoundChange}
 use Rattle.rs_image.specs.StateOfImage.{held_in, state_in, AreListable}
 use Rattle.rs_plan.specs.declared.plan.Plan.{Plan}
 use Rattle.rs_image.specs.Rooted.{rooted, AreUsed, IsRooted}
 use Rattle.rs_plan.specs.Room.{Takes, body_needed}
-use Rattle.rs_plan.specs.Plans.{body_of_command, ArePagesAfter, IsNext, places, planned_listing, planned_root, TakesInTurn, IsPlanned}
+use Rattle.rs_plan.specs.Plans.{body_of_command, ArePagesAfter, IsNext, places, planned_listing, planned_root, TakesInTurn, TakesAndGives, IsPlanned}
 use Rattle.rs_plan.specs.Placed.{AreUnplaced, IsPlaced, directory_bytes_of}
+use Rattle.rs_plan.specs.Freed.{freed_by}
 use Rattle.rs_extent.specs.Extents.{AreDisjoint, IsSubset}
 use Rattle.rs_extent.proofs.Sets.{not_true, not_both, turned, some_front, some_behind}
 use Rattle.rs_extent.proofs.Taken.{taken_both}
@@ -44,6 +46,7 @@ use Rattle.rs_plan.proofs.Turns.{same_state}
 use Rattle.rs_plan.proofs.Bodies.{AreBodies}
 use Rattle.rs_plan.proofs.Rules.{KeepsRules}
 use Rattle.rs_plan.proofs.Parts.{pages_in, changes_in, shown_in, bodies_in, written, given_pages, given_changes, sized_body, kept_part, IsUnshared, unshared_none, IsPublished, published_is, pages_placed}
+use Rattle.rs_plan.proofs.GivenBack.{Frees, placed_refs, gives_parts, takes_and_gives}
 
 not_low : (b : ℕ) → nat_lt b 2 ≡ false → 2 ≤ b
 not_low b is = grind (arith, nat_tests)
@@ -52,7 +55,8 @@ module _ (size : ℕ) (root : Root) (old : Contents) (sound : IsRooted (rooted s
     (used used₁ : List Bool) (are_used : AreUsed (rooted size root old) used) (body : Extent) (takes : Takes used (body_needed command) body used₁)
     (c : Contents) (next : IsNext old command moment body c) (rules : KeepsRules old body c) (unplaced : AreUnplaced c) (p : Plan) (placed : IsPlaced used₁ body c p)
     (reply : (image : List ℕ) → p.reply ≡ reply_to (state_in image old) command moment)
-    (of_catalogue : IsCatalogue c.catalogue) (of_history : IsHistory c.history) (of_published : IsCatalogue c.published) where
+    (of_catalogue : IsCatalogue c.catalogue) (of_history : IsHistory c.history) (of_published : IsCatalogue c.published) (frees : Frees command old body c)
+    (taken_is : p.taken.items ≡ places p) (freed_is : p.freed.items ≡ freed_by command (rooted size root old)) where
   whole : IsWhole size root old
   whole = sound.whole
 
@@ -83,19 +87,16 @@ module _ (size : ℕ) (root : Root) (old : Contents) (sound : IsRooted (rooted s
   in_body : IsSubset (in_some (p.body ∷ [])) (in_some (places p))
   in_body b is =
       some_front (p.body ∷ given_pages p ++ given_changes p) (p.directory ∷ []) b
-      (some_front (p.body ∷ given_pages p) (given_changes p) b
-      (some_front (p.body ∷ []) (given_pages p) b is))
+      (some_front (p.body ∷ given_pages p) (given_changes p) b (some_front (p.body ∷ []) (given_pages p) b is))
 
   in_catalogue : IsSubset (in_some (given_pages p)) (in_some (places p))
   in_catalogue b is =
       some_front (p.body ∷ given_pages p ++ given_changes p) (p.directory ∷ []) b
-      (some_front (p.body ∷ given_pages p) (given_changes p) b
-      (some_behind (p.body ∷ []) (given_pages p) b is))
+      (some_front (p.body ∷ given_pages p) (given_changes p) b (some_behind (p.body ∷ []) (given_pages p) b is))
 
   in_history : IsSubset (in_some (given_changes p)) (in_some (places p))
   in_history b is =
-      some_front (p.body ∷ given_pages p ++ given_changes p) (p.directory ∷ []) b
-      (some_behind (p.body ∷ given_pages p) (given_changes p) b is)
+      some_front (p.body ∷ given_pages p ++ given_changes p) (p.directory ∷ []) b (some_behind (p.body ∷ given_pages p) (given_changes p) b is)
 
   in_directory : IsSubset (in_some (p.directory ∷ [])) (in_some (places p))
   in_directory b is = some_behind (p.body ∷ given_pages p ++ given_changes p) (p.directory ∷ []) b is
@@ -229,8 +230,7 @@ module _ (size : ℕ) (root : Root) (old : Contents) (sound : IsRooted (rooted s
 
   -- the parts that the old root reaches, and those of the next one
   was : AreSeparate root.directory (pages_in old) (changes_in old) (shown_in old) (bodies_in old)
-  was =
-      separated root.directory (pages_in old) (changes_in old) (shown_in old) (bodies_in old) whole.apart
+  was = separated root.directory (pages_in old) (changes_in old) (shown_in old) (bodies_in old) whole.apart
 
   alone : IsUnshared (stored_refs old.catalogue) (stored_refs p.contents.catalogue) (stored_refs (written p).catalogue) (stored_refs p.contents.published)
       (shown_in old)
@@ -269,20 +269,16 @@ module _ (size : ℕ) (root : Root) (old : Contents) (sound : IsRooted (rooted s
   unwritten xs ys of_old of_new b is = not_true (in_some ys b) (λ here. not_both (is_kept root old b) (reached b (of_old b is)) (free b (of_new b here)))
 
   old_catalogue_in : IsSubset (in_some (pages_in old)) (in_some (reach root old))
-  old_catalogue_in =
-      a_in root.directory (pages_in old) (changes_in old) (shown_in old) (bodies_in old)
+  old_catalogue_in = a_in root.directory (pages_in old) (changes_in old) (shown_in old) (bodies_in old)
 
   old_history_in : IsSubset (in_some (changes_in old)) (in_some (reach root old))
-  old_history_in =
-      b_in root.directory (pages_in old) (changes_in old) (shown_in old) (bodies_in old)
+  old_history_in = b_in root.directory (pages_in old) (changes_in old) (shown_in old) (bodies_in old)
 
   old_published_in : IsSubset (in_some (shown_in old)) (in_some (reach root old))
-  old_published_in =
-      c_in root.directory (pages_in old) (changes_in old) (shown_in old) (bodies_in old)
+  old_published_in = c_in root.directory (pages_in old) (changes_in old) (shown_in old) (bodies_in old)
 
   old_bodies_in : IsSubset (in_some (bodies_in old)) (in_some (reach root old))
-  old_bodies_in =
-      e_in root.directory (pages_in old) (changes_in old) (shown_in old) (bodies_in old)
+  old_bodies_in = e_in root.directory (pages_in old) (changes_in old) (shown_in old) (bodies_in old)
 
   some_kept_catalogue : IsSubset (in_some (pages_in p.contents)) (in_some (pages_in old))
   some_kept_catalogue =
@@ -318,13 +314,11 @@ module _ (size : ℕ) (root : Root) (old : Contents) (sound : IsRooted (rooted s
   apart_bodies : AreApart (bodies_in (written p))
   apart_bodies = bodies.apart was.in_e (turned (in_some (bodies_in old)) (in_some (p.body ∷ [])) (unwritten (bodies_in old) (p.body ∷ []) old_bodies_in in_body))
 
-  separate : AreSeparate p.directory (pages_in (written p)) (changes_in (written p))
-      (shown_in (written p)) (bodies_in (written p))
+  separate : AreSeparate p.directory (pages_in (written p)) (changes_in (written p)) (shown_in (written p)) (bodies_in (written p))
   separate =
       separate_next (is_kept root old) root.directory p.directory p.body
       (pages_in old) (changes_in old) (shown_in old) (bodies_in old)
-      (pages_in (written p)) (changes_in (written p))
-      (shown_in (written p)) (bodies_in (written p))
+      (pages_in (written p)) (changes_in (written p)) (shown_in (written p)) (bodies_in (written p))
       (given_pages p) (given_changes p) (pages_in p.contents) (changes_in p.contents)
       was reached new some_kept_catalogue some_kept_history
       (stored_some record_format p.contents.catalogue) (stored_some change_format p.contents.history) alone.comes bodies.comes alone.beside
@@ -332,8 +326,7 @@ module _ (size : ℕ) (root : Root) (old : Contents) (sound : IsRooted (rooted s
 
   inside_next : AreInside size (reach (planned_root root p) (written p))
   inside_next b is =
-      five_of p.directory (pages_in (written p)) (changes_in (written p))
-      (shown_in (written p)) (bodies_in (written p))
+      five_of p.directory (pages_in (written p)) (changes_in (written p)) (shown_in (written p)) (bodies_in (written p))
       ((2 ≤ b) × (b < blocks_of_disk size)) b is
       (λ here. inside b (in_directory b here))
       (λ here. elim (stored_some record_format p.contents.catalogue b here) [ inl was ↦ whole.inside b (old_catalogue_in b (some_kept_catalogue b was)) | inr is_new ↦ inside b (in_catalogue b is_new) ])
@@ -364,8 +357,7 @@ module _ (size : ℕ) (root : Root) (old : Contents) (sound : IsRooted (rooted s
     listed = subst (λ (h : Header). All (IsSoundRecord h.start h.at) (records_of p.contents.published)) (sym placed.header)
         (subst (λ (pages : List (Page Record)). All (IsSoundRecord c.header.start c.header.at) (records_of pages)) (sym placed.published) rules.listed);
     directory = sized_directory;
-    apart = apart_again p.directory (pages_in (written p)) (changes_in (written p))
-        (shown_in (written p)) (bodies_in (written p)) separate;
+    apart = apart_again p.directory (pages_in (written p)) (changes_in (written p)) (shown_in (written p)) (bodies_in (written p)) separate;
     published_apart = apart_published;
     inside = inside_next;
   }
@@ -382,6 +374,14 @@ module _ (size : ℕ) (root : Root) (old : Contents) (sound : IsRooted (rooted s
     placed = subst (λ (e : Extent). IsPlaced used₁ e c p) (sym placed.body_is) placed;
   }
 
+  -- what it takes and gives back
+  blocks : TakesAndGives (rooted size root old) p
+  blocks =
+      takes_and_gives size root old p (freed_by command (rooted size root old)) was (λ k is. (whole.inside k is).0)
+      (gives_parts root old c p was (placed_refs record_format used₁ placed.after_catalogue c.catalogue p.contents.catalogue placed.catalogue)
+      (placed_refs change_format placed.after_catalogue placed.after_history c.history p.contents.history placed.history) same_stored_records placed.published
+      size body command placed.body_is frees) taken_is freed_is
+
   pub planned : IsPlanned (rooted size root old) command moment p
   planned = record {
     next = next_placed;
@@ -396,4 +396,5 @@ module _ (size : ℕ) (root : Root) (old : Contents) (sound : IsRooted (rooted s
     directory = sized_directory;
     listable = listable_next;
     whole = whole_next;
+    blocks = blocks;
   }

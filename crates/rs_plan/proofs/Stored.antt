@@ -95,6 +95,23 @@ stored_some format [] b is = absurd (true≢false (sym is))
 stored_some format (page ∷ pages) b is =
     some_one format page.items page.place (stored_refs pages) (stored_refs (stored format pages)) (placed_extents pages) b (stored_some format pages b) is
 
+-- The blocks that were given to a page are the page's.
+placed_one : {T : Type 0} (format : ItemFormat T) (items : List T) (place : Place) (after : List PageRef) (placed : List Extent) (b : ℕ)
+    → (in_some placed b ≡ true → in_some (extents_of after) b ≡ true) → in_some (cons_option (placed_extent place) placed) b ≡ true
+    → in_some (extents_of (cons_option (stored_ref (place_stored format items place)) after)) b ≡ true
+placed_one format items Touched after placed b rest is = rest is
+placed_one format items (Placed e) after placed b rest is = elim (some_split e placed b is) [
+  | inl here ↦ some_first e (extents_of after) b here
+  | inr there ↦ some_rest e (extents_of after) b (rest there)
+]
+placed_one format items (Stored ref) after placed b rest is = some_rest ref.extent (extents_of after) b (rest is)
+
+pub placed_some : {T : Type 0} (format : ItemFormat T) (pages : List (Page T)) (b : ℕ) → in_some (placed_extents pages) b ≡ true
+    → in_some (extents_of (stored_refs (stored format pages))) b ≡ true
+placed_some format [] b is = is
+placed_some format (page ∷ pages) b is =
+    placed_one format page.items page.place (stored_refs (stored format pages)) (placed_extents pages) b (placed_some format pages b) is
+
 -- And where those are apart, so are the pages.
 apart_one : {T : Type 0} (format : ItemFormat T) (items : List T) (place : Place) (before after : List PageRef) (placed : List Extent)
     → ((b : ℕ) → in_some (extents_of after) b ≡ true → (in_some (extents_of before) b ≡ true) ⊎ (in_some placed b ≡ true))

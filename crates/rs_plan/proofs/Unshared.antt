@@ -10,14 +10,14 @@ use Rattle.rs_extent.specs.declared.Extent.{Extent}
 use Rattle.rs_extent.specs.Extents.{within, in_some, AreApart}
 use Rattle.rs_extent.proofs.Sets.{not_true, not_both, some_first, some_rest, some_split}
 use Rattle.rs_page.specs.declared.place.PageRef.{PageRef}
-use Rattle.rs_page.specs.Pages.{extents_of}
+use Rattle.rs_page.specs.Pages.{same_page, extents_of}
 use Rattle.rs_page.specs.SharedPages.{IsSublist}
-use Rattle.rs_image.specs.Reach.{same_page, unshared}
+use Rattle.rs_pages.specs.Storing.{unshared}
 use Rattle.rs_extent.specs.Extents.{AreDisjoint}
 use Rattle.rs_plan.proofs.Sublists.{mapped, filtered, any_of, skipped, some_of, apart_of}
 use Rattle.rs_plan.proofs.Bodies.{itself as itself_all}
 
-same_number : (m n : ℕ) → nat_eq m n ≡ true → m ≡ n
+pub same_number : (m n : ℕ) → nat_eq m n ≡ true → m ≡ n
 same_number m n h = grind (arith, nat_tests)
 
 itself_number : (n : ℕ) → nat_eq n n ≡ true
@@ -42,7 +42,7 @@ same_extent a b h =
     (same_number a.extent.blocks b.extent.blocks (second_so (nat_eq a.extent.first b.extent.first) (nat_eq a.extent.blocks b.extent.blocks) extents))
 
 -- a page that is one of these has their blocks
-shared_some : (ref : PageRef) (refs : List PageRef) (b : ℕ) → list_any (same_page ref) refs ≡ true → within ref.extent b ≡ true → in_some (extents_of refs) b ≡ true
+pub shared_some : (ref : PageRef) (refs : List PageRef) (b : ℕ) → list_any (same_page ref) refs ≡ true → within ref.extent b ≡ true → in_some (extents_of refs) b ≡ true
 shared_some ref [] b h is = absurd (true≢false (sym h))
 shared_some ref (x ∷ refs) b h is = one (same_page ref x) refl (λ rest. shared_some ref refs b rest is)
   where

@@ -24,7 +24,14 @@ lists_filled name digests c =
 -- the plan with these lists
 abbrev pub plan_filled : List ℕ → Digests → Plan → Plan
 plan_filled name digests p =
-    record { contents = lists_filled name digests p.contents; body = p.body; directory = p.directory; reply = p.reply }
+    record {
+      contents = lists_filled name digests p.contents;
+      body = p.body;
+      directory = p.directory;
+      reply = p.reply;
+      taken = p.taken;
+      freed = p.freed;
+    }
 
 -- The record of a name and the last change stand in pages that are not stored, so that both may still get digests.
 pub record AwaitsBody (name : List ℕ) (p : Plan) : Type 0 where

@@ -3,4 +3,5 @@ pub mod Replies
 pub mod Room
 pub mod Plans
 pub mod Placed
+pub mod Freed
 pub mod Drafts

@@ -1,5 +1,5 @@
 -- How the lists after a command are given blocks.
-use Rattle.std.specs.Prelude.{◌≡◌, ℕ, ◌+◌, Bool, List, [], length, All}
+use Rattle.std.specs.Prelude.{◌≡◌, ℕ, ◌+◌, Bool, true, List, [], length, All}
 use Rattle.rs_extent.specs.declared.Extent.{Extent}
 use Rattle.rs_fixity.specs.Digests.{digests}
 use Rattle.rs_fixity.specs.declared.Digests.{Digests}
@@ -9,11 +9,12 @@ use Rattle.rs_body.specs.Blocks.{blocks_of}
 use Rattle.rs_page.specs.Items.{record_format, change_format}
 use Rattle.rs_page.specs.Pages.{IsTouched, placed_extents}
 use Rattle.rs_page.specs.Placing.{Places}
+use Rattle.rs_extent.specs.Blocks.{Sets}
 use Rattle.rs_extent.specs.Extents.{AreTaken}
 use Rattle.rs_directory.specs.Directory.{directory_length}
 use Rattle.rs_image.specs.declared.contents.Contents.{Contents}
 use Rattle.rs_plan.specs.declared.plan.Plan.{Plan}
-use Rattle.rs_plan.specs.Room.{Takes}
+use Rattle.rs_plan.specs.Room.{Takes, HasNoRoom, lists_needed}
 
 -- the record of a body of n bytes in an extent, with these digests
 abbrev pub record_of_body : List ℕ → List ℕ → ℕ → Digests → Extent → ℕ → Record
@@ -53,3 +54,29 @@ pub record IsPlaced (used : List Bool) (body : Extent) (c : Contents) (p : Plan)
   pub header : p.contents.header ≡ c.header
   pub published : p.contents.published ≡ c.published
   pub body_is : p.body ≡ body
+
+-- Touched pages of lists, and then a directory, took blocks of a disk, and nothing else of the lists changed.
+pub record ArePlaced (used : List Bool) (c placed : Contents) (found : Extent) (after : List Bool) : Type 0 where
+  pub after_catalogue : List Bool
+  pub after_history : List Bool
+  pub catalogue : Places record_format used c.catalogue after_catalogue placed.catalogue
+  pub history : Places change_format after_catalogue c.history after_history placed.history
+  pub takes_catalogue : AreTaken used after_catalogue (placed_extents placed.catalogue)
+  pub takes_history : AreTaken after_catalogue after_history (placed_extents placed.history)
+  pub untouched_catalogue : All (λ page. ¬ IsTouched page.place) placed.catalogue
+  pub untouched_history : All (λ page. ¬ IsTouched page.place) placed.history
+  pub directory : Takes after_history (blocks_of (directory_bytes_of c)) found after
+  pub header : placed.header ≡ c.header
+  pub published : placed.published ≡ c.published
+
+-- A plan has a body that is free, and then its pages and its directory take blocks.
+pub record IsPlacedFrom (used : List Bool) (body : Extent) (c : Contents) (p : Plan) : Type 0 where
+  pub after_body : List Bool
+  pub sets : Sets used after_body body true
+  pub placed : IsPlaced after_body body c p
+
+-- With a body taken that is free, there is no room for lists.
+pub record HasNoRoomFrom (used : List Bool) (body : Extent) (c : Contents) : Type 0 where
+  pub after_body : List Bool
+  pub sets : Sets used after_body body true
+  pub fails : HasNoRoom after_body (lists_needed c)

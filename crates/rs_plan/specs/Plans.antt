@@ -1,10 +1,10 @@
 -- What a command is about to write.
-use Rattle.std.specs.Prelude.{◌≡◌, ◌⊎◌, ℕ, Bool, List, [], ◌∷◌, ◌++◌, length, All, None, is_some}
+use Rattle.std.specs.Prelude.{◌≡◌, ◌⊎◌, ℕ, Bool, true, not, ◌&&◌, ◌||◌, List, [], ◌∷◌, ◌++◌, length, All, None, is_some}
 use Rattle.std.specs.List.{AllZip}
 use Rattle.rs_extent.specs.declared.Extent.{Extent}
 use Rattle.rs_fixity.specs.Digests.{digests}
 use Rattle.rs_body.specs.Blocks.{part, IsSized}
-use Rattle.rs_extent.specs.Extents.{AreBeside, AreApart}
+use Rattle.rs_extent.specs.Extents.{in_some, AreBeside, AreApart}
 use Rattle.rs_commit.specs.declared.root.Root.{Root}
 use Rattle.rs_commit.specs.Commit.{next}
 use Rattle.rs_record.specs.declared.record.Record.{Record}
@@ -23,7 +23,7 @@ use Rattle.rs_pages.specs.Rule.{bound_in, unbound_in, appended_to}
 use Rattle.rs_catalogue.specs.Catalogue.{records_of}
 use Rattle.rs_catalogue.specs.Named.{named}
 use Rattle.rs_image.specs.declared.contents.Contents.{Contents}
-use Rattle.rs_image.specs.Reach.{is_kept, AreInside}
+use Rattle.rs_image.specs.Reach.{reach, is_kept, AreInside}
 use Rattle.rs_image.specs.Whole.{IsWhole}
 use Rattle.rs_image.specs.StateOfImage.{state_in, listing, AreListable}
 use Rattle.rs_image.specs.Rooted.{Rooted, AreUsed}
@@ -114,9 +114,18 @@ pub record TakesInTurn (old : Rooted) (command : Command) (p : Plan) : Type 0 wh
   pub unplaced : AreUnplaced lists
   pub placed : IsPlaced after_body p.body lists p
 
+-- What a plan takes and gives back: its places are listed; what it gives back is reached by the old root, no two things of it with a
+-- block in common; and the next root reaches what the old one reached, less what is given back, and the places.
+pub record TakesAndGives (old : Rooted) (p : Plan) : Type 0 where
+  pub taken : p.taken.items ≡ places p
+  pub apart : AreApart p.freed.items
+  pub reached : (b : ℕ) → in_some p.freed.items b ≡ true → in_some (reach old.root old.contents) b ≡ true
+  pub next : (b : ℕ) → is_kept (planned_root old.root p) (once_stored p.contents) b
+      ≡ ((is_kept old.root old.contents b && not (in_some p.freed.items b)) || in_some (places p) b)
+
 -- A plan leads from these lists to those after a command, and has its reply: what it writes goes into blocks that the root does
--- not reach, no two parts of it into the same; each part has a place of its size, the lowest that there is in its turn; and
--- what the next root reaches keeps all rules.
+-- not reach, no two parts of it into the same; each part has a place of its size, the lowest that there is in its turn; what
+-- the next root no longer reaches is given back; and what it reaches keeps all rules.
 pub record IsPlanned (old : Rooted) (command : Command) (moment : ℕ) (p : Plan) : Type 0 where
   pub next : IsNext old.contents command moment p.body p.contents
   pub reply : (image : List ℕ) → p.reply ≡ reply_to (state_in image old.contents) command moment
@@ -130,6 +139,7 @@ pub record IsPlanned (old : Rooted) (command : Command) (moment : ℕ) (p : Plan
   pub directory : IsSized p.directory (length (planned_listing p))
   pub listable : AreListable (once_stored p.contents)
   pub whole : IsWhole old.size (planned_root old.root p) (once_stored p.contents)
+  pub blocks : TakesAndGives old p
 
 -- All that a plan writes stands in an image.
 pub record AreWritten (p : Plan) (bytes image : List ℕ) : Type 0 where

@@ -18,6 +18,12 @@ pub record Takes (used : List Bool) (n : ℕ) (extent : Extent) (used' : List Bo
   pub lowest : 1 ≤ n → IsLowest used n extent
   pub sets : Sets used used' extent true
 
+-- n blocks, where there are some, are the lowest run of that many
+pub record IsFound (used : List Bool) (n : ℕ) (extent : Extent) : Type 0 where
+  pub blocks : extent.blocks ≡ n
+  pub nowhere : n ≡ 0 → extent.first ≡ 0
+  pub lowest : 1 ≤ n → IsLowest used n extent
+
 -- there are some blocks to take, and no run of that many
 abbrev pub HasNoRun : List Bool → ℕ → Type 0
 HasNoRun used n = (1 ≤ n) × ((first : ℕ) → IsFreeRun used first n → ⊥)

@@ -17,6 +17,11 @@ pub struct Plan {
     pub directory: Extent,
     /// The reply to the command.
     pub reply: Reply,
+    /// All that it writes to: the body, the touched pages and the directory, in the order in which
+    /// they were found.
+    pub taken: Vec<Extent>,
+    /// What the old root reaches and the next one no longer.
+    pub freed: Vec<Extent>,
 }
 
 impl Plan {

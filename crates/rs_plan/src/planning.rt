@@ -1,21 +1,25 @@
-//! How a command is planned: which lists it leads to, and which blocks its writes take.
+//! How a command is planned: which lists it leads to, which blocks its writes take, and which ones it
+//! gives back.
 
 ghost use Rattle.std.specs.Prelude.{◌≡◌, ℕ, List, length, IfOk, IsErrOf};
 ghost use Rattle.rs_model.specs.declared.command.Command.TheVariants.{Put, Delete, Publish};
 ghost use Rattle.rs_fixity.specs.Digests.{digests};
 ghost use Rattle.rs_plan.specs.Allowed.{MayPut, MayDelete, MayPublish};
+ghost use Rattle.rs_image.specs.Rooted.{AreUsed};
 ghost use Rattle.rs_plan.specs.Plans.{IsPlanned, LacksRoom};
 ghost use Rattle.rs_plan.specs.Drafts.{AwaitsBody, IsPageRuleKept, plan_filled};
 
+mod freeing;
 mod lists;
 mod placing;
 
 use crate::plan::Plan;
+use freeing::{freed_by_change, freed_by_publication};
 use lists::{lists_after_delete, lists_after_publish, lists_after_put, reply_told};
-use placing::{place_lists, take_lowest};
-use rs_extent::Extent;
+use placing::{find_lowest, place_lists};
+use rs_extent::{Extent, Used};
 use rs_fixity::{Digests, digests_of};
-use rs_image::{Rooted, used_of};
+use rs_image::Rooted;
 use rs_model::Reply;
 use rs_page::Full;
 use rs_pages::laws::{
@@ -60,7 +64,7 @@ impl From<AllocError> for PlanFault {
 
 /// Plans to bind a name to a body of this media type, of `body_length` bytes, whose digests are not
 /// known yet, at this moment: [`Plan::fill`] gives them to the plan. The command is one that a
-/// source accepts.
+/// source accepts. The set has the blocks in use, and is as it was when this returns.
 ///
 /// # Errors
 ///
@@ -68,13 +72,16 @@ impl From<AllocError> for PlanFault {
 /// - [`PlanFault::NoMemory`] where a growth of memory is refused.
 pub fn draft_put(
     alloc: Global,
+    used: &mut Used,
     old: &Rooted<'_>,
     name: &Name,
     kind: &MediaType,
     body_length: u32,
     moment: Moment,
 ) -> Result<Plan, PlanFault>
-    requires { MayPut old.now.contents name.now body_length moment }
+    requires used { AreUsed old.now used.old }
+    requires may { MayPut old.now.contents name.now body_length moment }
+    ensures same { used.new ≡ used.old }
     ensures awaits { IfOk result (AwaitsBody name.now) }
     ensures planned { IfOk result (λ plan. (bytes : List ℕ) → length bytes ≡ body_length
         → IsPlanned old.now (Put name.now kind.now bytes) moment
@@ -84,8 +91,7 @@ pub fn draft_put(
 {
     page_rule_is_kept();
     let contents = old.contents();
-    let mut used = used_of(alloc, old)?;
-    let Some(body) = take_lowest(&mut used, body_length) else {
+    let Some(body) = find_lowest(used, body_length) else {
         return Err(PlanFault::Full);
     };
     let lists = lists_after_put(
@@ -99,7 +105,8 @@ pub fn draft_put(
         moment,
     )?;
     let reply = reply_told(&lists.history);
-    let plan = place_lists(used, body, lists, reply)?;
+    let freed = freed_by_change(alloc, old, name)?;
+    let plan = place_lists(alloc, used, body, lists, reply, freed)?;
     Ok(plan)
 }
 
@@ -110,7 +117,7 @@ const UNKNOWN: Digests = Digests {
 };
 
 /// Plans to bind a name to these bytes, of this media type, at this moment. The command is one that
-/// a source accepts.
+/// a source accepts. The set has the blocks in use, and is as it was when this returns.
 ///
 /// # Errors
 ///
@@ -118,24 +125,28 @@ const UNKNOWN: Digests = Digests {
 /// - [`PlanFault::NoMemory`] where a growth of memory is refused.
 pub fn plan_put(
     alloc: Global,
+    used: &mut Used,
     old: &Rooted<'_>,
     name: &Name,
     kind: &MediaType,
     bytes: &[u8],
     moment: Moment,
 ) -> Result<Plan, PlanFault>
-    requires { MayPut old.now.contents name.now (length bytes.now) moment }
+    requires used { AreUsed old.now used.old }
+    requires may { MayPut old.now.contents name.now (length bytes.now) moment }
+    ensures same { used.new ≡ used.old }
     ensures planned { IfOk result (IsPlanned old.now (Put name.now kind.now bytes.now) moment) }
     ensures full { IsErrOf result PlanFault.Full
         → LacksRoom old.now (Put name.now kind.now bytes.now) moment }
 {
     let body_length = bytes.len() as u32;
-    let mut plan = draft_put(alloc, old, name, kind, body_length, moment)?;
+    let mut plan = draft_put(alloc, used, old, name, kind, body_length, moment)?;
     plan.fill(name, digests_of(bytes));
     Ok(plan)
 }
 
 /// Plans to unbind a name that is held, at this moment. The command is one that a source accepts.
+/// The set has the blocks in use, and is as it was when this returns.
 ///
 /// # Errors
 ///
@@ -143,39 +154,49 @@ pub fn plan_put(
 /// - [`PlanFault::NoMemory`] where a growth of memory is refused.
 pub fn plan_delete(
     alloc: Global,
+    used: &mut Used,
     old: &Rooted<'_>,
     name: &Name,
     moment: Moment,
 ) -> Result<Plan, PlanFault>
-    requires { MayDelete old.now.contents name.now moment }
+    requires used { AreUsed old.now used.old }
+    requires may { MayDelete old.now.contents name.now moment }
+    ensures same { used.new ≡ used.old }
     ensures planned { IfOk result (IsPlanned old.now (Delete name.now) moment) }
     ensures full { IsErrOf result PlanFault.Full → LacksRoom old.now (Delete name.now) moment }
 {
     page_rule_is_kept();
     let contents = old.contents();
-    let used = used_of(alloc, old)?;
     let lists = lists_after_delete(alloc, contents, name, moment)?;
-    let plan = place_lists(used, NO_BODY, lists, Reply::Deleted(moment))?;
+    let freed = freed_by_change(alloc, old, name)?;
+    let plan = place_lists(alloc, used, NO_BODY, lists, Reply::Deleted(moment), freed)?;
     Ok(plan)
 }
 
 /// Plans to list all resources that are held, at this moment. The command is one that a source
-/// accepts.
+/// accepts. The set has the blocks in use, and is as it was when this returns.
 ///
 /// # Errors
 ///
 /// - [`PlanFault::Full`] where the directory has no run of free blocks.
 /// - [`PlanFault::NoMemory`] where a growth of memory is refused.
-pub fn plan_publish(alloc: Global, old: &Rooted<'_>, moment: Moment) -> Result<Plan, PlanFault>
-    requires { MayPublish old.now.contents moment }
+pub fn plan_publish(
+    alloc: Global,
+    used: &mut Used,
+    old: &Rooted<'_>,
+    moment: Moment,
+) -> Result<Plan, PlanFault>
+    requires used { AreUsed old.now used.old }
+    requires may { MayPublish old.now.contents moment }
+    ensures same { used.new ≡ used.old }
     ensures planned { IfOk result (IsPlanned old.now Publish moment) }
     ensures full { IsErrOf result PlanFault.Full → LacksRoom old.now Publish moment }
 {
     let contents = old.contents();
-    let used = used_of(alloc, old)?;
     let lists = lists_after_publish(alloc, contents, moment)?;
     let reply = Reply::Published(lists.header.number, moment);
-    let plan = place_lists(used, NO_BODY, lists, reply)?;
+    let freed = freed_by_publication(alloc, old)?;
+    let plan = place_lists(alloc, used, NO_BODY, lists, reply, freed)?;
     Ok(plan)
 }
 

@@ -353,13 +353,6 @@ module _ {D : Type 0} (device : D → DiskState) (medium : (disk : D) → IsMedi
             goes_on = goes;
           }
 
--- what the end of a command promises, whatever command a plan is of
-abbrev pub Promised : {D : Type 0} → (D → DiskState) → List ℕ → Plan → Stored D → Result Reply Refusal → Stored D → Type 0
-Promised device bytes p new result old =
-    (command : Command) (now : ℕ) → decided old (state_of device old) command ≡ None → body_of_command command ≡ bytes
-    → IsPlanned (rooted_in device old) command (moment_at (state_of device old) now) p
-    → Answers device old new command now result
-
 -- what is said of a root with its lists, as they were taken from a source, is said of the source
 pub of_source : {D : Type 0} (P : Rooted → ℕ → Type 0) (device : D → DiskState) (old : Stored D) (r : Rooted) (moment at : ℕ) → r ≡ rooted_in device old → moment ≡ at
     → P r moment → P (rooted_in device old) at

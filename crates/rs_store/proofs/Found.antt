@@ -17,7 +17,8 @@ use Rattle.rs_catalogue.specs.Named.{named}
 use Rattle.rs_catalogue.specs.Catalogue.{records_of}
 use Rattle.rs_image.specs.declared.contents.Contents.{Contents}
 use Rattle.rs_page.specs.Pages.{stored_refs, extents_of}
-use Rattle.rs_image.specs.Reach.{unshared, bodies_of, blocks_of_disk}
+use Rattle.rs_pages.specs.Storing.{unshared}
+use Rattle.rs_image.specs.Reach.{bodies_of, blocks_of_disk}
 use Rattle.rs_image.specs.Whole.{IsWhole, IsSoundRecord}
 use Rattle.rs_model.specs.State.{entries}
 use Rattle.rs_model.specs.Listed.{entry_of}

@@ -12,3 +12,6 @@ pub mod Turns
 pub mod Moments
 pub mod Replies
 pub mod Early
+pub mod Kept
+pub mod Finished
+pub mod Begun

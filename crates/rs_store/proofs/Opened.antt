@@ -1,8 +1,10 @@
 -- What an opening finds: where no state is stood for, and when a source holds what its lists tell.
-use Rattle.std.proofs.Common.{◌≡◌, ◌≤◌, ◌<◌, ℕ, false, List, ◌∷◌, Some, length, sym, ◌∙◌, ap, subst, refl, arith}
+use Rattle.std.proofs.Common.{◌≡◌, inl, inr, ◌≤◌, ◌<◌, ℕ, false, List, ◌∷◌, Some, IsTrue, length, sym, ◌∙◌, ap, subst, refl, arith}
+use Rattle.std.specs.Prelude.{IsSome}
 use Rattle.std.proofs.lemmas.List.{length-append, length-take}
 use Rattle.rs_extent.specs.declared.Extent.{Extent}
 use Rattle.rs_disk.specs.Medium.{Medium, DiskState, IsImage, resting}
+use Rattle.rs_disk.specs.Leaves.{HasFailed}
 use Rattle.rs_disk.proofs.Images.{resting_image}
 use Rattle.rs_body.specs.Blocks.{part, IsSized}
 use Rattle.rs_extent.proofs.Sets.{within_true, some_first}
@@ -15,9 +17,15 @@ use Rattle.rs_image.specs.Reach.{AreInside}
 use Rattle.rs_image.specs.StateOfImage.{Tells, StandsFor, listing, state_in}
 use Rattle.rs_page.specs.declared.page.load.LoadFault.{LoadFault}
 use Rattle.rs_page.specs.declared.page.load.LoadFault.TheVariants as lists
-use Rattle.rs_store.specs.declared.opening.OpenFault.TheVariants.{Damaged}
-use Rattle.rs_store.specs.Opening.{of_lists}
+use Rattle.rs_store.specs.declared.opening.OpenFault.{OpenFault}
+use Rattle.rs_store.specs.declared.opening.OpenFault.TheVariants.{NotASource, Damaged, Device, NoMemory}
+use Rattle.rs_store.specs.Opening.{of_lists, IsNotOpened}
 use Rattle.rs_store.specs.Source.{Holds}
+
+-- a fault of a later run is one of the whole
+pub failed_behind : (old mid new : DiskState) → old.faults ≤ mid.faults → HasFailed mid new → HasFailed old new
+failed_behind old mid new le (inl more) = inl (omega (arith, le, more))
+failed_behind old mid new le (inr last) = inr last
 
 -- a directory has bytes
 pub some_bytes : (c : Contents) → 2 ≤ length (listing c)
@@ -79,8 +87,21 @@ stands_told device disk slots c seen rests stand told =
     let state : state_in seen c ≡ state_in (device disk).now.seen c = ap (λ (l : List ℕ). state_in l c) (sym same) in
     (slots.root, (slots, stand, refl), (c, subst (λ (s : Source). Tells slots.root c seen s) state told))
 
--- a fault of the lists is answered as Damaged where it is that alone
-pub damaged_lists : (fault : LoadFault) → of_lists fault ≡ Damaged → fault ≡ lists.Damaged
-damaged_lists lists.Damaged e = refl
-damaged_lists lists.Device e = cc
-damaged_lists lists.NoMemory e = cc
+-- what is said of each fault of the lists is said of the answer by its name
+pub lists_not_opened : (old new : DiskState) (fault : LoadFault)
+    → (fault ≡ lists.Damaged → IsTrue new.honest → IsSome (current old.now.seen) × ((s : Source) → ¬ StandsFor old.now.seen s))
+    → (fault ≡ lists.Device → HasFailed old new) → IsNotOpened old new (of_lists fault)
+lists_not_opened old new lists.Damaged damaged device = damaged refl
+lists_not_opened old new lists.Device damaged device = device refl
+lists_not_opened old new lists.NoMemory damaged device = tt
+
+-- a refusal by what a disk held is one by what it held before it was settled
+pub not_opened_before : (old mid new : DiskState) → mid.now.seen ≡ old.now.seen → old.faults ≤ mid.faults → (fault : OpenFault)
+    → IsNotOpened mid new fault → IsNotOpened old new fault
+not_opened_before old mid new same le NotASource refused = λ honest. sym (ap current same) ∙ refused honest
+not_opened_before old mid new same le Damaged refused = λ honest. (
+  subst (λ (l : List ℕ). IsSome (current l)) same (refused honest).0,
+  λ s stands. (refused honest).1 s (subst (λ (l : List ℕ). StandsFor l s) (sym same) stands),
+)
+not_opened_before old mid new same le Device refused = failed_behind old mid new le refused
+not_opened_before old mid new same le NoMemory refused = tt

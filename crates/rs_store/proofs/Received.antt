@@ -1,8 +1,8 @@
 -- What is answered to a put of bytes is answered to the put that a reader brings them to.
-use Rattle.std.proofs.Common.{◌≡◌, ℕ, ◌<◌, arith, List, [], length, take, Option, Result, Ok, Err, refl, sym, ◌∙◌, ap, subst}
+use Rattle.std.proofs.Common.{◌≡◌, ℕ, ◌+◌, ◌<◌, ◌≤◌, arith, List, [], ◌++◌, length, take, Option, Result, Ok, Err, refl, sym, ◌∙◌, ap, subst}
 use Rattle.std.specs.Prelude.{replicate, IfErr, IsErrOf}
 use Rattle.std.proofs.Math.Seq.{take-length}
-use Rattle.std.proofs.lemmas.List.{length-replicate}
+use Rattle.std.proofs.lemmas.List.{length-append, length-replicate}
 use Rattle.rs_disk.specs.Medium.{DiskState}
 use Rattle.rs_model.specs.declared.command.Command.TheVariants.{Put}
 use Rattle.rs_model.specs.declared.command.Reply.{Reply}
@@ -10,7 +10,7 @@ use Rattle.rs_store.specs.declared.refusal.Refusal.{Refusal}
 use Rattle.rs_store.specs.declared.refusal.Refusal.TheVariants.{Closed, TooLong, NotHeld, TooManyResources, TooManyChanges, Exhausted, Full, ReadFault, ShortBody, Device, Damaged, NoMemory}
 use Rattle.rs_store.specs.Source.{Stored}
 use Rattle.rs_store.specs.Answered.{Answers}
-use Rattle.rs_store.specs.Received.{IsBodyOf, IsLeft, IsCutShort, IsCut, IsLate, MayHaveCome, AnswersFrom}
+use Rattle.rs_store.specs.Received.{IsBodyOf, IsLeft, IsCutShort, IsCut, IsStopped, IsLate, MayHaveCome, AnswersFrom}
 
 -- a body that begins with all of its bytes is these
 same_body : (n : ℕ) (came body : List ℕ) → length came ≡ n → IsBodyOf n came body → came ≡ body
@@ -96,20 +96,38 @@ left_by device old new name kind body now a = record {
 
 -- Not all of the body came.
 module _ {D : Type 0} (device : D → DiskState) (old new : Stored D) (name kind : List ℕ) (n now : ℕ) (came : List ℕ) (rest : Option (List ℕ)) where
-  pub cut_from : (r : Refusal) → IsCut n rest came r → (length came < n → IsCutShort device old new name kind n now came)
-      → ((body : List ℕ) → IsBodyOf n came body → Answers device old new (Put name kind body) now (Err NoMemory)) → AnswersFrom device old new name kind n now came (Err r)
-  cut_from Closed cut short refused = absurd cut
-  cut_from TooLong cut short refused = absurd cut
-  cut_from NotHeld cut short refused = absurd cut
-  cut_from TooManyResources cut short refused = absurd cut
-  cut_from TooManyChanges cut short refused = absurd cut
-  cut_from Exhausted cut short refused = absurd cut
-  cut_from Full cut short refused = absurd cut
-  cut_from ReadFault cut short refused = short cut
-  cut_from ShortBody cut short refused = short cut.0
-  cut_from Device cut short refused = absurd cut
-  cut_from Damaged cut short refused = absurd cut
-  cut_from NoMemory cut short refused = (cut, refused)
+  pub cut_from : (r : Refusal) → (r ≡ Device → ⊥) → IsStopped n rest came r → (length came < n → IsCutShort device old new name kind n now came)
+      → AnswersFrom device old new name kind n now came (Err r)
+  cut_from Closed other cut short = absurd cut
+  cut_from TooLong other cut short = absurd cut
+  cut_from NotHeld other cut short = absurd cut
+  cut_from TooManyResources other cut short = absurd cut
+  cut_from TooManyChanges other cut short = absurd cut
+  cut_from Exhausted other cut short = absurd cut
+  cut_from Full other cut short = absurd cut
+  cut_from ReadFault other cut short = short cut
+  cut_from ShortBody other cut short = short cut.0
+  cut_from Device other cut short = absurd (other refl)
+  cut_from Damaged other cut short = absurd cut
+  cut_from NoMemory other cut short = absurd cut
+
+-- what cuts the reading stops the receiving
+pub cut_stops : (n : ℕ) (rest : Option (List ℕ)) (came : List ℕ) (r : Refusal) → IsCut n rest came r → IsStopped n rest came r
+cut_stops n rest came Device cut = absurd cut
+cut_stops n rest came r cut = cut
+
+-- and is no fault of the device
+pub cut_not_device : (n : ℕ) (rest : Option (List ℕ)) (came : List ℕ) (r : Refusal) → IsCut n rest came r → r ≡ Device → ⊥
+cut_not_device n rest came ReadFault cut is = absurd cc
+cut_not_device n rest came ShortBody cut is = absurd cc
+cut_not_device n rest came r cut is = absurd cut
+
+-- what stops the receiving of a piece stops that of the body, of which more had come
+pub stops_behind : (n m : ℕ) (rest : Option (List ℕ)) (front came : List ℕ) (r : Refusal) → length front + m ≤ n → IsStopped m rest came r → IsStopped n rest (front ++ came) r
+stops_behind n m rest front came ReadFault fits cut = omega (arith, length-append front came, cut)
+stops_behind n m rest front came ShortBody fits cut = (omega (arith, length-append front came, cut.0), cut.1)
+stops_behind n m rest front came Device fits cut = omega (arith, length-append front came, cut)
+stops_behind n m rest front came r fits cut = absurd cut
 
 -- a refusal is the same one, whatever might have been given in its place
 pub refused_elsewhere : {A B : Type 0} (r s : Refusal) → IsErrOf {T = A} (Err r) s → IsErrOf {T = B} (Err r) s

@@ -23,7 +23,8 @@ use Rattle.rs_page.specs.Pages.{IsStored}
 use Rattle.rs_directory.specs.Directory.{IsLawfulHeader, IsLawfulRef}
 use Rattle.rs_image.specs.Reach.{blocks_of_disk}
 use Rattle.rs_image.specs.Whole.{IsWhole, IsSoundRecord, IsSoundChange}
-use Rattle.rs_image.specs.StateOfImage.{Tells, listing}
+use Rattle.rs_image.specs.Rooted.{rooted, IsRooted}
+use Rattle.rs_image.specs.StateOfImage.{Tells, listing, AreListable}
 use Rattle.rs_store.specs.Source.{Holds}
 use Rattle.rs_store.specs.declared.formatting.Blank.{Blank}
 use Rattle.rs_store.specs.Formatting.{first_header, first_contents, first_root, IsBlank}
@@ -63,6 +64,26 @@ first_whole base limit moment size small room =
       inside = λ b is. one_block (first_root c).directory (length (listing c)) size b refl refl small room is;
     }
 
+-- the lists of it can be those of a directory
+first_listable : (base : List ℕ) (limit moment : ℕ) → IsLawfulHeader (first_header base limit moment) → AreListable (first_contents base limit moment)
+first_listable base limit moment lawful = record {
+  header = lawful;
+  catalogue = record { each = All-nil IsLawfulRef; count = omega arith };
+  history = record { each = All-nil IsLawfulRef; count = omega arith };
+  published = record { each = All-nil IsLawfulRef; count = omega arith };
+}
+
+-- so its root with its lists is one that planners take
+pub first_rooted : (base : List ℕ) (limit moment size : ℕ) → 16 ≤ blocks_of_disk size → (c : Contents) → c ≡ first_contents base limit moment
+    → (root : Root) → root ≡ first_root c → IsLawfulHeader c.header → length (listing c) ≤ 512 → IsRooted (rooted size root c)
+first_rooted base limit moment size room c e =
+    let P : Contents → Type 0 = λ c. (root : Root) → root ≡ first_root c → IsLawfulHeader c.header → length (listing c) ≤ 512 → IsRooted (rooted size root c) in
+    let first = first_contents base limit moment in
+    subst P (sym e)
+    (λ root f lawful small.
+    subst (λ (r : Root). IsRooted (rooted size r first)) (sym f)
+    (record { room = omega (arith, room); whole = first_whole base limit moment size small room; listable = first_listable base limit moment lawful }))
+
 -- where its directory stands, its lists are told, and they are those of a source at its start
 pub first_told : (base : List ℕ) (limit moment : ℕ) (image : List ℕ) → IsLawfulHeader (first_header base limit moment)
     → length (listing (first_contents base limit moment)) ≤ 512 → 16 ≤ blocks_of_disk (length image)
@@ -70,12 +91,7 @@ pub first_told : (base : List ℕ) (limit moment : ℕ) (image : List ℕ) → I
     → Tells (first_root (first_contents base limit moment)) (first_contents base limit moment) image (start_of base limit moment)
 first_told base limit moment image lawful small room reads =
     record {
-      listable = record {
-        header = lawful;
-        catalogue = record { each = All-nil IsLawfulRef; count = omega arith };
-        history = record { each = All-nil IsLawfulRef; count = omega arith };
-        published = record { each = All-nil IsLawfulRef; count = omega arith };
-      };
+      listable = first_listable base limit moment lawful;
       directory = reads;
       digest = refl;
       catalogue = record { hold = tt; held = record { ordered = refl; room = omega arith } };

@@ -1,15 +1,17 @@
 -- What an opening or a formatting hands back.
-use Rattle.std.specs.Prelude.{◌≡◌, false, None, Some, IsSome, IsTrue, Result, Ok, Err}
+use Rattle.std.specs.Prelude.{◌≡◌, ℕ, List, false, None, Some, IsSome, IsTrue, Result, Ok, Err}
 use Rattle.rs_disk.specs.Leaves.{HasFailed}
-use Rattle.rs_disk.specs.Medium.{DiskState}
-use Rattle.rs_commit.specs.Slots.{current}
+use Rattle.rs_disk.specs.Medium.{Medium, DiskState}
+use Rattle.rs_commit.specs.Slots.{Standing, current}
+use Rattle.rs_commit.specs.Commit.{IsReady}
 use Rattle.rs_commit.specs.declared.faults.SlotFault.{SlotFault}
 use Rattle.rs_commit.specs.declared.faults.SlotFault.TheVariants as slots
 use Rattle.rs_page.specs.declared.page.load.LoadFault.{LoadFault}
 use Rattle.rs_page.specs.declared.page.load.LoadFault.TheVariants as lists
 use Rattle.rs_store.specs.declared.opening.OpenFault.{OpenFault}
 use Rattle.rs_store.specs.declared.opening.OpenFault.TheVariants.{NotASource, Damaged, Device, NoMemory}
-use Rattle.rs_image.specs.StateOfImage.{StandsFor}
+use Rattle.rs_image.specs.declared.contents.Contents.{Contents}
+use Rattle.rs_image.specs.StateOfImage.{StandsFor, Tells, state_in}
 use Rattle.rs_model.specs.State.{Source}
 use Rattle.rs_store.specs.Source.{Stored, Holds, state_of}
 
@@ -28,6 +30,13 @@ abbrev pub of_lists : LoadFault → OpenFault
 of_lists lists.Damaged = Damaged
 of_lists lists.Device = Device
 of_lists lists.NoMemory = NoMemory
+
+-- What a disk that held these bytes, and now holds this, was found to hold: the slots are those that the bytes tell, and can be
+-- changed; and the root tells these lists.
+pub record IsFound (seen : List ℕ) (now : Medium) (standing : Standing) (c : Contents) : Type 0 where
+  pub slots : current seen ≡ Some standing
+  pub ready : IsReady standing now
+  pub told : Tells standing.root c seen (state_in seen c)
 
 -- An opened source. What the disk held is said of a device that has followed the model: the slots are those that the disk told,
 -- and the source holds the state that the disk stood for.

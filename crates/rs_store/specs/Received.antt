@@ -60,9 +60,13 @@ AnswersFrom device old new name kind n now came (Err ShortBody) = IsCutShort dev
 AnswersFrom device old new name kind n now came (Err refusal) =
     MayHaveCome n came refusal × ((body : List ℕ) → IsBodyOf n came body → Answers device old new (Put name kind body) now (Err refusal))
 
--- why not all of n bytes came, where these did and a reader has so much left: the reader failed or ended, or memory was refused
+-- why not all of n bytes of a reader came, where these did and it has so much left: it failed or ended before
 abbrev pub IsCut : ℕ → Option (List ℕ) → List ℕ → Refusal → Type 0
 IsCut n rest came ReadFault = length came < n
 IsCut n rest came ShortBody = (length came < n) × IsAtEnd rest
-IsCut n rest came NoMemory = length came ≤ n
 IsCut n rest came refusal = ⊥
+
+-- why not all of n bytes of a reader were read and written, where these came: not all came, or the device failed
+abbrev pub IsStopped : ℕ → Option (List ℕ) → List ℕ → Refusal → Type 0
+IsStopped n rest came Device = length came ≤ n
+IsStopped n rest came refusal = IsCut n rest came refusal

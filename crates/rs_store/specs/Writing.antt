@@ -8,9 +8,12 @@ use Rattle.rs_page.specs.declared.page.store.StoreFault.TheVariants.{Device as N
 use Rattle.rs_catalogue.specs.Catalogue.{IsCatalogue}
 use Rattle.rs_changes.specs.History.{IsHistory}
 use Rattle.rs_image.specs.declared.contents.Contents.{Contents}
-use Rattle.rs_body.specs.Blocks.{IsSized}
+use Rattle.rs_body.specs.Blocks.{part, IsSized}
+use Rattle.rs_body.specs.Outside.{WritesOutside}
+use Rattle.rs_disk.specs.Medium.{DiskState}
+use Rattle.rs_disk.specs.Leaves.{Advances}
 use Rattle.rs_page.specs.Pages.{IsTouched}
-use Rattle.rs_image.specs.Reach.{AreInside}
+use Rattle.rs_image.specs.Reach.{is_kept, AreInside}
 use Rattle.rs_image.specs.Rooted.{Rooted}
 use Rattle.rs_image.specs.StateOfImage.{listing, AreListable}
 use Rattle.rs_plan.specs.declared.plan.Plan.{Plan}
@@ -21,7 +24,8 @@ use Rattle.rs_store.specs.declared.refusal.Refusal.TheVariants.{Full, NoMemory a
 use Rattle.rs_store.specs.declared.writing.WriteFault.{WriteFault}
 use Rattle.rs_store.specs.declared.writing.WriteFault.TheVariants.{Device, NoMemory}
 use Rattle.rs_store.specs.declared.writing.Written.{Written}
-use Rattle.rs_plan.specs.Plans.{IsPlanned, body_of_command, once_stored, places, planned_listing, AreWritten}
+use Rattle.rs_store.specs.Source.{Stored}
+use Rattle.rs_plan.specs.Plans.{IsPlanned, once_stored, places, planned_listing, AreWritten}
 
 -- a page that was not stored
 abbrev pub of_store : StoreFault → WriteFault
@@ -44,32 +48,43 @@ pub record AreLists (c : Contents) : Type 0 where
   pub history : IsHistory c.history
   pub published : IsCatalogue c.published
 
--- A plan is of some command that writes these bytes.
-pub record IsPlanOfSome (old : Rooted) (bytes : List ℕ) (p : Plan) : Type 0 where
+-- A plan is of some command.
+pub record IsPlanOfSome (old : Rooted) (p : Plan) : Type 0 where
   pub command : Command
   pub moment : ℕ
-  pub written : body_of_command command ≡ bytes
   pub planned : IsPlanned old command moment p
 
--- A plan can be written to a disk of this many bytes, with this body: its places lie behind the slots, no two of them have a
--- block in common, each page has its place, body and directory have exactly their blocks, and a directory can have the lists.
-pub record IsWritable (size : ℕ) (bytes : List ℕ) (p : Plan) : Type 0 where
+-- The lists of a plan can be written to a disk of this many bytes: its places lie behind the slots, no two of them have a block
+-- in common, each page has its place, the directory has exactly its blocks, and a directory can have the lists.
+pub record IsWritable (size : ℕ) (p : Plan) : Type 0 where
   pub inside : AreInside size (places p)
   pub apart : AreApart (places p)
   pub catalogue : All (λ page. ¬ IsTouched page.place) p.contents.catalogue
   pub history : All (λ page. ¬ IsTouched page.place) p.contents.history
-  pub body : IsSized p.body (length bytes)
   pub directory : IsSized p.directory (length (planned_listing p))
   pub listable : AreListable (once_stored p.contents)
 
--- All of a plan was written: its lists are stored, and what it writes stands in an image.
-pub record IsStoredPlan (p p' : Plan) (bytes image : List ℕ) : Type 0 where
+-- The lists of a plan were written, and a read gave `old` before it and gives `new` then: they are stored, and with a body that
+-- stood in its extent all of the plan stands.
+pub record AreStoredLists (p p' : Plan) (old new : List ℕ) : Type 0 where
   pub contents : p'.contents ≡ once_stored p.contents
   pub lists : AreLists (once_stored p.contents)
-  pub reads : AreWritten p bytes image
+  pub reads : (bytes : List ℕ) → IsSized p.body (length bytes) → part p.body (length bytes) old ≡ bytes → AreWritten p bytes new
 
 -- the parts of a plan beside its lists are as they were
 pub record StaysBesideLists (p p' : Plan) : Type 0 where
   pub body : p'.body ≡ p.body
   pub directory : p'.directory ≡ p.directory
   pub reply : p'.reply ≡ p.reply
+  pub taken : p'.taken ≡ p.taken
+  pub freed : p'.freed ≡ p.freed
+
+-- A source wrote these bytes as the body of a plan, and nothing else: what is in memory is as it was, all writes were outside what
+-- its root reaches, and the body stands in its extent.
+pub record HasWrittenBody {D : Type 0} (device : D → DiskState) (start now : Stored D) (p : Plan) (bytes : List ℕ) : Type 0 where
+  pub slots : now.slots ≡ start.slots
+  pub contents : now.contents ≡ start.contents
+  pub is_closed : now.is_closed ≡ start.is_closed
+  pub outside : WritesOutside (is_kept start.slots.root start.contents) (device start.disk) (device now.disk)
+  pub advances : Advances (device start.disk) (device now.disk)
+  pub stands : part p.body (length bytes) (device now.disk).now.seen ≡ bytes

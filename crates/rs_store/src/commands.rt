@@ -4,15 +4,17 @@ ghost use Rattle.std.specs.Prelude.{◌≡◌, ◌<◌, ◌+◌, ◌^◌, ℕ, f
 ghost use Rattle.rs_model.specs.Step.{moment_at};
 ghost use Rattle.rs_model.specs.declared.command.Command.{Command};
 ghost use Rattle.rs_model.specs.declared.command.Command.TheVariants.{Put, Delete, Publish};
-ghost use Rattle.rs_store.specs.Source.{rooted_in, state_of};
+ghost use Rattle.rs_store.specs.Source.{Stored, rooted_in, state_of};
 ghost use Rattle.rs_store.specs.Refusals.{decided};
 ghost use Rattle.rs_plan.specs.Plans.{IsPlanned, body_of_command};
-ghost use Rattle.rs_store.specs.Writing.{of_plan, IsPlanOfSome};
+ghost use Rattle.rs_store.specs.Writing.{of_plan, IsPlanOfSome, HasWrittenBody};
 ghost use Rattle.rs_store.specs.Answered.{Answers};
 ghost use Rattle.rs_store.specs.Received.{IsLate};
 
-use crate::writing::{WriteFault, write_plan};
+use crate::source::rooted_by;
+use crate::writing::{WriteFault, write_lists};
 use crate::{Refusal, Source};
+use rs_body::write_body;
 use rs_disk::Disk;
 use rs_model::Reply;
 use rs_plan::{Plan, PlanFault, plan_delete, plan_publish, plan_put};
@@ -59,8 +61,21 @@ impl<D: Disk> Source<D> {
         ensures { Answers D.state self.old self.new (Put name.now kind.now bytes.now) now result }
     {
         let moment = self.moment_of_put(name, bytes.len() as u64, now)?;
-        let plan = plan_put(self.alloc, &self.rooted(), name, kind, bytes, moment)?;
-        self.finish(plan, bytes)
+        let rooted = rooted_by(&self.disk, &self.slots, &self.contents);
+        let plan = plan_put(
+            self.alloc,
+            &mut self.used,
+            &rooted,
+            name,
+            kind,
+            bytes,
+            moment,
+        )?;
+        if write_body(&mut self.disk, plan.body, bytes).is_err() {
+            self.is_closed = true;
+            return Err(Refusal::Device);
+        }
+        self.finish(plan)
     }
 
     /// Unbinds the name: the resource is deleted. The command comes at the moment `now`, and is accepted
@@ -76,8 +91,9 @@ impl<D: Disk> Source<D> {
         ensures { Answers D.state self.old self.new (Delete name.now) now result }
     {
         let moment = self.moment_of_delete(name, now)?;
-        let plan = plan_delete(self.alloc, &self.rooted(), name, moment)?;
-        self.finish(plan, &[])
+        let rooted = rooted_by(&self.disk, &self.slots, &self.contents);
+        let plan = plan_delete(self.alloc, &mut self.used, &rooted, name, moment)?;
+        self.finish(plan)
     }
 
     /// Lists all resources that are held, as the next publication. The command comes at the moment
@@ -94,25 +110,28 @@ impl<D: Disk> Source<D> {
         ensures { Answers D.state self.old self.new Publish now result }
     {
         let moment = self.moment_of_publish(now)?;
-        let plan = plan_publish(self.alloc, &self.rooted(), moment)?;
-        self.finish(plan, &[])
+        let rooted = rooted_by(&self.disk, &self.slots, &self.contents);
+        let plan = plan_publish(self.alloc, &mut self.used, &rooted, moment)?;
+        self.finish(plan)
     }
 
-    /// Writes a plan and changes the root; then what is in memory goes along, and the plan's reply is
-    /// answered.
-    pub(crate) fn finish(&mut self, mut plan: Plan, bytes: &[u8]) -> Result<Reply, Refusal>
+    /// Writes the lists of a plan whose body stands in its extent, and changes the root; then what is
+    /// in memory goes along, with the set of the used blocks, and the plan's reply is answered.
+    ///
+    /// What it promises counts from the moment before the body was written.
+    pub(crate) fn finish(&mut self, mut plan: Plan) -> Result<Reply, Refusal>
         requires is_open { self.old.is_closed ≡ false }
         requires spare { self.old.slots.root.generation + 1 < 2 ^ 64 }
-        requires planned { IsPlanOfSome (rooted_in D.state self.old) bytes.now plan }
-        ensures answers { (command : Command) (now : ℕ)
-            → decided self.old (state_of D.state self.old) command ≡ None
-            → body_of_command command ≡ bytes.now
-            → IsPlanned (rooted_in D.state self.old) command
-            (moment_at (state_of D.state self.old) now) plan
-            → Answers D.state self.old self.new command now result }
+        requires planned { IsPlanOfSome (rooted_in D.state self.old) plan }
+        ensures answers { (start : Stored D) (command : Command) (now : ℕ)
+            → HasWrittenBody D.state start self.old plan (body_of_command command)
+            → decided start (state_of D.state start) command ≡ None
+            → IsPlanned (rooted_in D.state start) command
+            (moment_at (state_of D.state start) now) plan
+            → Answers D.state start self.new command now result }
         ensures late { IfErr result IsLate }
     {
-        let written = match write_plan(self.alloc, &mut self.disk, &mut plan, bytes) {
+        let written = match write_lists(self.alloc, &mut self.disk, &mut plan) {
             Ok(written) => written,
             Err(WriteFault::NoMemory) => return Err(Refusal::NoMemory),
             Err(WriteFault::Device) => {
@@ -134,6 +153,8 @@ impl<D: Disk> Source<D> {
             }
         }
         self.contents = plan.contents;
+        self.used.take_each(&plan.taken);
+        self.used.give_each(&plan.freed);
         Ok(plan.reply)
     }
 }

@@ -11,7 +11,8 @@ ghost use Rattle.rs_commit.specs.Format.{fresh};
 ghost use Rattle.rs_directory.specs.Limit.{IsLimit};
 ghost use Rattle.rs_model.specs.State.{start_of};
 ghost use Rattle.rs_image.specs.Reach.{blocks_of_disk};
-ghost use Rattle.rs_store.specs.Source.{Holds};
+ghost use Rattle.rs_image.specs.Rooted.{rooted};
+ghost use Rattle.rs_store.specs.Source.{Holds, IsSound};
 ghost use Rattle.rs_store.specs.Opening.{disk_of};
 ghost use Rattle.rs_store.specs.Formatting.{first_header as header_of, IsBlank};
 
@@ -22,9 +23,9 @@ use rs_changes::History;
 use rs_commit::{Root, Slots, format_slots};
 use rs_directory::{Header, Limit, directory_bytes, directory_size};
 use rs_disk::{Disk, Fault};
-use rs_extent::Extent;
+use rs_extent::{Extent, Used};
 use rs_fixity::sha256_of;
-use rs_image::Contents;
+use rs_image::{Contents, Rooted, used_of};
 use rs_record::{Base, BaseError};
 use rs_time::Moment;
 use std::alloc::{AllocError, Global};
@@ -64,11 +65,13 @@ impl From<AllocError> for FormatFault {
     }
 }
 
-/// What is written of a source that was just formatted.
+/// A source that was just formatted: what is written of it, and what it keeps in memory.
 #[derive(Debug, Drop)]
 struct Blank {
     /// Its lists, which are empty.
     contents: Contents,
+    /// The blocks of the slots and of the directory.
+    used: Used,
     /// Its root.
     root: Root,
     /// The bytes of its directory.
@@ -127,6 +130,7 @@ impl<D: Disk> Source<D> {
                 disk,
                 slots,
                 contents: blank.contents,
+                used: blank.used,
                 is_closed: false,
                 alloc,
             }),
@@ -144,6 +148,8 @@ fn lay_out(
     now: Moment,
 ) -> Result<Blank, FormatFault>
     ensures blank { IfOk result (IsBlank base.now limit now) }
+    ensures sound { IfOk result
+        (λ blank. IsSound (rooted size blank.root blank.contents) blank.used) }
     ensures room { OnOk result (16 ≤ blocks_of_disk size) }
     ensures limit { OnOk result (IsLimit limit) }
     ensures base { OnOk result (IsTrue (is_base base.now)) }
@@ -173,8 +179,10 @@ fn lay_out(
         history: History::empty(alloc),
         published: Catalogue::empty(alloc),
     };
+    let used = used_of(alloc, &Rooted::new(size, root, &contents))?;
     Ok(Blank {
         contents,
+        used,
         root,
         directory,
     })

@@ -1,21 +1,19 @@
 //! How a source is opened.
 
-ghost use Rattle.std.specs.Prelude.{◌≡◌, None, Some, false, IfOk, IfErr, IsSome, OnOk, IsErrOf, IsTrue};
+ghost use Rattle.std.specs.Prelude.{◌≡◌, IfOk, IfErr, OnOk, IsTrue};
 ghost use Rattle.rs_disk.specs.Medium.{resting};
-ghost use Rattle.rs_disk.specs.Leaves.{Rests, HasFailed, WritesNothing};
-ghost use Rattle.rs_commit.specs.Slots.{current};
-ghost use Rattle.rs_commit.specs.Commit.{IsReady, AreSettled};
-ghost use Rattle.rs_model.specs.State.{Source as State};
-ghost use Rattle.rs_image.specs.StateOfImage.{StandsFor, Tells, state_in};
-ghost use Rattle.rs_image.specs.Rooted.{IsRooted, rooted};
-ghost use Rattle.rs_store.specs.Opening.{disk_of, IsOpened, IsNotOpened};
+ghost use Rattle.rs_disk.specs.Leaves.{Rests, WritesNothing};
+ghost use Rattle.rs_commit.specs.Commit.{AreSettled};
+ghost use Rattle.rs_image.specs.Rooted.{rooted};
+ghost use Rattle.rs_store.specs.Source.{IsSound};
+ghost use Rattle.rs_store.specs.Opening.{disk_of, IsFound, IsOpened, IsNotOpened};
 
 use crate::Source;
 use rs_catalogue::LoadFault;
 use rs_commit::{SlotFault, Slots, open_slots};
 use rs_disk::{Disk, Fault};
 use rs_extent::BLOCK_SIZE;
-use rs_image::{Contents, load};
+use rs_image::{Loaded, load};
 use std::alloc::Global;
 use thiserror::Error;
 
@@ -104,10 +102,11 @@ impl<D: Disk> Source<D> {
     {
         let mut disk = disk;
         match recover(alloc, &mut disk) {
-            Ok((slots, contents)) => Ok(Source {
+            Ok((slots, found)) => Ok(Source {
                 disk,
                 slots,
-                contents,
+                contents: found.contents,
+                used: found.used,
                 is_closed: false,
                 alloc,
             }),
@@ -117,25 +116,13 @@ impl<D: Disk> Source<D> {
 }
 
 // Settles what a disk holds, and reads the source that it holds.
-fn recover<D: Disk>(alloc: Global, disk: &mut D) -> Result<(Slots, Contents), OpenFault>
-    ensures sound { IfOk result (λ x. IsRooted (rooted (D.state disk.new).size x.0.root x.1)) }
+fn recover<D: Disk>(alloc: Global, disk: &mut D) -> Result<(Slots, Loaded), OpenFault>
+    ensures sound { IfOk result (λ x.
+        IsSound (rooted (D.state disk.new).size x.0.root x.1.contents) x.1.used) }
     ensures resting { OnOk result ((D.state disk.new).now ≡ resting (D.state disk.old).now.seen) }
-    ensures slots { IfOk result (λ x. IsTrue (D.state disk.new).honest
-        → current (D.state disk.old).now.seen ≡ Some x.0) }
-    ensures ready { IfOk result (λ x. IsTrue (D.state disk.new).honest
-        → IsReady x.0 (D.state disk.new).now) }
-    ensures told { IfOk result (λ x. IsTrue (D.state disk.new).honest
-        → Tells x.0.root x.1 (D.state disk.old).now.seen
-        (state_in (D.state disk.old).now.seen x.1)) }
-    ensures not_a_source { IsErrOf result OpenFault.NotASource
-        → IsTrue (D.state disk.new).honest → current (D.state disk.old).now.seen ≡ None }
-    ensures a_source { IsErrOf result OpenFault.Damaged
-        → IsTrue (D.state disk.new).honest → IsSome (current (D.state disk.old).now.seen) }
-    ensures damaged { IsErrOf result OpenFault.Damaged
-        → IsTrue (D.state disk.new).honest
-        → (s : State) → ¬ StandsFor (D.state disk.old).now.seen s }
-    ensures device { IsErrOf result OpenFault.Device
-        → HasFailed (D.state disk.old) (D.state disk.new) }
+    ensures found { IfOk result (λ x. IsTrue (D.state disk.new).honest
+        → IsFound (D.state disk.old).now.seen (D.state disk.new).now x.0 x.1.contents) }
+    ensures refused { IfErr result (IsNotOpened (D.state disk.old) (D.state disk.new)) }
     ensures writes_nothing { WritesNothing (D.state disk.old) (D.state disk.new) }
 {
     disk.sync()?;
@@ -143,24 +130,13 @@ fn recover<D: Disk>(alloc: Global, disk: &mut D) -> Result<(Slots, Contents), Op
 }
 
 // Reads the source that a disk holds.
-fn read_source<D: Disk>(alloc: Global, disk: &mut D) -> Result<(Slots, Contents), OpenFault>
-    ensures sound { IfOk result (λ x. IsRooted (rooted (D.state disk.new).size x.0.root x.1)) }
-    ensures slots { IfOk result (λ x. IsTrue (D.state disk.new).honest
-        → current (D.state disk.old).now.seen ≡ Some x.0) }
-    ensures ready { IfOk result (λ x. IsTrue (D.state disk.new).honest
-        → AreSettled (D.state disk.old).now → IsReady x.0 (D.state disk.new).now) }
-    ensures told { IfOk result (λ x. IsTrue (D.state disk.new).honest
-        → Tells x.0.root x.1 (D.state disk.old).now.seen
-        (state_in (D.state disk.old).now.seen x.1)) }
-    ensures not_a_source { IsErrOf result OpenFault.NotASource
-        → IsTrue (D.state disk.new).honest → current (D.state disk.old).now.seen ≡ None }
-    ensures a_source { IsErrOf result OpenFault.Damaged
-        → IsTrue (D.state disk.new).honest → IsSome (current (D.state disk.old).now.seen) }
-    ensures damaged { IsErrOf result OpenFault.Damaged
-        → IsTrue (D.state disk.new).honest
-        → (s : State) → ¬ StandsFor (D.state disk.old).now.seen s }
-    ensures device { IsErrOf result OpenFault.Device
-        → HasFailed (D.state disk.old) (D.state disk.new) }
+fn read_source<D: Disk>(alloc: Global, disk: &mut D) -> Result<(Slots, Loaded), OpenFault>
+    ensures sound { IfOk result (λ x.
+        IsSound (rooted (D.state disk.new).size x.0.root x.1.contents) x.1.used) }
+    ensures found { IfOk result (λ x. IsTrue (D.state disk.new).honest
+        → AreSettled (D.state disk.old).now
+        → IsFound (D.state disk.old).now.seen (D.state disk.new).now x.0 x.1.contents) }
+    ensures refused { IfErr result (IsNotOpened (D.state disk.old) (D.state disk.new)) }
     ensures rests { Rests (D.state disk.old) (D.state disk.new) }
 {
     let (slots, root) = open_slots(disk)?;
@@ -168,6 +144,6 @@ fn read_source<D: Disk>(alloc: Global, disk: &mut D) -> Result<(Slots, Contents)
     if disk.size() < SLOTS_SIZE {
         return Err(OpenFault::Damaged);
     }
-    let contents = load(alloc, disk, &root)?;
-    Ok((slots, contents))
+    let found = load(alloc, disk, &root)?;
+    Ok((slots, found))
 }

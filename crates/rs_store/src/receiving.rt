@@ -1,25 +1,38 @@
 //! A put whose body a reader brings.
 
-ghost use Rattle.std.specs.Prelude.{◌≡◌, ◌<◌, ◌≤◌, ◌+◌, ℕ, List, length, take, drop, IfOk, IfErr, OnOk, OnErr, IsErrOf};
+ghost use Rattle.std.specs.Prelude.{◌≡◌, ◌<◌, ◌≤◌, ◌+◌, ◌*◌, ◌++◌, ℕ, Bool, List, length, take, drop, IfOk, IfErr, OnOk, OnErr, IsErrOf};
 ghost use Rattle.std.specs.Io.KnownBytes.{Consumes, Keeps, IsAtEnd};
 ghost use Rattle.rs_io.specs.Watch.{watched, failures, EndFailed, Took};
-ghost use Rattle.rs_store.specs.Received.{AnswersFrom, IsCut};
+ghost use Rattle.rs_disk.specs.Leaves.{Advances, HasFailed};
+ghost use Rattle.rs_extent.specs.Blocks.{block_size};
+ghost use Rattle.rs_extent.specs.Extents.{IsOnDisk, IsBeside};
+ghost use Rattle.rs_fixity.specs.Digests.{digests};
+ghost use Rattle.rs_body.specs.Blocks.{part};
+ghost use Rattle.rs_body.specs.Outside.{WritesOutside};
+ghost use Rattle.rs_store.specs.Received.{AnswersFrom, IsCut, IsStopped};
 
+use crate::source::rooted_by;
 use crate::{Refusal, Source};
+use rs_body::write_piece;
 use rs_disk::Disk;
-use rs_fixity::digests_of;
+use rs_extent::Extent;
+use rs_fixity::{Digests, Hashing};
 use rs_io::{ReadFault, Watched};
 use rs_model::Reply;
 use rs_plan::draft_put;
 use rs_record::{MediaType, Name};
 use rs_time::Moment;
-use std::alloc::Global;
 use std::io::Read;
 
+// How many bytes of a body are read before they are written, but for the last piece.
+const PIECE_SIZE: usize = 4096;
+
 impl<D: Disk> Source<D> {
-    /// Binds the name to the next `body_length` bytes of a reader, of this media type, as [`Source::put`] does with
-    /// bytes that are there. All that has to be written is given its blocks before a byte is read; then the body
-    /// is read whole into memory. No byte after it is read.
+    /// Binds the name to the next `body_length` bytes of a reader, of this media type, as [`Source::put`]
+    /// does with bytes that are there. All that has to be written is given its blocks before a byte is
+    /// read. Then the body is read in pieces of 4,096 bytes, the last of which may have fewer, and each
+    /// is written before the next is read, so memory does not grow with the body. No byte after the
+    /// body is read.
     ///
     /// # Errors
     ///
@@ -28,7 +41,8 @@ impl<D: Disk> Source<D> {
     /// - [`Refusal::ReadFault`] where a read of the body failed,
     /// - [`Refusal::ShortBody`] where the input ended within it.
     ///
-    /// After each of these two nothing has changed. Where a refusal before them is met, nothing is read.
+    /// After each of these two nothing has changed that the source holds. Where a refusal before them is
+    /// met, nothing is read.
     pub fn put_from<R: Read>(
         &mut self,
         name: &Name,
@@ -48,30 +62,105 @@ impl<D: Disk> Source<D> {
     {
         let moment = self.moment_of_put(name, body_length, now)?;
         let length = body_length as u32;
-        let mut plan = draft_put(self.alloc, &self.rooted(), name, kind, length, moment)?;
-        let bytes = read_whole(self.alloc, reader, length)?;
-        plan.fill(name, digests_of(&bytes));
-        self.finish(plan, &bytes)
+        let rooted = rooted_by(&self.disk, &self.slots, &self.contents);
+        let mut plan = draft_put(
+            self.alloc,
+            &mut self.used,
+            &rooted,
+            name,
+            kind,
+            length,
+            moment,
+        )?;
+        let digests = match receive(&mut self.disk, reader, plan.body, length) {
+            Ok(digests) => digests,
+            Err(refusal) => match refusal {
+                Refusal::Device => {
+                    self.is_closed = true;
+                    return Err(Refusal::Device);
+                }
+                _ => return Err(refusal),
+            },
+        };
+        plan.fill(name, digests);
+        self.finish(plan)
     }
 }
 
-// The next bytes of a reader, exactly this many.
-fn read_whole<R: Read>(
-    alloc: Global,
+// Reads the next bytes of a reader, exactly this many, and writes them to the front of an extent,
+// a piece at a time. A piece is written before the next one is read. Nothing beside the extent
+// changes, whether all came or not.
+fn receive<R: Read, D: Disk>(
+    disk: &mut D,
     reader: &mut Watched<R>,
+    extent: Extent,
     body_length: u32,
-) -> Result<Vec<u8>, Refusal>
-    ensures ok { IfOk result (λ bytes. Took R.remaining reader.old reader.new bytes.items) }
-    ensures whole { IfOk result (λ bytes. length bytes.items ≡ body_length) }
-    ensures cut { IfErr result (λ refusal. (came : List ℕ)
+) -> Result<Digests, Refusal>
+    requires room { IsOnDisk extent (D.state disk.old).size }
+    requires fits { body_length ≤ block_size * extent.blocks }
+    ensures took { OnOk result (Took R.remaining reader.old reader.new
+        (part extent body_length (D.state disk.new).now.seen)) }
+    ensures whole { OnOk result (length (part extent body_length (D.state disk.new).now.seen)
+        ≡ body_length) }
+    ensures digests { IfOk result (λ found. found
+        ≡ digests (part extent body_length (D.state disk.new).now.seen)) }
+    ensures stopped { IfErr result (λ refusal. (came : List ℕ)
         × Consumes (R.remaining (watched reader.old)) (R.remaining (watched reader.new)) came
-        × IsCut body_length (R.remaining (watched reader.new)) came refusal) }
+        × IsStopped body_length (R.remaining (watched reader.new)) came refusal) }
     ensures failed { IsErrOf result Refusal.ReadFault → EndFailed reader.old reader.new }
     ensures sound { ¬ IsErrOf result Refusal.ReadFault → failures reader.new ≡ failures reader.old }
+    ensures device { IsErrOf result Refusal.Device
+        → HasFailed (D.state disk.old) (D.state disk.new) }
+
+    // Whatever it answers.
+    ensures outside { (kept : ℕ → Bool) → IsBeside kept extent
+        → WritesOutside kept (D.state disk.old) (D.state disk.new) }
+    ensures advances { Advances (D.state disk.old) (D.state disk.new) }
 {
-    let mut bytes: Vec<u8> = vec![in alloc; 0; body_length as usize]?;
-    read_into(reader, bytes.as_mut_slice())?;
-    Ok(bytes)
+    let mut buffer = [0; PIECE_SIZE];
+    let mut hashing = Hashing::new();
+    let mut at = 0;
+    while at < body_length {
+        let size = (body_length - at).min(PIECE_SIZE as u32);
+        let piece = &mut buffer[..size as usize];
+        receive_piece(disk, reader, extent, at, piece)?;
+        hashing.add(piece);
+        at += size;
+    }
+    Ok(hashing.done())
+}
+
+// Fills a piece of a body with the next bytes of a reader, and writes it to its place in an extent.
+fn receive_piece<R: Read, D: Disk>(
+    disk: &mut D,
+    reader: &mut Watched<R>,
+    extent: Extent,
+    at: u32,
+    piece: &mut [u8],
+) -> Result<(), Refusal>
+    requires room { IsOnDisk extent (D.state disk.old).size }
+    requires fits { at + length piece.old ≤ block_size * extent.blocks }
+    ensures ok { OnOk result (Took R.remaining reader.old reader.new piece.new) }
+    ensures reads { OnOk result (part extent (at + length piece.old) (D.state disk.new).now.seen
+        ≡ part extent at (D.state disk.old).now.seen ++ piece.new) }
+    ensures stopped { IfErr result (λ refusal. (came : List ℕ)
+        × Consumes (R.remaining (watched reader.old)) (R.remaining (watched reader.new)) came
+        × IsStopped (length piece.old) (R.remaining (watched reader.new)) came refusal) }
+    ensures failed { IsErrOf result Refusal.ReadFault → EndFailed reader.old reader.new }
+    ensures sound { ¬ IsErrOf result Refusal.ReadFault → failures reader.new ≡ failures reader.old }
+    ensures device { IsErrOf result Refusal.Device
+        → HasFailed (D.state disk.old) (D.state disk.new) }
+
+    // Whatever it answers.
+    ensures outside { (kept : ℕ → Bool) → IsBeside kept extent
+        → WritesOutside kept (D.state disk.old) (D.state disk.new) }
+    ensures advances { Advances (D.state disk.old) (D.state disk.new) }
+{
+    read_into(reader, piece)?;
+    if write_piece(disk, extent, at, piece).is_err() {
+        return Err(Refusal::Device);
+    }
+    Ok(())
 }
 
 // Reads once into a buffer, behind its first bytes.

@@ -1,42 +1,47 @@
 //! A source on a disk.
 
+ghost use Rattle.std.specs.Prelude.{◌≡◌};
+ghost use Rattle.rs_image.specs.Rooted.{IsRooted, rooted};
+
 use rs_commit::Slots;
 use rs_disk::Disk;
+use rs_extent::Used;
 use rs_image::{Contents, Rooted};
 use std::alloc::Global;
 use std::marker::Model;
 
 /// A source on a disk: the resources that it holds, the changes to them and its latest publication,
 /// which outlast a crash at any moment.
+///
+/// It keeps the set of the blocks that its root reaches, so that a command costs no walk over all
+/// pages. Contracts don't see the set: between calls it is the one that the root and the lists have.
 #[derive(Drop)]
 pub struct Source<D: Disk> {
     pub(crate) disk: D,
     pub(crate) slots: Slots,
     pub(crate) contents: Contents,
+    pub(crate) used: Used,
     pub(crate) is_closed: bool,
     pub(crate) alloc: Global,
 }
 
 impl<D: Disk> Model for Source<D> {
-    ghost use Rattle.rs_store.specs.Source.{Stored};
-    ghost use Rattle.rs_image.specs.Rooted.{IsRooted, rooted};
+    ghost use Rattle.rs_store.specs.Source.{Stored, IsSound};
+    ghost use Rattle.rs_image.specs.Rooted.{rooted};
 
     ghost Value = { Stored D };
 
     ghost view = { λ s. record
         { disk = s.disk; slots = s.slots; contents = s.contents; is_closed = s.is_closed } };
 
-    ghost invariant = { λ s. IsRooted (rooted (D.state s.disk).size s.slots.root s.contents) };
+    ghost invariant = { λ s. IsSound (rooted (D.state s.disk).size s.slots.root s.contents) s.used };
 }
 
-impl<D: Disk> Source<D> {
-    ghost use Rattle.std.specs.Prelude.{◌≡◌};
-    ghost use Rattle.rs_store.specs.Source.{rooted_in};
-
-    /// Its root with the lists behind it, as planners take them.
-    pub(crate) fn rooted(&self) -> Rooted<'_>
-        ensures { result ≡ rooted_in D.state self.now }
-    {
-        Rooted::new(self.disk.size(), self.slots.root(), &self.contents)
-    }
+/// The root of the slots of a disk with the lists behind it, as planners take them. It borrows
+/// the lists alone, so that the set of the used blocks can be lent beside it.
+pub(crate) fn rooted_by<'a, D: Disk>(disk: &D, slots: &Slots, contents: &'a Contents) -> Rooted<'a>
+    requires { IsRooted (rooted (D.state disk.now).size slots.now.root contents.now) }
+    ensures { result ≡ rooted (D.state disk.now).size slots.now.root contents.now }
+{
+    Rooted::new(disk.size(), slots.root(), contents)
 }

@@ -10,8 +10,8 @@ ghost use Rattle.rs_page.specs.DiskPages.{IsWritten};
 ghost use Rattle.rs_image.specs.Reach.{AreInside};
 ghost use Rattle.rs_image.specs.StateOfImage.{listing, AreListable};
 ghost use Rattle.rs_disk.specs.Leaves.{Advances, HasFailed};
-ghost use Rattle.rs_plan.specs.Plans.{once_stored, places, planned_listing, AreWritten};
-ghost use Rattle.rs_store.specs.Writing.{of_store, IsDigestOf, IsStoredPlan, IsWritable, StaysBesideLists, AreLists};
+ghost use Rattle.rs_plan.specs.Plans.{once_stored, places};
+ghost use Rattle.rs_store.specs.Writing.{of_store, IsDigestOf, AreStoredLists, IsWritable, StaysBesideLists, AreLists};
 
 use rs_body::write_body;
 use rs_directory::directory_bytes;
@@ -75,26 +75,26 @@ pub(crate) struct Written {
     pub sha256: [u8; 32],
 }
 
-/// Writes all of a plan: the body, each page that was given blocks, and the directory. Its lists are
-/// stored ones then. No slot is touched, and nothing else on the disk changes, whether it succeeds
-/// or not: each set of blocks beside the plan's places stays as it is, at every moment of the run.
+/// Writes the lists of a plan whose body was written: each page that was given blocks, and the
+/// directory. Its lists are stored ones then. No slot is touched, and nothing else on the disk
+/// changes, whether it succeeds or not: each set of blocks beside the plan's places stays as it
+/// is, at every moment of the run.
 ///
 /// # Errors
 ///
 /// - [`WriteFault::NoMemory`] where the memory for the bytes of a page or of the directory is refused.
 /// - [`WriteFault::Device`] where the device fails.
 ///
-/// After each of them the places of the plan may hold anything.
-pub(crate) fn write_plan<D: Disk>(
+/// After each of them the places of the lists may hold anything.
+pub(crate) fn write_lists<D: Disk>(
     alloc: Global,
     disk: &mut D,
     plan: &mut Plan,
-    bytes: &[u8],
 ) -> Result<Written, WriteFault>
-    requires { IsWritable (D.state disk.old).size bytes.now plan.old }
+    requires { IsWritable (D.state disk.old).size plan.old }
     ensures written { IfOk result (IsDigestOf (once_stored plan.old.contents)) }
-    ensures stored { OnOk result
-        (IsStoredPlan plan.old plan.new bytes.now (D.state disk.new).now.seen) }
+    ensures stored { OnOk result (AreStoredLists plan.old plan.new (D.state disk.old).now.seen
+        (D.state disk.new).now.seen) }
     ensures device { IsErrOf result WriteFault.Device
         → HasFailed (D.state disk.old) (D.state disk.new) }
 
@@ -104,7 +104,6 @@ pub(crate) fn write_plan<D: Disk>(
         → WritesOutside kept (D.state disk.old) (D.state disk.new) }
     ensures advances { Advances (D.state disk.old) (D.state disk.new) }
 {
-    write_body(disk, plan.body, bytes)?;
     write_pages(alloc, disk, &mut plan.contents)?;
     write_directory(alloc, disk, plan.directory, &plan.contents)
 }
@@ -173,14 +172,8 @@ fn write_directory<D: Disk>(
 fn directory_of(alloc: Global, contents: &Contents) -> Result<Vec<u8>, AllocError>
     ensures bytes { IfOk result (λ bytes. bytes.items ≡ listing contents.now) }
     ensures fits { IfOk result (λ bytes. vec_len bytes < 2 ^ 32) }
-    ensures lists { AreLists contents.now }
+    ensures lists { OnOk result (AreLists contents.now) }
 {
-    // Counting shows what the lists keep.
-    let _counts = (
-        contents.catalogue.len(),
-        contents.history.len(),
-        contents.published.len(),
-    );
     let catalogue = contents.catalogue.pages(alloc)?;
     let changes = contents.history.pages(alloc)?;
     let published = contents.published.pages(alloc)?;

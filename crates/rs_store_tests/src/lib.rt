@@ -21,3 +21,5 @@ mod receiving;
 mod showing;
 #[cfg(test)]
 mod stopping;
+#[cfg(test)]
+mod streaming;

@@ -41,7 +41,7 @@ fn disk_with(rt: &(impl Abort + AllocGlobal), size: u64, count: u64) -> MemoryDi
 /// What stands behind the root of a disk.
 fn contents_of(rt: &(impl Abort + AllocGlobal), disk: &mut MemoryDisk) -> Contents {
     let (_slots, root) = open_slots(disk).expect(rt, "a root");
-    load(rt.alloc(), disk, &root).expect(rt, "lists")
+    load(rt.alloc(), disk, &root).expect(rt, "lists").contents
 }
 
 /// The references that stand on a disk.

@@ -128,7 +128,10 @@ pub(crate) fn lists_after_delete(
         ≡ unbound_in (λ r. r.name) name.now old.now.catalogue) }
     ensures history { IfOk result (λ lists. lists.history
         ≡ appended_to (deleted name.now moment) old.now.history) }
+    ensures lawful { IfOk result (λ _. IsCatalogue old.now.catalogue) }
 {
+    // Reading it shows what its type keeps.
+    let _len = old.catalogue.len();
     let change = Change::deleted(name.copy(alloc)?, moment);
     lists_with(alloc, old, old.catalogue.without(alloc, name)?, change)
 }

@@ -1,12 +1,19 @@
 //! Where the writes of a command go.
 
-ghost use Rattle.std.specs.Prelude.{◌≡◌, ◌+◌, length, IfOk, OnErr, MatchOption};
+ghost use Rattle.std.specs.Prelude.{◌≡◌, ◌≤◌, ◌+◌, List, ◌∷◌, ◌++◌, [], length, vec_len, vec_capacity, IfOk, OnErr, IsErrOf, MatchOption};
 ghost use Rattle.rs_body.specs.Blocks.{blocks_of};
+ghost use Rattle.rs_extent.specs.declared.Extent.{Extent};
+ghost use Rattle.rs_extent.specs.Blocks.{IsFree};
+ghost use Rattle.rs_extent.specs.Extents.{AreTaken};
+ghost use Rattle.rs_page.specs.Pages.{placed_extents};
 ghost use Rattle.rs_catalogue.specs.Catalogue.{IsCatalogue};
 ghost use Rattle.rs_changes.specs.History.{IsHistory};
-ghost use Rattle.rs_plan.specs.Room.{Takes, HasNoRun, HasNoRoom, lists_needed};
-ghost use Rattle.rs_plan.specs.Placed.{AreUnplaced, IsPlaced};
+ghost use Rattle.rs_plan.specs.declared.planning.PlanFault.{PlanFault};
+ghost use Rattle.rs_plan.specs.Room.{Takes, IsFound, HasNoRun, HasNoRoom, lists_needed};
+ghost use Rattle.rs_plan.specs.Plans.{places};
+ghost use Rattle.rs_plan.specs.Placed.{AreUnplaced, ArePlaced, IsPlacedFrom, HasNoRoomFrom};
 
+use super::PlanFault;
 use crate::plan::Plan;
 use rs_body::blocks_for;
 use rs_directory::directory_size;
@@ -14,12 +21,13 @@ use rs_extent::{Extent, Used};
 use rs_image::Contents;
 use rs_model::Reply;
 use rs_page::Full;
+use std::alloc::{AllocError, Global};
 
-/// Takes the lowest run of free blocks for so many bytes, and no block for none. `None` where there
+/// Finds the lowest run of free blocks for so many bytes, and no block for none. `None` where there
 /// is no such run.
-pub(crate) fn take_lowest(used: &mut Used, length: u32) -> Option<Extent>
-    ensures { MatchOption result (HasNoRun used.old (blocks_of length))
-        (λ extent. Takes used.old (blocks_of length) extent used.new) }
+pub(crate) fn find_lowest(used: &Used, length: u32) -> Option<Extent>
+    ensures { MatchOption result (HasNoRun used.now (blocks_of length))
+        (IsFound used.now (blocks_of length)) }
 {
     let blocks = blocks_for(length);
     if blocks == 0 {
@@ -28,44 +36,109 @@ pub(crate) fn take_lowest(used: &mut Used, length: u32) -> Option<Extent>
             blocks: 0,
         });
     }
-    let extent = used.find(blocks)?;
-    used.take(extent);
-    Some(extent)
+    used.find(blocks)
 }
 
-/// Gives each page that is touched, and then the directory, the lowest run of free blocks of its
-/// size, in the order of the catalogue, the history and the directory: a plan with this reply. It
-/// takes no memory.
+/// Finds blocks for the lists after a command whose body has its blocks already: each page that is
+/// touched, and then the directory, the lowest run of free blocks of its size, in the order of the
+/// catalogue, the history and the directory. It makes a plan with this reply, which frees these
+/// extents, and leaves the set as it was.
 ///
 /// # Errors
 ///
-/// [`Full`] where one of them has no such run.
+/// - [`PlanFault::Full`] where a page or the directory has no such run.
+/// - [`PlanFault::NoMemory`] where the memory for the list of the places is refused.
 pub(crate) fn place_lists(
-    mut used: Used,
+    alloc: Global,
+    used: &mut Used,
     body: Extent,
     mut lists: Contents,
     reply: Reply,
-) -> Result<Plan, Full>
-    requires { AreUnplaced lists }
-    ensures placed { IfOk result (IsPlaced used body lists) }
+    freed: Vec<Extent>,
+) -> Result<Plan, PlanFault>
+    requires unplaced { AreUnplaced lists }
+    requires is_free { IsFree used.old body }
+    ensures same { used.new ≡ used.old }
+    ensures placed { IfOk result (IsPlacedFrom used.old body lists) }
+    ensures taken { IfOk result (λ plan. plan.taken.items ≡ places plan) }
+    ensures freed { IfOk result (λ plan. plan.freed.items ≡ freed.items) }
     ensures reply { IfOk result (λ plan. plan.reply ≡ reply) }
-    ensures full { OnErr result (HasNoRoom used (lists_needed lists)) }
-    ensures catalogue { IsCatalogue lists.catalogue }
-    ensures history { IsHistory lists.history }
-    ensures published { IsCatalogue lists.published }
+    ensures full { IsErrOf result PlanFault.Full → HasNoRoomFrom used.old body lists }
+    ensures catalogue { IfOk result (λ _. IsCatalogue lists.catalogue) }
+    ensures history { IfOk result (λ _. IsHistory lists.history) }
+    ensures published { IfOk result (λ _. IsCatalogue lists.published) }
 {
-    let length = directory_size(&lists.header, pages_of(&lists));
-    lists.catalogue.place_touched(&mut used)?;
-    lists.history.place_touched(&mut used)?;
-    let Some(directory) = take_lowest(&mut used, length) else {
-        return Err(Full);
-    };
+    let mut taken = room_for_places(alloc, &lists)?;
+    taken.push(body).unwrap();
+    used.take(body);
+    let placed = take_places(used, &mut lists, &mut taken);
+    used.give_each(&taken);
+    let directory = placed?;
     Ok(Plan {
         contents: lists,
         body,
         directory,
         reply,
+        taken,
+        freed,
     })
+}
+
+// An empty list with room for a body, for each page, and for a directory.
+fn room_for_places(alloc: Global, lists: &Contents) -> Result<Vec<Extent>, AllocError>
+    ensures empty { IfOk result (λ places. places.items ≡ []) }
+    ensures len { IfOk result (λ places. vec_len places ≡ 0) }
+    ensures room { IfOk result (λ places. length lists.now.catalogue + length lists.now.history + 2
+        ≤ vec_capacity places) }
+{
+    let pages = lists.catalogue.page_count() + lists.history.page_count();
+    Vec::with_capacity(alloc, pages + 2)
+}
+
+// Takes blocks for the touched pages and then for the directory, and adds them to the list of what
+// is taken. Where one has no run, what was taken before stays in the list.
+fn take_places(
+    used: &mut Used,
+    lists: &mut Contents,
+    taken: &mut Vec<Extent>,
+) -> Result<Extent, Full>
+    requires unplaced { AreUnplaced lists.old }
+    requires room { vec_len taken.old + length lists.old.catalogue + length lists.old.history + 1
+        ≤ vec_capacity taken.old }
+    ensures taken { (extents : List Extent) × (taken.new.items ≡ taken.old.items ++ extents)
+        × AreTaken used.old used.new extents }
+    ensures listed { IfOk result (λ directory. taken.new.items ≡ taken.old.items
+        ++ placed_extents lists.new.catalogue ++ placed_extents lists.new.history
+        ++ directory ∷ []) }
+    ensures placed { IfOk result
+        (λ directory. ArePlaced used.old lists.old lists.new directory used.new) }
+    ensures full { OnErr result (HasNoRoom used.old (lists_needed lists.old)) }
+    ensures catalogue { IsCatalogue lists.old.catalogue }
+    ensures history { IsHistory lists.old.history }
+    ensures published { IsCatalogue lists.old.published }
+{
+    let length = directory_size(&lists.header, pages_of(lists));
+    lists.catalogue.place_touched(used)?;
+    lists.catalogue.list_placed(taken);
+    lists.history.place_touched(used)?;
+    lists.history.list_placed(taken);
+    let Some(directory) = take_lowest(used, length) else {
+        return Err(Full);
+    };
+    taken.push(directory).unwrap();
+    Ok(directory)
+}
+
+// Takes the lowest run of free blocks for so many bytes, and no block for none. `None` where there
+// is no such run; nothing has changed then.
+fn take_lowest(used: &mut Used, length: u32) -> Option<Extent>
+    ensures found { MatchOption result (HasNoRun used.old (blocks_of length))
+        (λ extent. Takes used.old (blocks_of length) extent used.new) }
+    ensures none { MatchOption result (used.new ≡ used.old) (λ _. Unit {0}) }
+{
+    let extent = find_lowest(used, length)?;
+    used.take(extent);
+    Some(extent)
 }
 
 // How many pages there are in all.

@@ -1,4 +1,4 @@
-use Rattle.std.proofs.Common.{◌≤◌, ◌∙◌, ℕ, List, length, sym, subst, inl, refl}
+use Rattle.std.proofs.Common.{◌≤◌, ◌∙◌, ℕ, List, length, Err, sym, ap, subst, inl, refl}
 use Rattle.std.specs.Prelude.{replicate}
 use Rattle.rs_fixity.specs.declared.Digests.{Digests}
 use Rattle.rs_fixity.specs.Digests.{digests}
@@ -12,13 +12,16 @@ use Rattle.rs_body.specs.Blocks.{blocks_of}
 use Rattle.rs_model.specs.declared.command.Command.TheVariants.{Put}
 use Rattle.rs_plan.specs.Room.{HasNoRun, HasNoRoom, Takes}
 use Rattle.rs_plan.specs.Placed.{AreUnplaced, facts_of_body}
-use Rattle.rs_plan.proofs.Drafted.{IsDraft, next_is, needed_is, unplaced_is, placed_is, records_are, changes_are, lawful_catalogue, lawful_history}
+use Rattle.rs_plan.proofs.Drafted.{IsDraft, frees_is, places_are, next_is, needed_is, unplaced_is, placed_is, records_are, changes_are, lawful_catalogue, lawful_history}
 use Rattle.rs_plan.proofs.Following.{all_unplaced, lacking}
-use Rattle.rs_plan.proofs.Here.{sound_here, used_here, later_here, planned_there, lacking_there}
+use Rattle.rs_plan.proofs.Here.{sound_here, used_here, later_here, same_fault, freed_here, planned_there, lacking_there}
+use Rattle.rs_plan.proofs.Extents.{found_free, takes_found}
 use Rattle.rs_plan.proofs.Rules.{put_rules}
 use Rattle.rs_plan.proofs.Parts.{sized_body}
 use Rattle.rs_plan.proofs.Planned.{planned}
 use Rattle.rs_plan.proofs.Replies.{put_told}
+use Rattle.rs_plan.specs.declared.planning.PlanFault.TheVariants.{Full}
+use Rattle.rs_plan.specs.Placed.{HasNoRoomFrom}
 use Rattle.rs_plan.proofs.planning.draft_put.Goals as goal
 
 -- what stands in the place of digests that are not known
@@ -33,25 +36,29 @@ place_lists-requires c =
     let r = c.args.old.now in
     let old = c.contents-contents.result.now in
     let sound : IsRooted (rooted r.size r.root old) = sound_here r old c.contents-contents.ensures.contents c.contents-contents.ensures.sound in
-    c.in_ok-lists.ensures.unplaced (all_unplaced old old sound.whole.catalogue sound.whole.history refl refl)
+    record {
+      unplaced = c.in_ok-lists.ensures.unplaced (all_unplaced old old sound.whole.catalogue sound.whole.history refl refl);
+      is_free = found_free c.args.used.now (blocks_of c.args.body_length) c.in-Some.body c.in-Some.ensures;
+    }
 
 pub returns-clause-awaits : goal.returns-clause-awaits
 returns-clause-awaits c =
     let unstored = c.in_ok-lists.ensures.unstored in
     let lists = c.in_ok-lists.lists in
     let plan = c.in_ok-plan.plan in
-    let placed = c.in_ok-plan.ensures.placed in
+    let from = c.in_ok-plan.ensures.placed in
+    let placed = from.placed in
     record {
-      catalogue = placed_stands record_format (λ (r : Record). r.name) c.args.name.now c.take_lowest.new.used placed.after_catalogue lists.catalogue plan.contents.catalogue
+      catalogue = placed_stands record_format (λ (r : Record). r.name) c.args.name.now from.after_body placed.after_catalogue lists.catalogue plan.contents.catalogue
           placed.catalogue unstored.0;
       history = placed_ends change_format placed.after_catalogue placed.after_history lists.history plan.contents.history placed.history unstored.1;
     }
 
 pub returns-in_default-clause-full : goal.returns-in_default-clause-full
 returns-in_default-clause-full c full bytes is = record {
-  used = c.in_ok-used.used;
-  are_used = c.in_ok-used.ensures;
-  fails = inl (subst (λ (n : ℕ). HasNoRun c.in_ok-used.used (blocks_of n)) (sym is) c.in_default.ensures);
+  used = c.args.used.now;
+  are_used = c.requires.used;
+  fails = inl (subst (λ (n : ℕ). HasNoRun c.args.used.now (blocks_of n)) (sym is) c.in_default.ensures);
 }
 
 pub returns-in_err-plan-clause-full : goal.returns-in_err-plan-clause-full
@@ -66,7 +73,9 @@ returns-in_err-plan-clause-full c full bytes is =
     let made = c.in_ok-lists.ensures in
     let body = c.in-Some.body in
     let moment = c.args.moment in
-    let used = c.take_lowest.new.used in
+    let used = c.args.used.now in
+    let room : HasNoRoomFrom used body lists =
+    c.place_lists.ensures.full (c.in_err-plan.was ∙ ap Err (same_fault c.from_residual-in_err-plan.result c.in_err-plan.field-0.0 Full c.from_residual-in_err-plan.ensures.1 full)) in
     let sound : IsRooted (rooted r.size r.root old) = sound_here r old at c.contents-contents.ensures.sound in
     let unplaced : AreUnplaced lists = made.unplaced (all_unplaced old old sound.whole.catalogue sound.whole.history refl refl) in
     let draft : IsDraft old lists name kind (length bytes) unknown body moment =
@@ -80,13 +89,13 @@ returns-in_err-plan-clause-full c full bytes is =
       unplaced = unplaced;
       long = unknown_long;
     }) in
-    let takes : Takes c.in_ok-used.used (blocks_of (length bytes)) body used =
-    subst (λ (n : ℕ). Takes c.in_ok-used.used (blocks_of n) body used) (sym is) c.in-Some.ensures in
+    let takes : Takes used (blocks_of (length bytes)) body room.after_body =
+    subst (λ (n : ℕ). Takes used (blocks_of n) body room.after_body) (sym is)
+    (takes_found used room.after_body (blocks_of c.args.body_length) body c.in-Some.ensures room.sets) in
     lacking_there r old at (Put name kind bytes) moment
-    (lacking (rooted r.size r.root old) (Put name kind bytes) moment c.in_ok-used.used used body (lists_filled name (digests bytes) lists)
-    (used_here r old at c.in_ok-used.used c.in_ok-used.ensures) takes
-    (next_is law old lists name kind bytes unknown body moment draft)
-    (subst (λ (ns : List ℕ). HasNoRoom used ns) (sym (needed_is law old lists name kind bytes unknown body moment draft)) c.in_err-plan.ensures.full))
+    (lacking (rooted r.size r.root old) (Put name kind bytes) moment used room.after_body body (lists_filled name (digests bytes) lists)
+    (used_here r old at used c.requires.used) takes (next_is law old lists name kind bytes unknown body moment draft)
+    (subst (λ (ns : List ℕ). HasNoRoom room.after_body ns) (sym (needed_is law old lists name kind bytes unknown body moment draft)) room.fails))
 
 pub returns-clause-planned : goal.returns-clause-planned
 returns-clause-planned c bytes is =
@@ -100,7 +109,8 @@ returns-clause-planned c bytes is =
     let made = c.in_ok-lists.ensures in
     let placing = c.in_ok-plan.ensures in
     let body = c.in-Some.body in
-    let used = c.take_lowest.new.used in
+    let start = c.args.used.now in
+    let used = placing.placed.after_body in
     let moment = c.args.moment in
     let sound : IsRooted (rooted r.size r.root old) = sound_here r old at c.contents-contents.ensures.sound in
     let unplaced : AreUnplaced lists = made.unplaced (all_unplaced old old sound.whole.catalogue sound.whole.history refl refl) in
@@ -115,25 +125,27 @@ returns-clause-planned c bytes is =
       unplaced = unplaced;
       long = unknown_long;
     }) in
-    let takes : Takes c.in_ok-used.used (blocks_of (length bytes)) body used =
-    subst (λ (n : ℕ). Takes c.in_ok-used.used (blocks_of n) body used) (sym is) c.in-Some.ensures in
+    let takes : Takes start (blocks_of (length bytes)) body used =
+    subst (λ (n : ℕ). Takes start (blocks_of n) body used) (sym is) (takes_found start used (blocks_of c.args.body_length) body c.in-Some.ensures placing.placed.sets) in
     let filled = lists_filled name (digests bytes) lists in
-    let short : length bytes ≤ longest_body = subst (λ (n : ℕ). n ≤ longest_body) (sym is) c.requires.body in
+    let short : length bytes ≤ longest_body = subst (λ (n : ℕ). n ≤ longest_body) (sym is) c.requires.may.body in
     planned_there r old at (Put name kind bytes) moment (plan_filled name (digests bytes) c.in_ok-plan.plan)
-    (planned r.size r.root old sound (Put name kind bytes) moment c.in_ok-used.used used
-    (used_here r old at c.in_ok-used.used c.in_ok-used.ensures)
+    (planned r.size r.root old sound (Put name kind bytes) moment start used
+    (used_here r old at start c.requires.used)
     body takes filled
     (next_is law old lists name kind bytes unknown body moment draft)
     (put_rules r.size r.root old filled name kind bytes body moment sound.whole sound.listable.header made.moment
-    (later_here r old at moment c.requires.change.later) short
-    (sized_body (Put name kind bytes) c.in_ok-used.used used body takes) made.header
+    (later_here r old at moment c.requires.may.change.later) short
+    (sized_body (Put name kind bytes) start used body takes) made.header
     (records_are law old lists name kind bytes unknown body moment draft) (changes_are law old lists name kind bytes unknown body moment draft) made.published)
     (unplaced_is law old lists name kind bytes unknown body moment draft)
-    (plan_filled name (digests bytes) c.in_ok-plan.plan) (placed_is law old lists name kind bytes unknown body moment draft used c.in_ok-plan.plan placing.placed)
+    (plan_filled name (digests bytes) c.in_ok-plan.plan) (placed_is law old lists name kind bytes unknown body moment draft used c.in_ok-plan.plan placing.placed.placed)
     (λ image.
     placing.reply
     ∙ put_told image old lists name kind bytes moment (facts_of_body kind c.args.body_length unknown) c.reply_told-reply.result made.changes
     c.reply_told-reply.ensures)
     (lawful_catalogue law old lists name kind bytes unknown body moment draft placing.catalogue)
     (lawful_history law old lists name kind bytes unknown body moment draft placing.history)
-    placing.published)
+    placing.published (frees_is law old lists name kind bytes unknown body moment draft)
+    (placing.taken ∙ places_are law old lists name kind bytes unknown body moment draft used c.in_ok-plan.plan placing.placed.placed)
+    (placing.freed ∙ freed_here r old at (Put name kind bytes) c.in_ok-freed.freed.items c.in_ok-freed.ensures))

@@ -1,13 +1,16 @@
-use Rattle.std.proofs.Common.{◌∙◌, ap, ℕ}
+use Rattle.std.proofs.Common.{◌∙◌, ap, ℕ, Err, refl, arith}
 use Rattle.rs_extent.specs.declared.Extent.{Extent}
 use Rattle.rs_directory.specs.declared.header.Header.{Header}
 use Rattle.rs_image.specs.Rooted.{IsRooted, rooted}
 use Rattle.rs_model.specs.declared.command.Command.TheVariants.{Publish}
 use Rattle.rs_model.specs.declared.command.Reply.TheVariants as replies
-use Rattle.rs_plan.proofs.Following.{publish_next, all_unplaced, takes_none, lacking}
-use Rattle.rs_plan.proofs.Here.{sound_here, used_here, later_here, number_here, planned_there, lacking_there}
+use Rattle.rs_plan.proofs.Following.{publish_next, publish_frees, all_unplaced, lacking}
+use Rattle.rs_plan.proofs.Here.{sound_here, used_here, later_here, number_here, same_fault, freed_here, planned_there, lacking_there}
+use Rattle.rs_plan.proofs.Extents.{found_none, takes_found}
 use Rattle.rs_plan.proofs.Rules.{publish_rules}
 use Rattle.rs_plan.proofs.Planned.{planned}
+use Rattle.rs_plan.specs.declared.planning.PlanFault.TheVariants.{Full}
+use Rattle.rs_plan.specs.Placed.{HasNoRoomFrom}
 use Rattle.rs_plan.proofs.planning.plan_publish.Goals as goal
 
 pub place_lists-requires : goal.place_lists-requires
@@ -15,20 +18,26 @@ place_lists-requires c =
     let old = c.contents-contents.result.now in
     let sound : IsRooted (rooted c.args.old.now.size c.args.old.now.root old) =
     sound_here c.args.old.now old c.contents-contents.ensures.contents c.contents-contents.ensures.sound in
-    all_unplaced old c.in_ok-lists.lists sound.whole.catalogue sound.whole.history c.in_ok-lists.ensures.catalogue c.in_ok-lists.ensures.history
+    record {
+      unplaced = all_unplaced old c.in_ok-lists.lists sound.whole.catalogue sound.whole.history c.in_ok-lists.ensures.catalogue c.in_ok-lists.ensures.history;
+      is_free = λ b from until. absurd (omega arith);
+    }
 
 pub returns-in_err-plan-clause-full : goal.returns-in_err-plan-clause-full
 returns-in_err-plan-clause-full c full =
     let r = c.args.old.now in
     let old = c.contents-contents.result.now in
     let at = c.contents-contents.ensures.contents in
-    let used = c.in_ok-used.used in
+    let used = c.args.used.now in
     let lists = c.in_ok-lists.lists in
     let made = c.in_ok-lists.ensures in
     let body : Extent = record { first = 0; blocks = 0 } in
+    let room : HasNoRoomFrom used body lists =
+    c.place_lists.ensures.full (c.in_err-plan.was ∙ ap Err (same_fault c.from_residual-in_err-plan.result c.in_err-plan.field-0.0 Full c.from_residual-in_err-plan.ensures.1 full)) in
     lacking_there r old at Publish c.args.moment
-    (lacking (rooted r.size r.root old) Publish c.args.moment used used body lists (used_here r old at used c.in_ok-used.ensures) (takes_none used)
-    (publish_next old lists body c.args.moment made.header made.catalogue made.history made.published) c.in_err-plan.ensures.full)
+    (lacking (rooted r.size r.root old) Publish c.args.moment used room.after_body body lists (used_here r old at used c.requires.used)
+    (takes_found used room.after_body 0 body (found_none used) room.sets)
+    (publish_next old lists body c.args.moment made.header made.catalogue made.history made.published) room.fails)
 
 pub returns-clause-planned : goal.returns-clause-planned
 returns-clause-planned c =
@@ -37,17 +46,20 @@ returns-clause-planned c =
     let at = c.contents-contents.ensures.contents in
     let sound : IsRooted (rooted r.size r.root old) = sound_here r old at c.contents-contents.ensures.sound in
     let moment = c.args.moment in
-    let used = c.in_ok-used.used in
+    let used = c.args.used.now in
     let lists = c.in_ok-lists.lists in
     let made = c.in_ok-lists.ensures in
     let placing = c.in_ok-plan.ensures in
+    let after = placing.placed.after_body in
     let body : Extent = record { first = 0; blocks = 0 } in
     planned_there r old at Publish moment c.in_ok-plan.plan
-    (planned r.size r.root old sound Publish moment used used (used_here r old at used c.in_ok-used.ensures) body (takes_none used) lists
+    (planned r.size r.root old sound Publish moment used after (used_here r old at used c.requires.used) body
+    (takes_found used after 0 body (found_none used) placing.placed.sets) lists
     (publish_next old lists body moment made.header made.catalogue made.history made.published)
-    (publish_rules r.size r.root old lists body moment sound.whole sound.listable.header made.moment (later_here r old at moment c.requires.later) (number_here r old at c.requires.number)
-    made.header made.catalogue made.history made.published)
+    (publish_rules r.size r.root old lists body moment sound.whole sound.listable.header made.moment (later_here r old at moment c.requires.may.later)
+    (number_here r old at c.requires.may.number) made.header made.catalogue made.history made.published)
     (all_unplaced old lists sound.whole.catalogue sound.whole.history made.catalogue made.history)
-    c.in_ok-plan.plan placing.placed
+    c.in_ok-plan.plan placing.placed.placed
     (λ image. placing.reply ∙ ap (λ (n : ℕ). replies.Published n moment) (ap (λ (h : Header). h.number) made.header))
-    placing.catalogue placing.history placing.published)
+    placing.catalogue placing.history placing.published (publish_frees old lists body made.catalogue made.history made.published refl) placing.taken
+    (placing.freed ∙ freed_here r old at Publish c.in_ok-freed.freed.items c.in_ok-freed.ensures))

@@ -1,32 +1,45 @@
 use Rattle.std.proofs.Common.{◌≡◌, List, ℕ, false, get_or, sym, ap, subst, ◌∙◌, arith, Result, Ok, Err}
-use Rattle.std.specs.Prelude.{IfOk, IsTrue}
+use Rattle.std.specs.Prelude.{IfOk, IfErr, IsTrue}
 use Rattle.rs_disk.specs.Medium.{Medium, DiskState, IsImage}
 use Rattle.rs_disk.specs.Leaves.{Leaves, Runs}
 use Rattle.rs_disk.proofs.Images.{resting_off}
 use Rattle.rs_disk.proofs.Steps.{runs_one, sync_leaves, goes_on, weaker, exit_images}
 use Rattle.rs_commit.specs.Slots.{Standing}
-use Rattle.rs_commit.specs.Commit.{IsReady, AreSettled}
-use Rattle.rs_image.specs.declared.contents.Contents.{Contents}
-use Rattle.rs_image.specs.StateOfImage.{StandsFor}
+use Rattle.rs_commit.specs.Commit.{AreSettled}
+use Rattle.rs_image.specs.declared.contents.Loaded.{Loaded}
+use Rattle.rs_store.specs.declared.opening.OpenFault.{OpenFault}
+use Rattle.rs_store.specs.Opening.{IsFound, IsNotOpened}
+use Rattle.rs_store.proofs.Opened.{not_opened_before}
 use Rattle.rs_store.proofs.opening.recover.Goals as goal
 
--- slots that are ready on a disk that was settled before
-ready_settled : {E : Type 0} (r : Result (Standing × Contents) E) (m : Medium) (new : DiskState) → AreSettled m
-    → IfOk r (λ x. IsTrue new.honest → AreSettled m → IsReady x.0 new.now) → IfOk r (λ x. IsTrue new.honest → IsReady x.0 new.now)
-ready_settled (Ok x) m new settled ready = λ honest. ready honest settled
-ready_settled (Err e) m new settled ready = tt
+-- what is found on a disk that was settled before
+found_settled : (r : Result (Standing × Loaded) OpenFault) (old mid new : DiskState) → AreSettled mid.now → mid.now.seen ≡ old.now.seen
+    → IfOk r (λ x. IsTrue new.honest → AreSettled mid.now → IsFound mid.now.seen new.now x.0 x.1.contents)
+    → IfOk r (λ x. IsTrue new.honest → IsFound old.now.seen new.now x.0 x.1.contents)
+found_settled (Ok x) old mid new settled same found = λ honest. subst (λ (l : List ℕ). IsFound l new.now x.0 x.1.contents) same (found honest settled)
+found_settled (Err e) old mid new settled same found = tt
 
-pub returns-clause-ready : goal.returns-clause-ready
-returns-clause-ready g c =
+refused_before : (r : Result (Standing × Loaded) OpenFault) (old mid new : DiskState) → ((fault : OpenFault) → IsNotOpened mid new fault → IsNotOpened old new fault)
+    → IfErr r (IsNotOpened mid new) → IfErr r (IsNotOpened old new)
+refused_before (Ok x) old mid new before refused = tt
+refused_before (Err e) old mid new before refused = before e refused
+
+pub returns-clause-found : goal.returns-clause-found
+returns-clause-found g c =
+    let old = g.D.Disk.state c.args.disk.now in
     let mid = g.D.Disk.state c.sync.new.self in
     let settled : AreSettled mid.now =
-    λ i lt. subst (λ (m : Medium). get_or m.unsettled i false ≡ false) (sym c.in_ok-sync.ensures.settles.now) (resting_off (g.D.Disk.state c.args.disk.now).now.seen i) in
-    ready_settled c.read_source.result mid.now (g.D.Disk.state c.read_source.new.disk) settled c.read_source.ensures.ready
+    λ i lt. subst (λ (m : Medium). get_or m.unsettled i false ≡ false) (sym c.in_ok-sync.ensures.settles.now) (resting_off old.now.seen i) in
+    found_settled c.read_source.result old mid (g.D.Disk.state c.read_source.new.disk) settled (ap (λ (m : Medium). m.seen) c.in_ok-sync.ensures.settles.now) c.read_source.ensures.found
 
-pub returns-clause-damaged : goal.returns-clause-damaged
-returns-clause-damaged g c is honest s stands =
-    let seen : (g.D.Disk.state c.sync.new.self).now.seen ≡ (g.D.Disk.state c.args.disk.now).now.seen = ap (λ (m : Medium). m.seen) c.in_ok-sync.ensures.settles.now in
-    c.read_source.ensures.damaged is honest s (subst (λ (l : List ℕ). StandsFor l s) (sym seen) stands)
+pub returns-clause-refused : goal.returns-clause-refused
+returns-clause-refused g c =
+    let old = g.D.Disk.state c.args.disk.now in
+    let mid = g.D.Disk.state c.sync.new.self in
+    let new = g.D.Disk.state c.read_source.new.disk in
+    let sync : Runs old mid c.sync.result = runs_one old mid c.sync.result c.sync.ensures.counts in
+    refused_before c.read_source.result old mid new
+    (not_opened_before old mid new (ap (λ (m : Medium). m.seen) c.in_ok-sync.ensures.settles.now) sync.faults) c.read_source.ensures.refused
 
 pub returns-clause-writes_nothing : goal.returns-clause-writes_nothing
 returns-clause-writes_nothing g c =

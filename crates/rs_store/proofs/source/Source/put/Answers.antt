@@ -1,13 +1,20 @@
-use Rattle.std.proofs.Common.{ℕ, refl, ap, Err}
+use Rattle.std.proofs.lemmas.Bool.{false≢true}
+use Rattle.std.specs.Prelude.{is_err, OnErr}
+use Rattle.std.proofs.Common.{◌≡◌, ℕ, true, Result, Ok, length, refl, sym, ◌∙◌, ap, subst, Err, rules}
+use Rattle.rs_disk.specs.Leaves.{Advances, HasFailed}
+use Rattle.rs_body.specs.Blocks.{part}
 use Rattle.std.proofs.lemmas.Result.{err_from_is_err_and}
 use Rattle.rs_model.specs.Step.{moment_at}
 use Rattle.rs_model.specs.declared.command.Command.{Command}
 use Rattle.rs_model.specs.declared.command.Command.TheVariants.{Put}
 use Rattle.rs_plan.specs.declared.planning.PlanFault.{PlanFault}
 use Rattle.rs_plan.specs.Plans.{IsPlanned, LacksRoom}
-use Rattle.rs_store.specs.Source.{rooted_in, state_of}
+use Rattle.rs_store.specs.Source.{Stored, rooted_in, state_of}
 use Rattle.rs_store.specs.Refusals.{decided}
+use Rattle.rs_store.specs.Writing.{of_plan}
+use Rattle.rs_store.specs.Answered.{Answers}
 use Rattle.rs_store.proofs.Answered.{unless_err, unless_ok, at_once, unplanned, of_source}
+use Rattle.rs_store.proofs.Begun.{begun, broken_body}
 use Rattle.rs_store.proofs.source.Source.put.Goals as goal
 
 pub returns-in_err-moment : goal.returns-in_err-moment
@@ -23,23 +30,57 @@ returns-in_err-moment g c =
 pub returns-in_err-plan : goal.returns-in_err-plan
 returns-in_err-plan g c =
     let device = g.D.Disk.state in
-    let old = c.args.self.now in
+    let old : Stored g.row.D.Denot = c.args.self.now in
     let command : Command = Put c.args.name.now c.args.kind.now c.args.bytes.now in
     let at : ℕ = moment_at (state_of device old) c.args.now in
     let is = unless_ok (decided old (state_of device old) command) at c.in_ok-moment.moment (c.in_ok-moment.ensures.decided c.args.kind.now c.args.bytes.now refl) in
+    let rooted : c.rooted_by-rooted.result ≡ rooted_in device old = c.rooted_by-rooted.ensures ∙ ap (λ (s : Stored g.row.D.Denot). rooted_in device s) c.self.view_is in
+    let fault = c.in_err-plan.field-0.0 in
     let given = err_from_is_err_and c.from_residual-in_err-plan.result c.from_residual-in_err-plan.ensures.1 in
     rw (given.1, given.2)
-    (unplanned device g.met.D.Disk.holds old command c.args.now c.in_err-plan.field-0.0 is.0
-    (λ full. of_source (λ r m. LacksRoom r command m) device old c.rooted.result c.in_ok-moment.moment at c.rooted.ensures is.1
-    (c.in_err-plan.ensures.full (ap (λ (x : PlanFault). Err x) full))))
+    (subst (λ (s : Stored g.row.D.Denot). Answers device old s command c.args.now (Err (of_plan fault))) (sym c.self.view_is)
+    (unplanned device g.met.D.Disk.holds old command c.args.now fault is.0
+    (λ full. of_source (λ r m. LacksRoom r command m) device old c.rooted_by-rooted.result c.in_ok-moment.moment at rooted is.1
+    (c.in_err-plan.ensures.full (ap (λ (x : PlanFault). Err x) full)))))
+
+-- what is said of an answer that is an error
+on_err : {T E P : Type 0} (r : Result T E) → is_err r ≡ true → OnErr r P → P
+on_err (Ok x) bad given = absurd (false≢true bad)
+on_err (Err e) bad given = given
+
+pub returns-then-is_err : goal.returns-then-is_err
+returns-then-is_err g c =
+    let device = g.D.Disk.state in
+    let old : Stored g.row.D.Denot = c.args.self.now in
+    let o : Stored g.row.D.Denot = record { disk = c.self.inside.disk; slots = c.self.inside.slots; contents = c.self.inside.contents; is_closed = c.self.inside.is_closed } in
+    let command : Command = Put c.args.name.now c.args.kind.now c.args.bytes.now in
+    let at : ℕ = moment_at (state_of device old) c.args.now in
+    let is = unless_ok (decided old (state_of device old) command) at c.in_ok-moment.moment (c.in_ok-moment.ensures.decided c.args.kind.now c.args.bytes.now refl) in
+    let rooted : c.rooted_by-rooted.result ≡ rooted_in device old = c.rooted_by-rooted.ensures ∙ ap (λ (s : Stored g.row.D.Denot). rooted_in device s) c.self.view_is in
+    let p = c.in_ok-plan.plan in
+    let planned : IsPlanned (rooted_in device old) command at p =
+    of_source (λ r m. IsPlanned r command m p) device old c.rooted_by-rooted.result c.in_ok-moment.moment at rooted is.1 c.in_ok-plan.ensures.planned in
+    let mid = c.write_body.new.disk in
+    let runs = c.write_body.ensures.runs in
+    let goes : Advances (device o.disk) (device mid) = record { size = runs.size; keeps = c.write_body.ensures.keeps; calls = runs.calls; faults = runs.faults } in
+    let failed : HasFailed (device o.disk) (device mid) = on_err c.write_body.result (sym c.is_err.ensures.value ∙ c.if-is_err.true) runs.cause in
+    broken_body device g.met.D.Disk.holds old o c.self.view_is p mid c.write_body.ensures.outside goes c.self.invariant.rooted.whole command c.args.now is.0 planned failed
 
 pub returns : goal.returns
 returns g c =
     let device = g.D.Disk.state in
-    let old = c.args.self.now in
+    let old : Stored g.row.D.Denot = c.args.self.now in
+    let o : Stored g.row.D.Denot = record { disk = c.self.inside.disk; slots = c.self.inside.slots; contents = c.self.inside.contents; is_closed = c.self.inside.is_closed } in
     let command : Command = Put c.args.name.now c.args.kind.now c.args.bytes.now in
     let at : ℕ = moment_at (state_of device old) c.args.now in
     let is = unless_ok (decided old (state_of device old) command) at c.in_ok-moment.moment (c.in_ok-moment.ensures.decided c.args.kind.now c.args.bytes.now refl) in
-    let planned : IsPlanned (rooted_in device old) command at c.in_ok-plan.plan =
-    of_source (λ r m. IsPlanned r command m c.in_ok-plan.plan) device old c.rooted.result c.in_ok-moment.moment at c.rooted.ensures is.1 c.in_ok-plan.ensures.planned in
-    c.finish.ensures.answers command c.args.now is.0 refl planned
+    let rooted : c.rooted_by-rooted.result ≡ rooted_in device old = c.rooted_by-rooted.ensures ∙ ap (λ (s : Stored g.row.D.Denot). rooted_in device s) c.self.view_is in
+    let p = c.in_ok-plan.plan in
+    let planned : IsPlanned (rooted_in device old) command at p =
+    of_source (λ r m. IsPlanned r command m p) device old c.rooted_by-rooted.result c.in_ok-moment.moment at rooted is.1 c.in_ok-plan.ensures.planned in
+    let mid = c.write_body.new.disk in
+    let runs = c.write_body.ensures.runs in
+    let goes : Advances (device o.disk) (device mid) = record { size = runs.size; keeps = c.write_body.ensures.keeps; calls = runs.calls; faults = runs.faults } in
+    let stands : part p.body (length c.args.bytes.now) (device mid).now.seen ≡ c.args.bytes.now = search rules in
+    c.finish.ensures.answers old command c.args.now
+    (begun device g.met.D.Disk.holds old o c.self.view_is p mid c.write_body.ensures.outside goes c.args.bytes.now planned.free stands) is.0 planned

@@ -1,27 +1,32 @@
-use Rattle.std.proofs.Common.{◌≡◌, ℕ, ◌<◌, List, [], length, ◌∙◌, sym, ap, subst, Err}
+use Rattle.std.proofs.Common.{◌≡◌, ℕ, ◌<◌, ◌+◌, ◌*◌, ◌≤◌, List, [], length, ◌∙◌, sym, ap, subst, arith, Err}
 use Rattle.std.specs.Prelude.{replicate}
 use Rattle.std.proofs.lemmas.Result.{err_from_is_err_and}
 use Rattle.std.proofs.KnownBytes.{Consumes-nil}
 use Rattle.rs_io.specs.Watch.{watched}
+use Rattle.rs_disk.specs.Leaves.{HasFailed}
+use Rattle.rs_body.specs.Blocks.{part}
+use Rattle.rs_body.proofs.Sets.{fits_sized}
 use Rattle.rs_fixity.specs.declared.Digests.{Digests}
 use Rattle.rs_fixity.specs.Digests.{digests}
 use Rattle.rs_model.specs.Step.{moment_at}
 use Rattle.rs_model.specs.declared.command.Command.{Command}
 use Rattle.rs_model.specs.declared.command.Command.TheVariants.{Put}
+use Rattle.rs_image.specs.Rooted.{Rooted}
 use Rattle.rs_plan.specs.declared.plan.Plan.{Plan}
 use Rattle.rs_plan.specs.declared.planning.PlanFault.{PlanFault}
-use Rattle.rs_plan.specs.declared.planning.PlanFault.TheVariants.{NoMemory as NoPlanMemory}
 use Rattle.rs_plan.specs.Plans.{IsPlanned, LacksRoom}
 use Rattle.rs_plan.specs.Drafts.{plan_filled}
+use Rattle.rs_store.specs.declared.refusal.Refusal.{Refusal}
 use Rattle.rs_store.specs.declared.refusal.Refusal.TheVariants.{ReadFault, ShortBody}
-use Rattle.rs_store.specs.Source.{rooted_in, state_of}
+use Rattle.rs_store.specs.Source.{Stored, rooted_in, state_of}
 use Rattle.rs_store.specs.Refusals.{decided}
-use Rattle.rs_store.specs.Writing.{of_plan}
+use Rattle.rs_store.specs.Writing.{of_plan, HasWrittenBody}
 use Rattle.rs_store.specs.Answered.{Answers}
-use Rattle.rs_store.specs.Received.{IsCutShort}
+use Rattle.rs_store.specs.Received.{IsCutShort, IsStopped, AnswersFrom}
 use Rattle.rs_store.proofs.Answered.{unless_err, unless_ok, at_once, unplanned, of_source}
+use Rattle.rs_store.proofs.Begun.{begun, broken_body, stopped_body}
+use Rattle.rs_store.proofs.Written.{inside_each}
 use Rattle.rs_store.proofs.Received.{nothing_came, refused_as, answered_whole, zeros, left_by, cut_from, refused_elsewhere}
-use Rattle.rs_store.proofs.source.Source.put_from.Given as Given
 use Rattle.rs_store.proofs.source.Source.put_from.Goals as goal
 
 pub returns-in_err-moment-clause-came : goal.returns-in_err-moment-clause-came
@@ -64,92 +69,155 @@ returns-in_err-moment-clause-ended g c =
 pub returns-in_err-plan-clause-came : goal.returns-in_err-plan-clause-came
 returns-in_err-plan-clause-came g c =
     let device = g.D.Disk.state in
-    let old = c.args.self.now in
+    let old : Stored g.row.D.Denot = c.args.self.now in
+    let name = c.args.name.now in
+    let kind = c.args.kind.now in
     let n = c.args.body_length in
     let fault = c.in_err-plan.field-0.0 in
     let at : ℕ = moment_at (state_of device old) c.args.now in
+    let rooted : c.rooted_by-rooted.result ≡ rooted_in device old = c.rooted_by-rooted.ensures ∙ ap (λ (s : Stored g.row.D.Denot). rooted_in device s) c.self.view_is in
     let given = err_from_is_err_and c.from_residual-in_err-plan.result c.from_residual-in_err-plan.ensures.1 in (
       [],
       Consumes-nil (g.R.Read.remaining (watched c.args.reader.now)),
-      rw (given.1, given.2) (refused_as device old old c.args.name.now c.args.kind.now n c.args.now [] (of_plan fault) (replicate n 0) (zeros n) (nothing_came n (of_plan fault))
+      rw (given.1, given.2)
+          (subst (λ (s : Stored g.row.D.Denot). AnswersFrom device old s name kind n c.args.now [] (Err (of_plan fault))) (sym c.self.view_is)
+          (refused_as device old old name kind n c.args.now [] (of_plan fault) (replicate n 0) (zeros n) (nothing_came n (of_plan fault))
           (λ body is.
-          let command : Command = Put c.args.name.now c.args.kind.now body in
-          let free = unless_ok (decided old (state_of device old) command) at c.in_ok-moment.moment (c.in_ok-moment.ensures.decided c.args.kind.now body is.len) in
+          let command : Command = Put name kind body in
+          let free = unless_ok (decided old (state_of device old) command) at c.in_ok-moment.moment (c.in_ok-moment.ensures.decided kind body is.len) in
           unplanned device g.met.D.Disk.holds old command c.args.now fault free.0
-          (λ full. of_source (λ r m. LacksRoom r command m) device old c.rooted.result c.in_ok-moment.moment at c.rooted.ensures free.1
-          (c.in_err-plan.ensures.full (ap (λ (x : PlanFault). Err x) full) body is.len)))),
+          (λ full. of_source (λ r m. LacksRoom r command m) device old c.rooted_by-rooted.result c.in_ok-moment.moment at rooted free.1
+          (c.in_err-plan.ensures.full (ap (λ (x : PlanFault). Err x) full) body is.len))))),
     )
 
-pub returns-in_err-bytes-clause-came : goal.returns-in_err-bytes-clause-came
-returns-in_err-bytes-clause-came g c =
+pub receive-requires-clause-room : goal.receive-requires-clause-room
+receive-requires-clause-room g c b is =
+    let name = c.args.name.now in
+    let body : List ℕ = replicate c.args.body_length 0 in
+    let rooted = c.rooted_by-rooted.result in
+    let p : Plan = plan_filled name (digests body) c.in_ok-plan.plan in
+    let planned : IsPlanned rooted (Put name c.args.kind.now body) c.in_ok-moment.moment p = c.in_ok-plan.ensures.planned body (zeros c.args.body_length).len in
+    let fits : 512 * b + 512 ≤ rooted.size = (inside_each rooted.size p planned.inside).body b is in
+    omega (arith, fits, ap (λ (r : Rooted). r.size) c.rooted_by-rooted.ensures)
+
+pub receive-requires-clause-fits : goal.receive-requires-clause-fits
+receive-requires-clause-fits g c =
+    let name = c.args.name.now in
+    let n = c.args.body_length in
+    let body : List ℕ = replicate n 0 in
+    let p : Plan = plan_filled name (digests body) c.in_ok-plan.plan in
+    let planned : IsPlanned c.rooted_by-rooted.result (Put name c.args.kind.now body) c.in_ok-moment.moment p = c.in_ok-plan.ensures.planned body (zeros n).len in
+    omega (arith, fits_sized c.in_ok-plan.plan.body (length body) planned.body, (zeros n).len)
+
+-- the device failed
+pub returns-in-Device-clause-came : goal.returns-in-Device-clause-came
+returns-in-Device-clause-came g c =
     let device = g.D.Disk.state in
-    let old = c.args.self.now in
+    let old : Stored g.row.D.Denot = c.args.self.now in
+    let o : Stored g.row.D.Denot = record { disk = c.self.inside.disk; slots = c.self.inside.slots; contents = c.self.inside.contents; is_closed = c.self.inside.is_closed } in
     let name = c.args.name.now in
     let kind = c.args.kind.now in
     let n = c.args.body_length in
-    let r = c.in_err-bytes.field-0.0 in
-    let cut = c.in_err-bytes.ensures.cut in
     let at : ℕ = moment_at (state_of device old) c.args.now in
-    let given = err_from_is_err_and c.from_residual-in_err-bytes.result c.from_residual-in_err-bytes.ensures.1 in
+    let rooted : c.rooted_by-rooted.result ≡ rooted_in device old = c.rooted_by-rooted.ensures ∙ ap (λ (s : Stored g.row.D.Denot). rooted_in device s) c.self.view_is in
+    let plan = c.in_ok-plan.plan in
+    let mid = c.receive.new.disk in
     let free = λ (body : List ℕ) (is : length body ≡ n). unless_ok (decided old (state_of device old) (Put name kind body)) at c.in_ok-moment.moment (c.in_ok-moment.ensures.decided kind body is) in
-    let refused = λ (body : List ℕ) (is : length body ≡ n). unplanned device g.met.D.Disk.holds old (Put name kind body) c.args.now NoPlanMemory (free body is).0 (λ full. absurd cc) in
-    let short : length cut.0 < n → IsCutShort device old old name kind n c.args.now cut.0 = λ fewer. record {
-      fewer = fewer;
-      decides = λ body is. (free body is).0;
-      plan = λ body is. (
-        plan_filled name (digests body) c.in_ok-plan.plan,
-        of_source (λ r m. IsPlanned r (Put name kind body) m (plan_filled name (digests body) c.in_ok-plan.plan)) device old c.rooted.result c.in_ok-moment.moment at
-            c.rooted.ensures (free body is).1 (c.in_ok-plan.ensures.planned body is),
-      );
-      left = left_by device old old name kind (replicate n 0) c.args.now (refused (replicate n 0) (zeros n).len);
-    } in (
-      cut.0,
-      cut.1,
-      rw (given.1, given.2) (cut_from device old old name kind n c.args.now cut.0 (g.R.Read.remaining (watched c.read_whole.new.reader)) r cut.2 short (λ body is. refused body is.len)),
+    let planned = λ (body : List ℕ) (is : length body ≡ n).
+    of_source (λ r m. IsPlanned r (Put name kind body) m (plan_filled name (digests body) plan)) device old c.rooted_by-rooted.result c.in_ok-moment.moment at
+    rooted (free body is).1 (c.in_ok-plan.ensures.planned body is) in
+    let stop = c.in-Err.ensures.stopped in
+    let rest = g.R.Read.remaining (watched c.receive.new.reader) in
+    let failed : HasFailed (device o.disk) (device mid) = c.in-Err.ensures.device (ap (λ (x : Refusal). Err x) c.in-Device.is) in (
+      stop.0,
+      stop.1,
+      (
+        subst (λ (r : Refusal). IsStopped n rest stop.0 r) c.in-Device.is stop.2,
+        λ body is. broken_body device g.met.D.Disk.holds old o c.self.view_is (plan_filled name (digests body) plan) mid c.receive.ensures.outside c.receive.ensures.advances
+            c.self.invariant.rooted.whole (Put name kind body) c.args.now (free body is.len).0 (planned body is.len) failed,
+      ),
     )
 
--- the refusal is that of the reading
-pub returns-in_err-bytes-clause-failed : goal.returns-in_err-bytes-clause-failed
-returns-in_err-bytes-clause-failed g c =
-    let given = err_from_is_err_and c.from_residual-in_err-bytes.result c.from_residual-in_err-bytes.ensures.1 in
-    rw (given.1, given.2) (λ e. c.in_err-bytes.ensures.failed (refused_elsewhere c.in_err-bytes.field-0.0 ReadFault e))
-
-pub returns-in_err-bytes-clause-sound : goal.returns-in_err-bytes-clause-sound
-returns-in_err-bytes-clause-sound g c =
-    let given = err_from_is_err_and c.from_residual-in_err-bytes.result c.from_residual-in_err-bytes.ensures.1 in
-    rw (given.1, given.2) (λ other. c.in_err-bytes.ensures.sound (λ e. other (refused_elsewhere c.in_err-bytes.field-0.0 ReadFault e)))
-
--- what was answered to the put of the bytes that came
-said : (g : Given.Over) (c : goal.After-drop-bytes g)
-    → Answers g.D.Disk.state c.args.self.now c.finish.new.self (Put c.args.name.now c.args.kind.now c.in_ok-bytes.bytes.items) c.args.now c.finish.result
-said g c =
+-- the reader failed or ended
+pub returns-in_default-clause-came : goal.returns-in_default-clause-came
+returns-in_default-clause-came g c =
     let device = g.D.Disk.state in
-    let old = c.args.self.now in
+    let old : Stored g.row.D.Denot = c.args.self.now in
+    let o : Stored g.row.D.Denot = record { disk = c.self.inside.disk; slots = c.self.inside.slots; contents = c.self.inside.contents; is_closed = c.self.inside.is_closed } in
     let name = c.args.name.now in
     let kind = c.args.kind.now in
-    let bytes : List ℕ = c.in_ok-bytes.bytes.items in
-    let command : Command = Put name kind bytes in
+    let n = c.args.body_length in
     let at : ℕ = moment_at (state_of device old) c.args.now in
-    let whole : length bytes ≡ c.args.body_length = c.in_ok-bytes.ensures.whole in
-    let free = unless_ok (decided old (state_of device old) command) at c.in_ok-moment.moment (c.in_ok-moment.ensures.decided kind bytes whole) in
-    let filled : c.fill.new.self ≡ plan_filled name (digests bytes) c.in_ok-plan.plan =
-    c.fill.ensures ∙ ap (λ (d : Digests). plan_filled name d c.in_ok-plan.plan) (c.digests_of.ensures ∙ ap digests c.deref.ensures.value) in
-    let planned : IsPlanned (rooted_in device old) command at c.fill.new.self =
-    subst (λ (p : Plan). IsPlanned (rooted_in device old) command at p) (sym filled)
-    (of_source (λ r m. IsPlanned r command m (plan_filled name (digests bytes) c.in_ok-plan.plan)) device old c.rooted.result c.in_ok-moment.moment at
-    c.rooted.ensures free.1 (c.in_ok-plan.ensures.planned bytes whole)) in
-    c.finish.ensures.answers command c.args.now free.0 (sym c.deref-2.ensures.value) planned
+    let rooted : c.rooted_by-rooted.result ≡ rooted_in device old = c.rooted_by-rooted.ensures ∙ ap (λ (s : Stored g.row.D.Denot). rooted_in device s) c.self.view_is in
+    let plan = c.in_ok-plan.plan in
+    let mid = c.receive.new.disk in
+    let free = λ (body : List ℕ) (is : length body ≡ n). unless_ok (decided old (state_of device old) (Put name kind body)) at c.in_ok-moment.moment (c.in_ok-moment.ensures.decided kind body is) in
+    let planned = λ (body : List ℕ) (is : length body ≡ n).
+    of_source (λ r m. IsPlanned r (Put name kind body) m (plan_filled name (digests body) plan)) device old c.rooted_by-rooted.result c.in_ok-moment.moment at
+    rooted (free body is).1 (c.in_ok-plan.ensures.planned body is) in
+    let stop = c.in-Err.ensures.stopped in
+    let rest = g.R.Read.remaining (watched c.receive.new.reader) in
+    let new : Stored g.row.D.Denot = record { disk = mid; slots = o.slots; contents = o.contents; is_closed = o.is_closed } in
+    let body = replicate n 0 in
+    let is = (zeros n).len in
+    let short : length stop.0 < n → IsCutShort device old new name kind n c.args.now stop.0 = λ fewer. record {
+      fewer = fewer;
+      decides = λ body is. (free body is).0;
+      plan = λ body is. (plan_filled name (digests body) plan, planned body is);
+      left = left_by device old new name kind body c.args.now
+          (stopped_body device g.met.D.Disk.holds old o c.self.view_is (plan_filled name (digests body) plan) mid c.receive.ensures.outside c.receive.ensures.advances
+          c.self.invariant.rooted.whole (Put name kind body) c.args.now (free body is).0 (planned body is));
+    } in (
+      stop.0,
+      stop.1,
+      cut_from device old new name kind n c.args.now stop.0 rest c.in-Err.refusal c.in_default.not-Device stop.2 short,
+    )
 
+pub returns-in_default-clause-failed : goal.returns-in_default-clause-failed
+returns-in_default-clause-failed g c e = c.in-Err.ensures.failed (refused_elsewhere c.in-Err.refusal ReadFault e)
+
+pub returns-in_default-clause-sound : goal.returns-in_default-clause-sound
+returns-in_default-clause-sound g c other = c.in-Err.ensures.sound (λ e. other (refused_elsewhere c.in-Err.refusal ReadFault e))
+
+pub returns-in_default-clause-ended : goal.returns-in_default-clause-ended
+returns-in_default-clause-ended g c e =
+    let stop = c.in-Err.ensures.stopped in
+    let rest = g.R.Read.remaining (watched c.receive.new.reader) in
+    let is : c.in-Err.refusal ≡ ShortBody = cc in
+    let short : IsStopped c.args.body_length rest stop.0 ShortBody = subst (λ (r : Refusal). IsStopped c.args.body_length rest stop.0 r) is stop.2 in
+    short.1
+
+-- all of it came
 pub returns-clause-came : goal.returns-clause-came
-returns-clause-came g c = (
-  c.in_ok-bytes.bytes.items,
-  c.in_ok-bytes.ensures.ok.0,
-  answered_whole g.D.Disk.state c.args.self.now c.finish.new.self c.args.name.now c.args.kind.now c.args.body_length c.args.now c.in_ok-bytes.bytes.items c.finish.result c.finish.ensures.late c.in_ok-bytes.ensures.whole (said g c),
-)
-
--- a put whose body came whole meets no fault and no end of the reader
-pub returns-clause-failed : goal.returns-clause-failed
-returns-clause-failed g c same = absurd ((said g c).refused ReadFault same)
-
-pub returns-clause-ended : goal.returns-clause-ended
-returns-clause-ended g c same = absurd ((said g c).refused ShortBody same)
+returns-clause-came g c =
+    let device = g.D.Disk.state in
+    let old : Stored g.row.D.Denot = c.args.self.now in
+    let o : Stored g.row.D.Denot = record { disk = c.self.inside.disk; slots = c.self.inside.slots; contents = c.self.inside.contents; is_closed = c.self.inside.is_closed } in
+    let name = c.args.name.now in
+    let kind = c.args.kind.now in
+    let n = c.args.body_length in
+    let at : ℕ = moment_at (state_of device old) c.args.now in
+    let rooted : c.rooted_by-rooted.result ≡ rooted_in device old = c.rooted_by-rooted.ensures ∙ ap (λ (s : Stored g.row.D.Denot). rooted_in device s) c.self.view_is in
+    let plan = c.in_ok-plan.plan in
+    let mid = c.receive.new.disk in
+    let free = λ (body : List ℕ) (is : length body ≡ n). unless_ok (decided old (state_of device old) (Put name kind body)) at c.in_ok-moment.moment (c.in_ok-moment.ensures.decided kind body is) in
+    let planned = λ (body : List ℕ) (is : length body ≡ n).
+    of_source (λ r m. IsPlanned r (Put name kind body) m (plan_filled name (digests body) plan)) device old c.rooted_by-rooted.result c.in_ok-moment.moment at
+    rooted (free body is).1 (c.in_ok-plan.ensures.planned body is) in
+    let bytes = part plan.body n (device mid).now.seen in
+    let whole : length bytes ≡ n = c.in-Ok.ensures.whole in
+    let command : Command = Put name kind bytes in
+    let filled : c.fill.new.self ≡ plan_filled name (digests bytes) plan =
+    c.fill.ensures ∙ ap (λ (d : Digests). plan_filled name d plan) c.in-Ok.ensures.digests in
+    let left : Stored g.row.D.Denot = record { disk = mid; slots = o.slots; contents = o.contents; is_closed = o.is_closed } in
+    let stands : HasWrittenBody device old left (plan_filled name (digests bytes) plan) bytes =
+    begun device g.met.D.Disk.holds old o c.self.view_is (plan_filled name (digests bytes) plan) mid c.receive.ensures.outside c.receive.ensures.advances bytes
+    (planned bytes whole).free (ap (λ (k : ℕ). part plan.body k (device mid).now.seen) whole) in
+    let said : Answers device old c.finish.new.self command c.args.now c.finish.result =
+    c.finish.ensures.answers old command c.args.now
+    (subst (λ (p : Plan). HasWrittenBody device old left p bytes) (sym filled) stands) (free bytes whole).0
+    (subst (λ (p : Plan). IsPlanned (rooted_in device old) command at p) (sym filled) (planned bytes whole)) in (
+      bytes,
+      c.in-Ok.ensures.took.0,
+      answered_whole device old c.finish.new.self name kind n c.args.now bytes c.finish.result c.finish.ensures.late whole said,
+    )

@@ -17,11 +17,11 @@ use Rattle.rs_store.proofs.source.Source.read_held.Goals as goal
 
 pub read_body-requires-clause-room : goal.read_body-requires-clause-room
 read_body-requires-clause-room g c =
-    found_room (g.D.Disk.state c.self.inside.disk).size c.self.inside.slots.root c.self.inside.contents c.args.name.now c.in-Some.record.now c.self.invariant.whole (sym c.in-Some.ensures)
+    found_room (g.D.Disk.state c.self.inside.disk).size c.self.inside.slots.root c.self.inside.contents c.args.name.now c.in-Some.record.now c.self.invariant.rooted.whole (sym c.in-Some.ensures)
 
 pub read_body-requires-clause-fits : goal.read_body-requires-clause-fits
 read_body-requires-clause-fits g c =
-    found_fits (g.D.Disk.state c.self.inside.disk).size c.self.inside.slots.root c.self.inside.contents c.args.name.now c.in-Some.record.now c.self.invariant.whole (sym c.in-Some.ensures)
+    found_fits (g.D.Disk.state c.self.inside.disk).size c.self.inside.slots.root c.self.inside.contents c.args.name.now c.in-Some.record.now c.self.invariant.rooted.whole (sym c.in-Some.ensures)
 
 pub returns-in_default-clause-not_held : goal.returns-in_default-clause-not_held
 returns-in_default-clause-not_held g c =

@@ -1,0 +1,53 @@
+-- What the root after a command no longer reaches.
+use Rattle.std.specs.Prelude.{cond, ℕ, List, [], ◌∷◌, ◌++◌, Option, Some, None}
+use Rattle.std.specs.List.{cons_option, list_any}
+use Rattle.rs_extent.specs.declared.Extent.{Extent}
+use Rattle.rs_record.specs.declared.record.Record.{Record}
+use Rattle.rs_page.specs.declared.place.PageRef.{PageRef}
+use Rattle.rs_page.specs.Pages.{same_page, stored_refs, extents_of}
+use Rattle.rs_pages.specs.Rule.{home}
+use Rattle.rs_pages.specs.Entries.{entry_at, open_entry}
+use Rattle.rs_catalogue.specs.Catalogue.{records_of}
+use Rattle.rs_catalogue.specs.Named.{named}
+use Rattle.rs_model.specs.Names.{value_of}
+use Rattle.rs_model.specs.declared.command.Command.{Command}
+use Rattle.rs_model.specs.declared.command.Command.TheVariants.{Put, Delete, Publish}
+use Rattle.rs_image.specs.declared.contents.Contents.{Contents}
+use Rattle.rs_pages.specs.Storing.{unshared}
+use Rattle.rs_image.specs.Reach.{bodies_of}
+use Rattle.rs_image.specs.Rooted.{Rooted}
+
+-- an entry, unless one of the published pages has it
+abbrev pub unpublished : Option PageRef → List PageRef → Option PageRef
+unpublished None published = None
+unpublished (Some entry) published = cond (list_any (same_page entry) published) None (Some entry)
+
+-- the entry of the catalogue page that a name goes into
+abbrev pub entry_of_name : Contents → List ℕ → Option PageRef
+entry_of_name c name = entry_at (home (λ (r : Record). r.name) name c.catalogue) c.catalogue
+
+-- the extent of a page, if there is one
+abbrev pub extent_of_page : Option PageRef → List Extent
+extent_of_page page = extents_of (cons_option page [])
+
+-- the extent of the body of a name, if it has one
+abbrev pub extent_of_body : Contents → List ℕ → List Extent
+extent_of_body c name = bodies_of (cons_option (value_of name (named (records_of c.catalogue))) [])
+
+-- What a change of a name frees: the directory, the touched page of the catalogue where it is not published, the touched page of the
+-- history, and the body that the name had.
+abbrev pub freed_by_change : Rooted → List ℕ → List Extent
+freed_by_change old name =
+    old.root.directory
+    ∷ extent_of_page (unpublished (entry_of_name old.contents name) (stored_refs old.contents.published))
+    ++ extent_of_page (open_entry old.contents.history) ++ extent_of_body old.contents name
+
+-- What a publication frees: the directory, and the published pages that are no pages of the catalogue.
+abbrev pub freed_by_publication : Rooted → List Extent
+freed_by_publication old = old.root.directory ∷ extents_of (unshared (stored_refs old.contents.published) (stored_refs old.contents.catalogue))
+
+-- what a command frees
+abbrev pub freed_by : Command → Rooted → List Extent
+freed_by (Put name kind bytes) old = freed_by_change old name
+freed_by (Delete name) old = freed_by_change old name
+freed_by Publish old = freed_by_publication old

@@ -1,0 +1,90 @@
+//! What the root after a command no longer reaches.
+
+ghost use Rattle.std.specs.Prelude.{◌≡◌, ◌++◌, IfOk, OnOk};
+ghost use Rattle.rs_page.specs.Pages.{stored_refs};
+ghost use Rattle.rs_plan.specs.Freed.{unpublished, entry_of_name, extent_of_page, extent_of_body, freed_by_change, freed_by_publication};
+
+use rs_extent::Extent;
+use rs_image::{Contents, Rooted, unshared_pages};
+use rs_page::PageRef;
+use rs_record::Name;
+use std::alloc::{AllocError, Global};
+
+/// What a change of this name frees: the directory, the page of the catalogue that the name goes
+/// into, unless it is published, the page of the history that the change goes into, and the body
+/// that the name has.
+///
+/// # Errors
+///
+/// [`AllocError`] where the memory is refused.
+pub(crate) fn freed_by_change(
+    alloc: Global,
+    old: &Rooted<'_>,
+    name: &Name,
+) -> Result<Vec<Extent>, AllocError>
+    ensures { IfOk result (λ freed. freed.items ≡ freed_by_change old.now name.now) }
+{
+    let contents = old.contents();
+    let mut freed = Vec::new(alloc);
+    freed.push(old.root().directory)?;
+    add_page(&mut freed, unpublished_page(contents, name))?;
+    add_page(&mut freed, contents.history.open_entry())?;
+    add_body(&mut freed, contents, name)?;
+    Ok(freed)
+}
+
+/// What a publication frees: the directory, and the published pages that are no pages of the
+/// catalogue.
+///
+/// # Errors
+///
+/// [`AllocError`] where the memory is refused.
+pub(crate) fn freed_by_publication(
+    alloc: Global,
+    old: &Rooted<'_>,
+) -> Result<Vec<Extent>, AllocError>
+    ensures { IfOk result (λ freed. freed.items ≡ freed_by_publication old.now) }
+{
+    let root = old.root();
+    let pages = unshared_pages(alloc, old.contents())?;
+    let mut freed = Vec::new(alloc);
+    freed.push(root.directory)?;
+    for page in &pages {
+        freed.push(page.extent)?;
+    }
+    Ok(freed)
+}
+
+// The page of the catalogue that a name goes into, unless it is published.
+fn unpublished_page(contents: &Contents, name: &Name) -> Option<PageRef>
+    ensures { result ≡ unpublished (entry_of_name contents.now name.now)
+        (stored_refs contents.now.published) }
+{
+    let page = contents.catalogue.entry_for(name)?;
+    if contents.published.has_entry(&page) {
+        None
+    } else {
+        Some(page)
+    }
+}
+
+// Adds the blocks of a page, if there is one.
+fn add_page(freed: &mut Vec<Extent>, page: Option<PageRef>) -> Result<(), AllocError>
+    ensures { OnOk result (freed.new.items ≡ freed.old.items ++ extent_of_page page) }
+{
+    if let Some(page) = page {
+        freed.push(page.extent)?;
+    }
+    Ok(())
+}
+
+// Adds the blocks of the body that a name has.
+fn add_body(freed: &mut Vec<Extent>, contents: &Contents, name: &Name) -> Result<(), AllocError>
+    ensures { OnOk result (freed.new.items ≡ freed.old.items
+        ++ extent_of_body contents.now name.now) }
+{
+    if let Some(record) = contents.catalogue.get(name) {
+        freed.push(record.extent)?;
+    }
+    Ok(())
+}

@@ -1,0 +1,24 @@
+-- The front of the extent is what came so far.
+use Rattle.std.proofs.Common.{◌≡◌, ◌-◌, ◌≤◌, ℕ, Bool, length}
+use Rattle.rs_disk.specs.Leaves.{Advances}
+use Rattle.rs_extent.specs.Extents.{IsBeside}
+use Rattle.rs_body.specs.Blocks.{part}
+use Rattle.rs_body.specs.Outside.{WritesOutside}
+use Rattle.rs_fixity.specs.Hashed.{HasTaken}
+use Rattle.rs_io.specs.Watch.{Took}
+use Rattle.rs_store.proofs.receiving.receive.Given as goal
+
+abbrev pub invariant-loop-at : goal.invariant-loop-at
+invariant-loop-at g l =
+    let came = part l.fn.extent l.at (g.D.Disk.state l.disk).now.seen in
+    record {
+      within : l.at ≤ l.fn.body_length;
+      took : Took g.R.Read.remaining l.fn.reader l.reader came;
+      whole : length came ≡ l.at;
+      hashed : HasTaken l.hashing came;
+      outside : (kept : ℕ → Bool) → IsBeside kept l.fn.extent → WritesOutside kept (g.D.Disk.state l.fn.disk) (g.D.Disk.state l.disk);
+      advances : Advances (g.D.Disk.state l.fn.disk) (g.D.Disk.state l.disk);
+    }
+
+abbrev pub decreases-loop-at : goal.decreases-loop-at
+decreases-loop-at g l = l.fn.body_length - l.at

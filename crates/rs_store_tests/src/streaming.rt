@@ -1,0 +1,126 @@
+//! Puts whose bodies come in pieces: what is read of them, what a fault within them leaves, and which blocks are free
+//! after it. The digests are by Python's `hashlib`.
+
+use super::asking::Answer::{self, Created, Refused};
+use super::asking::{answer_of, disk_of, made, named, opened, plain};
+use rs_disk::{FaultyReader, MemoryDisk};
+use rs_io::Watched;
+use rs_store::Refusal::{Device, Full, ReadFault, ShortBody};
+use rs_store::Source;
+use rs_time::Moment;
+use std::io::Read;
+use std::process::Abort;
+
+// The device calls of a formatting.
+const FORMATTING: u64 = 6;
+
+/// Bytes that count from 0 to 250, and then again.
+fn counting(rt: &(impl Abort + AllocGlobal), length: u32) -> Vec<u8> {
+    let mut bytes = Vec::new(rt.alloc());
+    for i in 0..length {
+        bytes.push((i % 251) as u8).expect(rt, "memory");
+    }
+    bytes
+}
+
+/// What a source answers to a put of `a` whose body a reader brings.
+fn receive<R: Read + Drop>(
+    rt: &(impl Abort + AllocGlobal),
+    source: &mut Source<MemoryDisk>,
+    reader: R,
+    length: u64,
+) -> Answer {
+    let mut reader = Watched::new(reader);
+    let now = Moment::first();
+    answer_of(&source.put_from(&named(rt, b"a"), &plain(rt), &mut reader, length, now))
+}
+
+/// The MD5 that is recorded of the first resource, as a number.
+fn first_md5(rt: &impl Abort, source: &Source<MemoryDisk>) -> u128 {
+    let records = source.records().expect(rt, "records");
+    match records.first() {
+        Some(record) => u128::from_be_bytes(record.digests.md5),
+        None => 0,
+    }
+}
+
+#[test]
+fn one_byte_a_read(rt: HostRuntime) {
+    let mut source = made(&rt, disk_of(&rt, 65_536));
+    let bytes = counting(&rt, 10_000);
+    let reader = FaultyReader::new(&bytes, 1, u64::MAX);
+    assert_eq!(rt; receive(&rt, &mut source, reader, 10_000), Created(1));
+    let body = source.body(&named(&rt, b"a")).expect(&rt, "a body");
+    assert!(rt; body == bytes);
+    assert_eq!(rt; first_md5(&rt, &source), 0xbbf1c77538f97ceeb1e03126edaa3594);
+}
+
+/// How many bytes come of a body of 10,000, the number of the read that fails, and the answer.
+const CUT: [(u32, u64, Answer); 2] = [
+    (10_000, 1, Refused(ReadFault)),
+    (4_096, 9, Refused(ShortBody)),
+];
+
+#[test]
+fn a_body_that_is_cut_short_takes_no_blocks(rt: HostRuntime) {
+    // Of 61 free blocks a put takes three beside its body.
+    let mut source = made(&rt, disk_of(&rt, 32_768));
+    let most = counting(&rt, 29_697);
+    for (came, fail_at, want) in &CUT {
+        let bytes = counting(&rt, *came);
+        let reader = FaultyReader::new(&bytes, 4_096, *fail_at);
+        assert_eq!(rt; receive(&rt, &mut source, reader, 10_000), *want);
+        let full = receive(&rt, &mut source, most.as_slice(), 29_697);
+        assert_eq!(rt; full, Refused(Full));
+    }
+    let fits = receive(&rt, &mut source, most.as_slice(), 29_696);
+    assert_eq!(rt; fits, Created(1));
+}
+
+#[test]
+fn the_second_piece_is_not_written(rt: HostRuntime) {
+    let mut disk = disk_of(&rt, 65_536);
+    disk.stop_after(FORMATTING + 1);
+    let mut source = made(&rt, disk);
+    let bytes = counting(&rt, 10_000);
+    let mut reader = Watched::new(bytes.as_slice());
+    let now = Moment::first();
+    let done = source.put_from(&named(&rt, b"a"), &plain(&rt), &mut reader, 10_000, now);
+    assert_eq!(rt; answer_of(&done), Refused(Device));
+    // No more than two pieces were read.
+    assert_eq!(rt; reader.get_ref().len(), 10_000 - 8_192);
+}
+
+/// How many resources the source on an image of a disk holds.
+fn held_in(rt: &(impl Abort + AllocGlobal), disk: &MemoryDisk, choice: u8) -> u32 {
+    let image = disk.image(&[choice]).expect(rt, "memory for an image");
+    let disk = MemoryDisk::from_bytes(rt.alloc(), &image).expect(rt, "memory for a disk");
+    let source = opened(rt, disk);
+    source.status().expect(rt, "a status").resources
+}
+
+/// The disk of a put of 9,000 bytes in three pieces, which stops after `k` calls of it, and the answer.
+fn stopped(rt: &(impl Abort + AllocGlobal), bytes: &[u8], k: u64) -> (Answer, MemoryDisk) {
+    let mut disk = disk_of(rt, 65_536);
+    disk.stop_after(k.saturating_add(FORMATTING));
+    let mut source = made(rt, disk);
+    let answer = receive(rt, &mut source, bytes, 9_000);
+    (answer, source.into_disk())
+}
+
+#[test]
+fn a_streamed_put_is_whole_or_absent(rt: HostRuntime) {
+    // Three pieces, two pages and the directory; then the spare's bytes and its gate, each with a sync.
+    let bytes = counting(&rt, 9_000);
+    for k in 0..10 {
+        let (answer, disk) = stopped(&rt, &bytes, k);
+        assert_eq!(rt; answer, Refused(Device), "after {k} calls");
+        // From the write of the gate on an image may have it open.
+        let new = if k < 8 { 0 } else { 1 };
+        let held = (held_in(&rt, &disk, 0), held_in(&rt, &disk, 1));
+        assert_eq!(rt; held, (0, new), "after {k} calls");
+    }
+    let (answer, disk) = stopped(&rt, &bytes, 10);
+    let held = (held_in(&rt, &disk, 0), held_in(&rt, &disk, 1));
+    assert_eq!(rt; (answer, held), (Created(1), (1, 1)));
+}
