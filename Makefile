@@ -6,16 +6,24 @@
 #   make rows     runs the worked rows of examples/rows on the proved program
 #   make bench    measures speed (docs/BENCH.md has figures; it needs wrk, lighttpd and python3-lmdb of Debian)
 #   make memory   refuses each growth of memory of the program in turn
+#   make mirror   mirrors sources that change and are killed meanwhile, ROUNDS=200 of them ('make test' has three)
+#   make operate  looks at what is installed beside the program: the page, the unit, the site (it needs mandoc, systemd-analyze and nginx)
+#   make install  puts the built program, its page of the manual, its unit and its site in their places (PREFIX, DESTDIR; docs/OPERATING.md)
+#   make uninstall  takes them away again, and leaves every source as it is
 #   make crash    stops the program at each of its calls on a file, thousands of images over ten sessions ('make test' has a short form)
 
 SCRIPT ?= examples/first.script
 BASE ?= http://127.0.0.1:8080
 RT ?= rt
 CRATES ?=
+ROUNDS ?= 200
+PREFIX ?= /usr/local
+DESTDIR ?=
+AT = $(DESTDIR)$(PREFIX)
 # How many checks go side by side: one a processor, with 3 GB of free memory for each.
 LANES ?= $(shell awk -v processors=$$(nproc) '/^MemAvailable:/ { fit = int($$2 / 3000000); print fit < 1 ? 1 : fit < processors ? fit : processors }' /proc/meminfo)
 
-.PHONY: demo test edits build rows bench memory crash
+.PHONY: demo test edits build rows bench memory crash mirror operate install uninstall
 
 # `rt try` builds without proving: quick, and no more than an unproved build.
 demo:
@@ -50,3 +58,28 @@ memory: build
 
 crash: build
 	@python3 examples/crash.py
+
+mirror: build
+	@python3 examples/check_mirror.py $(ROUNDS)
+
+operate: build
+	@python3 examples/check_install.py
+
+# What `make build` made, and what stands beside it. It proves and builds nothing, so that it can run as root.
+install:
+	@test -x crates/rs_source/out/rs_source || { echo "there is no program yet: make build" >&2; exit 1; }
+	install -D -m 755 crates/rs_source/out/rs_source $(AT)/bin/rs_source
+	install -D -m 644 install/rs_source.8 $(AT)/share/man/man8/rs_source.8
+	install -D -m 644 install/ropepeach.nginx $(AT)/share/doc/ropepeach/ropepeach.nginx
+	install -D -m 644 docs/OPERATING.md $(AT)/share/doc/ropepeach/OPERATING.md
+	install -D -m 644 install/ropepeach.sysusers $(AT)/lib/sysusers.d/ropepeach.conf
+	install -D -m 644 install/ropepeach.service $(AT)/lib/systemd/system/ropepeach.service
+	sed -i 's|/usr/local/bin/|$(PREFIX)/bin/|' $(AT)/lib/systemd/system/ropepeach.service
+	install -D -m 755 examples/publish_folder.py $(AT)/lib/ropepeach/publish_folder.py
+	install -D -m 644 examples/source_client.py $(AT)/lib/ropepeach/source_client.py
+	ln -sf ../lib/ropepeach/publish_folder.py $(AT)/bin/publish_folder
+
+uninstall:
+	rm -f $(AT)/bin/rs_source $(AT)/bin/publish_folder $(AT)/share/man/man8/rs_source.8
+	rm -f $(AT)/lib/sysusers.d/ropepeach.conf $(AT)/lib/systemd/system/ropepeach.service
+	rm -rf $(AT)/lib/ropepeach $(AT)/share/doc/ropepeach
