@@ -1,5 +1,5 @@
 //! Reading a body.
-ghost use Rattle.std.specs.Prelude.{◌≡◌, ◌+◌, ◌*◌, ◌≤◌, ◌<◌, [], length, vec_len, vec_capacity, OnOk, OnErr, IsErrOf, IsTrue};
+ghost use Rattle.std.specs.Prelude.{◌≡◌, ◌+◌, ◌*◌, ◌≤◌, ◌<◌, [], ◌++◌, length, vec_len, vec_capacity, OnOk, OnErr, IsErrOf, IsTrue};
 ghost use Rattle.rs_disk.specs.Leaves.{Rests, Runs, HasFailed};
 ghost use Rattle.rs_fixity.specs.Digests.{digests};
 ghost use Rattle.rs_extent.specs.Blocks.{block_size};
@@ -81,7 +81,7 @@ pub fn read_body<D: Disk>(
     into.clear();
     into.try_reserve_exact(length as usize)?;
     into.resize(length as usize, 0).unwrap();
-    if read_front(disk, extent, into).is_err() {
+    if read_piece(disk, extent, 0, into).is_err() {
         into.clear();
         return Err(BodyFault::Device);
     }
@@ -93,13 +93,19 @@ pub fn read_body<D: Disk>(
     }
 }
 
-// Fills the buffer with the first bytes of the extent, by one device call, or none where it has no
-// room.
-fn read_front<D: Disk>(disk: &mut D, extent: Extent, into: &mut [u8]) -> Result<(), Fault>
+// Fills the buffer with the bytes of the extent from byte `at` on, by one device call, or none where it
+// has no room.
+pub(crate) fn read_piece<D: Disk>(
+    disk: &mut D,
+    extent: Extent,
+    at: u32,
+    into: &mut [u8],
+) -> Result<(), Fault>
     requires room { IsOnDisk extent (D.state disk.old).size }
-    requires fits { length into.old ≤ block_size * extent.blocks }
+    requires fits { at + length into.old ≤ block_size * extent.blocks }
     ensures gives { OnOk result (IsTrue (D.state disk.new).honest
-        → into.new ≡ part extent (length into.old) (D.state disk.old).now.seen) }
+        → part extent (at + length into.old) (D.state disk.old).now.seen
+        ≡ part extent at (D.state disk.old).now.seen ++ into.new) }
     ensures runs { Runs (D.state disk.old) (D.state disk.new) result }
     ensures rests { Rests (D.state disk.old) (D.state disk.new) }
     ensures one_call { (D.state disk.new).calls ≤ (D.state disk.old).calls + 1 }
@@ -108,5 +114,5 @@ fn read_front<D: Disk>(disk: &mut D, extent: Extent, into: &mut [u8]) -> Result<
     if into.is_empty() {
         return Ok(());
     }
-    disk.read(offset_of(extent), into)
+    disk.read(offset_of(extent) + at as u64, into)
 }

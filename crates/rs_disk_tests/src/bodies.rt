@@ -2,7 +2,9 @@
 //! FIPS 180-4, the others are by Python's `hashlib`.
 
 use crate::images::image_is;
-use rs_body::{BodyFault, blocks_for, is_on_disk, is_sized, read_body, write_body, write_piece};
+use rs_body::{
+    BodyFault, blocks_for, is_intact, is_on_disk, is_sized, read_body, write_body, write_piece,
+};
 use rs_disk::{Disk, Fault, MemoryDisk};
 use rs_extent::Extent;
 use std::alloc::Global;
@@ -121,6 +123,42 @@ fn bodies_are_read_back(rt: HostRuntime) -> Result<(), Fail> {
         let mut disk = MemoryDisk::from_bytes(rt.alloc(), &with_body(&rt, &[]))?;
         is_kept(&rt, &mut disk, row, &body);
     }
+    Ok(())
+}
+
+/// Looks at a body.
+fn look_so(
+    rt: &impl Abort,
+    disk: &mut MemoryDisk,
+    extent: Extent,
+    length: u32,
+    digest: &[u8; 32],
+) -> Result<bool, Fault> {
+    assert!(rt; is_on_disk(extent, disk.size()));
+    assert!(rt; u64::from(length) <= 512 * u64::from(extent.blocks));
+    is_intact(disk, extent, length, digest)
+}
+
+#[test]
+fn large_bodies_are_looked_at_in_pieces(rt: HostRuntime) -> Result<(), Fail> {
+    let digest = sha256(
+        0x59c4516c8412e19369a4a7e7ae1501f5,
+        0x5dc93e4c5b100ac11954277076fecf24,
+    );
+    let mut bytes = body_of(rt.alloc(), 40_000)?;
+    bytes.resize(40_960, 255)?;
+    let extent = Extent {
+        first: 0,
+        blocks: 80,
+    };
+    let mut disk = MemoryDisk::from_bytes(rt.alloc(), &bytes)?;
+    assert_eq!(rt; look_so(&rt, &mut disk, extent, 40_000, &digest), Ok(true));
+    assert_eq!(rt; disk.calls(), 3);
+    bytes[39_999] ^= 1;
+    let mut disk = MemoryDisk::from_bytes(rt.alloc(), &bytes)?;
+    assert_eq!(rt; look_so(&rt, &mut disk, extent, 40_000, &digest), Ok(false));
+    disk.stop_after(2);
+    assert_eq!(rt; look_so(&rt, &mut disk, extent, 40_000, &digest), Err(Fault));
     Ok(())
 }
 

@@ -5,9 +5,11 @@
 
 mod hashing;
 pub mod laws;
+mod sha256;
 mod text;
 
-pub use hashing::{Hashing, digests_of, sha256_of};
+pub use hashing::{Hashing, digests_of};
+pub use sha256::{Sha256Hashing, sha256_of};
 pub use text::hash_text;
 
 /// The two digests of a message.

@@ -1,7 +1,7 @@
 //! Messages that come in pieces. The messages of RFC 1321 and FIPS 180-4 that fit on a line are in
 //! examples/rows/digests.in.
 
-use rs_fixity::{Digests, Hashing, digests_of, hash_text, sha256_of};
+use rs_fixity::{Digests, Hashing, Sha256Hashing, digests_of, hash_text, sha256_of};
 
 /// The text of the digests of so many times `piece`, and `rest` behind them.
 fn text_in_pieces(times: u32, piece: &[u8], rest: &[u8]) -> [u8; 109] {
@@ -57,6 +57,11 @@ const ABC: [u8; 32] = [
 #[test]
 fn the_sha256_alone(rt: HostRuntime) {
     assert_eq!(rt; sha256_of(b"abc"), ABC);
+    let mut hashing = Sha256Hashing::new();
+    for piece in [&b"a"[..], b"", b"bc"] {
+        hashing.add(piece);
+    }
+    assert_eq!(rt; hashing.done(), ABC);
 }
 
 #[test]

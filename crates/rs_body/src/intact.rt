@@ -1,0 +1,54 @@
+//! Looking at a body, in memory that does not grow with it.
+ghost use Rattle.std.specs.Prelude.{◌≡◌, ◌↔◌, ◌+◌, ◌*◌, ◌/◌, ◌≤◌, length, IfOk, IsTrue};
+ghost use Rattle.rs_disk.specs.Leaves.{Rests, Runs};
+ghost use Rattle.rs_fixity.specs.Digests.{digests};
+ghost use Rattle.rs_extent.specs.Blocks.{block_size};
+ghost use Rattle.rs_extent.specs.Extents.{IsOnDisk};
+ghost use Rattle.rs_body.specs.Blocks.{part};
+
+use crate::read::read_piece;
+use rs_disk::{Disk, Fault};
+use rs_extent::Extent;
+use rs_fixity::Sha256Hashing;
+
+// How many bytes are read at once, but for the last piece: 32 blocks.
+const PIECE_SIZE: usize = 16_384;
+
+/// Whether the body of `length` bytes at the front of an extent has this SHA-256. It is read in
+/// pieces of 16,384 bytes, the last of which may have fewer, each by one device call, and takes no
+/// memory but for one piece. A body of no bytes needs no call.
+///
+/// The blocks of the extent have to lie on the disk, and the bytes have to fit into them. The disk
+/// stays as it is.
+///
+/// # Errors
+/// [`Fault`] where the device fails.
+pub fn is_intact<D: Disk>(
+    disk: &mut D,
+    extent: Extent,
+    length: u32,
+    sha256: &[u8; 32],
+) -> Result<bool, Fault>
+    requires room { IsOnDisk extent (D.state disk.old).size }
+    requires fits { length ≤ block_size * extent.blocks }
+
+    // It is said of a device that has followed the model.
+    ensures tells { IfOk result (λ intact. IsTrue (D.state disk.new).honest → (IsTrue intact
+        ↔ ((digests (part extent length (D.state disk.old).now.seen)).sha256 ≡ sha256.now))) }
+    ensures runs { Runs (D.state disk.old) (D.state disk.new) result }
+    ensures rests { Rests (D.state disk.old) (D.state disk.new) }
+    ensures calls { (D.state disk.new).calls ≤ (D.state disk.old).calls + (length + 16383) / 16384 }
+    ensures no_call { length ≡ 0 → D.state disk.new ≡ D.state disk.old }
+{
+    let mut buffer = [0; PIECE_SIZE];
+    let mut hashing = Sha256Hashing::new();
+    let mut at = 0;
+    while at < length {
+        let size = (length - at).min(PIECE_SIZE as u32);
+        let piece = &mut buffer[..size as usize];
+        read_piece(disk, extent, at, piece)?;
+        hashing.add(piece);
+        at += size;
+    }
+    Ok(hashing.done() == *sha256)
+}

@@ -1,0 +1,51 @@
+//! The SHA-256 of a message alone, where its MD5 is not kept: in one call or piece by piece.
+
+ghost use Rattle.std.specs.Prelude.{◌≡◌, ℕ, List, [], ◌++◌};
+ghost use Rattle.rs_fixity.specs.Digests.{digests};
+
+use sha2::{Digest as _, Sha256};
+
+/// The SHA-256 (FIPS 180-4) of a message that is at hand as a whole, where its MD5 is not kept.
+pub fn sha256_of(bytes: &[u8]) -> [u8; 32]
+    ensures { result ≡ (digests bytes.now).sha256 }
+{
+    Sha256::digest(bytes)
+}
+
+/// Takes a message piece by piece, and then gives its SHA-256 (FIPS 180-4) alone.
+///
+/// A contract says that it holds a message, by `HasTakenSha256`: the pieces that were added so far,
+/// joined. How the message was cut makes no difference.
+#[derive(Drop)]
+pub struct Sha256Hashing {
+    sha256: Sha256,
+}
+
+impl Sha256Hashing {
+    ghost use Rattle.rs_fixity.specs.Hashed.{HasTakenSha256};
+
+    /// Holds the empty message.
+    pub fn new() -> Sha256Hashing
+        ensures { HasTakenSha256 result [] }
+    {
+        Sha256Hashing {
+            sha256: Sha256::new(),
+        }
+    }
+
+    /// Adds the next piece, of any length.
+    pub fn add(&mut self, piece: &[u8])
+        ensures { (m : List ℕ) → HasTakenSha256 self.old m
+            → HasTakenSha256 self.new (m ++ piece.now) }
+    {
+        self.sha256.update(piece);
+    }
+
+    /// The SHA-256 of the message that it holds.
+    pub fn done(self) -> [u8; 32]
+        ensures { (m : List ℕ) → HasTakenSha256 self m → result ≡ (digests m).sha256 }
+    {
+        let Sha256Hashing { sha256 } = self;
+        sha256.finalize()
+    }
+}
