@@ -48,8 +48,8 @@ elsewhere {A = A} {B = B} r s P h =
 module _ {D : Type 0} (device : D → DiskState) (old new : Stored D) (name : List ℕ) (bytes : Vec ℕ Global) (a : AnswersBody device old new name (Ok bytes)) where
   same_state : state_of device new ≡ state_of device old
   same_state =
-      let now : (device new.disk).now ≡ (device old.disk).now = a.rests.now in
-      let contents : new.contents ≡ old.contents = a.contents in
+      let now : (device new.disk).now ≡ (device old.disk).now = a.reads_only.rests.now in
+      let contents : new.contents ≡ old.contents = a.reads_only.contents in
       cc
 
   -- the body is shown with its recorded type
@@ -68,17 +68,14 @@ module _ {D : Type 0} (device : D → DiskState) (old new : Stored D) (name : Li
     answers = record {
       reads = tt;
       recorded = tt;
-      closed = elsewhere refusal Closed (IsTrue old.is_closed) (subst (λ b. IsErrOf {T = List ℕ} (Err refusal) Closed ↔ IsTrue b) a.is_closed closed);
+      closed = elsewhere refusal Closed (IsTrue old.is_closed) (subst (λ b. IsErrOf {T = List ℕ} (Err refusal) Closed ↔ IsTrue b) a.reads_only.is_closed closed);
       not_held = elsewhere refusal NotHeld ((old.is_closed ≡ false) × (is_held (state_of device old) name ≡ false))
-          (subst (λ b. IsErrOf {T = List ℕ} (Err refusal) NotHeld ↔ ((b ≡ false) × (is_held (state_of device old) name ≡ false))) a.is_closed
+          (subst (λ b. IsErrOf {T = List ℕ} (Err refusal) NotHeld ↔ ((b ≡ false) × (is_held (state_of device old) name ≡ false))) a.reads_only.is_closed
           (subst (λ s. IsErrOf {T = List ℕ} (Err refusal) NotHeld ↔ ((new.is_closed ≡ false) × (is_held s name ≡ false))) same_state not_held));
       damaged = λ e. let no : refusal ≡ Damaged = cc in absurd (subst IsOfKind no is);
       failed = λ e. let no : refusal ≡ Device = cc in absurd (subst IsOfKind no is);
       others = of_kind refusal is;
-      slots = a.slots;
-      contents = a.contents;
-      is_closed = a.is_closed;
-      rests = a.rests;
+      reads_only = a.reads_only;
     };
     outcome_is = refl;
   }

@@ -1,5 +1,5 @@
 -- What each answer of the source makes of the state that is held.
-use Rattle.std.proofs.Common.{◌≡◌, ◌≤◌, ◌-◌, ℕ, List, [], ◌∷◌, ◌++◌, length, replicate, Option, Some, None, Result, Ok, Err, Vec, Global, Bool, true, false, if◌then◌else◌, refl, ap, sym, ◌∙◌, subst, inl, inr, arith}
+use Rattle.std.proofs.Common.{◌≡◌, ◌≤◌, ◌-◌, ℕ, List, [], ◌∷◌, ◌++◌, length, replicate, Option, Some, None, Result, Ok, Err, Bool, true, false, if◌then◌else◌, refl, ap, sym, ◌∙◌, subst, inl, inr, arith}
 use Rattle.std.proofs.Math.Seq.{take-length}
 use Rattle.std.proofs.lemmas.List.{length-append, length-replicate, take-append-le}
 use Rattle.std.proofs.lemmas.List.Elements.{All-nil, All-cons}
@@ -12,7 +12,7 @@ use Rattle.rs_model.specs.declared.command.Reply.{Reply}
 use Rattle.rs_model.specs.declared.command.Refusal as model
 use Rattle.rs_image.specs.StateOfImage.{state_in}
 use Rattle.rs_store.specs.Answered.{Answers}
-use Rattle.rs_store.specs.AnswersBody.{AnswersBody}
+use Rattle.rs_store.specs.OnlyReads.{OnlyReads}
 use Rattle.rs_store.specs.Received.{IsBodyOf, IsLeft, AnswersFrom}
 use Rattle.rs_store.specs.Refusals.{decided, or_spent, is_spent}
 use Rattle.rs_store.specs.Source.{Stored, Holds, state_of}
@@ -97,9 +97,9 @@ module _ {D : Type 0} (device : D → DiskState) (old new : Stored D) (now : ℕ
   left_goes : IsLeft device old new → GoesOnOnce device old now new
   left_goes left = none_done left.is_closed left.unchanged.state (λ s held free. (left.holds s held).0)
 
-  -- a body was asked
-  read_goes : (name : List ℕ) (result : Result (Vec ℕ Global) stored.Refusal) → AnswersBody device old new name result → GoesOnOnce device old now new
-  read_goes name result a =
+  -- the source was only read
+  read_goes : OnlyReads device old new → GoesOnOnce device old now new
+  read_goes a =
       none_done a.is_closed
       (ap (λ (held : Medium). state_in held.seen new.contents) a.rests.now ∙ ap (state_in (device old.disk).now.seen) a.contents)
       (λ s held free. record {
@@ -164,7 +164,7 @@ module _ {D : Type 0} (device : D → DiskState) (old new : Stored D) (now : ℕ
   -- what may come of a request
   gives_goes : (plan : Result Plan NoPlan) (more : List ℕ) (rest : Option (List ℕ)) (outcome : RequestOutcome)
       → RequestGives device old now plan more rest outcome new → GoesOnOnce device old now new
-  gives_goes (Ok (ShowBody name)) more rest outcome gives = read_goes name gives.1.result gives.1.answers
+  gives_goes (Ok (ShowBody name)) more rest outcome gives = read_goes gives.1.answers.reads_only
   gives_goes (Ok (ShowDocument doc)) more rest outcome gives = same_goes gives.2
   gives_goes (Ok (Put name kind n waits)) more rest outcome gives = put_goes name kind n more gives.result gives.answers
   gives_goes (Ok (Delete name)) more rest outcome gives = run_goes (commands.Delete name) gives.1.result gives.1.answers

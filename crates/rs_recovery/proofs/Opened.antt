@@ -1,5 +1,5 @@
 -- What an opening gives back.
-use Rattle.std.proofs.Common.{◌≡◌, ℕ, List, Some, None, refl, sym, ◌∙◌, subst, Result, Ok, Err}
+use Rattle.std.proofs.Common.{◌≡◌, ℕ, List, Some, None, sym, ◌∙◌, subst, Result, Ok, Err}
 use Rattle.std.specs.Prelude.{IsTrue, IfOk, IfErr}
 use Rattle.rs_disk.specs.Medium.{DiskState}
 use Rattle.rs_commit.specs.Slots.{Standing, current}
@@ -9,7 +9,6 @@ use Rattle.rs_image.specs.Laws.{StandsOnce}
 use Rattle.rs_store.specs.declared.opening.OpenFault.{OpenFault}
 use Rattle.rs_store.specs.declared.opening.OpenFault.TheVariants.{NotASource, Damaged, Device, NoMemory}
 use Rattle.rs_store.specs.Source.{Stored, Holds, state_of}
-use Rattle.rs_disk.specs.Leaves.{HasFailed}
 use Rattle.rs_store.specs.Opening.{IsOpened, IsNotOpened, disk_of}
 use Rattle.rs_recovery.specs.Sessions.{IsOpenedOn}
 use Rattle.rs_recovery.specs.Recovered.{GivesBack}

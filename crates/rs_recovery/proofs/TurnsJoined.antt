@@ -1,7 +1,6 @@
 -- What joins a run of commands.
-use Rattle.std.proofs.Common.{◌≡◌, inl, inr, ℕ, Bool, true, List, sym, ◌∙◌, ap, subst, cond, Some, None, Result, Vec}
+use Rattle.std.proofs.Common.{◌≡◌, inl, inr, ℕ, Bool, true, List, sym, ◌∙◌, ap, subst, cond, Some, None}
 use Rattle.std.specs.Prelude.{replicate}
-use Rattle.std.specs.Global.{Global}
 use Rattle.std.proofs.lemmas.List.{length-replicate}
 use Rattle.rs_disk.specs.Medium.{Medium, DiskState, IsImage}
 use Rattle.rs_commit.specs.Slots.{Standing}
@@ -12,37 +11,36 @@ use Rattle.rs_model.specs.declared.command.Command.{Command}
 use Rattle.rs_model.specs.declared.command.Command.TheVariants.{Put}
 use Rattle.rs_image.specs.StateOfImage.{StandsFor, Tells}
 use Rattle.rs_image.specs.declared.contents.Contents.{Contents}
-use Rattle.rs_store.specs.declared.refusal.Refusal.{Refusal}
 use Rattle.rs_store.specs.declared.refusal.Refusal.TheVariants.{Closed}
 use Rattle.rs_store.specs.Source.{Stored, Holds, state_of}
 use Rattle.rs_store.specs.Refusals.{decided, or_spent, is_spent}
-use Rattle.rs_store.specs.AnswersBody.{AnswersBody}
+use Rattle.rs_store.specs.OnlyReads.{OnlyReads}
 use Rattle.rs_store.specs.Received.{IsCutShort}
 use Rattle.rs_store.specs.Runs.{IsIdle}
 use Rattle.rs_store.specs.Laws.{HeldStands}
 use Rattle.rs_recovery.proofs.Below.{weaker}
-use Rattle.rs_recovery.specs.Turns.{BodiesIdle, CutPutsIdle}
+use Rattle.rs_recovery.specs.Turns.{ReadingsIdle, CutPutsIdle}
 
 module _ {D : Type 0} (device : D → DiskState) (images_stand : HeldStands device) where
-  -- a source whose body was asked for holds what it held
-  holds_on : (old new : Stored D) (name : List ℕ) (result : Result (Vec ℕ Global) Refusal) → AnswersBody device old new name result → (s : Source) → Holds device old s → Holds device new s
-  holds_on old new name result answers s holds = record {
-    is_open = answers.is_closed ∙ holds.is_open;
-    ready = subst (λ (x : Standing). IsReady x (device new.disk).now) (sym answers.slots) (subst (λ (m : Medium). IsReady old.slots m) (sym answers.rests.now) holds.ready);
+  -- a source that was only read holds what it held
+  holds_on : (old new : Stored D) → OnlyReads device old new → (s : Source) → Holds device old s → Holds device new s
+  holds_on old new reads s holds = record {
+    is_open = reads.is_closed ∙ holds.is_open;
+    ready = subst (λ (x : Standing). IsReady x (device new.disk).now) (sym reads.slots) (subst (λ (m : Medium). IsReady old.slots m) (sym reads.rests.now) holds.ready);
     told = λ image is.
-        let here : IsImage (device old.disk).now image = subst (λ (m : Medium). IsImage m image) answers.rests.now is in
-        subst (λ (x : Standing). Tells x.root new.contents image s) (sym answers.slots) (subst (λ (x : Contents). Tells old.slots.root x image s) (sym answers.contents) (holds.told image here));
+        let here : IsImage (device old.disk).now image = subst (λ (m : Medium). IsImage m image) reads.rests.now is in
+        subst (λ (x : Standing). Tells x.root new.contents image s) (sym reads.slots) (subst (λ (x : Contents). Tells old.slots.root x image s) (sym reads.contents) (holds.told image here));
   }
 
-  pub bodies_idle : BodiesIdle device
-  bodies_idle old new name result answers = record {
-    is_closed = answers.is_closed;
+  pub readings_idle : ReadingsIdle device
+  readings_idle old new reads = record {
+    is_closed = reads.is_closed;
     holds = λ s holds. (
-      holds_on old new name result answers s holds,
-      weaker (device old.disk) (device new.disk) (λ _. IsImage (device old.disk).now) (λ _ image. StandsFor image s) (λ m image is. images_stand old s holds image is) answers.rests.leaves,
+      holds_on old new reads s holds,
+      weaker (device old.disk) (device new.disk) (λ _. IsImage (device old.disk).now) (λ _ image. StandsFor image s) (λ m image is. images_stand old s holds image is) reads.rests.leaves,
     );
-    rests = λ _. answers.rests;
-    calls = answers.rests.leaves.later;
+    rests = λ _. reads.rests;
+    calls = reads.rests.leaves.later;
   }
 
   -- a closed source is asked for no body

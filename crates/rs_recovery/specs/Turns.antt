@@ -1,6 +1,5 @@
 -- What joins a run of commands.
-use Rattle.std.specs.Prelude.{◌⊎◌, ℕ, List, [], ◌∷◌, Result, Err, Vec}
-use Rattle.std.specs.Global.{Global}
+use Rattle.std.specs.Prelude.{◌⊎◌, ℕ, List, [], ◌∷◌, Result, Err}
 use Rattle.rs_disk.specs.Medium.{DiskState}
 use Rattle.rs_model.specs.declared.command.Command.{Command}
 use Rattle.rs_model.specs.declared.command.Reply.{Reply}
@@ -8,7 +7,7 @@ use Rattle.rs_store.specs.declared.refusal.Refusal.{Refusal}
 use Rattle.rs_store.specs.declared.refusal.Refusal.TheVariants.{ReadFault, ShortBody}
 use Rattle.rs_store.specs.Source.{Stored}
 use Rattle.rs_store.specs.Answered.{Answers}
-use Rattle.rs_store.specs.AnswersBody.{AnswersBody}
+use Rattle.rs_store.specs.OnlyReads.{OnlyReads}
 use Rattle.rs_store.specs.Received.{AnswersFrom}
 use Rattle.rs_store.specs.Runs.{IsIdle, InTurn}
 
@@ -17,9 +16,9 @@ abbrev pub CommandsAreTurns : {D : Type 0} → (D → DiskState) → Type 0
 CommandsAreTurns {D} device = (old new : Stored D) (command : Command) (now : ℕ) (reply : Result Reply Refusal) → Answers device old new command now reply
     → InTurn device old ((command, now) ∷ []) (record { reply = reply; at_call = (device new.disk).calls } ∷ []) new
 
--- A source that is asked for a body idles.
-abbrev pub BodiesIdle : {D : Type 0} → (D → DiskState) → Type 0
-BodiesIdle {D} device = (old new : Stored D) (name : List ℕ) (result : Result (Vec ℕ Global) Refusal) → AnswersBody device old new name result → IsIdle device old new
+-- A source that is asked for what it only reads, a body or the damaged ones, idles, whatever it answers.
+abbrev pub ReadingsIdle : {D : Type 0} → (D → DiskState) → Type 0
+ReadingsIdle {D} device = (old new : Stored D) → OnlyReads device old new → IsIdle device old new
 
 -- A source idles that is asked for a put whose body does not come whole: the reader fails, or its input ends.
 abbrev pub CutPutsIdle : {D : Type 0} → (D → DiskState) → Type 0

@@ -11,7 +11,7 @@ ghost use Rattle.rs_store.specs.declared.running.Ack.{Ack};
 ghost use Rattle.rs_store.specs.Runs.{StandsForPrefix};
 ghost use Rattle.rs_store.specs.Laws.{TurnsGoOn};
 ghost use Rattle.rs_recovery.specs.Below.{Below};
-ghost use Rattle.rs_recovery.specs.Turns.{CommandsAreTurns, BodiesIdle, CutPutsIdle};
+ghost use Rattle.rs_recovery.specs.Turns.{CommandsAreTurns, ReadingsIdle, CutPutsIdle};
 ghost use Rattle.rs_recovery.specs.Sessions.{OneStanding, OpeningsStopToo};
 ghost use Rattle.rs_recovery.specs.Served.{SessionsStand};
 ghost use Rattle.rs_recovery.specs.Recovered.{YieldsHeld};
@@ -24,11 +24,11 @@ use rs_store::laws::{
 };
 
 /// What else is asked of a source joins a run: one run and then another are one run; one command is a run of its own; and a source
-/// that is asked for a body, or for a put whose body does not come whole, idles.
+/// that only reads, as for a body or for the damaged ones, or is asked for a put whose body does not come whole, idles.
 pub fn runs_go_on<D: Disk>()
     ensures join { TurnsGoOn D.state }
     ensures command { CommandsAreTurns D.state }
-    ensures body { BodiesIdle D.state }
+    ensures reading { ReadingsIdle D.state }
     ensures cut { CutPutsIdle D.state }
 {
     turns_go_on::<D>();

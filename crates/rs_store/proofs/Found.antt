@@ -61,11 +61,11 @@ found_within name (x ∷ rs) r b e is =
     (λ same. some_first x.extent (bodies_of rs) b (subst (λ (y : Record). within y.extent b ≡ true) (sym same) is))
     (λ there. some_rest x.extent (bodies_of rs) b (found_within name rs r b there is))
 
-block_fits : (size b : ℕ) → b < blocks_of_disk size → 512 * b + 512 ≤ size
+pub block_fits : (size b : ℕ) → b < blocks_of_disk size → 512 * b + 512 ≤ size
 block_fits size b less = omega arith
 
 -- what a root reaches before the bodies
-abbrev lists_reached : Root → Contents → List Extent
+abbrev pub lists_reached : Root → Contents → List Extent
 lists_reached root c =
     root.directory ∷ extents_of (stored_refs c.catalogue) ++ extents_of (stored_refs c.history)
     ++ extents_of (unshared (stored_refs c.published) (stored_refs c.catalogue))

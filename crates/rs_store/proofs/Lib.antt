@@ -15,3 +15,4 @@ pub mod Early
 pub mod Kept
 pub mod Finished
 pub mod Begun
+pub mod Damaged

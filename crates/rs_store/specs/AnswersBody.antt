@@ -2,12 +2,13 @@
 use Rattle.std.specs.Prelude.{◌≡◌, ◌↔◌, ℕ, false, List, Some, Result, Vec, IfOk, IfErr, IfSome, IsErrOf, IsTrue}
 use Rattle.std.specs.Global.{Global}
 use Rattle.rs_disk.specs.Medium.{DiskState}
-use Rattle.rs_disk.specs.Leaves.{Rests, HasFailed}
+use Rattle.rs_disk.specs.Leaves.{HasFailed}
 use Rattle.rs_model.specs.Names.{value_of}
 use Rattle.rs_model.specs.State.{body_of}
 use Rattle.rs_model.specs.Step.{is_held}
 use Rattle.rs_store.specs.declared.refusal.Refusal.{Refusal}
 use Rattle.rs_store.specs.declared.refusal.Refusal.TheVariants.{Closed, NotHeld, Device, Damaged}
+use Rattle.rs_store.specs.OnlyReads.{OnlyReads}
 use Rattle.rs_store.specs.Shows.{AreAsRecorded, HasItsDigest, IsOfBody}
 use Rattle.rs_store.specs.Source.{Stored, state_of}
 
@@ -15,7 +16,7 @@ use Rattle.rs_store.specs.Source.{Stored, state_of}
 -- `reads`, `recorded`: bytes are the body, of a device that has followed the model; of every device they are as recorded.
 -- `closed`, `not_held`: a refusal that needs no device comes exactly where its cause is there.
 -- `damaged`, `device`, `others`: the causes of the others, want of memory apart.
--- The rest: nothing changes but what the disk counts, and the source stays open.
+-- `reads_only`: nothing changes but what the disk counts, and the source stays open, also after Device.
 pub record AnswersBody {D : Type 0} (device : D → DiskState) (old new : Stored D) (name : List ℕ) (result : Result (Vec ℕ Global) Refusal) : Type 0 where
   pub reads : IfOk result (λ bytes. IsTrue (device new.disk).honest → body_of name (state_of device old) ≡ Some bytes.items)
   pub recorded : IfOk result (λ bytes. IfSome (value_of name (state_of device old).held) (λ held. AreAsRecorded held.entry.facts bytes.items))
@@ -24,7 +25,4 @@ pub record AnswersBody {D : Type 0} (device : D → DiskState) (old new : Stored
   pub damaged : IsErrOf result Damaged → IsTrue (device new.disk).honest → IfSome (value_of name (state_of device old).held) (λ held. ¬ HasItsDigest held)
   pub failed : IsErrOf result Device → HasFailed (device old.disk) (device new.disk)
   pub others : IfErr result IsOfBody
-  pub slots : new.slots ≡ old.slots
-  pub contents : new.contents ≡ old.contents
-  pub is_closed : new.is_closed ≡ old.is_closed
-  pub rests : Rests (device old.disk) (device new.disk)
+  pub reads_only : OnlyReads device old new

@@ -9,7 +9,9 @@ pub mod Shows
 pub mod Bodies
 pub mod Views
 pub mod Received
+pub mod OnlyReads
 pub mod AnswersBody
+pub mod Verified
 pub mod Counted
 pub mod Runs
 pub mod Laws

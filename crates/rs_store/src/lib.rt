@@ -16,6 +16,7 @@ mod receiving;
 mod refusal;
 mod running;
 mod source;
+mod verifying;
 mod view;
 mod writing;
 

@@ -1,7 +1,7 @@
 //! What a source shows.
 
 ghost use Rattle.std.specs.Prelude.{◌≡◌, ◌↔◌, false, map, IfOk, IfErr, IfSome, IsErrOf, IsOkUnless, Some, IsTrue};
-ghost use Rattle.rs_disk.specs.Leaves.{Rests, HasFailed};
+ghost use Rattle.rs_disk.specs.Leaves.{HasFailed};
 ghost use Rattle.rs_model.specs.Names.{value_of, is_ordered};
 ghost use Rattle.rs_model.specs.State.{body_of, entries};
 ghost use Rattle.rs_model.specs.Step.{is_held};
@@ -12,6 +12,7 @@ ghost use Rattle.rs_changes.specs.History.{changes_of};
 ghost use Rattle.rs_store.specs.Source.{state_of};
 ghost use Rattle.rs_store.specs.Shows.{AreAsRecorded, HasItsDigest, IsOfBody, IsOfKind, kind_of, status_of};
 ghost use Rattle.rs_store.specs.AnswersBody.{AnswersBody};
+ghost use Rattle.rs_store.specs.OnlyReads.{OnlyReads};
 ghost use Rattle.rs_store.specs.Views.{shown_in, shown_by_source};
 
 use crate::{Refusal, Source, SourceView};
@@ -103,10 +104,7 @@ impl<D: Disk> Source<D> {
             → HasFailed (D.state self.old.disk) (D.state self.new.disk) }
         ensures others { IfErr result IsOfBody }
 
-        ensures slots { self.new.slots ≡ self.old.slots }
-        ensures contents { self.new.contents ≡ self.old.contents }
-        ensures is_closed { self.new.is_closed ≡ self.old.is_closed }
-        ensures rests { Rests (D.state self.old.disk) (D.state self.new.disk) }
+        ensures reads_only { OnlyReads D.state self.old self.new }
     {
         if self.is_closed {
             return Err(Refusal::Closed);

@@ -1,8 +1,8 @@
 //! What is read of a source: bodies, also while a device call fails, media types, and what its documents are
 //! written from.
 
-use super::asking::{ask_for_two_puts, disk_of, made, named, tell};
-use rs_disk::MemoryDisk;
+use super::asking::{ask_for_two_puts, disk_of, made, named, opened, tell};
+use rs_disk::{Disk, MemoryDisk};
 use rs_lists::View;
 use rs_store::Source;
 use std::process::Abort;
@@ -49,6 +49,53 @@ fn bodies_and_a_device_that_fails(rt: HostRuntime) {
     disk.fail_once(30);
     let mut source = made(&rt, disk);
     tells(&rt, &mut source);
+}
+
+/// Appends the names of the damaged bodies, or why none are told.
+fn tell_damaged(
+    rt: &(impl Abort + AllocGlobal),
+    source: &mut Source<MemoryDisk>,
+    text: &mut String,
+) {
+    match source.verify() {
+        Ok(names) => {
+            for name in &names {
+                tell(rt, text, name.bytes());
+                tell(rt, text, b" ");
+            }
+        }
+        Err(refusal) => write!(text, "{refusal:?}").expect(rt, "memory for text"),
+    }
+    tell(rt, text, b";");
+}
+
+/// The source with a byte changed of the body of its second resource.
+fn with_a_wrong_byte(
+    rt: &(impl Abort + AllocGlobal),
+    source: Source<MemoryDisk>,
+) -> Source<MemoryDisk> {
+    let records = source.records().expect(rt, "records");
+    let first = records.get(1).expect(rt, "a second record").extent.first;
+    let mut disk = source.into_disk();
+    let at = u64::from(first) * 512;
+    assert!(rt; at < disk.size());
+    disk.write(at, b"x").expect(rt, "a write");
+    opened(rt, disk)
+}
+
+#[test]
+fn damaged_bodies_and_a_device_that_fails(rt: HostRuntime) {
+    let mut disk = disk_of(&rt, 65536);
+    // Call 30 is the first read of `b` again.
+    disk.fail_once(30);
+    let mut source = made(&rt, disk);
+    ask_for_two_puts(&rt, &mut source);
+    let mut text = String::new(rt.alloc());
+    tell_damaged(&rt, &mut source, &mut text);
+    tell_damaged(&rt, &mut source, &mut text);
+    let mut source = with_a_wrong_byte(&rt, source);
+    tell_damaged(&rt, &mut source, &mut text);
+    assert_eq!(rt; text.as_str(), "Device;;b ;");
 }
 
 /// Looks at what a view of a source shows.

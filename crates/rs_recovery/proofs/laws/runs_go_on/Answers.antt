@@ -1,5 +1,5 @@
 use Rattle.std.proofs.Common.{refl}
-use Rattle.rs_recovery.proofs.TurnsJoined.{bodies_idle, cut_puts_idle}
+use Rattle.rs_recovery.proofs.TurnsJoined.{readings_idle, cut_puts_idle}
 use Rattle.rs_recovery.proofs.laws.runs_go_on.Goals as goal
 
 pub returns-clause-join : goal.returns-clause-join
@@ -9,8 +9,8 @@ pub returns-clause-command : goal.returns-clause-command
 returns-clause-command g c = λ old new command now reply answers.
     (old, c.held_sources_rest.ensures.idle old, new, answers, refl, c.held_sources_rest.ensures.idle new)
 
-pub returns-clause-body : goal.returns-clause-body
-returns-clause-body g c = bodies_idle g.D.Disk.state c.held_sources_rest.ensures.stands
+pub returns-clause-reading : goal.returns-clause-reading
+returns-clause-reading g c = readings_idle g.D.Disk.state c.held_sources_rest.ensures.stands
 
 pub returns-clause-cut : goal.returns-clause-cut
 returns-clause-cut g c = cut_puts_idle g.D.Disk.state c.held_sources_rest.ensures.stands

@@ -10,8 +10,5 @@ returns g c = record {
   damaged = c.read_held.ensures.damaged;
   failed = c.read_held.ensures.device;
   others = c.read_held.ensures.others;
-  slots = c.read_held.ensures.slots;
-  contents = c.read_held.ensures.contents;
-  is_closed = c.read_held.ensures.is_closed;
-  rests = c.read_held.ensures.rests;
+  reads_only = c.read_held.ensures.reads_only;
 }
