@@ -74,6 +74,7 @@ delete h
 publish
 show /resourcelist.xml
 show /resource/f/g
+verify
 status""".encode().split(b"\n")
 
 

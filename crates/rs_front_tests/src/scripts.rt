@@ -1,6 +1,6 @@
 //! Scripts over ends that fail.
 
-use crate::sources::{commands_of, new_source};
+use crate::sources::{commands_of, new_source, new_source_on};
 use rs_disk::{FaultyReader, FaultyWriter, MemoryDisk};
 use rs_io::Watched;
 use rs_script::{ScriptFault, script, script_bytes};
@@ -70,13 +70,14 @@ fn a_reader_fails_at_each_read(rt: HostRuntime) -> Result<(), Fail> {
 /// A line, its answer, and how many commands are accepted after it.
 type Row<'a> = (&'a [u8], &'a [u8], u64);
 
-const TALK: [Row<'static>; 8] = [
+const TALK: [Row<'static>; 9] = [
     (
         b"put a 6162 a/b\n",
         b"created 1970-01-01T00:00:00.001Z\n",
         1,
     ),
     (b"show /resource/a\n", b"bytes 2\nab\n", 1),
+    (b"verify\n", b"verified 1\n", 1),
     (b"publish\n", b"published 1 1970-01-01T00:00:00.002Z\n", 2),
     (
         b"show /.well-known/resourcesync\n",
@@ -183,4 +184,43 @@ fn is_answered(
 fn a_script_lies_in_memory(rt: HostRuntime) -> Result<(), Fail> {
     let mut source = new_source(rt.alloc())?;
     is_answered(&rt, &mut source)
+}
+
+/// Two resources, of which one has no bytes, and the question for damaged ones, asked twice.
+const VERIFIED: &[u8] = b"put a - a/b
+publish
+put b 616263 a/b
+verify
+verify
+show /resource/b
+publish
+";
+
+/// Runs that script over a device of which a call fails in the first `verify`: nothing changes, and the source is open.
+fn goes_on_after_a_fault(
+    rt: &(impl Abort + AllocGlobal),
+    source: &mut Source<MemoryDisk>,
+) -> Result<(), Fail> {
+    let output = script_bytes(rt.alloc(), source, VERIFIED)?;
+    let wanted = b"created 1970-01-01T00:00:00.001Z
+published 1 1970-01-01T00:00:00.002Z
+created 1970-01-01T00:00:00.003Z
+refused Device
+verified 2
+bytes 3
+abc
+published 2 1970-01-01T00:00:00.004Z
+";
+    assert!(rt; output.as_slice() == wanted.as_slice());
+    Ok(())
+}
+
+#[test]
+fn a_device_fails_in_verify(rt: HostRuntime) -> Result<(), Fail> {
+    let mut disk = MemoryDisk::new(rt.alloc(), 65_536)?;
+    // The formatting makes six calls, and the commands 24. The next one is the first read of `b`; the body of no bytes
+    // needs none.
+    disk.fail_once(30);
+    let mut source = new_source_on(rt.alloc(), disk)?;
+    goes_on_after_a_fault(&rt, &mut source)
 }

@@ -8,7 +8,11 @@ use std::test::Fail;
 
 /// A source formatted at the moment 0, with lists of at most two items.
 pub fn new_source(alloc: Global) -> Result<Source<MemoryDisk>, Fail> {
-    let disk = MemoryDisk::new(alloc, 65_536)?;
+    new_source_on(alloc, MemoryDisk::new(alloc, 65_536)?)
+}
+
+/// The same on this disk. Where nothing fails the formatting makes six device calls.
+pub fn new_source_on(alloc: Global, disk: MemoryDisk) -> Result<Source<MemoryDisk>, Fail> {
     match Source::format(alloc, disk, b"http://127.0.0.1:8080", 2, Moment::first()) {
         Ok(source) => Ok(source),
         Err((_, fault)) => Err(fault.into()),

@@ -1,6 +1,7 @@
 -- The answer to each kind of request.
-use Rattle.std.proofs.Common.{◌≡◌, ℕ, List, [], Option, Some, None, Result, Ok, Err, Vec, Global, Bool, true, false, ◌⊎◌, ◌<◌, ◌≤◌, length, refl, inl, inr, ap, sym, subst, ◌∙◌, if◌then◌else◌, ◌↔◌, IsErrOf, IsTrue, OnOk, option_map}
+use Rattle.std.proofs.Common.{◌≡◌, ℕ, List, [], Option, Some, None, Result, Ok, Err, Vec, Global, Bool, true, false, ◌⊎◌, ◌<◌, ◌≤◌, length, refl, inl, inr, ap, sym, subst, ◌∙◌, ◌-◌, if◌then◌else◌, ◌↔◌, IsErrOf, IsTrue, OnOk, option_map}
 use Rattle.rs_disk.specs.Medium.{DiskState}
+use Rattle.rs_disk.proofs.Steps.{rests}
 use Rattle.rs_model.specs.declared.command.Command.{Command}
 use Rattle.rs_model.specs.declared.command.Reply.{Reply}
 use Rattle.rs_lists.specs.declared.doc.Doc.{Doc}
@@ -17,10 +18,11 @@ use Rattle.rs_store.specs.declared.refusal.Refusal.TheVariants.{Closed}
 use Rattle.rs_script.specs.declared.refusal.Refusal.{Refusal}
 use Rattle.rs_script.specs.declared.refusal.Refusal.TheVariants.{BadLine, LongLine, NoSuchDocument, NoMemory, Source}
 use Rattle.rs_script.specs.declared.request.Request.{Request}
-use Rattle.rs_script.specs.declared.request.Request.TheVariants.{At, Run, Document, Body, Status}
-use Rattle.rs_script.specs.Answers.{outcome_text, shown_text}
+use Rattle.rs_script.specs.declared.request.Request.TheVariants.{At, Run, Document, Body, Status, Verify}
+use Rattle.rs_script.specs.Answers.{outcome_text, shown_text, verified_text}
 use Rattle.rs_store.specs.AnswersBody.{AnswersBody}
-use Rattle.rs_script.specs.Outcomes.{outcome_of_reply, counted_as, shown_as}
+use Rattle.rs_store.specs.Verified.{AnswersVerify}
+use Rattle.rs_script.specs.Outcomes.{outcome_of_reply, counted_as, shown_as, verified_as}
 use Rattle.rs_script.specs.Lines.{line_limit}
 use Rattle.rs_script.specs.Model.{shown_or}
 use Rattle.rs_script.specs.Progress.{RequestAnswers, LineAnswers}
@@ -110,6 +112,40 @@ counted_closed device s now refusal P same closed w = record {
   session_is = refl;
   written = subst (λ r. P (outcome_text (refused (Source r)))) same w;
 }
+
+-- the damaged bodies were asked of the source
+pub was_verified : {D : Type 0} (device : D → DiskState) (old new : Stored D) (now : ℕ) (result : Result (Vec (List ℕ) Global) denials.Refusal) (P : List ℕ → Type 0)
+    → AnswersVerify device old new result → P (outcome_text (verified_as (length (state_of device old).held) result))
+    → RequestAnswers device (script_state old now) (Ok Verify) (script_state new now) P
+was_verified device old new now result P a w = record {
+  answer = record { outcome = verified_as (length (state_of device old).held) result; commands = []; session = script_state new now };
+  gives = inl (record { result = result; answers = a; outcome = refl; commands = refl; now = refl });
+  session_is = refl;
+  written = w;
+}
+
+-- and are told, with the number of the sound ones
+pub damaged_told : {D : Type 0} (device : D → DiskState) (old new : Stored D) (now : ℕ) (names : Vec (List ℕ) Global) (written : List (List ℕ)) (sound : ℕ) (status : counts.Status) (P : List ℕ → Type 0)
+    → AnswersVerify device old new (Ok names) → written ≡ names.items → status ≡ status_of (state_of device old)
+    → sound ≡ status.resources - length names.items → P (verified_text written sound)
+    → RequestAnswers device (script_state old now) (Ok Verify) (script_state new now) P
+damaged_told device old new now names written sound status P a same e is w =
+    let number : sound ≡ length (state_of device old).held - length names.items = is ∙ ap (λ (s : counts.Status). s.resources - length names.items) e in
+    was_verified device old new now (Ok names) P a (subst (λ n. P (verified_text names.items n)) number (subst (λ l. P (verified_text l sound)) same w))
+
+-- no body of a closed source is looked at
+pub verified_closed : {D : Type 0} (device : D → DiskState) (s : Stored D) (now : ℕ) (refusal : denials.Refusal) (P : List ℕ → Type 0)
+    → refusal ≡ Closed → s.is_closed ≡ true → P (outcome_text (refused (Source refusal)))
+    → RequestAnswers device (script_state s now) (Ok Verify) (script_state s now) P
+verified_closed device s now refusal P same closed w =
+    was_verified device s s now (Err Closed) P (record {
+      names = tt;
+      few = tt;
+      closed = (λ _. closed, λ _. refl);
+      failed = λ e. absurd cc;
+      others = tt;
+      reads_only = record { slots = refl; contents = refl; is_closed = refl; rests = rests (device s.disk) };
+    }) (subst (λ r. P (outcome_text (refused (Source r)))) same w)
 
 -- no request
 abbrev denied : Refusal → Result Request Refusal

@@ -1,5 +1,5 @@
 -- What a line leaves of a stored source, and what its commands make of the state.
-use Rattle.std.proofs.Common.{◌≡◌, ◌≤◌, ℕ, List, [], Result, Ok, Err, Vec, Global, true, false, refl, ap, sym, ◌∙◌, subst, inl, inr, arith, IsTrue}
+use Rattle.std.proofs.Common.{◌≡◌, ◌≤◌, ℕ, List, [], Result, Ok, Err, true, false, refl, ap, sym, ◌∙◌, subst, inl, inr, arith, IsTrue}
 use Rattle.rs_disk.specs.Medium.{DiskState, IsImage, Medium}
 use Rattle.rs_commit.specs.Slots.{Standing}
 use Rattle.rs_commit.specs.Commit.{IsReady}
@@ -15,8 +15,8 @@ use Rattle.rs_store.specs.declared.refusal.Refusal as stored
 use Rattle.rs_store.specs.declared.refusal.Refusal.TheVariants.{Closed, TooLong, NotHeld, TooManyResources, TooManyChanges, Exhausted, Full, ReadFault, ShortBody, Device, Damaged, NoMemory}
 use Rattle.rs_script.specs.declared.refusal.Refusal.{Refusal}
 use Rattle.rs_script.specs.declared.request.Request.{Request}
-use Rattle.rs_script.specs.declared.request.Request.TheVariants.{At, Run, Document, Body, Status}
-use Rattle.rs_store.specs.AnswersBody.{AnswersBody}
+use Rattle.rs_script.specs.declared.request.Request.TheVariants.{At, Run, Document, Body, Status, Verify}
+use Rattle.rs_store.specs.OnlyReads.{OnlyReads}
 use Rattle.rs_script.specs.Outcomes.{outcome_of_reply, counted_as, RequestGives, LineGives}
 use Rattle.rs_script.specs.Requests.{request_of}
 use Rattle.rs_script.specs.Script.{IsMachine}
@@ -82,10 +82,9 @@ module _ {D : Type 0} (device : D → DiskState) (old : Stored D) where
   run_follows new command now (Err ShortBody) commands is a = absurd (a.refused ShortBody refl)
   run_follows new command now (Err NoMemory) commands is a = refused_follows new command now NoMemory commands (λ e. absurd cc) is a (λ s held. (a.leads s held).0)
 
-  -- a body was asked
-  read_follows : (new : Stored D) (name : List ℕ) (result : Result (Vec ℕ Global) stored.Refusal) (commands : List (Command × ℕ)) → commands ≡ []
-      → AnswersBody device old new name result → Follows device old new commands
-  read_follows new name result commands none a =
+  -- the source was only read
+  read_follows : (new : Stored D) (commands : List (Command × ℕ)) → commands ≡ [] → OnlyReads device old new → Follows device old new commands
+  read_follows new commands none a =
       rw none record {
         lasts = a.rests.lasts;
         opened = λ h. sym a.is_closed ∙ h;
@@ -109,8 +108,9 @@ module _ {D : Type 0} (device : D → DiskState) (old : ScriptState (Stored D)) 
   request_follows (Ok (At t)) e = subst AnswerFollows (sym e) (stays device old.source)
   request_follows (Ok (Run command)) r = run_follows device old.source answer.session.source command old.now r.result answer.commands r.commands r.answers
   request_follows (Ok (Document doc)) e = subst AnswerFollows (sym e) (stays device old.source)
-  request_follows (Ok (Body name)) r = read_follows device old.source answer.session.source name r.result answer.commands r.commands r.answers
+  request_follows (Ok (Body name)) r = read_follows device old.source answer.session.source answer.commands r.commands r.answers.reads_only
   request_follows (Ok Status) e = subst AnswerFollows (sym e) (stays device old.source)
+  request_follows (Ok Verify) r = read_follows device old.source answer.session.source answer.commands r.commands r.answers.reads_only
   request_follows (Err refusal) e = subst AnswerFollows (sym e) (stays device old.source)
 
   pub line_follows : (line : List ℕ) → LineGives device old line answer → Follows device old.source answer.session.source answer.commands
@@ -149,8 +149,9 @@ module _ {D : Type 0} (device : D → DiskState) (old : ScriptState (Stored D)) 
   request_rises (Ok (At t)) e = subst Rises (sym e) (omega arith)
   request_rises (Ok (Run command)) r = run_rises command r.result r.answers r.outcome
   request_rises (Ok (Document doc)) e = subst Rises (sym e) (omega arith)
-  request_rises (Ok (Body name)) r = alike_rises answer.session.source r.answers.slots
+  request_rises (Ok (Body name)) r = alike_rises answer.session.source r.answers.reads_only.slots
   request_rises (Ok Status) e = subst Rises (sym e) (omega arith)
+  request_rises (Ok Verify) r = alike_rises answer.session.source r.answers.reads_only.slots
   request_rises (Err refusal) e = subst Rises (sym e) (omega arith)
 
   pub line_rises : (line : List ℕ) → LineGives device old line answer

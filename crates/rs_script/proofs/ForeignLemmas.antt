@@ -59,7 +59,8 @@ asks_nothing line long h = by_space (position is_space line) refl
     by_space None e =
         let not_publish = other_length line (codes "publish") (λ same. absurd (omega (arith, same))) in
         let not_status = other_length line (codes "status") (λ same. absurd (omega (arith, same))) in
-        rw (fields-last line 2 e, not_publish, not_status) refl
+        let not_verify = other_length line (codes "verify") (λ same. absurd (omega (arith, same))) in
+        rw (fields-last line 2 e, not_publish, not_status, not_verify) refl
     by_space (Some i) e =
         let no_at = either_false (starts_with nat_eq line (codes "at ")) _ h in
         let no_put = either_false (starts_with nat_eq line (codes "put ")) _ no_at.1 in

@@ -1,6 +1,8 @@
 -- An answer of a stored source that the model decides is the model's.
-use Rattle.std.proofs.Common.{◌≡◌, ◌<◌, ◌+◌, ◌^◌, ℕ, List, [], Option, Some, None, Result, Ok, Err, Vec, Global, length, nat_lt, nat_le, Bool, true, false, refl, ap, sym, ◌∙◌, subst, inl, inr, arith, IsTrue, is_some, option_map, if◌then◌else◌}
+use Rattle.std.proofs.Common.{◌≡◌, ◌<◌, ◌+◌, ◌-◌, ◌^◌, ℕ, List, [], Option, Some, None, Result, Ok, Err, Vec, Global, length, not, filter, nat_lt, nat_le, Bool, true, false, refl, ap, sym, ◌∙◌, subst, inl, inr, arith, IsTrue, is_some, option_map, if◌then◌else◌}
 use Rattle.std.proofs.lemmas.Bool.Decides.{nat_tests}
+use Rattle.std.proofs.lemmas.List.{length-map}
+use Rattle.std.proofs.lemmas.List.Filters.{length-filter_both}
 use Rattle.rs_disk.specs.Medium.{DiskState}
 use Rattle.rs_model.specs.Names.{value_of}
 use Rattle.rs_model.specs.State.{Source, body_of}
@@ -21,14 +23,16 @@ use Rattle.rs_caps.specs.Shows.{shown_of}
 use Rattle.rs_script.specs.declared.refusal.Refusal.{Refusal}
 use Rattle.rs_script.specs.declared.refusal.Refusal.TheVariants as refusals
 use Rattle.rs_script.specs.declared.request.Request.{Request}
-use Rattle.rs_script.specs.declared.request.Request.TheVariants.{At, Run, Document, Body, Status}
+use Rattle.rs_script.specs.declared.request.Request.TheVariants.{At, Run, Document, Body, Status, Verify}
 use Rattle.rs_store.specs.AnswersBody.{AnswersBody}
-use Rattle.rs_script.specs.Outcomes.{outcome_of_reply, counted_as, shown_as, if_open, RequestGives, LineGives}
+use Rattle.rs_store.specs.OnlyReads.{OnlyReads}
+use Rattle.rs_store.specs.Verified.{AnswersVerify, is_sound, damaged_names}
+use Rattle.rs_script.specs.Outcomes.{outcome_of_reply, counted_as, shown_as, verified_as, if_open, RequestGives, LineGives}
 use Rattle.rs_script.specs.Lines.{line_limit}
-use Rattle.rs_script.specs.Model.{stepped, shown_or, answer_to, line_answer}
+use Rattle.rs_script.specs.Model.{stepped, shown_or, sound_count, answer_to, line_answer}
 use Rattle.rs_script.specs.Requests.{request_of}
 use Rattle.rs_script.specs.Script.{IsOfMachine, IsMachine, told}
-use Rattle.rs_script.specs.Session.{ScriptState, script_state, LineOutcome, refused, counted, Answer, unchanged}
+use Rattle.rs_script.specs.Session.{ScriptState, script_state, LineOutcome, refused, counted, verified, Answer, unchanged}
 
 -- an answer of a stored source is this one of the model
 pub record IsSame {D : Type 0} (device : D → DiskState) (answer : Answer (Stored D)) (expected : Answer Source) : Type 0 where
@@ -51,6 +55,15 @@ is_left generation lt = grind (arith, nat_tests)
 missing : {X : Type 0} (f : X → List ℕ) (found : Option X) → is_some found ≡ false → option_map f found ≡ None
 missing f None e = refl
 missing f (Some x) e = absurd cc
+
+-- what is not damaged is sound
+sound_rest : (s : Source) → length s.held - length (damaged_names s) ≡ sound_count s
+sound_rest s =
+    let sound = λ (e : List ℕ × Held). is_sound e.1 in
+    let damaged = λ (e : List ℕ × Held). not (is_sound e.1) in
+    let both = length-filter_both sound damaged (λ e. refl) s.held in
+    let same = length-map (filter damaged s.held) (λ (e : List ℕ × Held). e.0) in
+    omega (arith, both, same)
 
 module _ {D : Type 0} (device : D → DiskState) (old : ScriptState (Stored D)) (answer : Answer (Stored D)) (models : ¬ IsMachine answer.outcome) where
   abbrev state : Source
@@ -107,9 +120,8 @@ module _ {D : Type 0} (device : D → DiskState) (old : ScriptState (Stored D)) 
       run_refused command Exhausted (λ e. absurd cc) left (a.refused Exhausted refl) o c n (a.unchanged Exhausted refl (λ e. absurd cc)).state
 
   -- the script_state after a reading tells what it told
-  read_session : (name : List ℕ) (result : Result (Vec ℕ Global) stored.Refusal) → AnswersBody device old.source answer.session.source name result
-      → answer.session.now ≡ old.now → told device answer.session ≡ told device old
-  read_session name result a n =
+  read_session : OnlyReads device old.source answer.session.source → answer.session.now ≡ old.now → told device answer.session ≡ told device old
+  read_session a n =
       ap (λ held. script_state (state_in held.seen answer.session.source.contents) answer.session.now) a.rests.now
       ∙ ap (λ c. script_state (state_in (device old.source.disk).now.seen c) answer.session.now) a.contents
       ∙ ap (script_state state) n
@@ -120,9 +132,9 @@ module _ {D : Type 0} (device : D → DiskState) (old : ScriptState (Stored D)) 
       → answer.outcome ≡ shown_as result → answer.commands ≡ [] → answer.session.now ≡ old.now
       → IsSame device answer (unchanged (told device old) (shown_or (refusals.Source NotHeld) (body_of name state)))
   read_same name (Ok bytes) a honest o c n =
-      rw (a.reads honest) record { outcome = o; commands = c; session = read_session name (Ok bytes) a n }
+      rw (a.reads honest) record { outcome = o; commands = c; session = read_session a.reads_only n }
   read_same name (Err NotHeld) a honest o c n =
-      rw (missing (λ (h : Held). h.bytes) (value_of name state.held) (a.not_held.0 refl).1) record { outcome = o; commands = c; session = read_session name (Err NotHeld) a n }
+      rw (missing (λ (h : Held). h.bytes) (value_of name state.held) (a.not_held.0 refl).1) record { outcome = o; commands = c; session = read_session a.reads_only n }
   read_same name (Err Closed) a honest o c n = machine_refused Closed tt o
   read_same name (Err Full) a honest o c n = machine_refused Full tt o
   read_same name (Err Device) a honest o c n = machine_refused Device tt o
@@ -134,6 +146,29 @@ module _ {D : Type 0} (device : D → DiskState) (old : ScriptState (Stored D)) 
   read_same name (Err TooManyResources) a honest o c n = absurd a.others
   read_same name (Err TooManyChanges) a honest o c n = absurd a.others
   read_same name (Err Exhausted) a honest o c n = absurd a.others
+
+  -- the damaged bodies are asked
+  verify_same : (result : Result (Vec (List ℕ) Global) stored.Refusal) → AnswersVerify device old.source answer.session.source result
+      → IsTrue (device answer.session.source.disk).honest
+      → answer.outcome ≡ verified_as (length state.held) result → answer.commands ≡ [] → answer.session.now ≡ old.now
+      → IsSame device answer (unchanged (told device old) (verified (damaged_names state) (sound_count state)))
+  verify_same (Ok names) a honest o c n = record {
+    outcome = o ∙ ap (λ found. verified found (length state.held - length found)) (a.names honest) ∙ ap (verified (damaged_names state)) (sound_rest state);
+    commands = c;
+    session = read_session a.reads_only n;
+  }
+  verify_same (Err Closed) a honest o c n = machine_refused Closed tt o
+  verify_same (Err Device) a honest o c n = machine_refused Device tt o
+  verify_same (Err NoMemory) a honest o c n = machine_refused NoMemory tt o
+  verify_same (Err NotHeld) a honest o c n = absurd a.others
+  verify_same (Err Full) a honest o c n = absurd a.others
+  verify_same (Err Damaged) a honest o c n = absurd a.others
+  verify_same (Err TooLong) a honest o c n = absurd a.others
+  verify_same (Err ReadFault) a honest o c n = absurd a.others
+  verify_same (Err ShortBody) a honest o c n = absurd a.others
+  verify_same (Err TooManyResources) a honest o c n = absurd a.others
+  verify_same (Err TooManyChanges) a honest o c n = absurd a.others
+  verify_same (Err Exhausted) a honest o c n = absurd a.others
 
   -- the source was open, where its answer is the model's
   open_same : (outcome : LineOutcome) (closed : Bool) → old.source.is_closed ≡ closed → answer ≡ unchanged old (if_open old outcome)
@@ -166,6 +201,7 @@ module _ {D : Type 0} (device : D → DiskState) (old : ScriptState (Stored D)) 
   request_same (Ok Status) e honest left =
       let outcome = counted (status_of state) in
       left_same outcome (open_same outcome old.source.is_closed refl e)
+  request_same (Ok Verify) r honest left = verify_same r.result r.answers honest r.outcome r.commands r.now
   request_same (Err refusal) e honest left = left_same (refused refusal) e
 
   -- and so is a line

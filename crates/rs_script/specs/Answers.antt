@@ -8,7 +8,7 @@ use Rattle.rs_store.specs.Refusals.{refusal_word}
 use Rattle.rs_store.specs.declared.reading.Status.{Status}
 use Rattle.rs_script.specs.declared.refusal.Refusal.{Refusal}
 use Rattle.rs_script.specs.declared.refusal.Refusal.TheVariants.{BadLine, LongLine, BadMoment, BadName, BadHex, BadType, NoSuchDocument, Source, NoMemory}
-use Rattle.rs_script.specs.Session.{LineOutcome, moment_set, replied, shown, counted, refused}
+use Rattle.rs_script.specs.Session.{LineOutcome, moment_set, replied, shown, counted, verified, refused}
 
 -- a moment, and the end of the line
 abbrev pub moment_end : ℕ → List ℕ
@@ -41,12 +41,21 @@ status_text s =
     (codes "resources " ++ (decimal s.resources ++ (codes " changes " ++ (decimal s.changes ++ (codes " publication " ++ (decimal s.publication ++ codes " last "))))))
     ++ moment_end s.last
 
+-- one damaged body
+abbrev pub damaged_line : List ℕ → List ℕ
+damaged_line name = codes "damaged " ++ (name ++ 10 ∷ [])
+
+-- the damaged bodies, a line each, and how many are sound
+abbrev pub verified_text : List (List ℕ) → ℕ → List ℕ
+verified_text names sound = flat_map damaged_line names ++ (codes "verified " ++ (decimal sound ++ codes "\n"))
+
 -- what is written of an outcome
 abbrev pub outcome_text : LineOutcome → List ℕ
 outcome_text moment_set = codes "ok\n"
 outcome_text (replied reply) = reply_text reply
 outcome_text (shown bytes) = shown_text bytes
 outcome_text (counted status) = status_text status
+outcome_text (verified names sound) = verified_text names sound
 outcome_text (refused refusal) = codes "refused " ++ (word_of refusal ++ codes "\n")
 
 -- what is written of a run of them

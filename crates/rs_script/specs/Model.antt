@@ -1,5 +1,6 @@
 -- What the model answers to the lines of a script.
 use Rattle.std.specs.Prelude.{ℕ, nat_lt, if◌then◌else◌, List, [], ◌∷◌, length, Option, Some, None, Result, Ok, Err}
+use Rattle.std.specs.List.{filter}
 use Rattle.rs_model.specs.State.{Source, body_of}
 use Rattle.rs_model.specs.Step.{step}
 use Rattle.rs_model.specs.declared.command.Command.{Command}
@@ -7,16 +8,17 @@ use Rattle.rs_model.specs.declared.command.Reply.{Reply}
 use Rattle.rs_model.specs.declared.command.Refusal as model
 use Rattle.rs_store.specs.Refusals.{named_as}
 use Rattle.rs_store.specs.Shows.{status_of}
+use Rattle.rs_store.specs.Verified.{is_sound, damaged_names}
 use Rattle.rs_store.specs.declared.refusal.Refusal.TheVariants.{NotHeld}
 use Rattle.rs_script.specs.declared.refusal.Refusal.{Refusal}
 use Rattle.rs_script.specs.declared.refusal.Refusal.TheVariants as refusals
 use Rattle.rs_script.specs.declared.request.Request.{Request}
-use Rattle.rs_script.specs.declared.request.Request.TheVariants.{At, Run, Document, Body, Status}
+use Rattle.rs_script.specs.declared.request.Request.TheVariants.{At, Run, Document, Body, Status, Verify}
 use Rattle.rs_caps.specs.DocumentTexts.{document_text}
 use Rattle.rs_caps.specs.Shows.{shown_of}
 use Rattle.rs_script.specs.Lines.{line_limit}
 use Rattle.rs_script.specs.Requests.{request_of}
-use Rattle.rs_script.specs.Session.{ScriptState, LineOutcome, moment_set, replied, shown, counted, refused, Answer, unchanged}
+use Rattle.rs_script.specs.Session.{ScriptState, LineOutcome, moment_set, replied, shown, counted, verified, refused, Answer, unchanged}
 
 -- a command was accepted, or not
 abbrev pub stepped : ScriptState Source → Command → Result (Source × Reply) model.Refusal → Answer Source
@@ -29,6 +31,10 @@ abbrev pub shown_or : Refusal → Option (List ℕ) → LineOutcome
 shown_or refusal None = refused refusal
 shown_or refusal (Some bytes) = shown bytes
 
+-- how many resources have their recorded SHA-256
+abbrev pub sound_count : Source → ℕ
+sound_count s = length (filter (λ e. is_sound e.1) s.held)
+
 -- what the model answers to a request
 abbrev pub answer_to : ScriptState Source → Result Request Refusal → Answer Source
 answer_to s (Ok (At t)) = record { outcome = moment_set; commands = []; session = record { source = s.source; now = t } }
@@ -36,6 +42,7 @@ answer_to s (Ok (Run command)) = stepped s command (step s.source command s.now)
 answer_to s (Ok (Document doc)) = unchanged s (shown_or refusals.NoSuchDocument (document_text (shown_of s.source) doc))
 answer_to s (Ok (Body name)) = unchanged s (shown_or (refusals.Source NotHeld) (body_of name s.source))
 answer_to s (Ok Status) = unchanged s (counted (status_of s.source))
+answer_to s (Ok Verify) = unchanged s (verified (damaged_names s.source) (sound_count s.source))
 answer_to s (Err refusal) = unchanged s (refused refusal)
 
 -- what the model answers to a line, where one past the limit is refused whatever it says

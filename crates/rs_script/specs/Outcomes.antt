@@ -1,5 +1,5 @@
 -- What may come of a line that is asked of a stored source.
-use Rattle.std.specs.Prelude.{◌≡◌, ◌⊎◌, ◌<◌, ◌≤◌, ℕ, if◌then◌else◌, List, [], ◌∷◌, length, Result, Ok, Err, Vec}
+use Rattle.std.specs.Prelude.{◌≡◌, ◌⊎◌, ◌<◌, ◌≤◌, ◌-◌, ℕ, if◌then◌else◌, List, [], ◌∷◌, length, Result, Ok, Err, Vec}
 use Rattle.std.specs.Global.{Global}
 use Rattle.rs_disk.specs.Medium.{DiskState}
 use Rattle.rs_model.specs.declared.command.Command.{Command}
@@ -14,12 +14,13 @@ use Rattle.rs_caps.specs.Shows.{shown_of}
 use Rattle.rs_script.specs.declared.refusal.Refusal.{Refusal}
 use Rattle.rs_script.specs.declared.refusal.Refusal.TheVariants as refusals
 use Rattle.rs_script.specs.declared.request.Request.{Request}
-use Rattle.rs_script.specs.declared.request.Request.TheVariants.{At, Run, Document, Body, Status}
+use Rattle.rs_script.specs.declared.request.Request.TheVariants.{At, Run, Document, Body, Status, Verify}
 use Rattle.rs_store.specs.AnswersBody.{AnswersBody}
+use Rattle.rs_store.specs.Verified.{AnswersVerify}
 use Rattle.rs_script.specs.Lines.{line_limit}
 use Rattle.rs_script.specs.Model.{shown_or}
 use Rattle.rs_script.specs.Requests.{request_of}
-use Rattle.rs_script.specs.Session.{ScriptState, LineOutcome, moment_set, replied, shown, counted, refused, Answer, unchanged}
+use Rattle.rs_script.specs.Session.{ScriptState, LineOutcome, moment_set, replied, shown, counted, verified, refused, Answer, unchanged}
 
 -- what comes of an answer to a command
 abbrev pub outcome_of_reply : Result Reply stored.Refusal → LineOutcome
@@ -53,6 +54,19 @@ pub record ReadAnswers {D : Type 0} (device : D → DiskState) (old : ScriptStat
   pub commands : answer.commands ≡ []
   pub now : answer.session.now ≡ old.now
 
+-- what comes of an answer to the question for damaged bodies, where this many are held: those that are not damaged are sound
+abbrev pub verified_as : ℕ → Result (Vec (List ℕ) Global) stored.Refusal → LineOutcome
+verified_as held (Ok names) = verified names.items (held - length names.items)
+verified_as held (Err refusal) = refused (refusals.Source refusal)
+
+-- The damaged bodies were asked of the source, which answered as it may.
+pub record VerifyAnswers {D : Type 0} (device : D → DiskState) (old : ScriptState (Stored D)) (answer : Answer (Stored D)) : Type 0 where
+  pub result : Result (Vec (List ℕ) Global) stored.Refusal
+  pub answers : AnswersVerify device old.source answer.session.source result
+  pub outcome : answer.outcome ≡ verified_as (length (state_of device old.source).held) result
+  pub commands : answer.commands ≡ []
+  pub now : answer.session.now ≡ old.now
+
 -- a closed source refuses whatever it is asked
 abbrev pub if_open : {D : Type 0} → ScriptState (Stored D) → LineOutcome → LineOutcome
 if_open s outcome = if s.source.is_closed then refused (refusals.Source Closed) else outcome
@@ -66,6 +80,7 @@ RequestGives device old (Ok (Document doc)) answer =
     answer ≡ unchanged old (if_open old (shown_or refusals.NoSuchDocument (document_text (shown_of (state_of device old.source)) doc)))
 RequestGives device old (Ok (Body name)) answer = ReadAnswers device old name answer
 RequestGives device old (Ok Status) answer = answer ≡ unchanged old (if_open old (counted (status_of (state_of device old.source))))
+RequestGives device old (Ok Verify) answer = VerifyAnswers device old answer
 RequestGives device old (Err refusal) answer = answer ≡ unchanged old (refused refusal)
 
 -- this, or room for the request was refused and nothing changed

@@ -13,7 +13,7 @@ use Rattle.rs_caps.specs.Paths.{doc_of}
 use Rattle.rs_script.specs.declared.refusal.Refusal.{Refusal}
 use Rattle.rs_script.specs.declared.refusal.Refusal.TheVariants.{BadLine, BadMoment, BadName, BadHex, BadType, NoSuchDocument}
 use Rattle.rs_script.specs.declared.request.Request.{Request}
-use Rattle.rs_script.specs.declared.request.Request.TheVariants.{At, Run, Document, Body, Status}
+use Rattle.rs_script.specs.declared.request.Request.TheVariants.{At, Run, Document, Body, Status, Verify}
 use Rattle.rs_script.specs.Fields.{fields}
 
 -- this request, or the refusal where there is none
@@ -67,6 +67,7 @@ abbrev pub request_alone : List ℕ → Result Request Refusal
 request_alone word =
     if bytes_eq word (codes "publish") then Ok (Run Publish)
     else if bytes_eq word (codes "status") then Ok Status
+    else if bytes_eq word (codes "verify") then Ok Verify
     else Err BadLine
 
 -- a line of two fields

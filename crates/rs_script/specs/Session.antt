@@ -23,6 +23,8 @@ pub data LineOutcome : Type 0 where
   shown : List ℕ → LineOutcome
   -- so much is held
   counted : counts.Status → LineOutcome
+  -- the bodies of these names are damaged, and this many are sound
+  verified : List (List ℕ) → ℕ → LineOutcome
   refused : Refusal → LineOutcome
 
 -- what comes of a line, the command that counts with its moment (one or none), and where the script stands after it

@@ -1,13 +1,15 @@
 //! The texts of answers.
 
 ghost use Rattle.std.specs.Prelude.{◌≡◌, ◌++◌, OnOk, OnErr};
+ghost use Rattle.std.specs.List.{flat_map};
 ghost use Rattle.rs_io.specs.Watch.{EndFailed, Wrote};
-ghost use Rattle.rs_script.specs.Answers.{moment_end, reply_text, status_text, outcome_text, word_of};
+ghost use Rattle.rs_script.specs.Answers.{moment_end, reply_text, status_text, damaged_line, verified_text, outcome_text, word_of};
 ghost use Rattle.rs_script.specs.Session.{refused};
 
 use crate::refusal::Refusal;
 use rs_io::{Watched, WriteFault};
 use rs_model::Reply;
+use rs_record::Name;
 use rs_store::Status;
 use rs_time::Moment;
 use std::io::Write;
@@ -101,4 +103,41 @@ pub fn write_status<W: Write>(status: Status, writer: &mut Watched<W>) -> Result
         "resources {resources} changes {changes} publication {publication} last "
     ))?;
     write_moment(status.last, writer)
+}
+
+/// Writes `damaged NAME` and the end of the line for each name.
+#[tactic(auto, using(rs_io::proofs::Growth::appends_each))]
+fn write_damaged<W: Write>(names: &[Name], writer: &mut Watched<W>) -> Result<(), WriteFault>
+    ensures ok { OnOk result (Wrote W.contents writer.old writer.new
+        (flat_map damaged_line names.now)) }
+    ensures failed { OnErr result (EndFailed writer.old writer.new) }
+{
+    for name in names {
+        write_damaged_name(name, writer)?;
+    }
+    Ok(())
+}
+
+/// Writes `damaged NAME` and the end of the line.
+fn write_damaged_name<W: Write>(name: &Name, writer: &mut Watched<W>) -> Result<(), WriteFault>
+    ensures ok { OnOk result (Wrote W.contents writer.old writer.new (damaged_line name.now)) }
+    ensures failed { OnErr result (EndFailed writer.old writer.new) }
+{
+    writer.put(b"damaged ")?;
+    writer.put(name.bytes())?;
+    writer.put(b"\n")
+}
+
+/// Writes the answer of `verify`: the names of the damaged bodies, and how many are sound.
+pub fn write_verified<W: Write>(
+    names: &[Name],
+    sound: usize,
+    writer: &mut Watched<W>,
+) -> Result<(), WriteFault>
+    ensures ok { OnOk result (Wrote W.contents writer.old writer.new
+        (verified_text names.now sound)) }
+    ensures failed { OnErr result (EndFailed writer.old writer.new) }
+{
+    write_damaged(names, writer)?;
+    writer.put_text(format_args!("verified {sound}\n"))
 }

@@ -6,9 +6,9 @@ ghost use Rattle.rs_store.specs.Answered.{Answers};
 ghost use Rattle.rs_script.specs.Progress.{RequestAnswers};
 ghost use Rattle.rs_script.specs.Requests.{request_of};
 ghost use Rattle.rs_script.specs.Session.{script_state};
-ghost use Rattle.rs_script.specs.declared.request.Request.TheVariants.{Run, Document, Body as Shown, Status as Counted};
+ghost use Rattle.rs_script.specs.declared.request.Request.TheVariants.{Run, Document, Body as Shown, Status as Counted, Verify as Verified};
 
-use crate::answer::{write_refusal, write_reply, write_status};
+use crate::answer::{write_refusal, write_reply, write_status, write_verified};
 use crate::refusal::Refusal;
 use crate::request::{Request, parse_request};
 use crate::show::{write_shown, write_shown_document};
@@ -113,6 +113,27 @@ fn show_status<D: Disk, W: Write>(
     }
 }
 
+/// Answers `verify`.
+fn show_verified<D: Disk, W: Write>(
+    source: &mut Source<D>,
+    now: Moment,
+    writer: &mut Watched<W>,
+) -> Result<(), WriteFault>
+    ensures answered { RequestAnswers D.state
+        (script_state source.old now) (Ok Verified) (script_state source.new now)
+        (λ text. OnOk result (Wrote W.contents writer.old writer.new text)) }
+    ensures failed { OnErr result (EndFailed writer.old writer.new) }
+{
+    let held = match source.status() {
+        Ok(status) => status.resources as usize,
+        Err(closed) => return write_refusal(Refusal::Source(closed), writer),
+    };
+    match source.verify() {
+        Ok(names) => write_verified(names.as_slice(), held - names.len(), writer),
+        Err(refusal) => write_refusal(Refusal::Source(refusal), writer),
+    }
+}
+
 /// Answers a request. An `at` changes `now`, the moment at which commands come.
 fn answer_request<D: Disk, W: Write>(
     source: &mut Source<D>,
@@ -134,6 +155,7 @@ fn answer_request<D: Disk, W: Write>(
         Request::Document(doc) => show_document(source, doc, *now, writer),
         Request::Body(name) => show_body(source, &name, *now, writer),
         Request::Status => show_status(source, *now, writer),
+        Request::Verify => show_verified(source, *now, writer),
     }
 }
 

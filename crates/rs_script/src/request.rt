@@ -27,6 +27,8 @@ pub enum Request {
     Body(Name),
     /// `status`.
     Status,
+    /// `verify`.
+    Verify,
 }
 
 /// The first field of `bytes`, and what follows the space after it, or `None` where no space stands
@@ -86,6 +88,8 @@ fn request_alone(word: &[u8]) -> Result<Request, Refusal>
         Ok(Request::Run(Command::Publish))
     } else if word == b"status".as_slice() {
         Ok(Request::Status)
+    } else if word == b"verify".as_slice() {
+        Ok(Request::Verify)
     } else {
         Err(Refusal::BadLine)
     }

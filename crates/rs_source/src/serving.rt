@@ -17,6 +17,9 @@ use std::net::{Shutdown, TcpListener, TcpStream};
 use std::rt::Clock;
 use std::time::Duration;
 
+/// How many bytes of a request are taken from its socket at once, at most.
+const READ_AHEAD: usize = 32_768;
+
 /// For how many seconds, about, the rest of a refused request is read.
 const LONGEST_REST: u64 = 2;
 
@@ -75,7 +78,7 @@ fn serve_stream<D: Disk>(
 ) -> bool
     ensures { Connects D.state source.old source.new }
 {
-    let Ok(input) = BufReader::new(alloc, stream) else {
+    let Ok(input) = BufReader::with_capacity(alloc, READ_AHEAD, stream) else {
         return false;
     };
     let Ok(output) = BufWriter::new(alloc, stream) else {

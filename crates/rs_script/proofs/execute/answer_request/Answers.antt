@@ -17,3 +17,6 @@ returns-in-Body-clause-answered g c = rw c.in-Body.is c.show_body.ensures.answer
 
 pub returns-in-Status-clause-answered : goal.returns-in-Status-clause-answered
 returns-in-Status-clause-answered g c = rw c.in-Status.is c.show_status.ensures.answered
+
+pub returns-in-Verify-clause-answered : goal.returns-in-Verify-clause-answered
+returns-in-Verify-clause-answered g c = rw c.in-Verify.is c.show_verified.ensures.answered
