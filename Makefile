@@ -11,19 +11,21 @@
 #   make install  puts the built program, its page of the manual, its unit and its site in their places (PREFIX, DESTDIR; docs/OPERATING.md)
 #   make uninstall  takes them away again, and leaves every source as it is
 #   make crash    stops the program at each of its calls on a file, thousands of images over ten sessions ('make test' has a short form)
+#   make hostile  gives the program DISKS=100000 disks with bits turned, fields at their edges, cut, spliced ('make test' has a short form)
 
 SCRIPT ?= examples/first.script
 BASE ?= http://127.0.0.1:8080
 RT ?= rt
 CRATES ?=
 ROUNDS ?= 200
+DISKS ?= 100000
 PREFIX ?= /usr/local
 DESTDIR ?=
 AT = $(DESTDIR)$(PREFIX)
 # How many checks go side by side: one a processor, with 3 GB of free memory for each.
 LANES ?= $(shell awk -v processors=$$(nproc) '/^MemAvailable:/ { fit = int($$2 / 3000000); print fit < 1 ? 1 : fit < processors ? fit : processors }' /proc/meminfo)
 
-.PHONY: demo test edits build rows bench memory crash mirror operate install uninstall
+.PHONY: demo test edits build rows bench memory crash hostile mirror operate install uninstall
 
 # `rt try` builds without proving: quick, and no more than an unproved build.
 demo:
@@ -49,6 +51,7 @@ rows: build
 bench: build
 	python3 bench/run.py
 	python3 bench/puts.py
+	python3 bench/used.py
 	python3 bench/many.py
 	python3 bench/loopback.py
 	/usr/bin/python3 bench/durable.py
@@ -58,6 +61,9 @@ memory: build
 
 crash: build
 	@python3 examples/crash.py
+
+hostile: build
+	@python3 examples/hostile.py --disks $(DISKS)
 
 mirror: build
 	@python3 examples/check_mirror.py $(ROUNDS)

@@ -67,6 +67,7 @@ class State:
     number: int = 0
     at: int = 0
     listed: dict = dataclasses.field(default_factory=dict)
+    start: int = 0
 
     def after(self, line, now):
         """The answer to a line, and the next state, or None where the line is refused."""
@@ -168,7 +169,7 @@ def resource_documents(state):
 def change_documents(state):
     """The Change List, or its index and its parts."""
     base, up = state.base, ("up", state.base + "/capabilitylist.xml")
-    start = f'from="{moment_text(0)}"'
+    start = f'from="{moment_text(state.start)}"'
     parts = chunks(state.changes, state.limit)
     if len(parts) <= 1:
         children = [changed(base, it) for it in state.changes]

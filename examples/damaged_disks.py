@@ -25,11 +25,16 @@ def value_of(text, width):
 
 
 class Changes(dict):
-    """Changes that are still to be made."""
+    """Changes that are still to be made, and the bytes of each field that a part had before them."""
+
+    def __init__(self, changes=()):
+        super().__init__(it.split("=", 1) for it in changes)
+        self.met = {}
 
     def part(self, name, fields, block):
         """The block and the bytes of a part with the changes that are made to it."""
         fields = {**fields, "end": b""}
+        self.met[name] = fields.copy()
         for field in fields:
             if (value := self.pop(f"{name}.{field}", None)) is not None:
                 fields[field] = value_of(value, len(fields[field]))
@@ -58,19 +63,31 @@ def directory_fields(header, entries):
     return {**header, **counts, **named}
 
 
+def spell(left, pages, bodies, blocks, header):
+    """The bytes of a disk with the changes that are left, which are taken from them."""
+    parts, entries = pages_of(pages, left)
+    directory = left.part("directory", directory_fields(header_fields(**header), entries), 2)
+    slot = left.part("slot", slot_fields(1, 1, *directory), 0)
+    spare = left.part("spare", slot_fields(0, 0, *directory), 1)
+    return laid_out(blocks, [*bodies, slot, spare, directory, *parts])
+
+
 def source(pages, bodies=(), blocks=16, **header):
-    """A function that spells a disk with these pages, with the changes that it is given."""
+    """A function that spells a disk with these pages, with the changes that it is given. Its `fields` are those of each part."""
 
     def disk(*changes):
-        left = Changes(it.split("=", 1) for it in changes)
-        parts, entries = pages_of(pages, left)
-        directory = left.part("directory", directory_fields(header_fields(**header), entries), 2)
-        slot = left.part("slot", slot_fields(1, 1, *directory), 0)
-        spare = left.part("spare", slot_fields(0, 0, *directory), 1)
+        left = Changes(changes)
+        spelled_disk = spell(left, pages, bodies, blocks, header)
         if left:
             raise ValueError(f"there is no such field: {', '.join(left)}")
-        return laid_out(blocks, [*bodies, slot, spare, directory, *parts])
+        return spelled_disk
 
+    def fields():
+        met = Changes()
+        spell(met, pages, bodies, blocks, header)
+        return met.met
+
+    disk.fields = fields
     return disk
 
 

@@ -14,11 +14,17 @@ Record = collections.namedtuple("Record", "name kind length md5 sha256 moment fi
 Change = collections.namedtuple("Change", "what name moment kind length md5 sha256", defaults=[None] * 4)
 Page = collections.namedtuple("Page", "entry items")
 # `directory` is its entry in the slot.
-Source = collections.namedtuple("Source", "directory limit last number at catalogue changes published")
+Source = collections.namedtuple("Source", "directory limit base start last number at catalogue changes published")
+# No more blocks are used of any disk.
+MOST_BLOCKS = 8_388_608
 
 
 class Unread(Exception):
     """There is no source in these bytes."""
+
+
+class NoRoot(Unread):
+    """The slots have no root."""
 
 
 class Fields:
@@ -80,16 +86,16 @@ def page_of(disk, entry, kind):
 
 
 def root(disk):
-    """The entry of the directory in the open slot of the greater generation."""
+    """The entry of the directory in the open slot of the greater generation. A slot is a whole block."""
     opened = []
-    for at in (0, BLOCK):
-        fields = Fields(disk[at : at + BLOCK])
-        if fields.number(1) == 1:
+    for slot in (disk[:BLOCK], disk[BLOCK : 2 * BLOCK]):
+        fields = Fields(slot)
+        if len(slot) == BLOCK and fields.number(1) == 1:
             if fields.number(1) != 1:
-                raise Unread("an open slot has another version than 1")
+                raise NoRoot("an open slot has another version than 1")
             opened.append((fields.number(8), fields.entry()))
     if len({generation for generation, _ in opened}) != len(opened) or not opened:
-        raise Unread("there is no open slot of the greater generation")
+        raise NoRoot("there is no open slot of the greater generation")
     return max(opened)[1]
 
 
@@ -97,14 +103,14 @@ def source_of(disk):
     """The source on a disk of these bytes."""
     entry = root(disk)
     fields = Fields(bytes_of(disk, entry, "the directory"))
-    limit, _, _ = fields.number(2), fields.short(), fields.number(8)
+    limit, base, start = fields.number(2), fields.short(), fields.number(8)
     last, number, at = (fields.number(8) for _ in range(3))
     counts = [fields.number() for _ in range(3)]
     entries = [[fields.entry() for _ in range(count)] for count in counts]
     fields.ended("the directory")
     kinds = (RECORDS, CHANGES, RECORDS)
     lists = [[page_of(disk, it, kind) for it in each] for each, kind in zip(entries, kinds)]
-    return Source(entry, limit, last, number, at, *lists)
+    return Source(entry, limit, base, start, last, number, at, *lists)
 
 
 def extents(source):
@@ -123,4 +129,4 @@ def fault(disk, source):
         if first < behind:
             return f"what lies in block {first} begins within the slots or what is before it"
         behind = first + blocks
-    return f"the disk ends before block {behind}" if behind > len(disk) // BLOCK else ""
+    return f"the disk ends before block {behind}" if behind > min(len(disk) // BLOCK, MOST_BLOCKS) else ""

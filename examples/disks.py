@@ -18,11 +18,17 @@ DISKS = {**damaged_disks.DISKS, **commanded_disks.DISKS, **made_disks.DISKS, **o
 
 
 def disk(room, name, file, *changes):
-    """Writes a disk with changes; the last of them may be `size=N`, for a file that ends or goes on as zeros there."""
-    file, sizes = pathlib.Path(room, file), [it for it in changes if it.startswith("size=")]
-    file.write_bytes(DISKS[name](*(it for it in changes if it not in sizes)))
-    for size in sizes:
-        os.truncate(file, int(size.removeprefix("size=")))
+    """Writes a disk with changes. Behind those of its fields may come `bytes=AT:HEX`, for bytes that are put over what was spelled,
+    with no SHA-256 set right, and `size=N`, for a file that ends or goes on as zeros there.
+    """
+    path, after = pathlib.Path(room, file), [it for it in changes if it.startswith(("bytes=", "size="))]
+    path.write_bytes(DISKS[name](*(it for it in changes if it not in after)))
+    for it in after:
+        what, _, value = it.partition("=")
+        if what == "size":
+            os.truncate(path, int(value))
+        else:
+            put_bytes(room, file, *value.split(":"))
     return ""
 
 

@@ -8,7 +8,8 @@
     older than its crate fails the gate;
   - on the program that the copy proved and built: the worked rows, its calls of the system, its edges, the documents
     read by tools that are not ours, the pages that it leaves on a file, the blocks that it takes, the tour, mirrors of
-    sources that are killed meanwhile, folders that are published, the images of crashes at its calls on a file;
+    sources that are killed meanwhile, folders that are published, the images of crashes at its calls on a file,
+    hostile disks;
   - the tests of the gate itself, the layout of the files, and the list of proofs by hand.
 
 N counts crates, edits and the other parts. The minutes of a processor of each part are told before.
@@ -148,7 +149,8 @@ def main():
             parts.run("must-fail edits", lambda: some_edits(copy))
             for name in ("rows", "calls", "edges", "documents", "pages", "kept", "tour", "mirror", "folder"):
                 parts.run(name, script(copy / "examples" / f"check_{name}.py"))
-            parts.run("crash", script(copy / "examples" / "crash.py", "--short"))
+            for name in ("crash", "hostile"):
+                parts.run(name, script(copy / "examples" / f"{name}.py", "--short"))
         tell(parts, meter, started)
     for it in parts.failed:
         print(f"FAILED: {it}")
