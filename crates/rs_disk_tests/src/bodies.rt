@@ -158,7 +158,10 @@ fn large_bodies_are_looked_at_in_pieces(rt: HostRuntime) -> Result<(), Fail> {
     let mut disk = MemoryDisk::from_bytes(rt.alloc(), &bytes)?;
     assert_eq!(rt; look_so(&rt, &mut disk, extent, 40_000, &digest), Ok(false));
     disk.stop_after(2);
-    assert_eq!(rt; look_so(&rt, &mut disk, extent, 40_000, &digest), Err(Fault));
+    assert_eq!(rt;
+        look_so(&rt, &mut disk, extent, 40_000, &digest),
+        Err(Fault)
+    );
     Ok(())
 }
 
