@@ -6,8 +6,8 @@
   - the must-fail edits of the crates that gate/record.txt does not cover as they stand, and of two more that the
     commit's own hash picks (`make edits` tries all of them, and writes the record); a line of the record that is
     older than its crate fails the gate;
-  - on the program that the copy proved and built: the worked rows, its calls of the system, its edges, the documents
-    read by tools that are not ours, the pages that it leaves on a file, the blocks that it takes, the tour, mirrors of
+  - on the program that the copy proved and built: the worked rows, its calls of the system, its edges, its growths of
+    memory at an opening, the documents read by tools that are not ours, the pages that it leaves on a file, the blocks that it takes, the tour, mirrors of
     sources that are killed meanwhile, folders that are published, the images of crashes at its calls on a file,
     hostile disks;
   - the tests of the gate itself, the layout of the files, and the list of proofs by hand.
@@ -147,7 +147,7 @@ def main():
         parts.run("proofs by hand", script(copy / "examples" / "check_hand_proofs.py"))
         if parts.run("proofs, tests and builds", lambda: toolchain(copy)):
             parts.run("must-fail edits", lambda: some_edits(copy))
-            for name in ("rows", "calls", "edges", "documents", "pages", "kept", "tour", "mirror", "folder"):
+            for name in ("rows", "calls", "edges", "growths", "documents", "pages", "kept", "tour", "mirror", "folder"):
                 parts.run(name, script(copy / "examples" / f"check_{name}.py"))
             for name in ("crash", "hostile"):
                 parts.run(name, script(copy / "examples" / f"{name}.py", "--short"))
