@@ -1,7 +1,7 @@
 """The record of the crates all of whose must-fail edits were seen refused (gate/record.txt).
 
-A crate's line holds a hash of its code, specs, proofs and edits, of what the crates below it say to it (their source
-without bodies, comments and tests, and their specs), and of the kit. `make edits` alone writes it.
+A crate's line holds a hash of its code, specs, proofs and edits, of what the crates below say to it (says.py), and of the
+kit. `make edits` alone writes it.
 """
 
 import datetime
@@ -9,7 +9,7 @@ import hashlib
 from pathlib import Path
 
 import kit
-import source
+import says
 
 HEAD = "# Crates all of whose must-fail edits were seen refused: name, number of edits, day, hash. Written by `make edits`.\n"
 
@@ -40,11 +40,8 @@ def hash_of(root, uses, name, identity):
     add(name, " ".join(uses[name]).encode())
     for it in files(own, "src", "specs", "proofs", "must-fail"):
         add(it.relative_to(own).as_posix(), it.read_bytes())
-    for lower in kit.below(uses, name):
-        folder = Path(root, "crates", lower)
-        for it in files(folder, "src", "specs"):
-            data = source.outline(it.read_text()).encode() if it.suffix == ".rt" else it.read_bytes()
-            add(f"{lower}/{it.relative_to(folder).as_posix()}", b"" if "tests" in it.parts or it.name == "tests.rt" else data)
+    for it in says.said_to(root, uses, name):
+        add(it.label, it.text.encode())
     return total.hexdigest()
 
 

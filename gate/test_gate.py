@@ -10,6 +10,7 @@ import edit
 import edits
 import kit
 import record
+import says
 import source
 import verdict
 from edit import Outcome
@@ -46,6 +47,13 @@ pub fn nothing(x: u8) -> u8
     ensures value { result ≡ 0 }
 {
     x - x
+}
+"""
+
+ABOVE = """pub fn three_more(x: u8) -> u16
+    ensures { result ≡ x + 3 }
+{
+    low::after_next(x) + 1 // next, and no smaller
 }
 """
 
@@ -99,26 +107,31 @@ class Recording(unittest.TestCase):
     def covers_after(self, crate, part, old, new):
         """Which crates of two the record covers once a text of one of them has changed."""
         with tempfile.TemporaryDirectory() as room:
-            repository(room, {"low": CODE, "high": "pub fn one() -> u8 { 1 }\n"})
+            repository(room, {"low": CODE, "high": ABOVE})
             record.write(room, ["low", "high"])
             self.assertEqual(record.uncovered(room), [])
             file = Path(room, "crates", crate, part)
             self.assertIn(old, file.read_text())
             file.write_text(file.read_text().replace(old, new))
+            says.items_of.cache_clear()
             self.assertEqual({*record.outdated(room)}, {*record.uncovered(room)})
             return {"low", "high"} - {*record.uncovered(room)}
 
     def test_a_body_is_its_own_crates(self):
         self.assertEqual(self.covers_after("low", "src/lib.rt", "x - x", "0"), {"high"})
 
-    def test_a_clause_is_of_each_crate_above(self):
+    def test_a_clause_is_of_each_crate_that_names_it(self):
         self.assertEqual(self.covers_after("low", "src/lib.rt", "x + 2", "x + 1 + 1"), set())
+
+    def test_a_clause_that_nothing_above_leads_to(self):
+        for old, new in (("result ≤ b", "result < b + 1"), ("result ≡ x + 1", "result ≡ 1 + x")):
+            self.assertEqual(self.covers_after("low", "src/lib.rt", old, new), {"high"})
 
     def test_an_edit_is_its_own_crates(self):
         self.assertEqual(self.covers_after("low", "must-fail/one.edit", "new: b", "new: c"), {"high"})
 
     def test_the_code_above_is_not_of_those_below(self):
-        self.assertEqual(self.covers_after("high", "src/lib.rt", "{ 1 }", "{ 2 }"), {"low"})
+        self.assertEqual(self.covers_after("high", "src/lib.rt", "low::after_next(x) + 1", "1 + low::after_next(x)"), {"low"})
 
     def test_a_crate_that_was_not_tried(self):
         with tempfile.TemporaryDirectory() as room:
@@ -170,6 +183,14 @@ class Reading(unittest.TestCase):
         self.assertIn("ensures second { result ≤ b }", outline)
         for it in ("u16::from", "The smaller", "seen"):
             self.assertNotIn(it, outline)
+
+    def test_the_items_of_a_crate(self):
+        text = """#![tactic(auto)] mod a; pub use a::{Kind, turn}; use std::io; ghost use Rattle.low.specs.Words.{IsTurned};
+            pub enum Kind { One, Two { at: u8 } } impl Kind { fn of(self) -> u8; } impl<T: Turns> Turns for Box<T> { fn it(); }
+            pub fn turn(x: &[u8; 2]) -> u8 requires { x ≡ y } ensures told { P result } ensures { Q { } } ; const MOST: u8 = 3;"""
+        found = [(sorted(says.names_of(it)), says.is_import(it)) for it in says.split(text)]
+        wanted = [(["a"], False), (["Kind", "turn"], False), (["io"], True), (["IsTurned"], True), (["Kind"], False), (["Kind"], False)]
+        self.assertEqual(found, [*wanted, (["Box", "T", "Turns"], False), (["turn"], False), (["MOST"], False)])
 
     def test_symbols(self):
         text = "impl<T: Disk> Disk for Box<T> {\n    fn read(&self) {}\n}\nimpl Used {\n    fn take(&self) {}\n}\nfn take() {}\n"
