@@ -8,6 +8,7 @@
 #   make memory   refuses each growth of memory of the program in turn
 #   make mirror   mirrors sources that change and are killed meanwhile, ROUNDS=200 of them ('make test' has three)
 #   make operate  looks at what is installed beside the program: the page, the unit, the site (it needs mandoc, systemd-analyze and nginx)
+#   make pictures draws the pictures of docs/ anew, from runs of the proved program
 #   make install  puts the built program, its page of the manual, its unit and its site in their places (PREFIX, DESTDIR; docs/OPERATING.md)
 #   make uninstall  takes them away again, and leaves every source as it is
 #   make crash    stops the program at each of its calls on a file, thousands of images over ten sessions ('make test' has a short form)
@@ -25,7 +26,7 @@ AT = $(DESTDIR)$(PREFIX)
 # How many checks go side by side: one a processor, with 3 GB of free memory for each.
 LANES ?= $(shell awk -v processors=$$(nproc) '/^MemAvailable:/ { fit = int($$2 / 3000000); print fit < 1 ? 1 : fit < processors ? fit : processors }' /proc/meminfo)
 
-.PHONY: demo test edits build rows bench memory crash hostile mirror operate install uninstall
+.PHONY: demo test edits build rows bench memory crash hostile mirror operate pictures install uninstall
 
 # `rt try` builds without proving: quick, and no more than an unproved build.
 demo:
@@ -70,6 +71,9 @@ mirror: build
 
 operate: build
 	@python3 examples/check_install.py
+
+pictures: build
+	@python3 examples/draw.py
 
 # What `make build` made, and what stands beside it. It proves and builds nothing, so that it can run as root.
 install:
