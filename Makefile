@@ -7,7 +7,7 @@
 #   make bench    measures speed (docs/BENCH.md has figures; it needs wrk, lighttpd and python3-lmdb of Debian)
 #   make memory   refuses each growth of memory of the program in turn
 #   make mirror   mirrors sources that change and are killed meanwhile, ROUNDS=200 of them ('make test' has three)
-#   make operate  looks at what is installed beside the program: the page, the unit, the site (it needs mandoc, systemd-analyze and nginx)
+#   make operate  looks at what is installed beside the program: the page, the units, the site (mandoc, systemd-analyze, strace, nginx, openssl)
 #   make pictures draws the pictures of docs/ anew, from runs of the proved program
 #   make install  puts the built program, its page of the manual, its unit and its site in their places (PREFIX, DESTDIR; docs/OPERATING.md)
 #   make uninstall  takes them away again, and leaves every source as it is
@@ -83,13 +83,14 @@ install:
 	install -D -m 644 install/ropepeach.nginx $(AT)/share/doc/ropepeach/ropepeach.nginx
 	install -D -m 644 docs/OPERATING.md $(AT)/share/doc/ropepeach/OPERATING.md
 	install -D -m 644 install/ropepeach.sysusers $(AT)/lib/sysusers.d/ropepeach.conf
-	install -D -m 644 install/ropepeach.service $(AT)/lib/systemd/system/ropepeach.service
-	sed -i 's|/usr/local/bin/|$(PREFIX)/bin/|' $(AT)/lib/systemd/system/ropepeach.service
+	install -D -m 644 -t $(AT)/lib/systemd/system install/ropepeach.service install/ropepeach-verify.service install/ropepeach-verify.timer
+	sed -i 's|/usr/local/bin/|$(PREFIX)/bin/|' $(AT)/lib/systemd/system/ropepeach.service $(AT)/lib/systemd/system/ropepeach-verify.service
 	install -D -m 755 examples/publish_folder.py $(AT)/lib/ropepeach/publish_folder.py
 	install -D -m 644 examples/source_client.py $(AT)/lib/ropepeach/source_client.py
 	ln -sf ../lib/ropepeach/publish_folder.py $(AT)/bin/publish_folder
 
 uninstall:
 	rm -f $(AT)/bin/rs_source $(AT)/bin/publish_folder $(AT)/share/man/man8/rs_source.8
-	rm -f $(AT)/lib/sysusers.d/ropepeach.conf $(AT)/lib/systemd/system/ropepeach.service
+	rm -f $(AT)/lib/sysusers.d/ropepeach.conf
+	rm -f $(AT)/lib/systemd/system/ropepeach.service $(AT)/lib/systemd/system/ropepeach-verify.service $(AT)/lib/systemd/system/ropepeach-verify.timer
 	rm -rf $(AT)/lib/ropepeach $(AT)/share/doc/ropepeach

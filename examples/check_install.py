@@ -1,8 +1,9 @@
 #!/usr/bin/env python3
-"""Looks at what is installed beside the proved program (install/): the page of the manual, the unit of systemd, the site of nginx.
+"""Looks at what is installed beside the proved program (install/): the page of the manual, the units of systemd, the site of nginx.
 
-Each function below is one thing that has to hold, and its first line says what. A tool that is not there is told, and what needs it is left
-out. nginx runs on loopback, in a temporary folder, with the settings of the site; its files and ports are other ones, and TLS is left out but where it is looked at.
+Each function below is one thing that has to hold, and its first line says what. Where a tool is not there, what needs it is left out, and
+told by its name. nginx runs on loopback, in a temporary folder, with the settings of the site; its files and ports are other ones, and TLS
+is left out but where it is looked at. At the end files of install/ that are wrong are made up (install_wrong.py), and have to be noticed.
 
 usage: check_install.py [PROGRAM] [NAME..]     names of functions (all, where none is given)
 Exit status 1 where one does not hold.
@@ -14,6 +15,7 @@ import os
 import pathlib
 import pwd
 import re
+import shlex
 import shutil
 import socket
 import subprocess
@@ -21,6 +23,8 @@ import sys
 import tempfile
 import time
 
+import disk_reader
+import install_wrong
 from check_edges import connected, read_to_end
 from check_rows import PROGRAM, Differs, compare
 
@@ -29,6 +33,7 @@ INSTALL = ROOT / "install"
 SECONDS = 30
 # The greatest exposure of the unit, of 100, that `systemd-analyze security` may find.
 EXPOSURE = 15
+UNITS = ["ropepeach.service", "ropepeach-verify.service"]
 LONGEST_BODY = 16_777_216
 # How long a head is kept at most: nginx counts in whole seconds.
 HEAD = 2.1
@@ -61,15 +66,19 @@ def the_page_is_clean(program, room):
     compare("mandoc", b"", "\n".join(it for it in told if "outdated mandoc.db" not in it and "referenced manual not found" not in it).encode())
 
 
-def the_unit_is_whole_and_closed(program, room):
-    """systemd finds no fault in the unit, and its exposure is low."""
-    text = INSTALL.joinpath("ropepeach.service").read_text()
-    unit = pathlib.Path(room, "ropepeach.service")
-    unit.write_text(text.replace("/usr/local/bin/rs_source", program))
-    compare("verify", repr(("", 0)).encode(), repr(told_by("systemd-analyze", "verify", "--man=no", unit)).encode())
-    told, status = told_by("systemd-analyze", "security", "--offline=true", f"--threshold={EXPOSURE}", unit)
-    print(f"the unit: an exposure of {told.strip().rpartition(': ')[2].split()[0]} of 10")
-    compare(f"an exposure of at most {EXPOSURE} of 100", b"0", b"%d" % status)
+def the_units_are_whole_and_closed(program, room):
+    """systemd finds no fault in the units, their exposure is low, and it reads when the timer comes."""
+    for name in (*UNITS, "ropepeach-verify.timer"):
+        text = INSTALL.joinpath(name).read_text()
+        pathlib.Path(room, name).write_text(text.replace("/usr/local/bin/rs_source", program))
+    for name in (*UNITS, "ropepeach-verify.timer"):
+        compare(name, repr(("", 0)).encode(), repr(told_by("systemd-analyze", "verify", "--man=no", f"./{name}", cwd=room)).encode())
+    for name in UNITS:
+        told, status = told_by("systemd-analyze", "security", "--offline=true", f"--threshold={EXPOSURE}", f"./{name}", cwd=room)
+        print(f"{name}: an exposure of {told.strip().rpartition(': ')[2].split()[0]} of 10")
+        compare(f"{name}: an exposure of at most {EXPOSURE} of 100", b"0", b"%d" % status)
+    when = re.search(r"(?m)^OnCalendar=(.*)", pathlib.Path(room, "ropepeach-verify.timer").read_text())[1]
+    compare("when the timer comes", b"0", b"%d" % told_by("systemd-analyze", "calendar", when)[1])
 
 
 def calls_let_pass(unit):
@@ -97,10 +106,52 @@ def the_filter_lets_the_program_work(program, room):
             server.wait(SECONDS)
         finally:
             server.kill()
+    compare_calls(room, {"accept4", "pwrite64", "fsync", "sendto"}, "ropepeach.service")
+
+
+def compare_calls(room, some, unit):
+    """Looks whether some calls were made, and none but those that a unit's filter lets pass."""
     made = set(re.findall(r"(?m)^\d+ +(\w+)\(", pathlib.Path(room, "calls").read_text()))
-    compare("calls that are made", b"True", str({"accept4", "pwrite64", "fsync", "sendto"} <= made).encode())
-    refused = made - calls_let_pass(INSTALL.joinpath("ropepeach.service").read_text())
+    compare("calls that are made", b"True", str(some <= made).encode())
+    refused = made - calls_let_pass(INSTALL.joinpath(unit).read_text())
     compare("calls that are refused", b"", " ".join(sorted(refused)).encode())
+
+
+def verification(program, *before):
+    """What the service that verifies runs, as systemd reads its line, over a.disk; its answer, and whether it succeeds."""
+    line = re.search(r"(?m)^ExecStart=(.*)", INSTALL.joinpath("ropepeach-verify.service").read_text())[1].replace("$$", "$")
+    words = [it.replace("/usr/local/bin/rs_source", program).replace("/var/lib/ropepeach/source.disk", "a.disk") for it in shlex.split(line)]
+
+    def run(room):
+        told, status = told_by(*before, *words, cwd=room)
+        return told, status == 0
+
+    return run
+
+
+def the_verification_tells_damage(program, room):
+    """What the timer runs succeeds on a sound source, and fails with the name of a damaged body, beside a server, and on no source."""
+    verify, disk = verification(program), pathlib.Path(room, "a.disk")
+    subprocess.run([program, "format", "a.disk", "65536", "http://a.example", "2"], cwd=room, check=True, capture_output=True)
+    subprocess.run([program, "run", "a.disk"], cwd=room, input=b"put a 6161 a/b\nput b 62 a/b\n", check=True, capture_output=True)
+    compare_answers("a sound source", ("verified 2\n", True), verify(room))
+    with subprocess.Popen([program, "serve", "a.disk", "0", "5"], cwd=room, stdout=subprocess.PIPE) as server:
+        server.stdout.readline()
+        beside = verify(room)
+        server.kill()
+    compare_answers("beside a server", ("rs_source: Device\n", False), beside)
+    body = disk_reader.source_of(disk.read_bytes()).catalogue[0].items[0].first * disk_reader.BLOCK
+    disk.write_bytes(disk.read_bytes()[:body] + b"x" + disk.read_bytes()[body + 1:])
+    compare_answers("a damaged body", ("damaged a\nverified 1\n", False), verify(room))
+    disk.write_bytes(bytes(65536))
+    compare_answers("no source", ("rs_source: NotASource\n", False), verify(room))
+
+
+def the_filter_lets_the_verification_work(program, room):
+    """Each system call that is made while a source is verified is one that the unit's filter lets pass."""
+    subprocess.run([program, "format", "a.disk", "65536", "http://a.example", "2"], cwd=room, check=True, capture_output=True)
+    compare_answers("an empty source", ("verified 0\n", True), verification(program, "strace", "-f", "-qq", "-o", "calls")(room))
+    compare_calls(room, {"execve", "pread64", "flock"}, "ropepeach-verify.service")
 
 
 def site_on(room, port, source):
@@ -289,28 +340,42 @@ def certificates_let_change(program, room):
 
 # What is looked at, and which tools it needs.
 CHECKS = {
-    the_page_has_every_word: [], the_page_is_clean: ["mandoc"], the_unit_is_whole_and_closed: ["systemd-analyze"],
-    the_filter_lets_the_program_work: ["systemd-analyze", "strace"], a_slow_client_holds_nobody: ["nginx"], the_longest_body_passes: ["nginx"],
+    the_page_has_every_word: [], the_page_is_clean: ["mandoc"], the_units_are_whole_and_closed: ["systemd-analyze"],
+    the_filter_lets_the_program_work: ["systemd-analyze", "strace"], the_verification_tells_damage: ["sh"],
+    the_filter_lets_the_verification_work: ["systemd-analyze", "strace"], a_slow_client_holds_nobody: ["nginx"], the_longest_body_passes: ["nginx"],
     names_pass_as_they_were_sent: ["nginx"], parts_are_kept_and_heads_for_a_second: ["nginx"], who_may_change_is_asked: ["nginx"], certificates_let_change: ["nginx", "openssl"],
 }
+
+
+def fault_of(check, program):
+    """Why a thing does not hold, or nothing."""
+    with tempfile.TemporaryDirectory() as room:
+        try:
+            check(program, room)
+        except (Differs, OSError, ValueError, LookupError, subprocess.SubprocessError, http.client.HTTPException) as fault:
+            return f"{type(fault).__name__} {fault}"
+    return ""
 
 
 def main():
     given = sys.argv[1:]
     program = os.path.abspath(given.pop(0) if given and os.path.isfile(given[0]) else PROGRAM)
     os.environ["PATH"] += ":/usr/sbin:/sbin"
-    checks = [it for it in CHECKS if not given or it.__name__ in given]
-    missing = {tool for it in checks for tool in CHECKS[it] if not shutil.which(tool)}
-    tried, failed = [it for it in checks if not missing & set(CHECKS[it])], 0
-    for check in tried:
-        with tempfile.TemporaryDirectory() as room:
-            try:
-                check(program, room)
-            except (Differs, OSError, ValueError, LookupError, subprocess.SubprocessError, http.client.HTTPException) as fault:
-                failed += 1
-                print(f"{check.__name__}: {type(fault).__name__} {fault}")
-    print(f"install: {len(tried) - failed} of {len(tried)} hold; not tried, {len(checks) - len(tried)}; tools that are not here: {', '.join(sorted(missing)) or 'none'}")
-    return 1 if failed or not tried else 0
+    checks, tried, failed = [it for it in CHECKS if not given or it.__name__ in given], [], 0
+    for check in checks:
+        missing = [tool for tool in CHECKS[check] if not shutil.which(tool)]
+        if missing:
+            print(f"{check.__name__}: NOT TRIED, as there is no {', '.join(missing)} here")
+            continue
+        tried.append(check.__name__)
+        if why := fault_of(check, program):
+            failed += 1
+            print(f"{check.__name__}: {why}", flush=True)
+    blind, count = install_wrong.look(program, tried)
+    for it in blind:
+        print(f"made up, {it}: not noticed, and this test is blind")
+    print(f"install: {len(tried) - failed} of {len(tried)} hold, {count - len(blind)} of {count} wrong files are noticed; not tried, {len(checks) - len(tried)}")
+    return 1 if failed or blind or not tried else 0
 
 
 if __name__ == "__main__":

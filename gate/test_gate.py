@@ -2,12 +2,15 @@
 """Tests of the gate: what its runner takes as refused, and what its record covers."""
 
 import shutil
+import subprocess
+import sys
 import tempfile
 import unittest
 from pathlib import Path
 
 import edit
 import edits
+import gate
 import kit
 import record
 import says
@@ -162,6 +165,38 @@ fn low::m::above: no proof: it calls `low::m::open`, which is not proved
 fn low::m::sound: proved
 logic=not-proved
 """
+
+
+class Parts(unittest.TestCase):
+    def test_a_part_that_is_a_program_passes_by_its_status(self):
+        with tempfile.TemporaryDirectory() as room:
+            for status, wanted in ((0, (1, 0)), (1, (0, 1)), (3, (0, 1))):
+                program = Path(room, f"ends_{status}.py")
+                program.write_text(f"raise SystemExit({status})\n")
+                passed, failed = gate.script(program)()
+                self.assertEqual((passed, len(failed)), wanted)
+            self.assertEqual(gate.script(Path(room, "none.py"))()[0], 0)
+
+    def test_parts_are_counted_and_a_failed_one_stops_none(self):
+        parts = gate.Parts()
+        self.assertTrue(parts.run("one", lambda: (2, [])))
+        self.assertFalse(parts.run("two", lambda: (0, ["it"])))
+        self.assertTrue(parts.run("three", lambda: (1, [])))
+        self.assertEqual((parts.passed, parts.failed, len(parts.rows)), (3, ["it"], 3))
+
+    def test_each_part_has_a_program_and_a_row_of_the_page(self):
+        page = Path(gate.ROOT, "docs", "GATE.md").read_text()
+        for name in gate.CHECKS:
+            self.assertTrue(Path(gate.ROOT, "examples", f"check_{name}.py").is_file(), name)
+            self.assertIn(f"| {name} (`examples/check_{name}.py`) |" if name != "rows" else "| worked rows (`examples/check_rows.py`) |", page)
+
+    def test_what_has_no_tool_is_told_by_name(self):
+        """The look at install/ with no tool but the shell: what needs one is told, and fails nothing."""
+        with tempfile.TemporaryDirectory() as room:
+            words = [sys.executable, Path(gate.ROOT, "examples", "check_install.py"), "/bin/true", "the_page_is_clean", "the_page_has_every_word"]
+            ran = subprocess.run(words, cwd=room, env={"PATH": room}, capture_output=True, text=True)
+        self.assertIn("the_page_is_clean: NOT TRIED, as there is no mandoc here\n", ran.stdout)
+        self.assertIn("not tried, 1\n", ran.stdout)
 
 
 class Reading(unittest.TestCase):
