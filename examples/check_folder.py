@@ -24,6 +24,7 @@ import threading
 import time
 
 from check_edges import SYSTEM
+from check_mirror import free_port
 from check_rows import PROGRAM, Differs, compare, interposed
 
 PUBLISH = pathlib.Path(__file__).resolve().parent / "publish_folder.py"
@@ -289,9 +290,32 @@ def a_copy_of_a_program_held_still_opens(program, room):
         raise Differs(f"the copies hold {found}, within {bounds}")
 
 
+def a_new_source_is_filled_from_a_mirror(program, room):
+    """A mirror of a source, without its state, fills another one: each body is there; names with a % or aside are other names, types are guessed."""
+    port, mirror = free_port(), pathlib.Path(room, "folder")
+    subprocess.run([program, "format", "old.disk", "262144", f"http://127.0.0.1:{port}", "1000"], cwd=room, check=True, capture_output=True)
+    put = {"a": b"1", "a/b.txt": b"2", "c%20d": b"3", "e.html": b"4"}
+    answers(program, room, [f"put {name} {body.hex()} application/x-kept" for name, body in put.items()], "old.disk")
+    with subprocess.Popen([program, "serve", "old.disk", str(port), "1000"], cwd=room, stdout=subprocess.PIPE) as old:
+        try:
+            old.stdout.readline()
+            words = [sys.executable, PUBLISH.with_name("destination.py"), f"http://127.0.0.1:{port}", mirror]
+            subprocess.run(words, env=os.environ | {"no_proxy": "127.0.0.1"}, check=True, capture_output=True, timeout=SECONDS)
+        finally:
+            old.kill()
+    (mirror / "#state").unlink()
+    format_source(program, room)
+    with serving(program, room) as (url, _):
+        compare_runs("filled", 0, publish(room, url)[0])
+    became = {b"a#": b"1", b"a/b.txt": b"2", b"c%20d": b"3", b"e.html": b"4"}
+    kinds = {b"a/b.txt": "text/plain", b"e.html": "text/html"}
+    holds(program, room, {path: (body, kinds.get(path, "application/octet-stream")) for path, body in became.items()}, 1)
+
+
 CHECKS = [
     a_folder_is_published_again_and_again, odd_names_are_encoded_or_told, a_dry_run_changes_nothing, a_stopped_run_is_begun_again,
     refusals_end_a_run_with_their_word, nothing_is_deleted_unasked, a_bar_is_shown_on_a_terminal_alone, a_copy_of_a_program_held_still_opens,
+    a_new_source_is_filled_from_a_mirror,
 ]
 
 
