@@ -1,16 +1,18 @@
 #!/usr/bin/env python3
-"""A Resource List of 1,000 and of 10,000 resources of 4 KiB: how long it takes, and what a kill amid its writing leaves.
+"""A Resource List of 1,000 and of 10,000 resources of 4 KiB: its time, and what a kill amid its writing leaves.
 
-  the program    publishes what it holds, and shows each part of the list. Lengths and digests were recorded when the resources were put,
-                 so no body is read: the disk has bodies of three bytes (paged_disk.py), and its list has as many entries.
-  the stand-in   is a generator of static files as anybody may write one in Python: it reads each file of a folder, takes its length, MD5
-                 and SHA-256, and writes the list with xml.etree. It is no program of others; it shows what such a one has to do at least.
-                 It writes its file in place, or beside it and renames it.
+  the program    publishes what it holds, and shows each part of the list. Lengths and digests were recorded when the
+                 resources were put, so no body is read: the disk has bodies of three bytes (paged_disk.py), and its
+                 list has as many entries.
+  the stand-in   is a generator of static files as anybody may write one in Python: it reads each file of a folder,
+                 takes its length, MD5 and SHA-256, and writes the list with xml.etree. It is no program of others; it
+                 shows what such a one has to do at least. It writes in place, or beside its file and renames it.
 
-Each of them is then killed (kill -9) at KILLS moments drawn by lot while it writes a new list over an old one, and what is served then is
-looked at: a whole list, old or new, or something else.
+Each of them is then killed (kill -9) at KILLS moments drawn by lot while it writes a new list over an old one, and
+what is there then is looked at: a whole list, old or new, or something else.
 
-usage: lists.py [PROGRAM] [--seed N]     the built program, where none is given. ROOM in the environment is the folder for the files.
+usage: lists.py [PROGRAM] [--seed N]     the built program, where none is given
+ROOM in the environment is the folder for the files.
 """
 import argparse
 import hashlib
@@ -33,7 +35,8 @@ SECONDS = 120
 
 def parts(count, number):
     """The paths of the Resource List of a publication: the list, or its index and its parts."""
-    return ["/resourcelist.xml"] + [f"/resourcelist/{number}/{k}.xml" for k in range(-(-count // LIMIT))] * (count > LIMIT)
+    cut = [f"/resourcelist/{number}/{k}.xml" for k in range(-(-count // LIMIT))]
+    return ["/resourcelist.xml", *(cut if count > LIMIT else [])]
 
 
 def asked(program, file, lines):
@@ -127,7 +130,7 @@ def measure(program, room, count, rng):
     file.write_bytes(spelled(count, count))
     fill(folder, count)
     ours, theirs = best(lambda _: published(program, file, count)), best(lambda _: stand_in(folder, target, True))
-    print(f"{count:,}: the program, from its start, {ours * 1000:.0f} ms; the stand-in, in a process that runs, {theirs * 1000:.0f} ms")
+    print(f"{count:,}: the program, from its start, {ours * 1000:.0f} ms; the stand-in, once started, {theirs * 1000:.0f} ms")
     print(f"{count:,}: killed, the program: {kills_of_the_program(program, file, count, ours, rng)}", flush=True)
     for is_renamed, told in ((False, "in place"), (True, "renamed")):
         found = kills_of_the_stand_in(folder, target, count, is_renamed, theirs * 1.5 + 0.1, rng)

@@ -1,10 +1,11 @@
 #!/usr/bin/env python3
 """Compares how large a disk docs/OPERATING.md tells a keeper to make with the blocks that the proved program takes.
 
-The formula of the page is spelled here once more. The table of the page has to be what it gives, number by number. Then sources are
-filled on disks of the size that it gives: resources are put in the order of their names, published, and each put again with other bytes,
-so that no published page is a page of the catalogue. None may be refused; no command may take more blocks than the formula has; and it may
-not have many more than are taken. At the end a formula that is too small and a table with another number are made up.
+The formula of the page is spelled here once more. The table of the page has to be what it gives, number by number.
+Then sources are filled on disks of the size that it gives: resources are put in the order of their names,
+published, and each put again with other bytes, so that no published page is a page of the catalogue. None may be
+refused; no command may take more blocks than the formula has; and it may not have many more than are taken. At the
+end a formula that is too small and a table with another number are made up.
 
 usage: check_sizes.py [PROGRAM]     the built program, where none is given
 Exit status 1 where the page is wrong, or where something wrong is not noticed.
@@ -28,7 +29,8 @@ KIB, MIB, MOST = 1024, 1_048_576, 8_388_608 * BLOCK
 # How many resources, of how many bytes, are put on a disk; and how often each is put again.
 Filling = collections.namedtuple("Filling", "resources size again")
 FILLINGS = [Filling(100, 4096, 1), Filling(300, 600, 1), Filling(40, 0, 9)]
-SECONDS = 120
+# So many blocks the formula may have beside a tenth more than are taken.
+SPARE, SECONDS = 100, 120
 
 
 def blocks(size):
@@ -57,7 +59,8 @@ def look_at_table(text):
     for resources, *told in rows:
         for size, cell in zip(sizes, told, strict=True):
             wanted = disk_size(int(resources), size, CHANGES)
-            if cell.startswith("too much") != (wanted > MOST) or cell.isdecimal() and int(cell) != -(-wanted // MIB):
+            is_other = cell.isdecimal() and int(cell) != -(-wanted // MIB)
+            if cell.startswith("too much") != (wanted > MOST) or is_other:
                 raise Differs(f"{resources} of {size}: the page has {cell!r}, the formula {wanted / MIB:.1f} MiB")
     return len(rows) * len(sizes)
 
@@ -72,7 +75,7 @@ def lines_of(filling):
 
 
 def fill(program, room, filling, formula):
-    """Fills a disk. Gives the blocks that were taken at its end and while the last command was at work, and those of the formula."""
+    """Fills a disk. Gives the blocks held at its end, those while the last command works, and the formula's."""
     changes = filling.resources * (filling.again + 1)
     size, file = disk_size(filling.resources, filling.size, changes, formula), pathlib.Path(room, "a.disk")
     file.unlink(missing_ok=True)
@@ -81,7 +84,8 @@ def fill(program, room, filling, formula):
     sources = []
     for script in (most, [last]):
         text = "".join(f"{it}\n" for it in script).encode()
-        told = subprocess.run([program, "run", file], input=text, capture_output=True, check=True, timeout=SECONDS).stdout
+        how = {"input": text, "capture_output": True, "check": True, "timeout": SECONDS}
+        told = subprocess.run([program, "run", file], **how).stdout
         if b"refused" in told:
             raise Differs(f"{filling} on {size} bytes: {told[told.index(b'refused'):][:40].decode()}")
         sources.append(disk_reader.source_of(file.read_bytes()))
@@ -96,16 +100,17 @@ def look(program, formula):
     with tempfile.TemporaryDirectory() as room:
         for filling in FILLINGS:
             end, most, wanted = fill(program, room, filling, formula)
-            if not wanted * 0.6 <= most <= wanted:
+            if not most <= wanted <= most * 1.1 + SPARE:
                 raise Differs(f"{filling}: {most} blocks were taken, and the formula has {wanted}")
-            told.append(f"{filling.resources} of {filling.size:,} bytes, each put {filling.again + 1} times: {end} blocks held, "
-                        f"{most} while a command is at work, {wanted} by the formula")
+            counts = f"{end} blocks held, {most} while a command is at work, {wanted} by the formula"
+            told.append(f"{filling.resources} of {filling.size:,} bytes, each put {filling.again + 1} times: {counts}")
     return told
 
 
 def too_small(resources, size, changes):
     """A formula that forgets that published pages stay beside those of the catalogue."""
-    return wanted_blocks(resources, size, changes) - -(-resources // 32) * blocks(5 + 32 * (70 + NAME + len(TYPE))) - 64
+    page = blocks(5 + 32 * (70 + NAME + len(TYPE)))
+    return wanted_blocks(resources, size, changes) - -(-resources // 32) * page - 64
 
 
 def is_noticed(call, *given):

@@ -54,4 +54,4 @@ def is_noticed(program, check, *change):
 def look(program, tried):
     """Which wrong files are not noticed by what was tried, and how many there were for it."""
     made = [it for it in WRONG if it[0] in tried]
-    return [f"{check}: {file} with {new!r}" for check, file, old, new in made if not is_noticed(program, check, file, old, new)], len(made)
+    return [f"{it[0]}: {it[1]} with {it[3]!r}" for it in made if not is_noticed(program, *it)], len(made)
