@@ -8,8 +8,9 @@
                  takes its length, MD5 and SHA-256, and writes the list with xml.etree. It is no program of others; it
                  shows what such a one has to do at least. It writes in place, or beside its file and renames it.
 
-Each of them is then killed (kill -9) at KILLS moments drawn by lot while it writes a new list over an old one, and
-what is there then is looked at: a whole list, old or new, or something else.
+Each of them is then killed (kill -9) KILLS times while it makes a new list in the place of an old one, and what is
+there then is looked at: a whole list, old or new, or something else. The program is killed at moments drawn by lot;
+the stand-in, which reads and hashes for most of its time, once its file is seen to have another length.
 
 usage: lists.py [PROGRAM] [--seed N]     the built program, where none is given
 ROOM in the environment is the folder for the files.
@@ -28,7 +29,7 @@ import xml.etree.ElementTree as ElementTree
 from paged_disk import ROOT, spelled
 
 PROGRAM = ROOT / "crates/rs_source/out/rs_source"
-COUNTS, LIMIT, SIZE, KILLS, TIMES = (1_000, 10_000), 4_000, 4_096, 40, 5
+COUNTS, LIMIT, SIZE, KILLS, TIMES = (1_000, 10_000), 4_000, 4_096, 20, 5
 SITEMAP, RS = "http://www.sitemaps.org/schemas/sitemap/0.9", "http://www.openarchives.org/rs/terms/"
 SECONDS = 120
 
@@ -112,12 +113,23 @@ def kills_of_the_program(program, file, count, span, rng):
     return f"{whole} of {KILLS} whole, {new} of them new"
 
 
-def kills_of_the_stand_in(folder, target, count, is_renamed, span, rng):
+def killed_at_its_write(words, target):
+    """Starts a program, and kills it once a file has another length than before, or lets it end."""
+    size = os.stat(target).st_size
+    with subprocess.Popen(words) as ran:
+        while ran.poll() is None and os.stat(target).st_size == size:
+            time.sleep(0.0002)
+        ran.kill()
+
+
+def kills_of_the_stand_in(folder, target, count, is_renamed):
     """What the file is after each kill."""
     words, whole = [sys.executable, __file__, "--stand-in", folder, target, str(int(is_renamed))], 0
+    stand_in(folder, target, True)
+    old = pathlib.Path(target).read_bytes()
     for _ in range(KILLS):
-        stand_in(folder, target, is_renamed)
-        killed(words, b"", span, rng)
+        pathlib.Path(target).write_bytes(old)
+        killed_at_its_write(words, target)
         try:
             whole += len(ElementTree.parse(target).findall(f"{{{SITEMAP}}}url")) == count
         except ElementTree.ParseError:
@@ -130,10 +142,11 @@ def measure(program, room, count, rng):
     file.write_bytes(spelled(count, count))
     fill(folder, count)
     ours, theirs = best(lambda _: published(program, file, count)), best(lambda _: stand_in(folder, target, True))
-    print(f"{count:,}: the program, from its start, {ours * 1000:.0f} ms; the stand-in, once started, {theirs * 1000:.0f} ms")
+    told = f"the program, from its start, {ours * 1000:.0f} ms; the stand-in, once started, {theirs * 1000:.0f} ms"
+    print(f"{count:,}: {told}")
     print(f"{count:,}: killed, the program: {kills_of_the_program(program, file, count, ours, rng)}", flush=True)
     for is_renamed, told in ((False, "in place"), (True, "renamed")):
-        found = kills_of_the_stand_in(folder, target, count, is_renamed, theirs * 1.5 + 0.1, rng)
+        found = kills_of_the_stand_in(folder, target, count, is_renamed)
         print(f"{count:,}: killed, the stand-in that writes {told}: {found}", flush=True)
 
 
