@@ -24,7 +24,7 @@ def moment_text(moment):
 
 
 def escaped(text):
-    return "".join(REFERENCES.get(it, it) for it in text)
+    return text.translate(str.maketrans(REFERENCES))
 
 
 @dataclasses.dataclass(frozen=True)

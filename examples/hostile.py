@@ -26,13 +26,12 @@ import multiprocessing
 import os
 import pathlib
 import sys
-import tempfile
 import time
 
 import hostile_disks
 import hostile_wrong
 from disk_judge import OPENS, told
-from hostile_runs import OF_A_BYTE, OF_ITSELF, STEPS, Room, faults, least, wanted_of
+from hostile_runs import OF_A_BYTE, OF_ITSELF, STEPS, Room, faults, least, room, wanted_of
 
 HERE = pathlib.Path(__file__).resolve().parent
 PROGRAM = HERE.parent / "crates/rs_source/out/rs_source"
@@ -116,11 +115,6 @@ def measure(asked, folder):
     beside = [it - asked.itself - OF_A_BYTE * len(disk) for it, disk in zip(took, disks) if it is not None]
     print(f"{MEASURED} disks took {max(beside)} bytes at most beside that and {OF_A_BYTE} times their file; {STEPS} are allowed")
     return took.count(None)
-
-
-def room():
-    """A folder in memory, where there is one."""
-    return tempfile.TemporaryDirectory(prefix="hostile-", dir="/dev/shm" if os.access("/dev/shm", os.W_OK) else None)
 
 
 def words():

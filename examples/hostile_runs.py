@@ -3,6 +3,7 @@ import collections
 import os
 import pathlib
 import signal
+import tempfile
 import xml.etree.ElementTree as ElementTree
 
 import crash_model
@@ -21,6 +22,11 @@ LIMITED = 'ulimit -c 0; ulimit -t 10; ulimit -v "$2"; exec "$0" run "$1"'
 Ran = collections.namedtuple("Ran", "status output messages seconds file")
 # What is asked, what has to be answered, and the documents in it.
 Wanted = collections.namedtuple("Wanted", "script status output messages documents")
+
+
+def room():
+    """A folder in memory, where there is one."""
+    return tempfile.TemporaryDirectory(prefix="hostile-", dir="/dev/shm" if os.access("/dev/shm", os.W_OK) else None)
 
 
 def verified(state):
