@@ -12,7 +12,8 @@
 #   make install  puts the built program, its page of the manual, its unit and its site in their places (PREFIX, DESTDIR; docs/OPERATING.md)
 #   make uninstall  takes them away again, and leaves every source as it is
 #   make crash    stops the program at each of its calls on a file, thousands of images over ten sessions ('make test' has a short form)
-#   make hostile  gives the program DISKS=100000 disks with bits turned, fields at their edges, cut, spliced ('make test' has a short form)
+#   make hostile  gives the program DISKS=100000 disks with bits turned, fields at their edges, cut, spliced, then LINES=100000 lines of
+#                 scripts and REQUESTS=100000 requests of that kind ('make test' has short forms)
 
 SCRIPT ?= examples/first.script
 BASE ?= http://127.0.0.1:8080
@@ -20,6 +21,8 @@ RT ?= rt
 CRATES ?=
 ROUNDS ?= 200
 DISKS ?= 100000
+LINES ?= 100000
+REQUESTS ?= 100000
 PREFIX ?= /usr/local
 DESTDIR ?=
 AT = $(DESTDIR)$(PREFIX)
@@ -65,6 +68,8 @@ crash: build
 
 hostile: build
 	@python3 examples/hostile.py --disks $(DISKS)
+	@python3 examples/hostile_lines.py --lines $(LINES)
+	@python3 examples/hostile_requests.py --requests $(REQUESTS)
 
 mirror: build
 	@python3 examples/check_mirror.py $(ROUNDS)

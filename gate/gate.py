@@ -151,7 +151,7 @@ def main():
             parts.run("must-fail edits", lambda: some_edits(copy))
             for name in CHECKS:
                 parts.run(name, script(copy / "examples" / f"check_{name}.py"))
-            for name in ("crash", "hostile"):
+            for name in ("crash", "hostile", "hostile_lines", "hostile_requests"):
                 parts.run(name, script(copy / "examples" / f"{name}.py", "--short"))
         tell(parts, meter, started)
     for it in parts.failed:
