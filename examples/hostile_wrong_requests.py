@@ -132,7 +132,7 @@ RULES = {
     "lines that LF alone does not end": lambda: pattern(HEADS, "FIELD", rb"\r?\n", rb"\r\n"),
     "a NUL in a value": lambda: pattern(HEADS, "FIELD", rb"[\t", rb"[\0\t"),
     "values of ASCII alone": lambda: pattern(HEADS, "FIELD", rb"\x80-\xff", b""),
-    "no empty names": lambda: pattern(HEADS, "FIELD", rb"A-Z", rb"A-Z@"),
+    "an @ in the name of a field": lambda: pattern(HEADS, "FIELD", rb"A-Z", rb"A-Z@"),
     "heads that CR LF CR LF alone ends": lambda: pattern(request_judge, "END", rb"\n\r?\n", rb"\r\n\r\n"),
     "heads of a byte less": lambda: rule(request_judge, "MOST_BYTES", 8_191),
     "heads of a byte more": lambda: rule(request_judge, "MOST_BYTES", 8_193),
