@@ -8,3 +8,5 @@ pub mod MapLemmas
 pub mod ListedLemmas
 pub mod LawfulLemmas
 pub mod StepLemmas
+pub mod WalkLemmas
+pub mod WalkHistory

@@ -12,7 +12,7 @@ use Rattle.std.specs.Cmp.{first_so}
 use Rattle.rs_model.proofs.OrderLemmas.{is_less, tail_ordered}
 
 -- names compare as equal where they are the same, and only there
-same_name : (x y : List ℕ) → by_bytes x y ≡ Equal → x ≡ y
+pub same_name : (x y : List ℕ) → by_bytes x y ≡ Equal → x ≡ y
 same_name x y h = (bytes_eq-Decides x y).0 (sym (is_eq-slice_cmp x y) ∙ ap is_eq h)
 
 is_equal : (r : Ordering) → is_eq r ≡ true → r ≡ Equal

@@ -6,3 +6,5 @@ pub mod StateFields
 pub mod Step
 pub mod Regular
 pub mod Laws
+pub mod Walk
+pub mod WalkLaws

@@ -3,16 +3,22 @@
 
 mod command;
 mod destination;
+mod event;
 mod laws;
 mod names;
 mod state;
 mod value;
+mod walk_laws;
 
 pub use command::{Command, Refusal, Reply, StepError};
 pub use destination::mirror;
+pub use event::{Event, walk};
 pub use laws::{
     fold_is_regular, lawful_stays, names_are_a_map, names_stay_ordered, start_is_regular,
     step_is_regular,
 };
 pub use state::State;
 pub use value::{Body, Entry, Held};
+pub use walk_laws::{
+    walks_are_catalogued, walks_are_folds, walks_pass_each_count, walks_stay_lawful,
+};

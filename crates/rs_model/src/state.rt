@@ -158,7 +158,7 @@ impl State {
     }
 
     // One command of a run, which is skipped where it is refused.
-    fn apply_or_skip(
+    pub(crate) fn apply_or_skip(
         &mut self,
         alloc: Global,
         command: Command,

@@ -1,0 +1,159 @@
+-- Walks event by event: the commands done, and the changes recorded.
+use Rattle.std.proofs.Common.{◌≡◌, ℕ, suc, zero, ◌+◌, ◌-◌, ◌≤◌, ◌<◌, List, [], ◌∷◌, ◌++◌, length, take, drop, refl, sym, ap, ◌∙◌, subst, arith, Option, Some, None, Bool, true, false, nat_le, append_assoc, append-nil, length-append}
+use Rattle.std.specs.List.{AllByRecursion}
+use Rattle.std.proofs.lemmas.Bool.Decides.{nat_tests}
+use Rattle.std.proofs.lemmas.List.{take-append-drop, take-take}
+use Rattle.std.proofs.Math.Seq.{drop-append_seam, take-append_seam}
+use Rattle.rs_record.specs.Changes.{deleted}
+use Rattle.rs_record.specs.declared.change.Change.{Change}
+use Rattle.rs_model.specs.declared.command.Command.{Command}
+use Rattle.rs_model.specs.declared.command.Command.TheVariants.{Put, Delete, Publish}
+use Rattle.rs_model.specs.declared.command.Refusal.{Refusal}
+use Rattle.rs_model.specs.declared.command.Reply.{Reply}
+use Rattle.rs_model.specs.declared.event.Event.{Event}
+use Rattle.rs_model.specs.declared.event.Event.TheVariants.{Tried, Refused, Stopped, Idle, Fetch}
+use Rattle.rs_model.specs.State.{Source, facts_of}
+use Rattle.rs_model.specs.Step.{step, state_after, next_state, accepted_unless, refusal_of, reply_to, moment_at, put_change, fold_of}
+use Rattle.rs_model.specs.Lawful.{IsLawful, IsLawfulTimed}
+use Rattle.rs_model.specs.Walk.{after_event, walk_of, state_at, done_by, commands_of, IsLawfulEvent, recorded_by, recorded, count_at, IsPassed}
+use Rattle.rs_model.proofs.LawfulLemmas.{fold_lawful}
+
+pub walk-append : (s : Source) (a b : List Event) → walk_of s (a ++ b) ≡ walk_of (walk_of s a) b
+walk-append s [] b = refl
+walk-append s (event ∷ a) b = walk-append (after_event s event) a b
+
+-- the states after some events, and after more
+pub walk_between : (s : Source) (events : List Event) (i j : ℕ) → i ≤ j
+    → state_at s events j ≡ walk_of (state_at s events i) (drop i (take j events))
+walk_between s events i j h =
+    ap (walk_of s) (sym (ap (λ l. l ++ drop i (take j events)) (sym (take-take i j events h)) ∙ take-append-drop i (take j events)))
+    ∙ walk-append s (take i events) (drop i (take j events))
+
+pub walk_onward : (s : Source) (events : List Event) (i : ℕ) → walk_of s events ≡ walk_of (state_at s events i) (drop i events)
+walk_onward s events i =
+    ap (walk_of s) (sym (take-append-drop i events)) ∙ walk-append s (take i events) (drop i events)
+
+-- the commands done
+done : (s : Source) (event : Event) (commands : List (Command × ℕ)) → fold_of s (done_by event ++ commands) ≡ fold_of (after_event s event) commands
+done s (Tried command now) commands = refl
+done s (Refused command) commands = refl
+done s (Stopped command now true) commands = refl
+done s (Stopped command now false) commands = refl
+done s Idle commands = refl
+done s Fetch commands = refl
+
+pub walk-fold : (s : Source) (events : List Event) → walk_of s events ≡ fold_of s (commands_of events)
+walk-fold s [] = refl
+walk-fold s (event ∷ events) = walk-fold (after_event s event) events ∙ sym (done s event (commands_of events))
+
+all_joined : {A : Type 0} (P : A → Type 0) (a b : List A) → AllByRecursion P a → AllByRecursion P b → AllByRecursion P (a ++ b)
+all_joined P [] b h k = k
+all_joined P (x ∷ a) b h k = (h.0, all_joined P a b h.1 k)
+
+lawful_commands : (events : List Event) → AllByRecursion IsLawfulEvent events → AllByRecursion IsLawfulTimed (commands_of events)
+lawful_commands [] h = tt
+lawful_commands (event ∷ events) h = all_joined IsLawfulTimed (done_by event) (commands_of events) h.0 (lawful_commands events h.1)
+
+pub walk_lawful : (s : Source) (events : List Event) → IsLawful s → AllByRecursion IsLawfulEvent events → IsLawful (walk_of s events)
+walk_lawful s events l h = subst IsLawful (sym (walk-fold s events)) (fold_lawful s (commands_of events) l (lawful_commands events h))
+
+-- at most one change more
+record HasOneMore (s t : Source) : Type 0 where
+  more : List Change
+  changes : t.changes ≡ s.changes ++ more
+  few : length more ≤ 1
+
+none_more : (s : Source) → HasOneMore s s
+none_more s = record { more = []; changes = sym (append-nil s.changes); few = omega arith }
+
+next_more : (s : Source) (command : Command) (t : ℕ) → HasOneMore s (next_state s command t)
+next_more s (Put name kind bytes) t = record { more = put_change s name (facts_of kind bytes) t ∷ []; changes = refl; few = omega arith }
+next_more s (Delete name) t = record { more = deleted name t ∷ []; changes = refl; few = omega arith }
+next_more s Publish t = record { more = []; changes = sym (append-nil s.changes); few = omega arith }
+
+unless_refused : (s : Source) (o : Option Refusal) (next : Source × Reply) → HasOneMore s next.0 → HasOneMore s (state_after s (accepted_unless o next))
+unless_refused s None next h = h
+unless_refused s (Some refusal) next h = none_more s
+
+step_more : (s : Source) (command : Command) (now : ℕ) → HasOneMore s (state_after s (step s command now))
+step_more s command now =
+    let t : ℕ = moment_at s now in
+    unless_refused s (refusal_of s command) (next_state s command t, reply_to s command t) (next_more s command t)
+
+event_more : (s : Source) (event : Event) → HasOneMore s (after_event s event)
+event_more s (Tried command now) = step_more s command now
+event_more s (Refused command) = none_more s
+event_more s (Stopped command now true) = step_more s command now
+event_more s (Stopped command now false) = none_more s
+event_more s Idle = none_more s
+event_more s Fetch = none_more s
+
+-- what an event records
+recorded_more : (s : Source) (event : Event) → recorded_by s event ≡ (event_more s event).more
+recorded_more s event = ap (drop (length s.changes)) (event_more s event).changes ∙ drop-append_seam s.changes (event_more s event).more
+
+event_records : (s : Source) (event : Event) → (after_event s event).changes ≡ s.changes ++ recorded_by s event
+event_records s event = (event_more s event).changes ∙ ap (λ more. s.changes ++ more) (sym (recorded_more s event))
+
+one_recorded : (s : Source) (event : Event) → length (recorded_by s event) ≤ 1
+one_recorded s event = omega (arith, ap length (recorded_more s event), (event_more s event).few)
+
+pub walk_records : (s : Source) (events : List Event) → (walk_of s events).changes ≡ s.changes ++ recorded s events
+walk_records s [] = sym (append-nil s.changes)
+walk_records s (event ∷ events) =
+    walk_records (after_event s event) events ∙ ap (λ l. l ++ recorded (after_event s event) events) (event_records s event)
+    ∙ append_assoc s.changes (recorded_by s event) (recorded (after_event s event) events)
+
+pub recorded-append : (s : Source) (a b : List Event) → recorded s (a ++ b) ≡ recorded s a ++ recorded (walk_of s a) b
+recorded-append s [] b = refl
+recorded-append s (event ∷ a) b =
+    ap (λ l. recorded_by s event ++ l) (recorded-append (after_event s event) a b)
+    ∙ sym (append_assoc (recorded_by s event) (recorded (after_event s event) a) (recorded (walk_of (after_event s event) a) b))
+
+-- what is recorded by the first i events comes first
+pub recorded_first : (s : Source) (events : List Event) (i : ℕ) → take (count_at s events i) (recorded s events) ≡ recorded s (take i events)
+recorded_first s events i =
+    ap (take (count_at s events i)) (ap (recorded s) (sym (take-append-drop i events)) ∙ recorded-append s (take i events) (drop i events))
+    ∙ take-append_seam (recorded s (take i events)) (recorded (state_at s events i) (drop i events))
+
+-- one event more records one change more at most
+one_more : (s : Source) (events : List Event) (i : ℕ) → count_at s events (suc i) ≤ count_at s events i + 1
+one_more s [] i = omega arith
+one_more s (event ∷ events) zero = omega (arith, one_recorded s event, length-append (recorded_by s event) [])
+one_more s (event ∷ events) (suc i) =
+    let t : Source = after_event s event in
+    omega (arith, one_more t events i, length-append (recorded_by s event) (recorded t (take (suc i) events)), length-append (recorded_by s event) (recorded t (take i events)))
+
+passed_by : (b : Bool) (s : Source) (events : List Event) (first d n : ℕ) → nat_le n (count_at s events (first + d)) ≡ b
+    → n ≤ count_at s events (suc (first + d))
+    → (n ≤ count_at s events (first + d) → IsPassed s events first (first + d) n) → IsPassed s events first (suc (first + d)) n
+passed_by true s events first d n e h before =
+    let p : IsPassed s events first (first + d) n = before (grind (arith, nat_tests)) in
+    record { point = p.point; after_first = p.after_first; by_last = omega (arith, p.by_last); count = p.count }
+passed_by false s events first d n e h before =
+    let above : count_at s events (first + d) < n = grind (arith, nat_tests) in
+    record {
+      point = suc (first + d);
+      after_first = omega arith;
+      by_last = omega arith;
+      count = omega (arith, above, h, one_more s events (first + d));
+    }
+
+passed_after : (s : Source) (events : List Event) (first d n : ℕ) → count_at s events first ≤ n → n ≤ count_at s events (first + d)
+    → IsPassed s events first (first + d) n
+passed_after s events first zero n low high =
+    let e : first + 0 ≡ first = omega arith in
+    let h : n ≤ count_at s events first = rw e at high in
+    record { point = first; after_first = omega arith; by_last = omega arith; count = omega arith }
+passed_after s events first (suc d) n low high =
+    let e : first + suc d ≡ suc (first + d) = omega arith in
+    let h : n ≤ count_at s events (suc (first + d)) = rw e at high in
+    subst (λ last. IsPassed s events first last n) (sym e)
+    (passed_by (nat_le n (count_at s events (first + d))) s events first d n refl h (passed_after s events first d n low))
+
+pub passed : (s : Source) (events : List Event) (first last n : ℕ) → first ≤ last → count_at s events first ≤ n → n ≤ count_at s events last
+    → IsPassed s events first last n
+passed s events first last n h low high =
+    let e : last ≡ first + (last - first) = omega arith in
+    subst (λ last. IsPassed s events first last n) (sym e)
+    (passed_after s events first (last - first) n low (subst (λ j. n ≤ count_at s events j) e high))

@@ -1,0 +1,51 @@
+-- What follows from the definition of a walk alone.
+use Rattle.std.specs.Prelude.{◌≡◌, ℕ, ◌≤◌, List, ◌++◌, length, take}
+use Rattle.std.specs.List.{AllByRecursion}
+use Rattle.rs_model.specs.declared.event.Event.{Event}
+use Rattle.rs_model.specs.State.{Source, start_of, entries}
+use Rattle.rs_model.specs.Step.{fold_of, mirror_of}
+use Rattle.rs_model.specs.Lawful.{IsLawful}
+use Rattle.rs_model.specs.Walk.{walk_of, state_at, commands_of, IsLawfulEvent, recorded, count_at, catalogue, IsPassed}
+
+-- The state of a walk is what the commands that it did leave, in their order.
+abbrev pub WalksAreFolds : Type 0
+WalksAreFolds = (s : Source) (events : List Event) → walk_of s events ≡ fold_of s (commands_of events)
+
+-- Lawful events leave a lawful state lawful.
+abbrev pub WalksStayLawful : Type 0
+WalksStayLawful =
+    (s : Source) (events : List Event) → IsLawful s → AllByRecursion IsLawfulEvent events → IsLawful (walk_of s events)
+
+-- After a walk the changes are those that were there, and then what the walk recorded. From a formatting on they are what
+-- it recorded.
+abbrev pub ChangesAreRecorded : Type 0
+ChangesAreRecorded = (s : Source) (events : List Event) → (walk_of s events).changes ≡ s.changes ++ recorded s events
+
+-- What is held after a walk from a formatting is the catalogue after all changes that it recorded, ..
+abbrev pub HeldIsCatalogued : Type 0
+HeldIsCatalogued =
+    (base : List ℕ) (limit moment : ℕ) (events : List Event)
+    → let s = start_of base limit moment in
+    entries (walk_of s events).held ≡ catalogue s events (length (recorded s events))
+
+-- .. and what was held after its first i events is the one after those recorded by then.
+abbrev pub HeldThenIsCatalogued : Type 0
+HeldThenIsCatalogued =
+    (base : List ℕ) (limit moment : ℕ) (events : List Event) (i : ℕ)
+    → let s = start_of base limit moment in
+    entries (state_at s events i).held ≡ catalogue s events (count_at s events i)
+
+-- The list that was the latest after i events, followed by the changes after its moment up to number n of all that the
+-- walk records, makes the catalogue after n changes, where n is at least what was recorded by then.
+abbrev pub ListIsFollowed : Type 0
+ListIsFollowed =
+    (base : List ℕ) (limit moment : ℕ) (events : List Event) (i n : ℕ)
+    → let s = start_of base limit moment in
+    count_at s events i ≤ n
+    → mirror_of (state_at s events i).listed (state_at s events i).at (take n (recorded s events)) ≡ catalogue s events n
+
+-- Between two points of a walk each number of changes from that of the first to that of the second is passed.
+abbrev pub EachCountIsPassed : Type 0
+EachCountIsPassed =
+    (s : Source) (events : List Event) (first last n : ℕ) → first ≤ last
+    → count_at s events first ≤ n → n ≤ count_at s events last → IsPassed s events first last n

@@ -1,0 +1,56 @@
+//! What may happen to a source while a destination reads its documents.
+
+ghost use Rattle.std.specs.Prelude.{◌≡◌, IfOk, OnOk};
+ghost use Rattle.rs_model.specs.Walk.{after_event, walk_of};
+
+use crate::{Command, State};
+use rs_record::Duplicate;
+use rs_time::Moment;
+use std::alloc::{AllocError, Global};
+
+/// What may happen between two fetches of a destination, and the fetches themselves.
+#[derive(Debug, Drop)]
+pub enum Event {
+    /// A command came at this moment, and the source answered it: it is done, or refused.
+    Tried(Command, Moment),
+    /// A command was answered by a refusal of the machine, as of memory or room: it is not done.
+    Refused(Command),
+    /// The source was stopped within a command that came at this moment, and was opened again. Whether the
+    /// command stands is true or false: a crash leaves either.
+    Stopped(Command, Moment, bool),
+    /// The source was stopped between two commands, and was opened again.
+    Idle,
+    /// A document or a resource was fetched.
+    Fetch,
+}
+
+/// The state after all these events, in their order. It fails only where a growth of memory is refused.
+pub fn walk(alloc: Global, state: &State, events: &[Event]) -> Result<State, AllocError>
+    ensures { IfOk result (λ walked. walked ≡ walk_of state.now events.now) }
+{
+    let mut walked = state.copy(alloc)?;
+    for event in events {
+        happen(alloc, &mut walked, event)?;
+    }
+    Ok(walked)
+}
+
+// One event of a walk.
+fn happen(alloc: Global, state: &mut State, event: &Event) -> Result<(), AllocError>
+    ensures { OnOk result (state.new ≡ after_event state.old event.now) }
+{
+    match event {
+        Event::Tried(command, now) => {
+            state.apply_or_skip(alloc, command.duplicate(alloc)?, *now)
+        }
+        Event::Stopped(command, now, stands) => {
+            if *stands {
+                state.apply_or_skip(alloc, command.duplicate(alloc)?, *now)?;
+            }
+            Ok(())
+        }
+        Event::Refused(_command) => Ok(()),
+        Event::Idle => Ok(()),
+        Event::Fetch => Ok(()),
+    }
+}
