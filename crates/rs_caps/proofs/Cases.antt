@@ -32,6 +32,13 @@ written_is r Written o pieces text there same h =
     let Q : Option (List ℕ) → Type 0 = λ t. OnOk r (IfSome t Written) in
     subst Q (sym there) (subst P same h)
 
+-- the same of a failure within it
+pub failed_is : {A E : Type 0} (r : Result A E) (e : E) (Failed : List ℕ → Type 0) (o : Option (List ℕ)) (pieces text : List ℕ) → o ≡ Some text → pieces ≡ text
+    → (IsErrOf r e → Failed pieces) → IsErrOf r e → IfSome o Failed
+failed_is r e Failed o pieces text there same h k =
+    let Q : Option (List ℕ) → Type 0 = λ t. IfSome t Failed in
+    subst Q (sym there) (subst Failed same (h k))
+
 -- a document that is there is not missing
 pub is_there : {A E : Type 0} (r : Result A E) (e : E) (o : Option (List ℕ)) (text : List ℕ) → o ≡ Some text → (IsErrOf r e → ⊥) → IsErrOf r e ↔ (o ≡ None)
 is_there r e o text there h = (λ m. absurd (h m), λ none. absurd (cc))

@@ -8,6 +8,7 @@ pub mod Numbers
 pub mod Clean
 pub mod Lines
 pub mod PathsRead
+pub mod PathAnswers
 pub mod ChangeKinds
 pub mod LinesRead
 pub mod WrittenLines
@@ -18,5 +19,10 @@ pub mod Gathering
 pub mod ListsRead
 pub mod LaterStates
 pub mod PartsStay
+pub mod TimesOfFetches
+pub mod Fetches
+pub mod Destinations
+pub mod NamesHeld
 pub mod PartBounds
 pub mod ReadingExamples
+pub mod WalkExamples

@@ -1,6 +1,7 @@
 -- The lists of one state are gathered whole, and the one mirrored with the other is what is held.
-use Rattle.std.proofs.Common.{◌≡◌, ℕ, ◌+◌, ◌-◌, ◌<◌, ◌≤◌, List, [], ◌∷◌, length, map, refl, sym, ap, ◌∙◌, arith, Option, Some, None, Bool, true, false, cond, nat_le, nat_lt}
+use Rattle.std.proofs.Common.{◌≡◌, ℕ, ◌+◌, ◌-◌, ◌<◌, ◌≤◌, List, [], ◌∷◌, length, map, refl, sym, ap, subst, ◌∙◌, arith, Option, Some, None, Bool, true, false, cond, nat_le, nat_lt}
 use Rattle.std.specs.Prelude.{codes, ◌==◌, ◌&&◌}
+use Rattle.std.specs.List.{AllByRecursion}
 use Rattle.std.proofs.lemmas.Bool.Decides.{nat_tests}
 use Rattle.std.proofs.lemmas.List.{map-id}
 use Rattle.std.proofs.lemmas.Simd.{map-map}
@@ -14,7 +15,7 @@ use Rattle.rs_model.specs.Step.{mirror_of}
 use Rattle.rs_model.specs.Regular.{IsRegular}
 use Rattle.rs_lists.specs.declared.doc.Doc.{Doc}
 use Rattle.rs_lists.specs.declared.doc.Doc.TheVariants.{Description, Capabilities, ResourceHead, ResourcePart, ChangeHead, ChangePart}
-use Rattle.rs_lists.specs.Chunks.{part_at}
+use Rattle.rs_lists.specs.Chunks.{parts_of, part_at}
 use Rattle.rs_lists.specs.Laws.{PartsAreChunks}
 use Rattle.rs_lists.specs.Shown.{Shown, resource_parts_of, change_parts_of}
 use Rattle.rs_lists.specs.Text.{list_text, numbers_from, resource_list, change_part_text, part_links, resource_part_path, change_part_path}
@@ -26,7 +27,7 @@ use Rattle.rs_caps.specs.DocumentTexts.{document_text}
 use Rattle.rs_caps.specs.Readings.{Listed}
 use Rattle.rs_caps.specs.Readings.Document.{ResourceList, ChangeList, ResourceListIndex, ChangeListIndex}
 use Rattle.rs_caps.specs.Reads.{reads}
-use Rattle.rs_caps.specs.Answer.{answer, document_or_body, listed_of, resource_entry_of, change_entry_of, change_part_of, reading_of}
+use Rattle.rs_caps.specs.Answer.{answer, document_or_body, listed_of, resource_entry_of, change_entry_of, change_part_of, resource_head_of, change_head_of, reading_of}
 use Rattle.rs_caps.specs.Gather.{resources_in, changes_in, parts_at, gathered_resources, gathered_changes, gather_resources, gather_changes, listed_entry}
 use Rattle.rs_model.specs.Lawful.{IsLawful}
 use Rattle.rs_caps.proofs.Elements.{all_so, numbers_below}
@@ -72,7 +73,7 @@ pub texts_read : (s : Source) (text : List ℕ) (doc : Doc) → IsLawful s → l
     → reads text ≡ reading_of (shown_of s) doc
 texts_read s text doc l h = text_reads (shown_of s) doc text (shown_lawful s l) h
 
-more_than_one : (n : ℕ) → nat_le n 1 ≡ false → 1 < n
+pub more_than_one : (n : ℕ) → nat_le n 1 ≡ false → 1 < n
 more_than_one n e = grind (arith, nat_tests)
 
 -- parts of the Resource List
@@ -101,35 +102,61 @@ resource_part s k l a b few =
       gives = refl;
     }
 
-resources_by : PartsAreChunks Record → (s : Source) (b : Bool) → nat_le (resource_parts_of (shown_of s)) 1 ≡ b → IsLawful s
-    → gathered_resources (answer s) (cond b (ResourceList s.at (map listed_of (map record_of s.listed)))
-    (ResourceListIndex s.at (map (resource_entry_of (shown_of s)) (numbers_from 0 (resource_parts_of (shown_of s))))))
-    ≡ Some (s.at, map listed_of (map record_of s.listed))
-resources_by chunks s true e l = refl
-resources_by chunks s false e l =
+pub resources_from_parts : PartsAreChunks Record → (v : Shown) (fetched : List ℕ → Option (List ℕ)) (b : Bool) → IsReadable v
+    → (b ≡ false → AllByRecursion (λ k. IsPartAt resources_in fetched (resource_part_path v.number k)
+    (map listed_of (part_at k v.limit v.published))) (numbers_from 0 (resource_parts_of v)))
+    → gathered_resources fetched (cond b (ResourceList v.at (map listed_of v.published))
+    (ResourceListIndex v.at (map (resource_entry_of v) (numbers_from 0 (resource_parts_of v)))))
+    ≡ Some (v.at, map listed_of v.published)
+resources_from_parts chunks v fetched true l each = refl
+resources_from_parts chunks v fetched false l each =
+    let numbers : List ℕ = numbers_from 0 (resource_parts_of v) in
+    let low : 2 ≤ v.limit = l.low in
+    ap (λ paths. parts_at resources_in fetched paths >>= λ children. Some (v.at, children)) (map-map (λ p. p.path) (resource_entry_of v) numbers)
+    ∙ ap (λ (o : Option (List Listed)). o >>= λ children. Some (v.at, children))
+    (all_gathered listed_of resources_in fetched (resource_part_path v.number) v.limit v.published (chunks v.limit v.published (omega arith))
+    (each refl))
+
+own_resource_parts : (s : Source) → nat_le (resource_parts_of (shown_of s)) 1 ≡ false → IsLawful s
+    → AllByRecursion (λ k. IsPartAt resources_in (answer s) (resource_part_path s.number k) (map listed_of (part_at k s.limit (map record_of s.listed))))
+    (numbers_from 0 (resource_parts_of (shown_of s)))
+own_resource_parts s e l =
     let v : Shown = shown_of s in
     let shown : IsReadable v = shown_lawful s l in
     let count : ℕ = resource_parts_of v in
-    let low : 2 ≤ v.limit = shown.low in
     let few : count < 60000 = parts_few (length v.published) v.limit shown.published_room shown.low shown.high in
     let Part : ℕ → Type 0 = λ k. IsPartAt resources_in (answer s) (resource_part_path s.number k)
     (map listed_of (part_at k v.limit v.published)) in
-    ap (λ paths. parts_at resources_in (answer s) paths >>= λ children. Some (s.at, children)) (map-map (λ p. p.path) (resource_entry_of v) (numbers_from 0 count))
-    ∙ ap (λ (o : Option (List Listed)). o >>= λ children. Some (s.at, children))
-    (all_gathered listed_of resources_in (answer s) (resource_part_path s.number) v.limit v.published (chunks v.limit v.published (omega arith))
-    (all_so (λ k. k < count) Part (λ k h. resource_part s k l (more_than_one count e) h (omega arith)) (numbers_from 0 count)
-    (numbers_below 0 count count (omega arith))))
+    all_so (λ k. k < count) Part (λ k h. resource_part s k l (more_than_one count e) h (omega arith)) (numbers_from 0 count)
+    (numbers_below 0 count count (omega arith))
 
 head_text : (s : Shown) → (text : List ℕ) × (list_text s ResourceHead ≡ Some text)
 unfolding list_text
 head_text s = (_, refl)
 
+-- the head of a Resource List, as it is answered and read
+pub resource_head_read : (s : Source) → IsLawful s
+    → (text : List ℕ) × (answer s (codes "/resourcelist.xml") ≡ Some text) × (reads text ≡ Some (resource_head_of (shown_of s)))
+resource_head_read s l =
+    let head = head_text (shown_of s) in (
+      head.0,
+      answer_at s (codes "/resourcelist.xml") ResourceHead tt (doc_of-path_of ResourceHead tt) ∙ head.1,
+      text_reads (shown_of s) ResourceHead head.0 (shown_lawful s l) head.1,
+    )
+
+-- what is gathered where the head is answered as of this state
+pub resources_from_head : (s : Source) (fetched : List ℕ → Option (List ℕ)) → IsLawful s
+    → fetched (codes "/resourcelist.xml") ≡ answer s (codes "/resourcelist.xml")
+    → gather_resources fetched ≡ gathered_resources fetched (resource_head_of (shown_of s))
+resources_from_head s fetched l same =
+    let head = resource_head_read s l in
+    then_some (fetched (codes "/resourcelist.xml")) _ head.0 _ (same ∙ head.1)
+    (then_some (reads head.0) _ (resource_head_of (shown_of s)) _ head.2 refl)
+
 pub resources_gathered : PartsAreChunks Record → (s : Source) → IsLawful s → gather_resources (answer s) ≡ Some (s.at, map listed_of (map record_of s.listed))
 resources_gathered chunks s l =
-    let head = head_text (shown_of s) in
-    then_some (answer s (codes "/resourcelist.xml")) _ head.0 _
-    (answer_at s (codes "/resourcelist.xml") ResourceHead tt (doc_of-path_of ResourceHead tt) ∙ head.1)
-    (then_some (reads head.0) _ _ _ (text_reads (shown_of s) ResourceHead head.0 (shown_lawful s l) head.1) (resources_by chunks s _ refl l))
+    resources_from_head s (answer s) l refl
+    ∙ resources_from_parts chunks (shown_of s) (answer s) _ (shown_lawful s l) (λ e. own_resource_parts s e l)
 
 -- parts of the Change List
 changed_test : (p k : ℕ) → 1 < p → k < p → (nat_lt 1 p && nat_le 0 (0 + k) && nat_lt (0 + k) (0 + p)) ≡ true
@@ -156,6 +183,21 @@ change_part s k l a b few =
       gives = ap (λ n. Some (part_at n s.limit s.changes)) number ∙ ap Some (sym (map-id (part_at k s.limit s.changes)));
     }
 
+-- the changes of an index, from its parts as they were fetched
+pub changes_from_parts : PartsAreChunks Change → (v : Shown) (fetched : List ℕ → Option (List ℕ)) (items : List Change) (count : ℕ)
+    → 2 ≤ v.limit → parts_of (length items) v.limit ≡ count
+    → AllByRecursion (λ k. IsPartAt changes_in fetched (change_part_path (v.first + k)) (map (λ c. c) (part_at k v.limit items))) (numbers_from 0 count)
+    → gathered_changes fetched (ChangeListIndex v.start None (map (change_entry_of v) (numbers_from 0 count))) ≡ Some (v.start, items)
+changes_from_parts chunks v fetched items count low same each =
+    let Part : ℕ → Type 0 = λ k. IsPartAt changes_in fetched (change_part_path (v.first + k)) (map (λ c. c) (part_at k v.limit items)) in
+    ap (λ n. gathered_changes fetched (ChangeListIndex v.start None (map (change_entry_of v) (numbers_from 0 n)))) (sym same)
+    ∙ ap (λ paths. parts_at changes_in fetched paths >>= λ children. Some (v.start, children))
+    (map-map (λ p. p.path) (change_entry_of v) (numbers_from 0 (parts_of (length items) v.limit)))
+    ∙ ap (λ (o : Option (List Change)). o >>= λ children. Some (v.start, children))
+    (all_gathered (λ c. c) changes_in fetched (λ k. change_part_path (v.first + k)) v.limit items (chunks v.limit items (omega arith))
+    (subst (λ n. AllByRecursion Part (numbers_from 0 n)) (sym same) each))
+    ∙ ap (λ cs. Some (v.start, cs)) (map-id items)
+
 changes_by : PartsAreChunks Change → (s : Source) (b : Bool) → nat_le (change_parts_of (shown_of s)) 1 ≡ b → IsLawful s
     → gathered_changes (answer s) (cond b (ChangeList s.start None s.changes)
     (ChangeListIndex s.start None (map (change_entry_of (shown_of s)) (numbers_from 0 (change_parts_of (shown_of s))))))
@@ -164,33 +206,43 @@ changes_by chunks s true e l = refl
 changes_by chunks s false e l =
     let v : Shown = shown_of s in
     let count : ℕ = change_parts_of v in
-    let low : 2 ≤ v.limit = l.low in
     let few : count < 60000 = parts_few (length v.changes) v.limit l.changes_room l.low l.high in
     let Part : ℕ → Type 0 = λ k. IsPartAt changes_in (answer s) (change_part_path (0 + k)) (map (λ c. c) (part_at k v.limit v.changes)) in
-    ap (λ paths. parts_at changes_in (answer s) paths >>= λ children. Some (s.start, children)) (map-map (λ p. p.path) (change_entry_of v) (numbers_from 0 count))
-    ∙ ap (λ (o : Option (List Change)). o >>= λ children. Some (s.start, children))
-    (all_gathered (λ c. c) changes_in (answer s) (λ k. change_part_path (0 + k)) v.limit v.changes (chunks v.limit v.changes (omega arith))
+    changes_from_parts chunks v (answer s) v.changes count l.low refl
     (all_so (λ k. k < count) Part (λ k h. change_part s k l (more_than_one count e) h (omega arith)) (numbers_from 0 count)
-    (numbers_below 0 count count (omega arith))))
-    ∙ ap (λ cs. Some (s.start, cs)) (map-id s.changes)
+    (numbers_below 0 count count (omega arith)))
 
 change_head_text : (s : Shown) → (text : List ℕ) × (list_text s ChangeHead ≡ Some text)
 unfolding list_text
 change_head_text s = (_, refl)
 
+-- the head of a Change List, as it is answered and read
+pub change_head_read : (s : Source) → IsLawful s
+    → (text : List ℕ) × (answer s (codes "/changelist.xml") ≡ Some text) × (reads text ≡ Some (change_head_of (shown_of s)))
+change_head_read s l =
+    let head = change_head_text (shown_of s) in (
+      head.0,
+      answer_at s (codes "/changelist.xml") ChangeHead tt (doc_of-path_of ChangeHead tt) ∙ head.1,
+      text_reads (shown_of s) ChangeHead head.0 (shown_lawful s l) head.1,
+    )
+
+pub changes_from_head : (s : Source) (fetched : List ℕ → Option (List ℕ)) → IsLawful s
+    → fetched (codes "/changelist.xml") ≡ answer s (codes "/changelist.xml")
+    → gather_changes fetched ≡ gathered_changes fetched (change_head_of (shown_of s))
+changes_from_head s fetched l same =
+    let head = change_head_read s l in
+    then_some (fetched (codes "/changelist.xml")) _ head.0 _ (same ∙ head.1)
+    (then_some (reads head.0) _ (change_head_of (shown_of s)) _ head.2 refl)
+
 pub changes_gathered : PartsAreChunks Change → (s : Source) → IsLawful s → gather_changes (answer s) ≡ Some (s.start, s.changes)
-changes_gathered chunks s l =
-    let head = change_head_text (shown_of s) in
-    then_some (answer s (codes "/changelist.xml")) _ head.0 _
-    (answer_at s (codes "/changelist.xml") ChangeHead tt (doc_of-path_of ChangeHead tt) ∙ head.1)
-    (then_some (reads head.0) _ _ _ (text_reads (shown_of s) ChangeHead head.0 (shown_lawful s l) head.1) (changes_by chunks s _ refl l))
+changes_gathered chunks s l = changes_from_head s (answer s) l refl ∙ changes_by chunks s _ refl l
 
 -- what is listed is what was published
-same_entries : (m : Names Entry) → map listed_entry (map listed_of (map record_of m)) ≡ m
+pub same_entries : (m : Names Entry) → map listed_entry (map listed_of (map record_of m)) ≡ m
 same_entries [] = refl
 same_entries (e ∷ m) = ap (λ l. e ∷ l) (same_entries m)
 
-same_pair : {A : Type 0} (a b : ℕ × A) → Some a ≡ Some b → (a.0 ≡ b.0) × (a.1 ≡ b.1)
+pub same_pair : {A : Type 0} (a b : ℕ × A) → Some a ≡ Some b → (a.0 ≡ b.0) × (a.1 ≡ b.1)
 same_pair a b h = let same : a ≡ b = cc in (ap (λ p. p.0) same, ap (λ p. p.1) same)
 
 pub lists_mirror : PartsAreChunks Record → PartsAreChunks Change → (s : Source) → IsRegular s → IsLawful s → (at start : ℕ) (listed : List Listed) (changes : List Change)

@@ -27,7 +27,7 @@ use Rattle.rs_caps.proofs.TextsRead.{shown_lawful, text_reads}
 use Rattle.rs_caps.proofs.ListsRead.{answer_at}
 use Rattle.rs_caps.proofs.LaterStates.{IsLater, later}
 
-if_there : {A : Type 0} (b : Bool) (x y : A) → cond b (Some x) None ≡ Some y → (b ≡ true) × (x ≡ y)
+pub if_there : {A : Type 0} (b : Bool) (x y : A) → cond b (Some x) None ≡ Some y → (b ≡ true) × (x ≡ y)
 if_there true x y h = (refl, cc)
 if_there false x y h = cc
 
@@ -44,7 +44,7 @@ listed_text base limit at listed k =
     let s : Shown = shows base at in
     resource_list s (part_links s (codes "/resourcelist.xml")) (part_at k limit (map record_of listed))
 
-listed_there : (s : Source) (p k : ℕ) (x : List ℕ) → list_text (shown_of s) (ResourcePart p k) ≡ Some x
+pub listed_there : (s : Source) (p k : ℕ) (x : List ℕ) → list_text (shown_of s) (ResourcePart p k) ≡ Some x
     → (p ≡ s.number) × (listed_text s.base s.limit s.at s.listed k ≡ x)
 unfolding list_text
 listed_there s p k x h =

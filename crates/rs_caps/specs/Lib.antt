@@ -7,5 +7,7 @@ pub mod ReadLines
 pub mod Reads
 pub mod Readings
 pub mod Answer
+pub mod PathAnswers
 pub mod Gather
 pub mod Statements
+pub mod Destination

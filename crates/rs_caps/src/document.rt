@@ -1,7 +1,7 @@
 //! The text of every document, written and measured.
 
 ghost use Rattle.std.specs.Prelude.{◌≡◌, ◌↔◌, None, OnOk, IfSome, IsErrOf, IsTrue, length, option_map};
-ghost use Rattle.rs_io.specs.Watch.{EndFailed, Wrote};
+ghost use Rattle.rs_io.specs.Watch.{EndFailed, FailedWithin, Wrote};
 ghost use Rattle.rs_record.specs.Base.{is_base};
 ghost use Rattle.rs_lists.specs.Piece.{pieces_text};
 ghost use Rattle.rs_caps.specs.DocumentTexts.{document_text, description_text, capabilities_text};
@@ -19,7 +19,7 @@ use std::io::Write;
 /// # Errors
 ///
 /// `NoSuchDocument` exactly where the document does not exist; nothing is written then. `WriteFault` only where a
-/// call of the writer failed in this one; a part of the text may then be written.
+/// call of the writer failed in this one; a beginning of the text is written then, and no other byte.
 pub fn write_document<V: View, W: Write>(
     view: &V,
     doc: Doc,
@@ -31,6 +31,8 @@ pub fn write_document<V: View, W: Write>(
         ↔ (document_text (V.shown view.now) doc ≡ None) }
     ensures untouched { IsErrOf result ListError.NoSuchDocument → out.new ≡ out.old }
     ensures fault { IsErrOf result ListError.WriteFault → EndFailed out.old out.new }
+    ensures within { IsErrOf result ListError.WriteFault →
+        IfSome (document_text (V.shown view.now) doc) (FailedWithin W.contents out.old out.new) }
 {
     match doc {
         Doc::Description => write_pieces(&description(view.base()), out),
@@ -56,6 +58,8 @@ fn write_pieces<W: Write>(pieces: &[Piece<'_>], out: &mut Watched<W>) -> Result<
     ensures written { OnOk result (Wrote W.contents out.old out.new (pieces_text pieces.now)) }
     ensures exists { ¬ IsErrOf result ListError.NoSuchDocument }
     ensures fault { IsErrOf result ListError.WriteFault → EndFailed out.old out.new }
+    ensures within { IsErrOf result ListError.WriteFault →
+        FailedWithin W.contents out.old out.new (pieces_text pieces.now) }
 {
     put_pieces(pieces, out)?;
     Ok(())

@@ -5,5 +5,7 @@
 //! of, that the lists together say all that the source holds, and that a part once served stays as
 //! it was.
 
+pub mod answered;
+pub mod destination;
 pub mod reading;
 pub mod served;

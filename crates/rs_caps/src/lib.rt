@@ -2,12 +2,14 @@
 //! source holds.
 #![tactic(auto)]
 
+mod answering;
 mod document;
 pub mod laws;
 mod path_reading;
 mod path_writing;
 mod state_view;
 
+pub use answering::answer;
 pub use document::{document_length, write_document};
 pub use path_reading::doc_of;
 pub use path_writing::{path_of, write_path};

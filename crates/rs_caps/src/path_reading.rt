@@ -75,7 +75,7 @@ fn part_number(text: &[u8]) -> Option<u64>
 }
 
 // What follows the prefix, where the text begins with it.
-fn strip<'a>(prefix: &[u8], text: &'a [u8]) -> Option<&'a [u8]>
+pub(crate) fn strip<'a>(prefix: &[u8], text: &'a [u8]) -> Option<&'a [u8]>
     ensures { option_copied result ≡ what_follows prefix.now text.now }
 {
     text.strip_prefix(prefix)

@@ -1,11 +1,11 @@
 //! Writing a path: where a document stands.
 
 ghost use Rattle.std.specs.Prelude.{◌≡◌, OnOk, OnErr, IfOk};
-ghost use Rattle.rs_io.specs.Watch.{EndFailed, Wrote};
+ghost use Rattle.rs_io.specs.Watch.{EndFailed, FailedWithin, Wrote};
 ghost use Rattle.rs_caps.specs.Paths.{path_of as path_text};
 
 use rs_io::{Watched, WriteFault};
-use rs_lists::Doc;
+use rs_lists::{Doc, Piece, put_pieces};
 use std::alloc::{AllocError, Global};
 use std::io::Write;
 
@@ -13,20 +13,36 @@ use std::io::Write;
 ///
 /// # Errors
 ///
-/// [`WriteFault`] only where a call of the writer failed in this one; a part of the path may then be written.
+/// [`WriteFault`] only where a call of the writer failed in this one; a beginning of the path is written then, and no
+/// other byte.
 pub fn write_path<W: Write>(doc: Doc, out: &mut Watched<W>) -> Result<(), WriteFault>
     ensures written { OnOk result (Wrote W.contents out.old out.new (path_text doc)) }
     ensures fault { OnErr result (EndFailed out.old out.new) }
+    ensures within { OnErr result (FailedWithin W.contents out.old out.new (path_text doc)) }
 {
     match doc {
         Doc::Description => out.put(b"/.well-known/resourcesync"),
         Doc::Capabilities => out.put(b"/capabilitylist.xml"),
         Doc::ResourceHead => out.put(b"/resourcelist.xml"),
-        Doc::ResourcePart { publication, part } => {
-            out.put_text(format_args!("/resourcelist/{publication}/{part}.xml"))
-        }
+        Doc::ResourcePart { publication, part } => put_pieces(
+            &[
+                Piece::Plain(b"/resourcelist/"),
+                Piece::Number(publication),
+                Piece::Plain(b"/"),
+                Piece::Number(part),
+                Piece::Plain(b".xml"),
+            ],
+            out,
+        ),
         Doc::ChangeHead => out.put(b"/changelist.xml"),
-        Doc::ChangePart { part } => out.put_text(format_args!("/changelist/{part}.xml")),
+        Doc::ChangePart { part } => put_pieces(
+            &[
+                Piece::Plain(b"/changelist/"),
+                Piece::Number(part),
+                Piece::Plain(b".xml"),
+            ],
+            out,
+        ),
     }
 }
 

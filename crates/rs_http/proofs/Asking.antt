@@ -1,5 +1,5 @@
 -- What the answers of the source come to.
-use Rattle.std.proofs.Common.{◌≡◌, ℕ, List, Option, Some, None, Result, Ok, Err, Vec, Global, Bool, true, false, ◌↔◌, length, refl, ap, sym, subst, ◌∙◌, if◌then◌else◌, IsErrOf, IsTrue, IfOk, OnOk, option_map}
+use Rattle.std.proofs.Common.{◌≡◌, ℕ, List, [], ◌++◌, append_assoc, append-nil, codes, Option, Some, None, Result, Ok, Err, Vec, Global, Bool, true, false, ◌↔◌, length, refl, ap, sym, subst, ◌∙◌, if◌then◌else◌, IsErrOf, IsTrue, IfOk, OnOk, option_map}
 use Rattle.rs_disk.specs.Medium.{DiskState}
 use Rattle.rs_model.specs.Step.{is_held}
 use Rattle.rs_lists.specs.declared.doc.Doc.{Doc}
@@ -13,13 +13,14 @@ use Rattle.rs_store.specs.Views as views
 use Rattle.rs_store.specs.declared.refusal.Refusal as stored
 use Rattle.rs_store.specs.declared.refusal.Refusal.TheVariants.{Closed, NotHeld, Device, Damaged, NoMemory}
 use Rattle.rs_http.specs.declared.response.Framing.{Framing}
-use Rattle.rs_http.specs.Responses.{RequestOutcome, shown, refused, status_code, response_text}
+use Rattle.httpdate.specs.Date.{date_text}
+use Rattle.rs_http.specs.Responses.{RequestOutcome, shown, refused, status_code, response_text, first_lines, content_lines, sent_body, framed}
 use Rattle.rs_http.specs.Outcomes.{ReadComesTo, document_or_none, document_shown, Responds}
 use Rattle.rs_http.proofs.Documents.{one_text}
 
 -- an outcome is answered
 pub answered : {E : Type 0} (framing : Framing) (Written : List ℕ → Type 0) (comes : RequestOutcome → Type 0) (result : Result ℕ E) (outcome : RequestOutcome)
-    → comes outcome → IfOk result (λ status. status ≡ status_code outcome) → OnOk result (Written (response_text framing outcome))
+    → comes outcome → IfOk result (λ status. status ≡ status_code outcome) → Written (response_text framing outcome)
     → Responds framing Written comes result
 answered framing Written comes result outcome c s w = record { outcome = outcome; comes_of_it = c; status = s; written = w }
 
@@ -80,14 +81,25 @@ module _ {D : Type 0} (device : D → DiskState) (old new : Stored D) (name : Li
     outcome_is = refl;
   }
 
--- a document that has a length is there, and what was written of it is its text
-pub shown_whole : {T E : Type 0} (result : Result T E) (found : Option (List ℕ)) (count : ℕ) (W : List ℕ → Type 0) → option_map length found ≡ Some count
-    → OnOk result ((text : List ℕ) × (found ≡ Some text) × W text) → (text : List ℕ) × (found ≡ Some text) × OnOk result (W text)
-shown_whole result None count W e h = absurd cc
-shown_whole (Err x) (Some text) count W e h = (text, refl, tt)
-shown_whole (Ok x) (Some text) count W e h =
-    let same : h.0 ≡ text = cc in
-    (text, refl, subst W same h.2)
+-- a document that has a length is there
+pub is_there : (found : Option (List ℕ)) (count : ℕ) → option_map length found ≡ Some count → (text : List ℕ) × (found ≡ Some text) × (length text ≡ count)
+is_there None count e = absurd cc
+is_there (Some text) count e = (text, refl, let same : Some (length text) ≡ Some count = e in cc)
+
+no_body : (b : Bool) (text : List ℕ) → text ≡ [] → (if b then [] else text) ≡ []
+no_body true text none = refl
+no_body false text none = none
+
+-- the head of its response, and then its text, which a HEAD leaves out
+pub document_head : (framing : Framing) (text : List ℕ) (count : ℕ) → length text ≡ count
+    → framed framing 200 (content_lines (codes "application/xml") count) [] ++ sent_body framing text ≡ response_text framing (shown (codes "application/xml") text)
+document_head framing text count same =
+    let first = first_lines 200 (date_text framing.date) in
+    let lines = content_lines (codes "application/xml") count in
+    let none : sent_body framing [] ≡ [] = no_body framing.is_head [] refl in
+    let bare : framed framing 200 lines [] ≡ first ++ lines = ap (λ (l : List ℕ). first ++ (lines ++ l)) none ∙ ap (λ (l : List ℕ). first ++ l) (append-nil lines) in
+    ap (λ (l : List ℕ). l ++ sent_body framing text) bare ∙ append_assoc first lines (sent_body framing text)
+    ∙ ap (λ (n : ℕ). first ++ (content_lines (codes "application/xml") n ++ sent_body framing text)) (sym same)
 
 -- one that has none is not there
 pub shown_none : (found : Option (List ℕ)) → option_map length found ≡ None → found ≡ None

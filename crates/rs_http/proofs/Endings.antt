@@ -1,5 +1,5 @@
 -- How the answer to a plan and to a request ends.
-use Rattle.std.proofs.Common.{◌≡◌, ◌/◌, ℕ, List, ◌++◌, Option, Some, Result, Ok, Err, refl, sym, ◌∙◌, subst, inr}
+use Rattle.std.proofs.Common.{◌≡◌, ◌/◌, ℕ, List, [], ◌++◌, Option, Some, Result, Ok, Err, refl, sym, ◌∙◌, subst, inl, inr, append-nil}
 use Rattle.std.specs.Prelude.{MatchResult}
 use Rattle.std.specs.Io.KnownBytes.{Consumes, Appends, Keeps, IsAtEnd}
 use Rattle.std.proofs.KnownBytes.{Consumes-trans, Appends-trans, Appends-kept}
@@ -8,7 +8,7 @@ use Rattle.httpdate.specs.declared.date.HttpDate.{HttpDate}
 use Rattle.rs_disk.specs.Medium.{DiskState}
 use Rattle.rs_io.specs.declared.fault.WriteFault.{WriteFault}
 use Rattle.rs_io.specs.declared.watch.Watched.{Watched}
-use Rattle.rs_io.specs.Watch.{watched, Wrote}
+use Rattle.rs_io.specs.Watch.{watched, Writes, FailedWithin}
 use Rattle.rs_store.specs.Source.{Stored}
 use Rattle.rs_http.specs.declared.fault.FrontFault.{FrontFault}
 use Rattle.rs_http.specs.declared.fault.FrontFault.TheVariants.{Read, Write}
@@ -23,12 +23,15 @@ use Rattle.rs_http.specs.Head.{HeadIs}
 use Rattle.rs_http.specs.Requests.{Asks}
 use Rattle.rs_http.specs.Responses.{RequestOutcome, response_text}
 use Rattle.rs_http.specs.Outcomes.{RequestGives, Responds}
-use Rattle.rs_http.specs.Serving.{PlanEnds, RequestEnds, preface_of, Reads, Serves, Breaks, Halts}
+use Rattle.rs_recovery.specs.Prefixes.{Recovers}
+use Rattle.rs_http.specs.Counted.{RequestRecovers}
+use Rattle.rs_http.specs.Walked.{MakesWalk, MakesNoEvent}
+use Rattle.rs_http.specs.Serving.{PlanEnds, RequestEnds, TakesPart, IsBroken, preface_of, Reads, Serves, Breaks, Halts}
 
 -- an answer that was sent ends a plan, for which these bytes were read
 pub sent_ends : {D W : Type 0} (device : D → DiskState) (old new : Stored D) (now : ℕ) (plan asked : Result Plan NoPlan) (framing : Framing)
     (left rest : Option (List ℕ)) (contents : W → Option (List ℕ)) (before after : Watched W) (more : List ℕ) (comes : RequestOutcome → Type 0) (result : Result ℕ WriteFault) (out : Result ℕ FrontFault)
-    → Consumes left rest more → plan ≡ asked → MatchResult result (λ status. out ≡ Ok status) (λ _. out ≡ Err Write) → Responds framing (Wrote contents before after) comes result
+    → Consumes left rest more → plan ≡ asked → MatchResult result (λ status. out ≡ Ok status) (λ _. out ≡ Err Write) → Responds framing (Writes contents before after result) comes result
     → ((outcome : RequestOutcome) → comes outcome → RequestGives device old now asked more rest outcome new) → PlanEnds device old now plan framing left rest (contents (watched before)) (contents (watched after)) new out
 sent_ends device old new now plan asked framing left rest contents before after more comes (Ok status) out came same e r gives =
     subst (λ o. PlanEnds device old now plan framing left rest (contents (watched before)) (contents (watched after)) new o) (sym e) (
@@ -42,6 +45,7 @@ sent_ends device old new now plan asked framing left rest contents before after 
       },
     )
 sent_ends device old new now plan asked framing left rest contents before after more comes (Err fault) out came same e r gives =
+    let w = r.written in
     subst (λ o. PlanEnds device old now plan framing left rest (contents (watched before)) (contents (watched after)) new o) (sym e) (
       more,
       came,
@@ -49,9 +53,14 @@ sent_ends device old new now plan asked framing left rest contents before after 
         outcome = r.outcome;
         comes_of_it = subst (λ p. RequestGives device old now p more rest r.outcome new) (sym same) (gives r.outcome r.comes_of_it);
         status = tt;
-        written = tt;
+        written = record { part = w.part; left_out = w.left_out; bytes_are = w.bytes_are; took = w.took };
       },
     )
+
+-- a writer that failed took a beginning of the text
+pub took_part : {W : Type 0} (contents : W → Option (List ℕ)) (before after : Watched W) (text : List ℕ) → FailedWithin contents before after text
+    → TakesPart (contents (watched before)) (contents (watched after)) [] text
+took_part contents before after text w = record { part = w.part; left_out = w.left_out; bytes_are = w.bytes_are; took = w.took }
 
 module _ {D : Type 0} (device : D → DiskState) (old new : Stored D) (now : ℕ) (request : Request) (date : HttpDate) (dated : unix_secs date ≡ now / 1000)
     (left rest before mid after : Option (List ℕ)) (preface : Appends before mid (preface_of request.plan)) where
@@ -70,17 +79,53 @@ module _ {D : Type 0} (device : D → DiskState) (old new : Stored D) (now : ℕ
     record { outcome = r.outcome; date = date; dated = dated; gives = r.comes_of_it; status_is = same ∙ r.status; written = refl },
   )
   finished kept status (Err Read) ends k same = absurd cc
-  finished kept status (Err Write) (more, came, r) k same = (more, came, inr (r.outcome, r.comes_of_it))
+  finished kept status (Err Write) (more, came, r) k same = (
+    more,
+    came,
+    inr (record {
+      outcome = r.outcome;
+      date = date;
+      dated = dated;
+      gives = r.comes_of_it;
+      took = record {
+        part = response_text framing r.outcome;
+        left_out = [];
+        bytes_are = append-nil (response_text framing r.outcome);
+        took = Appends-kept before after kept (preface_of request.plan ++ response_text framing r.outcome)
+            (Appends-trans before mid after (preface_of request.plan) (response_text framing r.outcome) preface r.written) k;
+      };
+    }),
+  )
 
   -- it was not
   pub passed_on : (fault : FrontFault) → PlanEnds device old now request.plan framing left rest mid after new (Err fault)
       → RequestEnds device old now request left rest before after new (Err fault)
   passed_on Read (unwritten, more, came, broken) =
       (more, came, subst (λ a. Appends before a (preface_of request.plan)) (sym unwritten) preface, broken)
-  passed_on Write (more, came, r) = (more, came, inr (r.outcome, r.comes_of_it))
+  passed_on Write (more, came, r) = (
+    more,
+    came,
+    inr (record {
+      outcome = r.outcome;
+      date = date;
+      dated = dated;
+      gives = r.comes_of_it;
+      took = record {
+        part = r.written.part;
+        left_out = r.written.left_out;
+        bytes_are = r.written.bytes_are;
+        took = Appends-trans before mid after (preface_of request.plan) r.written.part preface r.written.took;
+      };
+    }),
+  )
 
 module _ {D : Type 0} (device : D → DiskState) (old new : Stored D) (now : ℕ) (request : Request) (bytes : List ℕ) (read : HeadRead)
-    (left mid rest before after : Option (List ℕ)) (came : Consumes left mid bytes) (head : HeadIs bytes read) (ended : read ≡ Ended → IsAtEnd mid)
+    (left mid rest before after : Option (List ℕ))
+    (recovers : (plan : Result Plan NoPlan) (more : List ℕ) (outcome : RequestOutcome) → RequestGives device old now plan more rest outcome new → RequestRecovers device old now plan more outcome new)
+    (idles : (plan : Result Plan NoPlan) (more : List ℕ) → IsBroken device old now plan more new → Recovers device old [] new)
+    (walks : (more : List ℕ) (outcome : RequestOutcome) → RequestGives device old now request.plan more rest outcome new → MakesWalk device old now request more outcome new)
+    (stays : (plan : Result Plan NoPlan) (more : List ℕ) → IsBroken device old now plan more new → MakesNoEvent device old new)
+    (came : Consumes left mid bytes) (head : HeadIs bytes read) (ended : read ≡ Ended → IsAtEnd mid)
     (asks : Asks bytes read (Some request)) where
   reads : (more : List ℕ) → Consumes mid rest more → Reads left (bytes ++ more) more rest request
   reads more then = record {
@@ -98,18 +143,33 @@ module _ {D : Type 0} (device : D → DiskState) (old new : Stored D) (now : ℕ
   -- a request that was read was answered
   pub served : (status : ℕ) → RequestEnds device old now request mid rest before after new (Ok status)
       → (input : List ℕ) × (output : List ℕ) × Consumes left rest input × Appends before after output × (Serves device old now left input rest output (Answered status) new)
-  served status (more, output, then, written, is) =
-      (bytes ++ more, output, Consumes-trans left mid rest bytes more came then, written, (more, request, reads more then, is))
+  served status (more, output, then, written, is) = (
+    bytes ++ more,
+    output,
+    Consumes-trans left mid rest bytes more came then,
+    written,
+    (more, request, reads more then, is, recovers request.plan more is.outcome is.gives, walks more is.outcome is.gives),
+  )
 
   -- the reader failed in its body
   pub broken : (fault : FrontFault) → fault ≡ Read → RequestEnds device old now request mid rest before after new (Err fault)
       → (input : List ℕ) × (output : List ℕ) × Consumes left rest input × Appends before after output × (Breaks device old now left input rest output new)
-  broken Read e (more, then, written, is) =
-      (bytes ++ more, preface_of request.plan, Consumes-trans left mid rest bytes more came then, written, inr (more, request, reads more then, refl, is))
+  broken Read e (more, then, written, is) = (
+    bytes ++ more,
+    preface_of request.plan,
+    Consumes-trans left mid rest bytes more came then,
+    written,
+    inr (more, request, reads more then, refl, is, idles request.plan more is, stays request.plan more is),
+  )
   broken Write e ends = absurd cc
 
   -- the writer failed
   pub halted : (fault : FrontFault) → fault ≡ Write → RequestEnds device old now request mid rest before after new (Err fault)
-      → (input : List ℕ) × Consumes left rest input × (Halts device old now left input rest new)
+      → (input : List ℕ) × Consumes left rest input × (Halts device old now left input rest before after new)
   halted Read e ends = absurd cc
-  halted Write e (more, then, stands) = (bytes ++ more, Consumes-trans left mid rest bytes more came then, (more, request, reads more then, stands))
+  halted Write e (more, then, inl unsaid) = (bytes ++ more, Consumes-trans left mid rest bytes more came then, (more, request, reads more then, inl unsaid))
+  halted Write e (more, then, inr cut) = (
+    bytes ++ more,
+    Consumes-trans left mid rest bytes more came then,
+    (more, request, reads more then, inr (cut, recovers request.plan more cut.outcome cut.gives, walks more cut.outcome cut.gives)),
+  )

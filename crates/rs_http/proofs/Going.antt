@@ -181,13 +181,13 @@ module _ {D : Type 0} (device : D → DiskState) (old new : Stored D) (now : ℕ
   broken_goes (Err reason) more broken = absurd broken
 
   -- a request whose response was not written
-  stands_goes : (request : Request) (more : List ℕ) (rest : Option (List ℕ)) → LeavesStanding device old now request more rest new → GoesOnOnce device old now new
-  stands_goes request more rest (inl unsaid) = same_goes unsaid.2
-  stands_goes request more rest (inr stands) = gives_goes request.plan more rest stands.0 stands.1
+  stands_goes : (request : Request) (more : List ℕ) (rest before after : Option (List ℕ)) → LeavesStanding device old now request more rest before after new → GoesOnOnce device old now new
+  stands_goes request more rest before after (inl unsaid) = same_goes unsaid.2
+  stands_goes request more rest before after (inr cut) = gives_goes request.plan more rest cut.outcome cut.gives
 
   -- whatever came of a request
   pub request_goes : (request : Request) (left rest before after : Option (List ℕ)) (result : Result ℕ FrontFault)
       → RequestEnds device old now request left rest before after new result → GoesOnOnce device old now new
   request_goes request left rest before after (Ok status) ends = gives_goes request.plan ends.0 rest ends.4.outcome ends.4.gives
   request_goes request left rest before after (Err Read) ends = broken_goes request.plan ends.0 ends.3
-  request_goes request left rest before after (Err Write) ends = stands_goes request ends.0 rest ends.2
+  request_goes request left rest before after (Err Write) ends = stands_goes request ends.0 rest before after ends.2

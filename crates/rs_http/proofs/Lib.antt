@@ -6,3 +6,6 @@ pub mod Ends
 pub mod Going
 pub mod Plans
 pub mod Room
+pub mod Counting
+pub mod NamedDocuments
+pub mod Walks

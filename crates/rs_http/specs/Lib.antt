@@ -5,4 +5,7 @@ pub mod Checks
 pub mod Requests
 pub mod Responses
 pub mod Outcomes
+pub mod Counted
 pub mod Serving
+pub mod Laws
+pub mod Walked

@@ -1,5 +1,5 @@
 -- What may come of a request that is asked of a stored source.
-use Rattle.std.specs.Prelude.{◌≡◌, ℕ, if◌then◌else◌, List, [], codes, Option, Some, None, Result, Ok, Err, Vec, IfOk, OnOk, IsErrOf}
+use Rattle.std.specs.Prelude.{◌≡◌, ℕ, if◌then◌else◌, List, [], codes, Option, Some, None, Result, Ok, Err, Vec, IfOk, IsErrOf}
 use Rattle.std.specs.Global.{Global}
 use Rattle.std.specs.Io.KnownBytes.{IsAtEnd}
 use Rattle.rs_disk.specs.Medium.{DiskState}
@@ -84,9 +84,9 @@ abbrev pub RequestGives : {D : Type 0} → (D → DiskState) → Stored D → �
 RequestGives device old now (Ok plan) more rest outcome new = PlanGives device old now plan more rest outcome new
 RequestGives device old now (Err reason) more rest outcome new = (more ≡ []) × (outcome ≡ unplanned reason) × (new ≡ old)
 
--- An outcome of which this holds is answered: its status is given, and its response is Written, unless the writer fails.
+-- An outcome of which this holds is answered: its status is given, and its response is Written.
 pub record Responds {E : Type 0} (framing : Framing) (Written : List ℕ → Type 0) (comes : RequestOutcome → Type 0) (result : Result ℕ E) : Type 0 where
   pub outcome : RequestOutcome
   pub comes_of_it : comes outcome
   pub status : IfOk result (λ status. status ≡ status_code outcome)
-  pub written : OnOk result (Written (response_text framing outcome))
+  pub written : Written (response_text framing outcome)

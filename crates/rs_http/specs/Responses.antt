@@ -104,7 +104,7 @@ refusal_line word = word ++ codes "\n"
 
 -- the body of the answer to a publication: `published`, its number and its moment, and a line feed (10)
 abbrev pub published_text : ℕ → ℕ → List ℕ
-published_text number moment = (codes "published " ++ (decimal number ++ codes " ")) ++ (moment_text moment ++ 10 ∷ [])
+published_text number moment = codes "published " ++ (decimal number ++ (codes " " ++ (moment_text moment ++ 10 ∷ [])))
 
 abbrev pub reply_content : Reply → List ℕ
 reply_content (Published number moment) = published_text number moment

@@ -8,6 +8,7 @@ use Rattle.rs_io.specs.declared.watch.Watched.{Watched}
 use Rattle.rs_io.specs.Watch.{failures, EndFailed}
 use Rattle.rs_store.specs.Received.{IsCutShort}
 use Rattle.rs_store.specs.Source.{Stored}
+use Rattle.rs_recovery.specs.Prefixes.{Recovers}
 use Rattle.rs_http.specs.declared.fault.FrontFault.{FrontFault}
 use Rattle.rs_http.specs.declared.fault.FrontFault.TheVariants.{Read, Write}
 use Rattle.rs_http.specs.declared.head.HeadRead.{HeadRead}
@@ -23,6 +24,8 @@ use Rattle.rs_http.specs.Head.{HeadIs, HasNoEnd}
 use Rattle.rs_http.specs.Requests.{Asks}
 use Rattle.rs_http.specs.Responses.{RequestOutcome, status_code, response_text, go_on}
 use Rattle.rs_http.specs.Outcomes.{RequestGives, Responds}
+use Rattle.rs_http.specs.Counted.{RequestRecovers}
+use Rattle.rs_http.specs.Walked.{MakesWalk, MakesNoEvent}
 
 -- no call of either end failed in between
 abbrev pub NoneFailed : {R W : Type 0} → Watched R → Watched R → Watched W → Watched W → Type 0
@@ -42,14 +45,26 @@ abbrev pub IsBroken : {D : Type 0} → (D → DiskState) → Stored D → ℕ �
 IsBroken device old now (Ok (Put name kind n waits)) came new = IsCutShort device old new name kind n now came
 IsBroken device old now plan came new = ⊥
 
+-- A writer that held `before` took the first bytes whole, and a beginning of the text.
+pub record TakesPart (before after : Option (List ℕ)) (first text : List ℕ) : Type 0 where
+  pub part : List ℕ
+  pub left_out : List ℕ
+  pub bytes_are : part ++ left_out ≡ text
+  pub took : Appends before after (first ++ part)
+
 -- How the answer to a plan ends, between what the reader had left and what the writer held before and after. Either the
--- reader failed in the body of a put, and nothing is written. Or what came of the plan is answered.
+-- reader failed in the body of a put, and nothing is written. Or what came of the plan is answered, and the response is
+-- written, or a beginning of it, where the writer failed.
 abbrev pub PlanEnds : {D : Type 0} → (D → DiskState) → Stored D → ℕ → Result Plan NoPlan → Framing
     → Option (List ℕ) → Option (List ℕ) → Option (List ℕ) → Option (List ℕ) → Stored D → Result ℕ FrontFault → Type 0
 PlanEnds device old now plan framing left rest before after new (Err Read) =
     (after ≡ before) × (more : List ℕ) × Consumes left rest more × IsBroken device old now plan more new
-PlanEnds device old now plan framing left rest before after new result =
-    (more : List ℕ) × Consumes left rest more × Responds framing (Appends before after) (λ outcome. RequestGives device old now plan more rest outcome new) result
+PlanEnds device old now plan framing left rest before after new (Err Write) =
+    (more : List ℕ) × Consumes left rest more
+    × Responds {E = FrontFault} framing (TakesPart before after []) (λ outcome. RequestGives device old now plan more rest outcome new) (Err Write)
+PlanEnds device old now plan framing left rest before after new (Ok status) =
+    (more : List ℕ) × Consumes left rest more
+    × Responds {E = FrontFault} framing (Appends before after) (λ outcome. RequestGives device old now plan more rest outcome new) (Ok status)
 
 -- What came of a request is answered: the status is given, and after what went out before, its response is written.
 pub record IsAnswered {D : Type 0} (device : D → DiskState) (old : Stored D) (now : ℕ) (request : Request) (more : List ℕ) (rest : Option (List ℕ)) (output : List ℕ) (status : ℕ) (new : Stored D) : Type 0 where
@@ -60,11 +75,24 @@ pub record IsAnswered {D : Type 0} (device : D → DiskState) (old : Stored D) (
   pub status_is : status ≡ status_code outcome
   pub written : output ≡ preface_of request.plan ++ response_text (record { date = date; is_head = request.is_head }) outcome
 
--- What a request leaves whose response was not written: the word to go on was not, and nothing is done; or what came of the
--- request stands.
-abbrev pub LeavesStanding : {D : Type 0} → (D → DiskState) → Stored D → ℕ → Request → List ℕ → Option (List ℕ) → Stored D → Type 0
-LeavesStanding device old now request more rest new =
-    ((preface_of request.plan ≡ go_on) × (more ≡ []) × (new ≡ old)) ⊎ ((outcome : RequestOutcome) × RequestGives device old now request.plan more rest outcome new)
+-- What came of a request stands, and the writer failed in its response: it took what goes out before it, and a beginning of it.
+pub record IsCutOff {D : Type 0} (device : D → DiskState) (old : Stored D) (now : ℕ) (request : Request) (more : List ℕ)
+    (rest before after : Option (List ℕ)) (new : Stored D) : Type 0 where
+  pub outcome : RequestOutcome
+  pub date : HttpDate
+  pub dated : unix_secs date ≡ now / 1000
+  pub gives : RequestGives device old now request.plan more rest outcome new
+  pub took : TakesPart before after (preface_of request.plan) (response_text (record { date = date; is_head = request.is_head }) outcome)
+
+-- The writer took a beginning of the word to go on, and failed then: nothing is done.
+abbrev pub IsUnsaid : {D : Type 0} → Stored D → Request → List ℕ → Option (List ℕ) → Option (List ℕ) → Stored D → Type 0
+IsUnsaid old request more before after new = (preface_of request.plan ≡ go_on) × (more ≡ []) × (new ≡ old) × TakesPart before after [] go_on
+
+-- What a request leaves where the writer failed: the word to go on was not said; or what came of the request stands.
+abbrev pub LeavesStanding : {D : Type 0} → (D → DiskState) → Stored D → ℕ → Request → List ℕ
+    → Option (List ℕ) → Option (List ℕ) → Option (List ℕ) → Stored D → Type 0
+LeavesStanding device old now request more rest before after new =
+    IsUnsaid old request more before after new ⊎ IsCutOff device old now request more rest before after new
 
 -- How the answer to a request ends.
 abbrev pub RequestEnds : {D : Type 0} → (D → DiskState) → Stored D → ℕ → Request
@@ -74,7 +102,7 @@ RequestEnds device old now request left rest before after new (Ok status) =
 RequestEnds device old now request left rest before after new (Err Read) =
     (more : List ℕ) × Consumes left rest more × Appends before after (preface_of request.plan) × IsBroken device old now request.plan more new
 RequestEnds device old now request left rest before after new (Err Write) =
-    (more : List ℕ) × Consumes left rest more × LeavesStanding device old now request more rest new
+    (more : List ℕ) × Consumes left rest more × LeavesStanding device old now request more rest before after new
 
 -- An input is these bytes, which ask for this request, and what was read past them. `behind` is what the reader had left
 -- behind them: nothing, where they are a head that is cut.
@@ -89,21 +117,31 @@ pub record Reads (left : Option (List ℕ)) (input more : List ℕ) (rest : Opti
   pub passed : Consumes behind rest more
   pub asks : Asks bytes read (Some request)
 
--- What was written for an input, of a reader that had this left: nothing where it has no byte, and else the response to the request at its front.
+-- What was written for an input, of a reader that had this left: nothing where it has no byte, and else the response to the
+-- request at its front. Whenever a stop comes, it leaves what the command makes that counts; and the request makes a walk, of one
+-- event or none.
 abbrev pub Serves : {D : Type 0} → (D → DiskState) → Stored D → ℕ → Option (List ℕ) → List ℕ → Option (List ℕ) → List ℕ → Served → Stored D → Type 0
 Serves device old now left input rest output Nothing new = (input ≡ []) × IsAtEnd rest × (output ≡ []) × (new ≡ old)
 Serves device old now left input rest output (Answered status) new =
-    (more : List ℕ) × (request : Request) × Reads left input more rest request × IsAnswered device old now request more rest output status new
+    (more : List ℕ) × (request : Request) × Reads left input more rest request
+    × (answered : IsAnswered device old now request more rest output status new)
+    × RequestRecovers device old now request.plan more answered.outcome new × MakesWalk device old now request more answered.outcome new
 
 -- What was written and done where the reader failed within an input: nothing before the head had ended; and in the body of
--- a put no more than the word to go on, and the put is not done.
+-- a put no more than the word to go on, and the put is not done, whenever a stop comes, and is no event.
 abbrev pub Breaks : {D : Type 0} → (D → DiskState) → Stored D → ℕ → Option (List ℕ) → List ℕ → Option (List ℕ) → List ℕ → Stored D → Type 0
 Breaks device old now left input rest output new =
     (HasNoEnd input × (output ≡ []) × (new ≡ old))
-    ⊎ ((more : List ℕ) × (request : Request) × Reads left input more rest request × (output ≡ preface_of request.plan) × IsBroken device old now request.plan more new)
+    ⊎ ((more : List ℕ) × (request : Request) × Reads left input more rest request × (output ≡ preface_of request.plan)
+    × IsBroken device old now request.plan more new × Recovers device old [] new × MakesNoEvent device old new)
 
--- What was done where the writer failed: what the request at the front of the input comes to, unless the word to go on was
--- not written.
-abbrev pub Halts : {D : Type 0} → (D → DiskState) → Stored D → ℕ → Option (List ℕ) → List ℕ → Option (List ℕ) → Stored D → Type 0
-Halts device old now left input rest new =
-    (more : List ℕ) × (request : Request) × Reads left input more rest request × LeavesStanding device old now request more rest new
+-- What was done and written where the writer failed, between what it held before and after. It took a beginning of the word to
+-- go on, and nothing is done. Or what the request at the front of the input comes to stands: whenever a stop comes, it leaves
+-- what the command makes that counts, and it makes a walk.
+abbrev pub Halts : {D : Type 0} → (D → DiskState) → Stored D → ℕ → Option (List ℕ) → List ℕ
+    → Option (List ℕ) → Option (List ℕ) → Option (List ℕ) → Stored D → Type 0
+Halts device old now left input rest before after new =
+    (more : List ℕ) × (request : Request) × Reads left input more rest request
+    × (IsUnsaid old request more before after new
+    ⊎ ((cut : IsCutOff device old now request more rest before after new)
+    × RequestRecovers device old now request.plan more cut.outcome new × MakesWalk device old now request more cut.outcome new))

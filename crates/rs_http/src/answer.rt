@@ -3,7 +3,7 @@
 ghost use Rattle.std.specs.Prelude.{◌≡◌, ◌/◌, Bool, true, Ok, Err, IfOk, OnOk, OnErr, IsErrOf, MatchResult};
 ghost use Rattle.std.specs.Io.KnownBytes.{Keeps};
 ghost use Rattle.httpdate.specs.Date.{unix_secs};
-ghost use Rattle.rs_io.specs.Watch.{watched, failures, is_flushed, StaysFlushed, EndFailed, Wrote};
+ghost use Rattle.rs_io.specs.Watch.{watched, failures, is_flushed, StaysFlushed, EndFailed, FailedWithin, Wrote, Writes};
 ghost use Rattle.rs_http.specs.Serving.{PlanEnds, RequestEnds, preface_of, NoneFailed, FailedAlone};
 ghost use Rattle.rs_http.specs.Responses.{go_on, response_text, status_code};
 ghost use Rattle.rs_http.specs.Outcomes.{unplanned};
@@ -39,8 +39,8 @@ fn write_unplanned<W: Write>(
     reason: NoPlan,
 ) -> Result<u16, WriteFault>
     ensures status { IfOk result (λ status. status ≡ status_code (unplanned reason)) }
-    ensures ok { OnOk result (Wrote W.contents writer.old writer.new
-        (response_text framing (unplanned reason))) }
+    ensures written { Writes W.contents writer.old writer.new result
+        (response_text framing (unplanned reason)) }
     ensures failed { OnErr result (EndFailed writer.old writer.new) }
 {
     match reason {
@@ -122,8 +122,8 @@ fn write_preface<W: Write>(
     plan: &Result<Plan, NoPlan>,
 ) -> Result<(), WriteFault>
     ensures ok { OnOk result (Wrote W.contents writer.old writer.new (preface_of plan.now)) }
-    ensures failed { OnErr result (EndFailed writer.old writer.new
-        × (preface_of plan.now ≡ go_on)) }
+    ensures fault { OnErr result ((preface_of plan.now ≡ go_on)
+        × FailedWithin W.contents writer.old writer.new go_on) }
     ensures flushed { OnOk result (StaysFlushed writer.old writer.new) }
 {
     match plan {

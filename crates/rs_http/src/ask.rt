@@ -1,7 +1,7 @@
 //! Asking the source, and writing its answer.
 
-ghost use Rattle.std.specs.Prelude.{◌≡◌, Some, IfOk, OnErr, option_map, length, ℕ, List, OnOk, codes};
-ghost use Rattle.rs_io.specs.Watch.{EndFailed, Wrote};
+ghost use Rattle.std.specs.Prelude.{◌≡◌, Some, IfOk, OnErr, option_map, length, ℕ, List, codes};
+ghost use Rattle.rs_io.specs.Watch.{EndFailed, Writes};
 ghost use Rattle.rs_model.specs.declared.command.Command.TheVariants.{Delete, Publish};
 ghost use Rattle.rs_caps.specs.DocumentTexts.{document_text};
 ghost use Rattle.rs_http.specs.Responses.{shown, response_text};
@@ -27,7 +27,7 @@ pub(crate) fn delete<D: Disk, W: Write>(
     writer: &mut Watched<W>,
     framing: Framing,
 ) -> Result<u16, WriteFault>
-    ensures answered { Responds framing (Wrote W.contents writer.old writer.new)
+    ensures answered { Responds framing (Writes W.contents writer.old writer.new result)
         (RunComesTo D.state source.old source.new (Delete name.now) now) result }
     ensures failed { OnErr result (EndFailed writer.old writer.new) }
 {
@@ -44,7 +44,7 @@ pub(crate) fn publish<D: Disk, W: Write>(
     writer: &mut Watched<W>,
     framing: Framing,
 ) -> Result<u16, WriteFault>
-    ensures answered { Responds framing (Wrote W.contents writer.old writer.new)
+    ensures answered { Responds framing (Writes W.contents writer.old writer.new result)
         (RunComesTo D.state source.old source.new Publish now) result }
     ensures failed { OnErr result (EndFailed writer.old writer.new) }
 {
@@ -61,7 +61,7 @@ pub(crate) fn show_body<D: Disk, W: Write>(
     writer: &mut Watched<W>,
     framing: Framing,
 ) -> Result<u16, WriteFault>
-    ensures answered { Responds framing (Wrote W.contents writer.old writer.new)
+    ensures answered { Responds framing (Writes W.contents writer.old writer.new result)
         (ReadComesTo D.state source.old source.new name.now) result }
     ensures failed { OnErr result (EndFailed writer.old writer.new) }
 {
@@ -85,9 +85,9 @@ fn write_shown_document<V: View, W: Write>(
 ) -> Result<u16, WriteFault>
     requires { option_map length (document_text (V.shown view.now) doc) ≡ Some count }
     ensures status { IfOk result (λ status. status ≡ 200) }
-    ensures ok { OnOk result ((text : List ℕ) × (document_text (V.shown view.now) doc ≡ Some text)
-        × Wrote W.contents writer.old writer.new
-        (response_text framing (shown (codes "application/xml") text))) }
+    ensures written { (text : List ℕ) × (document_text (V.shown view.now) doc ≡ Some text)
+        × Writes W.contents writer.old writer.new result
+        (response_text framing (shown (codes "application/xml") text)) }
     ensures failed { OnErr result (EndFailed writer.old writer.new) }
 {
     write_document_head(writer, framing, count)?;
@@ -108,7 +108,7 @@ pub(crate) fn show_document<D: Disk, W: Write>(
     writer: &mut Watched<W>,
     framing: Framing,
 ) -> Result<u16, WriteFault>
-    ensures answered { Responds framing (Wrote W.contents writer.old writer.new)
+    ensures answered { Responds framing (Writes W.contents writer.old writer.new result)
         (λ outcome. outcome ≡ document_shown D.state source.now doc) result }
     ensures failed { OnErr result (EndFailed writer.old writer.new) }
 {

@@ -7,6 +7,7 @@ mod checks;
 mod fault;
 mod fields;
 mod head;
+pub mod laws;
 mod outcome;
 mod plan;
 mod request;

@@ -1,16 +1,16 @@
 //! The responses to what came of requests.
 
-ghost use Rattle.std.specs.Prelude.{◌≡◌, length, IfOk, OnOk, OnErr};
-ghost use Rattle.rs_io.specs.Watch.{EndFailed, Wrote};
-ghost use Rattle.rs_http.specs.Responses.{fault_status as status_of_fault, fault_word as word_of_fault, refusal_status as status_of_refusal, allow_of, published_text, content_lines, sent_body, framed, response_text, status_code, plain};
+ghost use Rattle.std.specs.Prelude.{◌≡◌, length, IfOk, OnErr};
+ghost use Rattle.rs_io.specs.Watch.{EndFailed, Writes};
+ghost use Rattle.rs_http.specs.Responses.{fault_status as status_of_fault, fault_word as word_of_fault, refusal_status as status_of_refusal, allow_of, published_text, content_lines, framed, response_text, status_code, plain};
 ghost use Rattle.rs_http.specs.Responses.{faulted, replied, shown, refused};
 
 use crate::request::RequestFault;
-use crate::response::{Framing, write_bare, write_content, write_first, write_text, write_word};
+use crate::response::{Framing, write_bare, write_response, write_text, write_word};
 use crate::target::Methods;
+use itoa::Buffer;
 use rs_io::{Watched, WriteFault};
 use rs_model::Reply;
-use rs_record::count_digits;
 use rs_store::Refusal;
 use rs_time::Moment;
 use std::io::Write;
@@ -94,8 +94,8 @@ pub(crate) fn write_fault<W: Write>(
     fault: RequestFault,
 ) -> Result<u16, WriteFault>
     ensures status { IfOk result (λ status. status ≡ status_code (faulted fault)) }
-    ensures ok { OnOk result (Wrote W.contents writer.old writer.new
-        (response_text framing (faulted fault))) }
+    ensures written { Writes W.contents writer.old writer.new result
+        (response_text framing (faulted fault)) }
     ensures failed { OnErr result (EndFailed writer.old writer.new) }
 {
     let status = fault_status(fault);
@@ -112,8 +112,8 @@ pub(crate) fn write_refusal<W: Write>(
     refusal: Refusal,
 ) -> Result<u16, WriteFault>
     ensures status { IfOk result (λ status. status ≡ status_code (refused refusal)) }
-    ensures ok { OnOk result (Wrote W.contents writer.old writer.new
-        (response_text framing (refused refusal))) }
+    ensures written { Writes W.contents writer.old writer.new result
+        (response_text framing (refused refusal)) }
     ensures failed { OnErr result (EndFailed writer.old writer.new) }
 {
     let status = refusal_status(refusal);
@@ -130,50 +130,35 @@ pub(crate) fn write_shown<W: Write>(
     bytes: &[u8],
 ) -> Result<u16, WriteFault>
     ensures status { IfOk result (λ status. status ≡ status_code (shown kind.now bytes.now)) }
-    ensures ok { OnOk result (Wrote W.contents writer.old writer.new
-        (response_text framing (shown kind.now bytes.now))) }
+    ensures written { Writes W.contents writer.old writer.new result
+        (response_text framing (shown kind.now bytes.now)) }
     ensures failed { OnErr result (EndFailed writer.old writer.new) }
 {
     write_text(writer, framing, 200, "", kind, bytes)?;
     Ok(200)
 }
 
-// Writes `published`, the number and the moment of a publication and a line feed, unless the method
-// is HEAD.
-fn write_publication<W: Write>(
-    writer: &mut Watched<W>,
-    framing: Framing,
-    number: u64,
-    moment: Moment,
-) -> Result<(), WriteFault>
-    ensures ok { OnOk result (Wrote W.contents writer.old writer.new
-        (sent_body framing (published_text number moment))) }
-    ensures failed { OnErr result (EndFailed writer.old writer.new) }
-{
-    if framing.is_head {
-        return writer.put(b"");
-    }
-    writer.put_text(format_args!("published {number} "))?;
-    writer.put(&moment.text())?;
-    writer.put(b"\n")
-}
-
 // Writes the response to an accepted publication.
+#[tactic(auto, unfolding(crate::specs::Responses::content_lines))]
 fn write_published<W: Write>(
     writer: &mut Watched<W>,
     framing: Framing,
     number: u64,
     moment: Moment,
 ) -> Result<(), WriteFault>
-    ensures ok { OnOk result (Wrote W.contents writer.old writer.new
-        (framed framing 200 (content_lines plain (length (published_text number moment)))
-        (published_text number moment))) }
+    ensures written { Writes W.contents writer.old writer.new result (framed framing 200
+        (content_lines plain (length (published_text number moment))) (published_text number moment)) }
     ensures failed { OnErr result (EndFailed writer.old writer.new) }
 {
-    let length = count_digits(number) + 36;
-    write_first(writer, 200, &framing.date)?;
-    write_content(writer, b"text/plain", length)?;
-    write_publication(writer, framing, number, moment)
+    let (mut digits, mut count) = (Buffer::new(), Buffer::new());
+    let number = digits.format(number).as_bytes();
+    let lines: [&[u8]; 3] = [
+        b"Content-Type: text/plain\r\nContent-Length: ",
+        count.format(number.len() + 36).as_bytes(),
+        b"\r\n\r\n",
+    ];
+    let body: [&[u8]; 5] = [b"published ", number, b" ", &moment.text(), b"\n"];
+    write_response(writer, framing, 200, &lines, &body)
 }
 
 /// Writes the response to an accepted command, and gives its status.
@@ -183,8 +168,8 @@ pub(crate) fn write_reply<W: Write>(
     reply: Reply,
 ) -> Result<u16, WriteFault>
     ensures status { IfOk result (λ status. status ≡ status_code (replied reply)) }
-    ensures ok { OnOk result (Wrote W.contents writer.old writer.new
-        (response_text framing (replied reply))) }
+    ensures written { Writes W.contents writer.old writer.new result
+        (response_text framing (replied reply)) }
     ensures failed { OnErr result (EndFailed writer.old writer.new) }
 {
     match reply {

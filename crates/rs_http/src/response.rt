@@ -1,11 +1,13 @@
 //! The text of a response, piece by piece.
 
-ghost use Rattle.std.specs.Prelude.{◌≡◌, ◌++◌, [], length, codes, OnOk, OnErr};
+ghost use Rattle.std.specs.Prelude.{◌≡◌, ◌++◌, [], length, codes, OnErr};
+ghost use Rattle.std.specs.List.{flat_map};
 ghost use Rattle.httpdate.specs.Date.{date_text};
-ghost use Rattle.rs_io.specs.Watch.{EndFailed, Wrote};
-ghost use Rattle.rs_http.specs.Responses.{reason_of as reason_text, content_lines, first_lines, sent_body, framed, plain, refusal_line};
+ghost use Rattle.rs_io.specs.Watch.{EndFailed, Writes};
+ghost use Rattle.rs_http.specs.Responses.{reason_of as reason_text, content_lines, first_lines, framed, plain, refusal_line};
 
 use httpdate::HttpDate;
+use itoa::Buffer;
 use rs_io::{Watched, WriteFault};
 use std::io::Write;
 
@@ -39,69 +41,52 @@ fn reason_of(status: u16) -> &'static str
     }
 }
 
-/// Writes the status line, the date and that the connection ends.
+// Writes the status line, the date and that the connection ends.
 #[tactic(auto, unfolding(crate::specs::Responses::first_lines))]
-pub(crate) fn write_first<W: Write>(
+fn write_first<W: Write>(
     writer: &mut Watched<W>,
     status: u16,
     date: &HttpDate,
 ) -> Result<(), WriteFault>
-    ensures ok { OnOk result (Wrote W.contents writer.old writer.new
-        (first_lines status (date_text date.now))) }
+    ensures written { Writes W.contents writer.old writer.new result
+        (first_lines status (date_text date.now)) }
     ensures failed { OnErr result (EndFailed writer.old writer.new) }
 {
-    let reason = reason_of(status);
-    writer.put_text(format_args!(
-        "HTTP/1.1 {status} {reason}\r\nDate: {date}\r\nConnection: close\r\n"
-    ))
+    let mut digits = Buffer::new();
+    writer.put_all(&[
+        b"HTTP/1.1 ",
+        digits.format(status).as_bytes(),
+        b" ",
+        reason_of(status).as_bytes(),
+        b"\r\nDate: ",
+        &date.to_bytes(),
+        b"\r\nConnection: close\r\n",
+    ])
 }
 
-/// Writes the type and the length of a body, and the empty line.
-pub(crate) fn write_content<W: Write>(
-    writer: &mut Watched<W>,
-    kind: &[u8],
-    length: u64,
-) -> Result<(), WriteFault>
-    ensures ok { OnOk result (Wrote W.contents writer.old writer.new
-        (content_lines kind.now length)) }
-    ensures failed { OnErr result (EndFailed writer.old writer.new) }
-{
-    writer.put(b"Content-Type: ")?;
-    writer.put(kind)?;
-    writer.put_text(format_args!("\r\nContent-Length: {length}\r\n\r\n"))
-}
-
-// Writes what a head says of a body, and the empty line; `allow` is its first field, or empty.
-fn write_lines<W: Write>(
-    writer: &mut Watched<W>,
-    allow: &str,
-    kind: &[u8],
-    length: u64,
-) -> Result<(), WriteFault>
-    ensures ok { OnOk result (Wrote W.contents writer.old writer.new
-        (allow.now ++ content_lines kind.now length)) }
-    ensures failed { OnErr result (EndFailed writer.old writer.new) }
-{
-    writer.put(allow.as_bytes())?;
-    write_content(writer, kind, length)
-}
-
-// Writes a body, unless the method is HEAD.
-fn write_body<W: Write>(
+/// Writes a response with these pieces of header lines, the empty line among them, and these pieces of a
+/// body, which is left out where the method is HEAD.
+pub(crate) fn write_response<W: Write>(
     writer: &mut Watched<W>,
     framing: Framing,
-    body: &[u8],
+    status: u16,
+    lines: &[&[u8]],
+    body: &[&[u8]],
 ) -> Result<(), WriteFault>
-    ensures ok { OnOk result (Wrote W.contents writer.old writer.new (sent_body framing body.now)) }
+    ensures written { Writes W.contents writer.old writer.new result (framed framing status
+        (flat_map (λ piece. piece.now) lines.now) (flat_map (λ piece. piece.now) body.now)) }
     ensures failed { OnErr result (EndFailed writer.old writer.new) }
 {
+    write_first(writer, status, &framing.date)?;
+    writer.put_all(lines)?;
     if framing.is_head {
-        return writer.put(b"");
+        return Ok(());
     }
-    writer.put(body)
+    writer.put_all(body)
 }
 
-/// Writes a response with a body of this type.
+/// Writes a response with a body of this type; `allow` is its first header line, or empty.
+#[tactic(auto, unfolding(crate::specs::Responses::content_lines))]
 pub(crate) fn write_text<W: Write>(
     writer: &mut Watched<W>,
     framing: Framing,
@@ -110,32 +95,24 @@ pub(crate) fn write_text<W: Write>(
     kind: &[u8],
     body: &[u8],
 ) -> Result<(), WriteFault>
-    ensures ok { OnOk result (Wrote W.contents writer.old writer.new
-        (framed framing status (allow.now ++ content_lines kind.now (length body.now)) body.now)) }
+    ensures written { Writes W.contents writer.old writer.new result
+        (framed framing status (allow.now ++ content_lines kind.now (length body.now)) body.now) }
     ensures failed { OnErr result (EndFailed writer.old writer.new) }
 {
-    write_first(writer, status, &framing.date)?;
-    write_lines(writer, allow, kind, body.len() as u64)?;
-    write_body(writer, framing, body)
+    let mut digits = Buffer::new();
+    let lines: [&[u8]; 6] = [
+        allow.as_bytes(),
+        b"Content-Type: ",
+        kind,
+        b"\r\nContent-Length: ",
+        digits.format(body.len()).as_bytes(),
+        b"\r\n\r\n",
+    ];
+    write_response(writer, framing, status, &lines, &[body])
 }
 
-// Writes a word and a line feed, unless the method is HEAD.
-fn write_line<W: Write>(
-    writer: &mut Watched<W>,
-    framing: Framing,
-    word: &str,
-) -> Result<(), WriteFault>
-    ensures ok { OnOk result (Wrote W.contents writer.old writer.new
-        (sent_body framing (refusal_line word.now))) }
-    ensures failed { OnErr result (EndFailed writer.old writer.new) }
-{
-    if framing.is_head {
-        return writer.put(b"");
-    }
-    writer.put_text(format_args!("{word}\n"))
-}
-
-/// Writes a response whose body is a word and a line feed.
+/// Writes a response whose body is a word and a line feed; `allow` is its first header line, or empty.
+#[tactic(auto, unfolding(crate::specs::Responses::content_lines))]
 pub(crate) fn write_word<W: Write>(
     writer: &mut Watched<W>,
     framing: Framing,
@@ -143,14 +120,19 @@ pub(crate) fn write_word<W: Write>(
     allow: &str,
     word: &str,
 ) -> Result<(), WriteFault>
-    ensures ok { OnOk result (Wrote W.contents writer.old writer.new
+    ensures written { Writes W.contents writer.old writer.new result
         (framed framing status (allow.now ++ content_lines plain (length (refusal_line word.now)))
-        (refusal_line word.now))) }
+        (refusal_line word.now)) }
     ensures failed { OnErr result (EndFailed writer.old writer.new) }
 {
-    write_first(writer, status, &framing.date)?;
-    write_lines(writer, allow, b"text/plain", word.len() as u64 + 1)?;
-    write_line(writer, framing, word)
+    let mut digits = Buffer::new();
+    let lines: [&[u8]; 4] = [
+        allow.as_bytes(),
+        b"Content-Type: text/plain\r\nContent-Length: ",
+        digits.format(word.len() as u64 + 1).as_bytes(),
+        b"\r\n\r\n",
+    ];
+    write_response(writer, framing, status, &lines, &[word.as_bytes(), b"\n"])
 }
 
 /// Writes a response that describes no body but by these lines.
@@ -160,26 +142,29 @@ pub(crate) fn write_bare<W: Write>(
     status: u16,
     lines: &[u8],
 ) -> Result<(), WriteFault>
-    ensures ok { OnOk result (Wrote W.contents writer.old writer.new
-        (framed framing status lines.now [])) }
+    ensures written { Writes W.contents writer.old writer.new result
+        (framed framing status lines.now []) }
     ensures failed { OnErr result (EndFailed writer.old writer.new) }
 {
-    write_first(writer, status, &framing.date)?;
-    writer.put(lines)?;
-    write_body(writer, framing, b"")
+    write_response(writer, framing, status, &[lines], &[])
 }
 
-/// Writes the head of the response with a document of this length.
+/// Writes the head of the response with a document of this length, in bytes.
+#[tactic(auto, unfolding(crate::specs::Responses::content_lines))]
 pub(crate) fn write_document_head<W: Write>(
     writer: &mut Watched<W>,
     framing: Framing,
     length: u64,
 ) -> Result<(), WriteFault>
-    ensures ok { OnOk result (Wrote W.contents writer.old writer.new
-        (first_lines 200 (date_text framing.date)
-        ++ content_lines (codes "application/xml") length)) }
+    ensures written { Writes W.contents writer.old writer.new result
+        (framed framing 200 (content_lines (codes "application/xml") length) []) }
     ensures failed { OnErr result (EndFailed writer.old writer.new) }
 {
-    write_first(writer, 200, &framing.date)?;
-    write_content(writer, b"application/xml", length)
+    let mut digits = Buffer::new();
+    let lines: [&[u8]; 3] = [
+        b"Content-Type: application/xml\r\nContent-Length: ",
+        digits.format(length).as_bytes(),
+        b"\r\n\r\n",
+    ];
+    write_response(writer, framing, 200, &lines, &[])
 }

@@ -9,6 +9,7 @@ ghost use Rattle.rs_http.specs.Serving.{Serves, Breaks, Halts};
 use crate::answer::answer;
 use crate::fault::FrontFault;
 use crate::head::{HEAD_LIMIT, read_head};
+use crate::laws::{requests_make_walks, requests_recover};
 use crate::plan::read_request;
 use rs_disk::Disk;
 use rs_io::Watched;
@@ -37,7 +38,12 @@ pub enum Served {
 /// - [`FrontFault::Read`] where a read failed in this call: nothing is done, and no more than the word to go on is
 ///   written.
 /// - [`FrontFault::Write`] where a call of the writer failed in this one. Where it was the word to go on that was not
-///   written, nothing is done; else a command that was accepted stands.
+///   written, nothing is done; else a command that was accepted stands. The writer took a beginning of what was to be
+///   written, and no other byte.
+///
+/// Whenever the disk stops within the call, what it then holds is what was held at its beginning, or what the request's
+/// one command makes of it. The call makes a walk of one event or none: the command as it was answered, or the fetch of what
+/// a GET was shown; and at its end each image of the disk stands for the state after it.
 pub fn serve_one<D: Disk, R: Read, W: Write>(
     alloc: Global,
     source: &mut Source<D>,
@@ -60,12 +66,14 @@ pub fn serve_one<D: Disk, R: Read, W: Write>(
         × Breaks D.state source.old now (R.remaining (watched reader.old)) input
         (R.remaining (watched reader.new)) output source.new }
 
-    // A call of the writer failed, and none of the reader; what was done stands.
+    // A call of the writer failed, and none of the reader: it took a beginning of what was to be
+    // written, and what was done stands.
     ensures write { IsErrOf result FrontFault.Write → EndFailed writer.old writer.new
         × (input : List ℕ)
         × Took R.remaining reader.old reader.new input
         × Halts D.state source.old now (R.remaining (watched reader.old)) input
-        (R.remaining (watched reader.new)) source.new }
+        (R.remaining (watched reader.new)) (W.contents (watched writer.old))
+        (W.contents (watched writer.new)) source.new }
 
     // What was written was flushed too: the whole response, and the word to go on before the body
     // was read.
@@ -76,6 +84,8 @@ pub fn serve_one<D: Disk, R: Read, W: Write>(
     // it, while the source is open.
     ensures goes_on { GoesOnOnce D.state source.old now source.new }
 {
+    requests_recover::<D>();
+    requests_make_walks::<D>();
     let mut buf = [0u8; HEAD_LIMIT];
     let Ok((read, came)) = read_head(reader, &mut buf) else {
         return Err(FrontFault::Read);

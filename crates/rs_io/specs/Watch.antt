@@ -1,6 +1,6 @@
 -- What contracts see of a watched reader or writer. What an end holds, W.contents of a writer or R.remaining of a reader,
 -- is passed to the words that speak of its bytes.
-use Rattle.std.specs.Prelude.{◌≡◌, ◌⊎◌, ℕ, ◌+◌, ◌<◌, ◌≤◌, ◌^◌, Bool, true, not, List, Option}
+use Rattle.std.specs.Prelude.{◌≡◌, ◌⊎◌, ℕ, ◌+◌, ◌<◌, ◌≤◌, ◌^◌, Bool, true, not, List, ◌++◌, Option, Result, MatchResult}
 use Rattle.std.specs.Io.KnownBytes.{Consumes, Appends}
 use Rattle.rs_io.specs.declared.watch.Watched.{Watched}
 
@@ -27,6 +27,26 @@ EndFailed old new = (failures old < failures new) ⊎ (2 ^ 64 ≤ failures new +
 -- a writer took these bytes, and no call of it failed in between
 abbrev pub Wrote : {W : Type 0} → (W → Option (List ℕ)) → Watched W → Watched W → List ℕ → Type 0
 Wrote contents old new bytes = Appends (contents (watched old)) (contents (watched new)) bytes × (failures new ≡ failures old)
+
+-- a writer failed within this text: it took a beginning of it, and the rest was left out
+pub record FailedWithin {W : Type 0} (contents : W → Option (List ℕ)) (old new : Watched W) (text : List ℕ) : Type 0 where
+  pub failed : EndFailed old new
+  pub part : List ℕ
+  pub left_out : List ℕ
+  pub bytes_are : part ++ left_out ≡ text
+  pub took : Appends (contents (watched old)) (contents (watched new)) part
+
+-- a writer took the first bytes whole, and failed then: of this text it took a beginning, and the rest was left out
+pub record FailedAfter {W : Type 0} (contents : W → Option (List ℕ)) (old new : Watched W) (first text : List ℕ) : Type 0 where
+  pub failed : EndFailed old new
+  pub part : List ℕ
+  pub left_out : List ℕ
+  pub bytes_are : part ++ left_out ≡ text
+  pub took : Appends (contents (watched old)) (contents (watched new)) (first ++ part)
+
+-- a writer took this whole text, or failed within it
+abbrev pub Writes : {W X E : Type 0} → (W → Option (List ℕ)) → Watched W → Watched W → Result X E → List ℕ → Type 0
+Writes contents old new result text = MatchResult result (λ _. Wrote contents old new text) (λ _. FailedWithin contents old new text)
 
 -- a reader gave these bytes, and no call of it failed in between
 abbrev pub Took : {R : Type 0} → (R → Option (List ℕ)) → Watched R → Watched R → List ℕ → Type 0

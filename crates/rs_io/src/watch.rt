@@ -1,17 +1,22 @@
 //! A reader or a writer that counts its calls that failed, and knows whether all it took was flushed.
-ghost use Rattle.std.specs.Prelude.{◌≡◌, ◌+◌, ◌<◌, ◌≤◌, true, false, length, take, IfOk, OnOk, OnErr, IfSome, MatchResult};
+ghost use Rattle.std.specs.Prelude.{◌≡◌, ◌+◌, ◌<◌, ◌≤◌, [], true, false, length, take, decimal, IfOk, OnOk, OnErr, IfSome, MatchOption, MatchResult};
+ghost use Rattle.std.specs.List.{flat_map};
 ghost use Rattle.std.specs.Io.KnownBytes.{IsAtEnd, Keeps};
 
 use crate::fault::{ReadFault, WriteFault};
-use std::fmt::Display;
+use itoa::Buffer;
 use std::io;
-use std::io::{Read, Write};
+use std::io::{ErrorKind, Read, Write};
+
+// How often an interrupted write is tried again in one call.
+const MOST_INTERRUPTIONS: u32 = 100;
 
 /// A reader or a writer, with a count of its calls that failed, and with whether all that was put
 /// into it has been flushed.
 ///
 /// Each call that answers an error is counted once, and no other; the count stays at `u64::MAX` once
-/// it is there. Nothing is tried again but an interrupted write, which Rust's `write_all` tries again.
+/// it is there. Nothing is tried again but an interrupted write, which is no failure: in one call of
+/// [`Watched::put`] 100 of them are tried again, and the next one is a failure.
 /// A caller may go on after an error: what the end does then is its own matter.
 #[derive(Debug, Drop)]
 pub struct Watched<T> {
@@ -44,7 +49,7 @@ impl<T> Watched<T> {
         self.failures
     }
 
-    /// Whether a flush has succeeded since the last call that put bytes or text, or none was put
+    /// Whether a flush has succeeded since the last call that put bytes, or none was put
     /// since [`Watched::new`]. A put counts before it is tried: one that fails may leave bytes too.
     pub fn is_flushed(&self) -> bool
         ensures { result ≡ is_flushed self.now }
@@ -78,10 +83,20 @@ impl<T> Watched<T> {
         match answer {
             Ok(value) => Ok(value),
             Err(_) => {
-                self.failures = self.failures.saturating_add(1);
+                self.count_failure();
                 Err(fault)
             }
         }
+    }
+
+    // Counts a failure.
+    fn count_failure(&mut self)
+        ensures inner { watched self.new ≡ watched self.old }
+        ensures failed { EndFailed self.old self.new }
+        ensures once { failures self.new ≤ failures self.old + 1 }
+        ensures flushed { is_flushed self.new ≡ is_flushed self.old }
+    {
+        self.failures = self.failures.saturating_add(1);
     }
 }
 
@@ -112,40 +127,96 @@ impl<R: Read> Watched<R> {
 }
 
 impl<W: Write> Watched<W> {
-    ghost use Rattle.rs_io.specs.Watch.{watched, failures, is_flushed, EndFailed, Wrote};
+    ghost use Rattle.rs_io.specs.Watch.{watched, failures, is_flushed, EndFailed, FailedWithin, Wrote, Writes};
 
     /// Writes all of `bytes`.
     ///
+    /// An interrupted write is tried again, up to 100 times in one call.
+    ///
     /// # Errors
     ///
-    /// [`WriteFault`] where a write fails. Some of the bytes may be written then.
+    /// [`WriteFault`] where a write fails, takes no byte, or is interrupted once more. The writer
+    /// has then taken a beginning of the bytes, and no other byte.
     pub fn put(&mut self, bytes: &[u8]) -> Result<(), WriteFault>
         ensures ok { OnOk result (Wrote W.contents self.old self.new bytes.now) }
+        ensures fault { OnErr result (FailedWithin W.contents self.old self.new bytes.now) }
         ensures failed { OnErr result (EndFailed self.old self.new) }
         ensures once { failures self.new ≤ failures self.old + 1 }
         ensures unflushed { is_flushed self.new ≡ false }
     {
         self.holds_back = true;
-        let answer = self.inner.write_all(bytes);
-        self.noted(answer, WriteFault)
+        let mut written = 0;
+        let mut interruptions = 0;
+        while written < bytes.len() {
+            match self.put_some(&bytes[written..])? {
+                Some(count) => written += count,
+                None if interruptions < MOST_INTERRUPTIONS => interruptions += 1,
+                None => {
+                    self.count_failure();
+                    return Err(WriteFault);
+                }
+            }
+        }
+        Ok(())
     }
 
-    /// Writes what `text` displays.
+    // Writes once, and says how many of the bytes the writer took, or nothing where the write was
+    // interrupted.
+    fn put_some(&mut self, bytes: &[u8]) -> Result<Option<usize>, WriteFault>
+        requires { 0 < length bytes.now }
+        ensures some { IfOk result (λ took. IfSome took (λ count. 0 < count)) }
+        ensures most { IfOk result (λ took. IfSome took (λ count. count ≤ length bytes.now)) }
+        ensures ok { IfOk result (λ took. MatchOption took
+            (Wrote W.contents self.old self.new [])
+            (λ count. Wrote W.contents self.old self.new (take count bytes.now))) }
+        ensures fault { OnErr result (FailedWithin W.contents self.old self.new bytes.now) }
+        ensures once { failures self.new ≤ failures self.old + 1 }
+        ensures flushed { is_flushed self.new ≡ is_flushed self.old }
+    {
+        match self.inner.write(bytes) {
+            Ok(count) if count > 0 => return Ok(Some(count)),
+            Err(error) if error.kind() == ErrorKind::Interrupted => return Ok(None),
+            _ => {}
+        }
+        self.count_failure();
+        Err(WriteFault)
+    }
+
+    /// Writes a number in decimal, with no leading zero.
     ///
     /// # Errors
     ///
-    /// [`WriteFault`] where a write fails, or `text` refuses to display. Some of the text may be
-    /// written then.
-    pub fn put_text<D: Display + Drop>(&mut self, text: D) -> Result<(), WriteFault>
-        ensures ok { OnOk result (IfSome (D.output text) (Wrote W.contents self.old self.new)) }
-        ensures sound { OnOk result (failures self.new ≡ failures self.old) }
+    /// [`WriteFault`] as [`Watched::put`] answers it. The writer has then taken a beginning of the
+    /// digits.
+    pub fn put_number(&mut self, number: u64) -> Result<(), WriteFault>
+        ensures ok { OnOk result (Wrote W.contents self.old self.new (decimal number)) }
+        ensures fault { OnErr result (FailedWithin W.contents self.old self.new (decimal number)) }
         ensures failed { OnErr result (EndFailed self.old self.new) }
         ensures once { failures self.new ≤ failures self.old + 1 }
         ensures unflushed { is_flushed self.new ≡ false }
     {
-        self.holds_back = true;
-        let answer = self.inner.write_fmt(text);
-        self.noted(answer, WriteFault)
+        let mut digits = Buffer::new();
+        self.put(digits.format(number).as_bytes())
+    }
+
+    /// Writes these pieces, one after another.
+    ///
+    /// # Errors
+    ///
+    /// [`WriteFault`] as [`Watched::put`] answers it. The writer has then taken a beginning of what the
+    /// pieces are together.
+    #[tactic(auto, using(crate::proofs::Growth::appends_each, crate::proofs::Faults::failed_each))]
+    pub fn put_all(&mut self, pieces: &[&[u8]]) -> Result<(), WriteFault>
+        ensures ok { OnOk result (Wrote W.contents self.old self.new
+            (flat_map (λ piece. piece.now) pieces.now)) }
+        ensures fault { OnErr result (FailedWithin W.contents self.old self.new
+            (flat_map (λ piece. piece.now) pieces.now)) }
+        ensures failed { OnErr result (EndFailed self.old self.new) }
+    {
+        for piece in pieces {
+            self.put(piece)?;
+        }
+        Ok(())
     }
 
     /// Passes on what the writer still holds back. Its bytes stay as they are, also at an error.

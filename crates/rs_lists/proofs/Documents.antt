@@ -1,6 +1,6 @@
 -- Which text a document has.
 use Rattle.std.proofs.Common.{◌≡◌, ℕ, ◌+◌, ◌-◌, ◌≤◌, ◌<◌, List, [], ◌∷◌, length, Bool, true, false, cond, nat_le, nat_lt, refl, ap, sym, subst, ◌∙◌, ◌⊎◌, inl, inr, arith, Option, Some, None}
-use Rattle.std.specs.Prelude.{codes, IsTrue, ◌==◌, ◌&&◌, IsSome, is_some, IfSome, Result, OnOk}
+use Rattle.std.specs.Prelude.{codes, IsTrue, ◌==◌, ◌&&◌, IsSome, is_some, IfSome, Result, OnOk, OnErr}
 use Rattle.std.proofs.lemmas.Bool.Decides.{nat_tests}
 use Rattle.rs_lists.specs.declared.doc.Doc.{Doc}
 use Rattle.rs_lists.specs.declared.doc.Doc.TheVariants.{Description, Capabilities, ResourceHead, ResourcePart, ChangeHead, ChangePart}
@@ -13,6 +13,10 @@ use Rattle.rs_lists.proofs.Parts.{one_part, several_parts}
 -- what is so of a text is so of the document that has it
 pub on_document : {X E : Type 0} (P : List ℕ → Type 0) (r : Result X E) (d : Option (List ℕ)) (t : List ℕ) → OnOk r (P t) → d ≡ Some t → OnOk r (IfSome d P)
 on_document P r d t h e = let Q : Option (List ℕ) → Type 0 = λ o. OnOk r (IfSome o P) in subst Q (sym e) h
+
+-- the same of a failure
+pub err_document : {X E : Type 0} (P : List ℕ → Type 0) (r : Result X E) (d : Option (List ℕ)) (t : List ℕ) → OnErr r (P t) → d ≡ Some t → OnErr r (IfSome d P)
+err_document P r d t h e = let Q : Option (List ℕ) → Type 0 = λ o. OnErr r (IfSome o P) in subst Q (sym e) h
 
 when_true : {A : Type 0} (b : Bool) (x y : A) → b ≡ true → cond b x y ≡ x
 when_true b x y e = rw e refl

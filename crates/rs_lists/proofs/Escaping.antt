@@ -1,9 +1,9 @@
 -- Escaping a list byte by byte and run by run.
-use Rattle.std.proofs.Common.{◌≡◌, ℕ, suc, ◌+◌, ◌-◌, ◌≤◌, ◌<◌, List, [], ◌∷◌, ◌++◌, Option, take, drop, length, get_or, sym, ap, ◌∙◌, append_assoc, append-nil, length-drop, add-one, subst, arith}
+use Rattle.std.proofs.Common.{◌≡◌, ℕ, suc, ◌+◌, ◌-◌, ◌≤◌, ◌<◌, List, [], ◌∷◌, ◌++◌, Option, take, drop, length, get_or, sym, ap, ◌∙◌, append_assoc, append-nil, length-drop, take-append-drop, add-one, subst, arith}
 use Rattle.std.specs.Io.KnownBytes.{Appends}
 use Rattle.std.proofs.KnownBytes.{Appends-trans}
 use Rattle.std.proofs.Math.Seq.{take-suc}
-use Rattle.std.proofs.lemmas.List.{get_or-drop}
+use Rattle.std.proofs.lemmas.List.{get_or-drop, take_all}
 use Rattle.std.proofs.lemmas.Grind.{flat_map-append}
 use Rattle.rs_lists.specs.Escape.{escape, escaped}
 
@@ -44,3 +44,28 @@ run_on bytes start i k h r run =
     let run_before = take (i - start) (drop start bytes) in
     escape-next bytes i h ∙ ap (λ l. l ++ escaped (get_or bytes i 0)) run ∙ ap (λ l. (escape (take start bytes) ++ run_before) ++ l) r
     ∙ append_assoc (escape (take start bytes)) run_before (get_or bytes i 0 ∷ []) ∙ ap (λ l. escape (take start bytes) ++ l) (sym (run-next bytes start i k h))
+
+-- what was written, and the rest of the bytes with a run before it
+pub run_within : (bytes : List ℕ) (start i : ℕ) → escape (take i bytes) ≡ escape (take start bytes) ++ take (i - start) (drop start bytes)
+    → escape (take start bytes) ++ (take (i - start) (drop start bytes) ++ escape (drop i bytes)) ≡ escape bytes
+run_within bytes start i run =
+    sym (append_assoc (escape (take start bytes)) (take (i - start) (drop start bytes)) (escape (drop i bytes))) ∙ ap (λ l. l ++ escape (drop i bytes)) (sym run)
+    ∙ sym (flat_map-append escaped (take i bytes) (drop i bytes)) ∙ ap escape (take-append-drop i bytes)
+
+-- the same with a reference before it
+pub reference_within : (bytes reference : List ℕ) (start i : ℕ) → i < length bytes → escaped (get_or bytes i 0) ≡ reference
+    → escape (take i bytes) ≡ escape (take start bytes) ++ take (i - start) (drop start bytes)
+    → (escape (take start bytes) ++ take (i - start) (drop start bytes)) ++ (reference ++ escape (drop (i + 1) bytes)) ≡ escape bytes
+reference_within bytes reference start i h r run =
+    let rest = escape (drop (i + 1) bytes) in
+    ap (λ l. l ++ (reference ++ rest)) (sym run) ∙ sym (append_assoc (escape (take i bytes)) reference rest) ∙ ap (λ l. (escape (take i bytes) ++ l) ++ rest) (sym r)
+    ∙ ap (λ l. l ++ rest) (sym (escape-next bytes i h)) ∙ sym (flat_map-append escaped (take (i + 1) bytes) (drop (i + 1) bytes)) ∙ ap escape (take-append-drop (i + 1) bytes)
+
+-- the last run
+pub last_run : (bytes : List ℕ) (start i : ℕ) → length bytes ≤ i → escape (take i bytes) ≡ escape (take start bytes) ++ take (i - start) (drop start bytes)
+    → escape (take start bytes) ++ take (length bytes - start) (drop start bytes) ≡ escape bytes
+last_run bytes start i h run =
+    let few = length-drop start bytes in
+    let all : length (drop start bytes) ≤ i - start = omega (arith, few) in
+    let same : take (length bytes - start) (drop start bytes) ≡ take (i - start) (drop start bytes) = take_all (length bytes - start) (drop start bytes) (omega (arith, few)) ∙ sym (take_all (i - start) (drop start bytes) all) in
+    ap (λ l. escape (take start bytes) ++ l) same ∙ sym run ∙ ap escape (take_all i bytes h)

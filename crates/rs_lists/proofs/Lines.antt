@@ -3,7 +3,7 @@ use Rattle.std.proofs.Common.{◌≡◌, ℕ, suc, zero, ◌+◌, ◌-◌, ◌*�
 use Rattle.std.specs.Prelude.{codes, slice_get}
 use Rattle.std.specs.Fmt.{decimal}
 use Rattle.std.proofs.lemmas.Bool.Decides.{nat_tests}
-use Rattle.std.proofs.lemmas.List.{take_all}
+use Rattle.std.proofs.lemmas.List.{take_all, take-take, take-append-drop, map-append}
 use Rattle.std.proofs.lemmas.Grind.{flat_map-append, common_steps}
 use Rattle.rs_lists.specs.Chunks.{part_at}
 use Rattle.rs_lists.specs.Text.{line, joined, numbers_from, resource_part_path, change_part_path}
@@ -53,6 +53,12 @@ item_lines f xs from i r h k =
     (ap (λ j. joined (map f (take j (drop from xs)))) n ∙ ap (λ l. joined (map f l)) (take-next (drop from xs) (i - from) r got)
     ∙ ap joined (map-next f (take (i - from) (drop from xs)) r) ∙ joined-next (map f (take (i - from) (drop from xs))) (f r))
 
+-- the lines of the first m items begin those of the first n
+pub lines_begin : {A : Type 0} (f : A → List ℕ) (xs : List A) (m n : ℕ) → m ≤ n → joined (map f (take m xs)) ++ joined (map f (drop m (take n xs))) ≡ joined (map f (take n xs))
+lines_begin f xs m n h =
+    sym (flat_map-append line (map f (take m xs)) (map f (drop m (take n xs)))) ∙ ap joined (sym (map-append f (take m xs) (drop m (take n xs))))
+    ∙ ap (λ l. joined (map f (l ++ drop m (take n xs)))) (sym (take-take m n xs h)) ∙ ap (λ l. joined (map f l)) (take-append-drop m (take n xs))
+
 part_range : {A : Type 0} (xs : List A) (limit from n : ℕ) (b : Bool) → n ≡ length xs → nat_le n (from + limit) ≡ b → take (min n (from + limit) - from) (drop from xs) ≡ take limit (drop from xs)
 part_range xs limit from n true e h =
     let short : n ≤ from + limit = grind (arith, nat_tests) in
@@ -91,6 +97,22 @@ part_lines f k =
     sym
     (ap (λ j. joined (map f (numbers_from 0 j))) n ∙ ap (λ l. joined (map f l)) (numbers_from-next 0 k ∙ ap (λ x. numbers_from 0 k ++ x ∷ []) last)
     ∙ ap joined (map-next f (numbers_from 0 k) k) ∙ joined-next (map f (numbers_from 0 k)) (f k))
+
+numbers_from-add : (first m n : ℕ) → numbers_from first (m + n) ≡ numbers_from first m ++ numbers_from (first + m) n
+numbers_from-add first zero n = let e : zero + n ≡ n = omega arith in let d : first ≡ first + zero = omega arith in ap (numbers_from first) e ∙ ap (λ k. numbers_from k n) d
+numbers_from-add first (suc m) n =
+    let e : suc m + n ≡ suc (m + n) = omega arith in
+    let d : first + 1 + m ≡ first + suc m = omega arith in
+    ap (numbers_from first) e ∙ ap (λ l. first ∷ l) (numbers_from-add (first + 1) m n ∙ ap (λ k. numbers_from (first + 1) m ++ numbers_from k n) d)
+
+-- the lines of the parts up to k begin those of all
+pub part_lines_begin : (f : ℕ → List ℕ) (k n : ℕ) → k < n
+    → (joined (map f (numbers_from 0 k)) ++ line (f k)) ++ joined (map f (numbers_from (0 + (k + 1)) (n - (k + 1)))) ≡ joined (map f (numbers_from 0 n))
+part_lines_begin f k n h =
+    let rest = numbers_from (0 + (k + 1)) (n - (k + 1)) in
+    let whole : k + 1 + (n - (k + 1)) ≡ n = omega arith in
+    ap (λ l. l ++ joined (map f rest)) (part_lines f k) ∙ sym (flat_map-append line (map f (numbers_from 0 (k + 1))) (map f rest)) ∙ ap joined (sym (map-append f (numbers_from 0 (k + 1)) rest))
+    ∙ ap (λ l. joined (map f l)) (sym (numbers_from-add 0 (k + 1) (n - (k + 1)))) ∙ ap (λ j. joined (map f (numbers_from 0 j))) whole
 
 -- the paths of parts, piece by piece
 pub resource_path_pieces : (base rest : List ℕ) (number k : ℕ)

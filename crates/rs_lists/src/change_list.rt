@@ -18,7 +18,8 @@ use rs_time::Moment;
 pub fn put_change_head<V: View, S: Sink>(view: &V, sink: &mut S) -> Result<(), WriteFault>
     ensures taken { OnOk result
         (IfSome (list_text (V.shown view.now) Doc.ChangeHead) (S.takes sink.old sink.new)) }
-    ensures fault { OnErr result (S.fails sink.old sink.new) }
+    ensures fault { OnErr result
+        (IfSome (list_text (V.shown view.now) Doc.ChangeHead) (S.fails sink.old sink.new)) }
     ensures small { OnOk result (IfSome (list_text (V.shown view.now) Doc.ChangeHead) IsSmall) }
 {
     if view.changes_len() <= view.limit() as usize {
@@ -34,7 +35,8 @@ fn put_change_list<V: View, S: Sink>(view: &V, sink: &mut S) -> Result<(), Write
     requires one { length (V.shown view.now).changes ≤ (V.shown view.now).limit }
     ensures taken { OnOk result
         (IfSome (list_text (V.shown view.now) Doc.ChangeHead) (S.takes sink.old sink.new)) }
-    ensures fault { OnErr result (S.fails sink.old sink.new) }
+    ensures fault { OnErr result
+        (IfSome (list_text (V.shown view.now) Doc.ChangeHead) (S.fails sink.old sink.new)) }
     ensures small { OnOk result (IfSome (list_text (V.shown view.now) Doc.ChangeHead) IsSmall) }
 {
     put_opening(Root::UrlSet, view.base(), sink)?;
@@ -52,7 +54,8 @@ pub fn put_change_part<V: View, S: Sink>(
     requires { part < change_parts_of (V.shown view.now) }
     ensures taken { OnOk result
         (S.takes sink.old sink.new (change_part_text (V.shown view.now) part)) }
-    ensures fault { OnErr result (S.fails sink.old sink.new) }
+    ensures fault { OnErr result
+        (S.fails sink.old sink.new (change_part_text (V.shown view.now) part)) }
     ensures small { OnOk result (IsSmall (change_part_text (V.shown view.now) part)) }
 {
     let limit = view.limit() as usize;
@@ -71,7 +74,8 @@ fn put_change_index<V: View, S: Sink>(view: &V, sink: &mut S) -> Result<(), Writ
     requires several { (V.shown view.now).limit < length (V.shown view.now).changes }
     ensures taken { OnOk result
         (IfSome (list_text (V.shown view.now) Doc.ChangeHead) (S.takes sink.old sink.new)) }
-    ensures fault { OnErr result (S.fails sink.old sink.new) }
+    ensures fault { OnErr result
+        (IfSome (list_text (V.shown view.now) Doc.ChangeHead) (S.fails sink.old sink.new)) }
     ensures small { OnOk result (IfSome (list_text (V.shown view.now) Doc.ChangeHead) IsSmall) }
 {
     put_opening(Root::SitemapIndex, view.base(), sink)?;
@@ -112,7 +116,7 @@ fn put_change_md<S: Sink>(
     sink: &mut S,
 ) -> Result<(), WriteFault>
     ensures taken { OnOk result (S.takes sink.old sink.new (line (change_md from until))) }
-    ensures fault { OnErr result (S.fails sink.old sink.new) }
+    ensures fault { OnErr result (S.fails sink.old sink.new (line (change_md from until))) }
 {
     let start = Piece::Plain(b"<rs:md capability=\"changelist\" from=\"");
     let end = Piece::Plain(b"\"/>");
@@ -142,7 +146,8 @@ fn put_changes<V: View, S: Sink>(
     requires within { to ≤ length (V.shown view.now).changes }
     ensures taken { OnOk result
         (S.takes sink.old sink.new (change_lines (V.shown view.now) from to)) }
-    ensures fault { OnErr result (S.fails sink.old sink.new) }
+    ensures fault { OnErr result
+        (S.fails sink.old sink.new (change_lines (V.shown view.now) from to)) }
     ensures small { OnOk result
         (length (change_lines (V.shown view.now) from to) ≤ 2450 * (to - from)) }
 {
@@ -160,7 +165,8 @@ fn put_change<'a, S: Sink>(
 ) -> Result<(), WriteFault>
     ensures taken { OnOk result
         (S.takes sink.old sink.new (line (change_line base.now change.now))) }
-    ensures fault { OnErr result (S.fails sink.old sink.new) }
+    ensures fault { OnErr result
+        (S.fails sink.old sink.new (line (change_line base.now change.now))) }
     ensures small { length (line (change_line base.now change.now)) ≤ 2450 }
 {
     match &change.facts {
@@ -179,7 +185,8 @@ fn put_binding<'a, S: Sink>(
     requires { change.now.facts ≡ Some facts.now }
     ensures taken { OnOk result
         (S.takes sink.old sink.new (line (change_line base.now change.now))) }
-    ensures fault { OnErr result (S.fails sink.old sink.new) }
+    ensures fault { OnErr result
+        (S.fails sink.old sink.new (line (change_line base.now change.now))) }
     ensures small { length (line (change_line base.now change.now)) ≤ 2450 }
 {
     let bytes = hash_length(&facts.digests);
@@ -217,7 +224,8 @@ fn put_deletion<'a, S: Sink>(
     requires { change.now.facts ≡ None }
     ensures taken { OnOk result
         (S.takes sink.old sink.new (line (change_line base.now change.now))) }
-    ensures fault { OnErr result (S.fails sink.old sink.new) }
+    ensures fault { OnErr result
+        (S.fails sink.old sink.new (line (change_line base.now change.now))) }
     ensures small { length (line (change_line base.now change.now)) ≤ 2450 }
 {
     put_line(
@@ -252,7 +260,8 @@ fn put_change_entries<V: View, S: Sink>(view: &V, sink: &mut S) -> Result<(), Wr
     requires { IsShown (V.shown view.now) }
     ensures taken { OnOk result (S.takes sink.old sink.new
         (change_entries (V.shown view.now) (change_parts_of (V.shown view.now)))) }
-    ensures fault { OnErr result (S.fails sink.old sink.new) }
+    ensures fault { OnErr result (S.fails sink.old sink.new
+        (change_entries (V.shown view.now) (change_parts_of (V.shown view.now)))) }
     ensures small { OnOk result
         (length (change_entries (V.shown view.now) (change_parts_of (V.shown view.now)))
         ≤ 276 * change_parts_of (V.shown view.now)) }
@@ -268,7 +277,8 @@ fn put_change_entry<V: View, S: Sink>(view: &V, part: u64, sink: &mut S) -> Resu
     requires { part < change_parts_of (V.shown view.now) }
     ensures taken { OnOk result
         (S.takes sink.old sink.new (line (change_entry (V.shown view.now) part))) }
-    ensures fault { OnErr result (S.fails sink.old sink.new) }
+    ensures fault { OnErr result
+        (S.fails sink.old sink.new (line (change_entry (V.shown view.now) part))) }
     ensures small { length (line (change_entry (V.shown view.now) part)) ≤ 276 }
 {
     let limit = view.limit() as usize;

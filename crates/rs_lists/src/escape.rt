@@ -1,7 +1,7 @@
 //! The five characters that XML writes as references.
 
 ghost use Rattle.std.specs.Prelude.{◌≡◌, ◌∷◌, [], ◌-◌, ◌^◌, min, length, MatchOption, OnOk, OnErr};
-ghost use Rattle.rs_io.specs.Watch.{EndFailed, Wrote};
+ghost use Rattle.rs_io.specs.Watch.{EndFailed, FailedWithin, Wrote};
 ghost use Rattle.rs_lists.specs.Escape.{escape, escaped};
 
 use rs_io::{Watched, WriteFault};
@@ -12,10 +12,12 @@ use std::io::Write;
 ///
 /// # Errors
 ///
-/// [`WriteFault`] where a write fails. Some of the bytes may be written then.
+/// [`WriteFault`] where a write fails. A beginning of the escaped bytes is written then, and no other
+/// byte.
 pub fn write_escaped<W: Write>(bytes: &[u8], out: &mut Watched<W>) -> Result<(), WriteFault>
     ensures written { OnOk result (Wrote W.contents out.old out.new (escape bytes.now)) }
     ensures fault { OnErr result (EndFailed out.old out.new) }
+    ensures within { OnErr result (FailedWithin W.contents out.old out.new (escape bytes.now)) }
 {
     let mut start = 0;
     for (i, byte) in bytes.iter().enumerate() {

@@ -37,7 +37,8 @@ impl Root {
 pub fn put_opening<S: Sink>(root: Root, base: &Base, sink: &mut S) -> Result<(), WriteFault>
     ensures taken { OnOk result (S.takes sink.old sink.new
         (joined (xml_line ∷ open_line (tag_of root) ∷ up_line base.now ∷ []))) }
-    ensures fault { OnErr result (S.fails sink.old sink.new) }
+    ensures fault { OnErr result (S.fails sink.old sink.new
+        (joined (xml_line ∷ open_line (tag_of root) ∷ up_line base.now ∷ []))) }
     ensures base { OnOk result (length base.now ≤ 128) }
 {
     put_line(
@@ -61,7 +62,9 @@ pub fn put_part_opening<S: Sink>(base: &Base, index: &[u8], sink: &mut S) -> Res
     ensures taken { OnOk result (S.takes sink.old sink.new
         (joined (xml_line ∷ open_line (codes "urlset") ∷ up_line base.now
         ∷ link_line (codes "index") base.now index.now ∷ []))) }
-    ensures fault { OnErr result (S.fails sink.old sink.new) }
+    ensures fault { OnErr result (S.fails sink.old sink.new
+        (joined (xml_line ∷ open_line (codes "urlset") ∷ up_line base.now
+        ∷ link_line (codes "index") base.now index.now ∷ []))) }
     ensures base { OnOk result (length base.now ≤ 128) }
 {
     put_opening(Root::UrlSet, base, sink)?;
@@ -77,7 +80,8 @@ fn put_link<'a, S: Sink>(
 ) -> Result<(), WriteFault>
     ensures taken { OnOk result
         (S.takes sink.old sink.new (line (link_line relation.now base.now path.now))) }
-    ensures fault { OnErr result (S.fails sink.old sink.new) }
+    ensures fault { OnErr result
+        (S.fails sink.old sink.new (line (link_line relation.now base.now path.now))) }
     ensures base { length base.now ≤ 128 }
 {
     put_line(
@@ -96,7 +100,7 @@ fn put_link<'a, S: Sink>(
 /// Puts the last line of a document: the end of its root element.
 pub fn put_closing<S: Sink>(root: Root, sink: &mut S) -> Result<(), WriteFault>
     ensures taken { OnOk result (S.takes sink.old sink.new (line (close_line (tag_of root)))) }
-    ensures fault { OnErr result (S.fails sink.old sink.new) }
+    ensures fault { OnErr result (S.fails sink.old sink.new (line (close_line (tag_of root)))) }
 {
     put_line(
         &[

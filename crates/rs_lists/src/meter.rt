@@ -41,13 +41,15 @@ impl Sink for Meter {
 
     ghost takes = { λ a b bytes. CountGrowsBy (bytes_counted a) (bytes_counted b) bytes };
 
-    ghost fails = { λ _ _. ⊥ };
+    ghost fails = { λ _ _ _. ⊥ };
 
     ghost takes_nothing = { λ a. counts_nothing (bytes_counted a) };
 
     ghost takes_more = { λ a b c x y first second. counts_more _ _ _ x y first second };
 
-    ghost fails_later = { λ a b c x first never. never };
+    ghost fails_sooner = { λ a b x y never. never };
+
+    ghost fails_later = { λ a b c x y first never. never };
 
     fn put_piece(&mut self, piece: &Piece<'_>) -> Result<(), WriteFault> {
         self.total = self.total.saturating_add(piece_length(piece));

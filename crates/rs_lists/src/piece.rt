@@ -1,7 +1,7 @@
 //! The pieces that a text is made of.
 
 ghost use Rattle.std.specs.Prelude.{OnOk, OnErr};
-ghost use Rattle.rs_io.specs.Watch.{EndFailed, Wrote};
+ghost use Rattle.rs_io.specs.Watch.{EndFailed, FailedWithin, Wrote};
 ghost use Rattle.rs_lists.specs.Piece.{pieces_text};
 
 use crate::sink::put_all;
@@ -33,10 +33,12 @@ pub enum Piece<'a> {
 ///
 /// # Errors
 ///
-/// [`WriteFault`] where a write fails. Some of the text may be written then.
+/// [`WriteFault`] where a write fails. A beginning of the text is written then, and no other byte.
 pub fn put_pieces<W: Write>(pieces: &[Piece<'_>], out: &mut Watched<W>) -> Result<(), WriteFault>
     ensures written { OnOk result (Wrote W.contents out.old out.new (pieces_text pieces.now)) }
     ensures fault { OnErr result (EndFailed out.old out.new) }
+    ensures within { OnErr result
+        (FailedWithin W.contents out.old out.new (pieces_text pieces.now)) }
 {
     put_all(pieces, out)
 }

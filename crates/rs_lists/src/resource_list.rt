@@ -18,7 +18,8 @@ use rs_time::Moment;
 pub fn put_resource_head<V: View, S: Sink>(view: &V, sink: &mut S) -> Result<(), WriteFault>
     ensures taken { OnOk result
         (IfSome (list_text (V.shown view.now) Doc.ResourceHead) (S.takes sink.old sink.new)) }
-    ensures fault { OnErr result (S.fails sink.old sink.new) }
+    ensures fault { OnErr result
+        (IfSome (list_text (V.shown view.now) Doc.ResourceHead) (S.fails sink.old sink.new)) }
     ensures small { OnOk result (IfSome (list_text (V.shown view.now) Doc.ResourceHead) IsSmall) }
 {
     if view.published_len() <= view.limit() as usize {
@@ -34,7 +35,8 @@ fn put_resource_list<V: View, S: Sink>(view: &V, sink: &mut S) -> Result<(), Wri
     requires one { length (V.shown view.now).published ≤ (V.shown view.now).limit }
     ensures taken { OnOk result
         (IfSome (list_text (V.shown view.now) Doc.ResourceHead) (S.takes sink.old sink.new)) }
-    ensures fault { OnErr result (S.fails sink.old sink.new) }
+    ensures fault { OnErr result
+        (IfSome (list_text (V.shown view.now) Doc.ResourceHead) (S.fails sink.old sink.new)) }
     ensures small { OnOk result (IfSome (list_text (V.shown view.now) Doc.ResourceHead) IsSmall) }
 {
     put_opening(Root::UrlSet, view.base(), sink)?;
@@ -52,7 +54,8 @@ pub fn put_resource_part<V: View, S: Sink>(
     requires { part < resource_parts_of (V.shown view.now) }
     ensures taken { OnOk result
         (S.takes sink.old sink.new (resource_part_text (V.shown view.now) part)) }
-    ensures fault { OnErr result (S.fails sink.old sink.new) }
+    ensures fault { OnErr result
+        (S.fails sink.old sink.new (resource_part_text (V.shown view.now) part)) }
     ensures small { OnOk result (IsSmall (resource_part_text (V.shown view.now) part)) }
 {
     let limit = view.limit() as usize;
@@ -70,7 +73,8 @@ fn put_resource_index<V: View, S: Sink>(view: &V, sink: &mut S) -> Result<(), Wr
     requires several { (V.shown view.now).limit < length (V.shown view.now).published }
     ensures taken { OnOk result
         (IfSome (list_text (V.shown view.now) Doc.ResourceHead) (S.takes sink.old sink.new)) }
-    ensures fault { OnErr result (S.fails sink.old sink.new) }
+    ensures fault { OnErr result
+        (IfSome (list_text (V.shown view.now) Doc.ResourceHead) (S.fails sink.old sink.new)) }
     ensures small { OnOk result (IfSome (list_text (V.shown view.now) Doc.ResourceHead) IsSmall) }
 {
     put_opening(Root::SitemapIndex, view.base(), sink)?;
@@ -82,7 +86,7 @@ fn put_resource_index<V: View, S: Sink>(view: &V, sink: &mut S) -> Result<(), Wr
 // Puts the moment of the publication.
 fn put_resource_md<S: Sink>(at: Moment, sink: &mut S) -> Result<(), WriteFault>
     ensures taken { OnOk result (S.takes sink.old sink.new (line (resource_md at))) }
-    ensures fault { OnErr result (S.fails sink.old sink.new) }
+    ensures fault { OnErr result (S.fails sink.old sink.new (line (resource_md at))) }
 {
     put_line(
         &[
@@ -105,7 +109,8 @@ fn put_resources<V: View, S: Sink>(
     requires within { to ≤ length (V.shown view.now).published }
     ensures taken { OnOk result
         (S.takes sink.old sink.new (resource_lines (V.shown view.now) from to)) }
-    ensures fault { OnErr result (S.fails sink.old sink.new) }
+    ensures fault { OnErr result
+        (S.fails sink.old sink.new (resource_lines (V.shown view.now) from to)) }
     ensures small { OnOk result
         (length (resource_lines (V.shown view.now) from to) ≤ 2450 * (to - from)) }
 {
@@ -123,7 +128,8 @@ fn put_resource<'a, S: Sink>(
 ) -> Result<(), WriteFault>
     ensures taken { OnOk result
         (S.takes sink.old sink.new (line (resource_line base.now «record».now))) }
-    ensures fault { OnErr result (S.fails sink.old sink.new) }
+    ensures fault { OnErr result
+        (S.fails sink.old sink.new (line (resource_line base.now «record».now))) }
     ensures small { length (line (resource_line base.now «record».now)) ≤ 2450 }
 {
     let bytes = hash_length(&record.digests);
@@ -152,7 +158,8 @@ fn put_resource<'a, S: Sink>(
 fn put_resource_entries<V: View, S: Sink>(view: &V, sink: &mut S) -> Result<(), WriteFault>
     ensures taken { OnOk result (S.takes sink.old sink.new
         (resource_entries (V.shown view.now) (resource_parts_of (V.shown view.now)))) }
-    ensures fault { OnErr result (S.fails sink.old sink.new) }
+    ensures fault { OnErr result (S.fails sink.old sink.new
+        (resource_entries (V.shown view.now) (resource_parts_of (V.shown view.now)))) }
     ensures small { OnOk result
         (length (resource_entries (V.shown view.now) (resource_parts_of (V.shown view.now)))
         ≤ 276 * resource_parts_of (V.shown view.now)) }
@@ -167,7 +174,8 @@ fn put_resource_entries<V: View, S: Sink>(view: &V, sink: &mut S) -> Result<(), 
 fn put_resource_entry<V: View, S: Sink>(view: &V, part: u64, sink: &mut S) -> Result<(), WriteFault>
     ensures taken { OnOk result
         (S.takes sink.old sink.new (line (resource_entry (V.shown view.now) part))) }
-    ensures fault { OnErr result (S.fails sink.old sink.new) }
+    ensures fault { OnErr result
+        (S.fails sink.old sink.new (line (resource_entry (V.shown view.now) part))) }
     ensures small { length (line (resource_entry (V.shown view.now) part)) ≤ 276 }
 {
     put_line(

@@ -17,13 +17,13 @@ pub trait Sink {
     /// From one state to a later one these bytes went in, and nothing failed.
     ghost takes: { Self → Self → List ℕ → Type 0 };
 
-    /// From one state to a later one it failed.
-    ghost fails: { Self → Self → Type 0 };
+    /// From one state to a later one it failed within these bytes: a beginning of them went in.
+    ghost fails: { Self → Self → List ℕ → Type 0 };
 
     /// Takes a piece.
     fn put_piece(&mut self, piece: &Piece<'_>) -> Result<(), WriteFault>
         ensures taken { OnOk result (takes self.old self.new (piece_text piece.now)) }
-        ensures fault { OnErr result (fails self.old self.new) };
+        ensures fault { OnErr result (fails self.old self.new (piece_text piece.now)) };
 
     /// No byte went in.
     ghost takes_nothing: { (a : Self) → takes a a [] };
@@ -32,30 +32,36 @@ pub trait Sink {
     ghost takes_more: { (a b c : Self) (x y : List ℕ) → takes a b x → takes b c y →
         takes a c (x ++ y) };
 
-    /// Bytes went in, and then it failed.
-    ghost fails_later: { (a b c : Self) (x : List ℕ) → takes a b x → fails b c → fails a c };
+    /// It failed within bytes, and more were to follow.
+    ghost fails_sooner: { (a b : Self) (x y : List ℕ) → fails a b x → fails a b (x ++ y) };
+
+    /// Bytes went in, and then it failed within more.
+    ghost fails_later: { (a b c : Self) (x y : List ℕ) → takes a b x → fails b c y →
+        fails a c (x ++ y) };
 }
 
 impl<W: Write> Sink for Watched<W> {
-    ghost use Rattle.rs_io.specs.Watch.{EndFailed, Wrote};
-    ghost use Rattle.rs_io.proofs.Faults.{later_fault};
+    ghost use Rattle.rs_io.specs.Watch.{FailedWithin, Wrote};
+    ghost use Rattle.rs_io.proofs.Faults.{failed_sooner, failed_later};
     ghost use Rattle.rs_io.proofs.Growth.{wrote_nothing, wrote_then};
 
     ghost takes = { λ a b bytes. Wrote W.contents a b bytes };
 
-    ghost fails = { λ a b. EndFailed a b };
+    ghost fails = { λ a b bytes. FailedWithin W.contents a b bytes };
 
     ghost takes_nothing = { λ a. wrote_nothing W.contents a };
 
     ghost takes_more = { λ a b c x y first second. wrote_then W.contents a b c x y first second };
 
-    ghost fails_later = { λ a b c x first later. later_fault a b c first.1 later };
+    ghost fails_sooner = { λ a b x y fault. failed_sooner W.contents a b x y fault };
+
+    ghost fails_later = { λ a b c x y first fault. failed_later W.contents a b c x y first fault };
 
     fn put_piece(&mut self, piece: &Piece<'_>) -> Result<(), WriteFault> {
         match piece {
             Piece::Plain(bytes) => self.put(bytes),
             Piece::Escaped(bytes) => write_escaped(bytes, self),
-            Piece::Number(number) => self.put_text(*number),
+            Piece::Number(number) => self.put_number(*number),
             Piece::At(moment) => self.put(&moment.text()),
             Piece::Hash(digests) => self.put(&hash_text(digests)),
         }
@@ -65,7 +71,7 @@ impl<W: Write> Sink for Watched<W> {
 /// Puts pieces in their order.
 pub fn put_all<S: Sink>(pieces: &[Piece<'_>], sink: &mut S) -> Result<(), WriteFault>
     ensures taken { OnOk result (S.takes sink.old sink.new (pieces_text pieces.now)) }
-    ensures fault { OnErr result (S.fails sink.old sink.new) }
+    ensures fault { OnErr result (S.fails sink.old sink.new (pieces_text pieces.now)) }
 {
     for piece in pieces {
         sink.put_piece(piece)?;
@@ -76,7 +82,7 @@ pub fn put_all<S: Sink>(pieces: &[Piece<'_>], sink: &mut S) -> Result<(), WriteF
 /// Puts a line of these pieces.
 pub fn put_line<S: Sink>(pieces: &[Piece<'_>], sink: &mut S) -> Result<(), WriteFault>
     ensures taken { OnOk result (S.takes sink.old sink.new (line (pieces_text pieces.now))) }
-    ensures fault { OnErr result (S.fails sink.old sink.new) }
+    ensures fault { OnErr result (S.fails sink.old sink.new (line (pieces_text pieces.now))) }
 {
     put_all(pieces, sink)?;
     sink.put_piece(&Piece::Plain(b"\n"))

@@ -1,7 +1,7 @@
 //! The lists as documents.
 
 ghost use Rattle.std.specs.Prelude.{◌≡◌, ◌↔◌, None, IfSome, IsSome, is_some, IsErrOf, OnOk, OnErr};
-ghost use Rattle.rs_io.specs.Watch.{EndFailed, Wrote};
+ghost use Rattle.rs_io.specs.Watch.{EndFailed, FailedWithin, Wrote};
 ghost use Rattle.rs_lists.specs.Lawful.{IsSmall};
 ghost use Rattle.rs_lists.specs.Text.{list_text, is_part};
 
@@ -20,7 +20,7 @@ pub enum ListError {
     #[error("there is no such document")]
     NoSuchDocument,
 
-    /// The writer failed. Some of the text may be written.
+    /// The writer failed. A beginning of the text is written, and no other byte.
     #[error("the writer failed")]
     WriteFault,
 }
@@ -43,7 +43,8 @@ impl From<WriteFault> for ListError {
 /// # Errors
 ///
 /// [`ListError::NoSuchDocument`] exactly where the document does not exist; nothing is written
-/// then. [`ListError::WriteFault`] only where a call of the writer failed in this one.
+/// then. [`ListError::WriteFault`] only where a call of the writer failed in this one; a beginning of
+/// the text is written then, and no other byte.
 pub fn write_list<V: View, W: Write>(
     view: &V,
     doc: Doc,
@@ -56,6 +57,8 @@ pub fn write_list<V: View, W: Write>(
     ensures untouched { IsErrOf result ListError.NoSuchDocument → out.new ≡ out.old }
     ensures small { OnOk result (IfSome (list_text (V.shown view.now) doc) IsSmall) }
     ensures fault { IsErrOf result ListError.WriteFault → EndFailed out.old out.new }
+    ensures within { IsErrOf result ListError.WriteFault →
+        IfSome (list_text (V.shown view.now) doc) (FailedWithin W.contents out.old out.new) }
 {
     put_list(view, doc, out)
 }
@@ -67,7 +70,8 @@ pub fn put_list<V: View, S: Sink>(view: &V, doc: Doc, sink: &mut S) -> Result<()
     ensures missing { IsErrOf result ListError.NoSuchDocument
         ↔ (list_text (V.shown view.now) doc ≡ None) }
     ensures untouched { IsErrOf result ListError.NoSuchDocument → sink.new ≡ sink.old }
-    ensures fault { IsErrOf result ListError.WriteFault → S.fails sink.old sink.new }
+    ensures fault { IsErrOf result ListError.WriteFault →
+        IfSome (list_text (V.shown view.now) doc) (S.fails sink.old sink.new) }
     ensures small { OnOk result (IfSome (list_text (V.shown view.now) doc) IsSmall) }
 {
     if !is_there(view, doc) {
@@ -103,7 +107,8 @@ fn put_what_is_there<V: View, S: Sink>(view: &V, doc: Doc, sink: &mut S) -> Resu
     requires { IsSome (list_text (V.shown view.now) doc) }
     ensures taken { OnOk result
         (IfSome (list_text (V.shown view.now) doc) (S.takes sink.old sink.new)) }
-    ensures fault { OnErr result (S.fails sink.old sink.new) }
+    ensures fault { OnErr result
+        (IfSome (list_text (V.shown view.now) doc) (S.fails sink.old sink.new)) }
     ensures small { OnOk result (IfSome (list_text (V.shown view.now) doc) IsSmall) }
 {
     match doc {

@@ -64,7 +64,7 @@ doubt_or_ok a = by_two (is_accepted a) (is_in_doubt a)
     by_two true d = omega arith
     by_two false d = omega arith
 
-length_answered : (test : Ack → Bool) (c : Command × ℕ) (cs : Commands) (a : Ack) (acks : Acks) → length (answered test (c ∷ cs) (a ∷ acks)) ≡ one (test a) + length (answered test cs acks)
+pub length_answered : (test : Ack → Bool) (c : Command × ℕ) (cs : Commands) (a : Ack) (acks : Acks) → length (answered test (c ∷ cs) (a ∷ acks)) ≡ one (test a) + length (answered test cs acks)
 length_answered test c cs a acks = elim (test a) as (λ b. length (cond b (c ∷ answered test cs acks) (answered test cs acks)) ≡ one b + length (answered test cs acks)) [
   | true ↦ omega arith
   | false ↦ omega arith

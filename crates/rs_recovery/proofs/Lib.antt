@@ -3,4 +3,8 @@ pub mod Opened
 pub mod TurnsJoined
 pub mod Counts
 pub mod Sessions
+pub mod Acknowledged
+pub mod Prefixes
 pub mod OneSession
+pub mod Walked
+pub mod Mirrored

@@ -1,6 +1,9 @@
 pub mod Below
 pub mod Turns
+pub mod Prefixes
 pub mod Sessions
 pub mod Served
 pub mod Recovered
 pub mod Surviving
+pub mod Walked
+pub mod Mirrored

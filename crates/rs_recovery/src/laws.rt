@@ -12,6 +12,7 @@ ghost use Rattle.rs_store.specs.Runs.{StandsForPrefix};
 ghost use Rattle.rs_store.specs.Laws.{TurnsGoOn};
 ghost use Rattle.rs_recovery.specs.Below.{Below};
 ghost use Rattle.rs_recovery.specs.Turns.{CommandsAreTurns, ReadingsIdle, CutPutsIdle};
+ghost use Rattle.rs_recovery.specs.Prefixes.{RunsRecover, IdleIsRun, CommandIsRun, RunsJoin};
 ghost use Rattle.rs_recovery.specs.Sessions.{OneStanding, OpeningsStopToo};
 ghost use Rattle.rs_recovery.specs.Served.{SessionsStand};
 ghost use Rattle.rs_recovery.specs.Recovered.{YieldsHeld};
@@ -33,6 +34,21 @@ pub fn runs_go_on<D: Disk>()
 {
     turns_go_on::<D>();
     held_sources_rest::<D>();
+}
+
+/// What is asked of a source one by one is a run: each command by itself, what only reads between them, and
+/// one run after another. Whenever a stop comes, what it leaves stands for what the first of the counted
+/// commands make: for all that were answered by then, and perhaps for one more, which had begun. At the end an
+/// open source holds what all of them make; of a closed one the last may be missing, in which the device failed.
+pub fn runs_recover<D: Disk>()
+    ensures recover { RunsRecover D.state }
+    ensures idle { IdleIsRun D.state }
+    ensures command { CommandIsRun D.state }
+    ensures join { RunsJoin D.state }
+{
+    laws_below::<D>();
+    turns_go_on::<D>();
+    runs_go_on::<D>();
 }
 
 // What sessions rest on of the crates below.

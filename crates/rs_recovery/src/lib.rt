@@ -7,8 +7,10 @@
 #![tactic(auto)]
 
 pub mod laws;
+pub mod mirroring;
 mod recovering;
 mod surviving;
+pub mod walking;
 
 pub use recovering::recover;
 pub use surviving::{Halt, format_run_recover};

@@ -1,5 +1,5 @@
 -- The answer to each kind of request.
-use Rattle.std.proofs.Common.{◌≡◌, ℕ, List, [], Option, Some, None, Result, Ok, Err, Vec, Global, Bool, true, false, ◌⊎◌, ◌<◌, ◌≤◌, length, refl, inl, inr, ap, sym, subst, ◌∙◌, ◌-◌, if◌then◌else◌, ◌↔◌, IsErrOf, IsTrue, OnOk, option_map}
+use Rattle.std.proofs.Common.{◌≡◌, ℕ, List, [], Option, Some, None, Result, Ok, Err, Vec, Global, Bool, true, false, ◌⊎◌, ◌<◌, ◌≤◌, length, refl, inl, inr, ap, sym, subst, ◌∙◌, ◌-◌, if◌then◌else◌, ◌↔◌, IsErrOf, IsTrue, OnOk, option_map, codes, decimal, ◌++◌, ◌∷◌}
 use Rattle.rs_disk.specs.Medium.{DiskState}
 use Rattle.rs_disk.proofs.Steps.{rests}
 use Rattle.rs_model.specs.declared.command.Command.{Command}
@@ -15,6 +15,7 @@ use Rattle.rs_store.specs.Views as views
 use Rattle.rs_store.specs.declared.reading.Status as counts
 use Rattle.rs_store.specs.declared.refusal.Refusal as denials
 use Rattle.rs_store.specs.declared.refusal.Refusal.TheVariants.{Closed}
+use Rattle.rs_recovery.specs.Prefixes.{counted_as}
 use Rattle.rs_script.specs.declared.refusal.Refusal.{Refusal}
 use Rattle.rs_script.specs.declared.refusal.Refusal.TheVariants.{BadLine, LongLine, NoSuchDocument, NoMemory, Source}
 use Rattle.rs_script.specs.declared.request.Request.{Request}
@@ -22,7 +23,7 @@ use Rattle.rs_script.specs.declared.request.Request.TheVariants.{At, Run, Docume
 use Rattle.rs_script.specs.Answers.{outcome_text, shown_text, verified_text}
 use Rattle.rs_store.specs.AnswersBody.{AnswersBody}
 use Rattle.rs_store.specs.Verified.{AnswersVerify}
-use Rattle.rs_script.specs.Outcomes.{outcome_of_reply, counted_as, shown_as, verified_as}
+use Rattle.rs_script.specs.Outcomes.{outcome_of_reply, shown_as, verified_as}
 use Rattle.rs_script.specs.Lines.{line_limit}
 use Rattle.rs_script.specs.Model.{shown_or}
 use Rattle.rs_script.specs.Progress.{RequestAnswers, LineAnswers}
@@ -234,17 +235,16 @@ pub is_closed : {T : Type 0} (result : Result T denials.Refusal) (refusal : deni
     → IsErrOf result Closed ↔ IsTrue closed → closed ≡ true
 is_closed result refusal closed is same h = h.0 (is ∙ ap Err same)
 
--- a document that has a length is there, and what was written of it is its text
-pub shown_whole : {T E : Type 0} (result : Result T E) (found : Option (List ℕ)) (count : ℕ) (W : List ℕ → Type 0) → option_map length found ≡ Some count
-    → OnOk result ((text : List ℕ) × (found ≡ Some text) × W (shown_text text))
-    → (text : List ℕ) × (found ≡ Some text) × OnOk result (W (shown_text text))
-shown_whole result None count W e h = absurd cc
-shown_whole (Err x) (Some text) count W e h = (text, refl, tt)
-shown_whole (Ok x) (Some text) count W e h =
-    let same : h.0 ≡ text = cc in
-    (text, refl, subst (λ t. W (shown_text t)) same h.2)
+-- a document that has a length is there
+pub is_there : (found : Option (List ℕ)) (count : ℕ) → option_map length found ≡ Some count → (text : List ℕ) × (found ≡ Some text) × (length text ≡ count)
+is_there None count e = absurd cc
+is_there (Some text) count e = (text, refl, let same : Some (length text) ≡ Some count = e in cc)
 
--- a document that has no length is not there
+-- what is written of it: its length, its text and a line feed
+pub shown_head : (text : List ℕ) (count : ℕ) → length text ≡ count → (codes "bytes " ++ (decimal count ++ codes "\n")) ++ (text ++ 10 ∷ []) ≡ shown_text text
+shown_head text count same = ap (λ (n : ℕ). (codes "bytes " ++ (decimal n ++ codes "\n")) ++ (text ++ 10 ∷ [])) (sym same)
+
+-- one that has none is not there
 pub shown_none : (found : Option (List ℕ)) → option_map length found ≡ None → found ≡ None
 shown_none None e = refl
 shown_none (Some text) e = absurd cc

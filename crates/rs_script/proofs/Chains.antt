@@ -13,11 +13,12 @@ use Rattle.rs_store.specs.Answered.{Answers}
 use Rattle.rs_store.specs.Source.{Stored, Holds, state_of}
 use Rattle.rs_store.specs.declared.refusal.Refusal as stored
 use Rattle.rs_store.specs.declared.refusal.Refusal.TheVariants.{Closed, TooLong, NotHeld, TooManyResources, TooManyChanges, Exhausted, Full, ReadFault, ShortBody, Device, Damaged, NoMemory}
+use Rattle.rs_recovery.specs.Prefixes.{counted_as}
 use Rattle.rs_script.specs.declared.refusal.Refusal.{Refusal}
 use Rattle.rs_script.specs.declared.request.Request.{Request}
 use Rattle.rs_script.specs.declared.request.Request.TheVariants.{At, Run, Document, Body, Status, Verify}
 use Rattle.rs_store.specs.OnlyReads.{OnlyReads}
-use Rattle.rs_script.specs.Outcomes.{outcome_of_reply, counted_as, RequestGives, LineGives}
+use Rattle.rs_script.specs.Outcomes.{outcome_of_reply, RequestGives, LineGives}
 use Rattle.rs_script.specs.Requests.{request_of}
 use Rattle.rs_script.specs.Script.{IsMachine}
 use Rattle.rs_script.specs.Session.{ScriptState, Answer}

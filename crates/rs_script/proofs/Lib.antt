@@ -9,3 +9,8 @@ pub mod Chains
 pub mod Transcripts
 pub mod Documents
 pub mod Known
+pub mod Runs
+pub mod NamedDocuments
+pub mod Walks
+pub mod WalkedLines
+pub mod WalkedExamples

@@ -20,6 +20,7 @@ use Rattle.rs_store.specs.declared.refusal.Refusal as stored
 use Rattle.rs_store.specs.declared.refusal.Refusal.TheVariants.{Closed, TooLong, NotHeld, TooManyResources, TooManyChanges, Exhausted, Full, ReadFault, ShortBody, Device, Damaged, NoMemory}
 use Rattle.rs_caps.specs.DocumentTexts.{document_text}
 use Rattle.rs_caps.specs.Shows.{shown_of}
+use Rattle.rs_recovery.specs.Prefixes.{counted_as}
 use Rattle.rs_script.specs.declared.refusal.Refusal.{Refusal}
 use Rattle.rs_script.specs.declared.refusal.Refusal.TheVariants as refusals
 use Rattle.rs_script.specs.declared.request.Request.{Request}
@@ -27,7 +28,7 @@ use Rattle.rs_script.specs.declared.request.Request.TheVariants.{At, Run, Docume
 use Rattle.rs_store.specs.AnswersBody.{AnswersBody}
 use Rattle.rs_store.specs.OnlyReads.{OnlyReads}
 use Rattle.rs_store.specs.Verified.{AnswersVerify, is_sound, damaged_names}
-use Rattle.rs_script.specs.Outcomes.{outcome_of_reply, counted_as, shown_as, verified_as, if_open, RequestGives, LineGives}
+use Rattle.rs_script.specs.Outcomes.{outcome_of_reply, shown_as, verified_as, if_open, RequestGives, LineGives}
 use Rattle.rs_script.specs.Lines.{line_limit}
 use Rattle.rs_script.specs.Model.{stepped, shown_or, sound_count, answer_to, line_answer}
 use Rattle.rs_script.specs.Requests.{request_of}

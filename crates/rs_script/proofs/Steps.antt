@@ -9,8 +9,9 @@ use Rattle.std.specs.Io.KnownBytes.{Consumes, Keeps as KnownKeeps}
 use Rattle.std.proofs.KnownBytes.{Appends-kept, Consumes-trans}
 use Rattle.rs_disk.specs.Medium.{DiskState}
 use Rattle.rs_io.specs.declared.watch.Watched.{Watched}
-use Rattle.rs_io.specs.Watch.{watched, failures, Wrote}
+use Rattle.rs_io.specs.Watch.{watched, failures, EndFailed, Wrote, FailedWithin, FailedAfter, Writes}
 use Rattle.rs_io.proofs.Growth.{wrote_nothing, wrote_then}
+use Rattle.rs_io.proofs.Faults.{failed_after, failed_flush}
 use Rattle.rs_model.specs.declared.command.Command.{Command}
 use Rattle.rs_store.specs.Source.{Stored}
 use Rattle.rs_script.specs.declared.line.Line.{Line}
@@ -19,7 +20,8 @@ use Rattle.rs_script.specs.PartialLine.{KeepsLine}
 use Rattle.rs_script.specs.Lines.{Splits, HasNoBreak, with_break, cut_return, last_line, script_lines}
 use Rattle.rs_script.specs.Progress.{LineAnswers, Progress, Answered, Gave, ComesTo, StopsBy, GaveLines}
 use Rattle.rs_script.specs.Outcomes.{LineGives}
-use Rattle.rs_script.specs.Script.{Transcript, ScriptGives, Ran}
+use Rattle.rs_script.specs.Broken.{BreaksOff}
+use Rattle.rs_script.specs.Script.{Transcript, ScriptGives, Ran, ScriptsRecover, ScriptsMakeWalks}
 use Rattle.rs_script.specs.Session.{ScriptState, script_state, LineOutcome, Answer}
 
 -- one more line is answered
@@ -100,7 +102,7 @@ whole_more {D = D} device start raws raw outcomes commands now answer new e t g 
 -- a line feed has come, and the answer is written
 pub take_ok : {T E D W : Type 0} (device : D → DiskState) (contents : W → Option (List ℕ)) (r : Result T E) (line mid next : Line) (now new : ScriptState (Stored D)) (c d : Watched W) (run : List ℕ)
     → ((raw : List ℕ) → KeepsLine line raw → KeepsLine mid (raw ++ run))
-    → ((raw : List ℕ) → KeepsLine mid raw → LineAnswers device now (cut_return raw) new (λ text. OnOk r (Wrote contents c d text)))
+    → ((raw : List ℕ) → KeepsLine mid raw → LineAnswers device now (cut_return raw) new (λ text. Writes contents c d r text))
     → KeepsLine next []
     → OnOk r (HasNoBreak run → ComesTo device contents (record { line = line; writer = c; session = now })
     (record { line = next; writer = d; session = new }) (with_break run))
@@ -120,13 +122,37 @@ take_ok device contents (Ok x) line mid next now new c d run k given fresh = λ 
           (wrote_then contents before c d (output_of p.outcomes) (outcome_text e.answer.outcome) p.written e.written);
     }
 
+-- all answers but the last were taken whole, and the writer failed within that one
+broke_within : {W : Type 0} (contents : W → Option (List ℕ)) (a b c : Watched W) (outcomes : List LineOutcome) (outcome : LineOutcome)
+    → Wrote contents a b (output_of outcomes) → FailedWithin contents b c (outcome_text outcome) → BreaksOff contents a c (outcomes ++ outcome ∷ [])
+broke_within contents a b c outcomes outcome wrote failed =
+    let P : List ℕ → Type 0 = λ text. FailedAfter contents a c (output_of outcomes) text in
+    record {
+      whole = outcomes;
+      last = outcome ∷ [];
+      outcomes_are = refl;
+      one = omega arith;
+      failed = subst P (sym (append-nil (outcome_text outcome))) (failed_after contents a b c (output_of outcomes) (outcome_text outcome) wrote failed);
+    }
+
+-- a flush failed with all answers taken
+pub broke_after : {W : Type 0} (contents : W → Option (List ℕ)) (a b c : Watched W) (outcomes : List LineOutcome)
+    → Wrote contents a b (output_of outcomes) → KnownKeeps (contents (watched b)) (contents (watched c)) → EndFailed b c → BreaksOff contents a c outcomes
+broke_after contents a b c outcomes wrote kept failed = record {
+  whole = outcomes;
+  last = [];
+  outcomes_are = sym (append-nil outcomes);
+  one = omega arith;
+  failed = failed_flush contents a b c (output_of outcomes) wrote kept failed;
+}
+
 -- and the answer is not written
-pub take_err : {T E D W : Type 0} (device : D → DiskState) (contents : W → Option (List ℕ)) (r : Result T E) (line mid : Line) (now new : ScriptState (Stored D)) (c : Watched W) (run : List ℕ) (Written : List ℕ → Type 0)
+pub take_err : {T E D W : Type 0} (device : D → DiskState) (contents : W → Option (List ℕ)) (r : Result T E) (line mid : Line) (now new : ScriptState (Stored D)) (c d : Watched W) (run : List ℕ)
     → ((raw : List ℕ) → KeepsLine line raw → KeepsLine mid (raw ++ run))
-    → ((raw : List ℕ) → KeepsLine mid raw → LineAnswers device now (cut_return raw) new Written)
-    → OnErr r (HasNoBreak run → StopsBy device contents (record { line = line; writer = c; session = now }) (with_break run) new)
-take_err device contents (Ok x) line mid now new c run Written k given = tt
-take_err device contents (Err e) line mid now new c run Written k given = λ h start before input p.
+    → ((raw : List ℕ) → KeepsLine mid raw → LineAnswers device now (cut_return raw) new (λ text. Writes contents c d r text))
+    → OnErr r (HasNoBreak run → StopsBy device contents (record { line = line; writer = c; session = now }) (with_break run) d new)
+take_err device contents (Ok x) line mid now new c d run k given = tt
+take_err device contents (Err e) line mid now new c d run k given = λ h start before input p.
     let e = given (p.rest ++ run) (k p.rest p.kept) in
     let splits = Splits-break input p.raws p.rest run h p.splits in
     let P : List (List ℕ) → Type 0 = λ lines. Transcript device start lines (p.outcomes ++ e.answer.outcome ∷ []) (p.commands ++ e.answer.commands) new in (
@@ -140,6 +166,7 @@ take_err device contents (Err e) line mid now new c run Written k given = λ h s
           subst P (sym (append-nil (map cut_return (p.raws ++ (p.rest ++ run) ∷ []))))
               (whole_more device start p.raws (p.rest ++ run) p.outcomes p.commands now e.answer new e.session_is p.answered e.gives),
         ),
+        broke_within contents before c d p.outcomes e.answer.outcome p.written e.written,
       ),
       (p.raws ++ (p.rest ++ run) ∷ [], splits),
     )
@@ -160,7 +187,7 @@ last_more {D = D} device start raws rest outcomes commands now answer new e some
 
 pub end_ok : {T E D W : Type 0} (device : D → DiskState) (contents : W → Option (List ℕ)) (r : Result T E) (line : Line) (now new : ScriptState (Stored D)) (c d : Watched W)
     → ((raw : List ℕ) → KeepsLine line raw → 0 < length raw)
-    → ((raw : List ℕ) → KeepsLine line raw → LineAnswers device now raw new (λ text. OnOk r (Wrote contents c d text)))
+    → ((raw : List ℕ) → KeepsLine line raw → LineAnswers device now raw new (λ text. Writes contents c d r text))
     → OnOk r ((start : ScriptState (Stored D)) (before : Watched W) (input : List ℕ) → Progress device contents start before input line c now
     → (outcomes : List LineOutcome) × (commands : List (Command × ℕ)) × ScriptGives device start input outcomes commands new × Wrote contents before d (output_of outcomes))
 end_ok device contents (Err e) line now new c d some given = tt
@@ -174,16 +201,18 @@ end_ok device contents (Ok x) line now new c d some given = λ start before inpu
           (wrote_then contents before c d (output_of p.outcomes) (outcome_text e.answer.outcome) p.written e.written),
     )
 
-pub end_err : {T E D W : Type 0} (device : D → DiskState) (contents : W → Option (List ℕ)) (r : Result T E) (line : Line) (now new : ScriptState (Stored D)) (c : Watched W) (Written : List ℕ → Type 0)
+pub end_err : {T E D W : Type 0} (device : D → DiskState) (contents : W → Option (List ℕ)) (r : Result T E) (line : Line) (now new : ScriptState (Stored D)) (c d : Watched W)
     → ((raw : List ℕ) → KeepsLine line raw → 0 < length raw)
-    → ((raw : List ℕ) → KeepsLine line raw → LineAnswers device now raw new Written)
-    → OnErr r ((start : ScriptState (Stored D)) (before : Watched W) (input : List ℕ) → Progress device contents start before input line c now → Answered device start input new)
-end_err device contents (Ok x) line now new c Written some given = tt
-end_err device contents (Err e) line now new c Written some given = λ start before input p.
+    → ((raw : List ℕ) → KeepsLine line raw → LineAnswers device now raw new (λ text. Writes contents c d r text))
+    → OnErr r ((start : ScriptState (Stored D)) (before : Watched W) (input : List ℕ) → Progress device contents start before input line c now
+    → Answered device contents start before input d new)
+end_err device contents (Ok x) line now new c d some given = tt
+end_err device contents (Err e) line now new c d some given = λ start before input p.
     let e = given p.rest p.kept in (
       p.outcomes ++ e.answer.outcome ∷ [],
       p.commands ++ e.answer.commands,
       (p.raws, p.rest, p.splits, last_more device start p.raws p.rest p.outcomes p.commands now e.answer new e.session_is (some p.rest p.kept) p.answered e.gives),
+      broke_within contents before c d p.outcomes e.answer.outcome p.written e.written,
     )
 
 -- the input ended right after a line feed, or is empty
@@ -229,26 +258,35 @@ Progress-kept device contents start before input line c d now k sound p = record
   );
 }
 
+-- what ran on a source, from the moment 0 on
+abbrev pub ran_of : {D : Type 0} (device : D → DiskState) → ScriptsRecover device × ScriptsMakeWalks device → (old new : Stored D) (input : List ℕ) (outcomes : List LineOutcome) (commands : List (Command × ℕ)) (last : ℕ)
+    → ScriptGives device (script_state old 0) input outcomes commands (script_state new last) → Ran device old new
+ran_of device laws old new input outcomes commands last gives = record {
+  input = input;
+  outcomes = outcomes;
+  commands = commands;
+  last = last;
+  gives = gives;
+  recovers = laws.0 (script_state old 0) (script_state new last) input outcomes commands gives;
+  walks = laws.1 (script_state old 0) (script_state new last) input outcomes commands gives;
+}
+
 -- the whole lines of what came, and the part of a line after them
 pub Progress-whole : {D R W : Type 0} (device : D → DiskState) (contents : W → Option (List ℕ)) (remaining : R → Option (List ℕ)) (start : Stored D) (before : Watched W)
     (input : List ℕ) (line : Line) (c : Watched W) (now : Stored D) (moment : ℕ) (r s : Watched R) (F : Type 0)
-    → F ⊎ (2 ^ 40 ≤ length input) → Consumes (remaining (watched r)) (remaining (watched s)) input
+    → ScriptsRecover device × ScriptsMakeWalks device → F ⊎ (2 ^ 40 ≤ length input) → Consumes (remaining (watched r)) (remaining (watched s)) input
     → Progress device contents (script_state start 0) before input line c (script_state now moment)
     → (ran : Ran device start now) × (part : List ℕ) × GaveLines remaining r s ran.input part
     × Wrote contents before c (output_of ran.outcomes) × (F ⊎ (2 ^ 40 ≤ length (ran.input ++ part)))
-Progress-whole device contents remaining start before input line c now moment r s F why gave p =
+Progress-whole device contents remaining start before input line c now moment r s F laws why gave p =
     let Q : List ℕ → Type 0 = λ bytes. Consumes (remaining (watched r)) (remaining (watched s)) bytes in
     let T : List ℕ → Type 0 = λ bytes. F ⊎ (2 ^ 40 ≤ length bytes) in
     let splits : Splits (flat_map with_break p.raws) p.raws [] =
     record { whole = sym (append-nil (flat_map with_break p.raws)); each = p.splits.each; partial = grind (arith, common_steps) } in
-    let P : List (List ℕ) → Type 0 = λ lines. Transcript device (script_state start 0) lines p.outcomes p.commands (script_state now moment) in (
-      record {
-        input = flat_map with_break p.raws;
-        outcomes = p.outcomes;
-        commands = p.commands;
-        last = moment;
-        gives = (p.raws, [], splits, subst P (sym (append-nil (map cut_return p.raws))) p.answered);
-      },
+    let P : List (List ℕ) → Type 0 = λ lines. Transcript device (script_state start 0) lines p.outcomes p.commands (script_state now moment) in
+    let gives : ScriptGives device (script_state start 0) (flat_map with_break p.raws) p.outcomes p.commands (script_state now moment) =
+    (p.raws, [], splits, subst P (sym (append-nil (map cut_return p.raws))) p.answered) in (
+      ran_of device laws start now (flat_map with_break p.raws) p.outcomes p.commands moment gives,
       p.rest,
       (subst Q p.splits.whole gave, (p.raws, splits), p.splits.partial),
       p.written,

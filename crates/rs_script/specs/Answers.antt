@@ -38,8 +38,7 @@ shown_text bytes = (codes "bytes " ++ (decimal (length bytes) ++ codes "\n")) ++
 
 abbrev pub status_text : Status → List ℕ
 status_text s =
-    (codes "resources " ++ (decimal s.resources ++ (codes " changes " ++ (decimal s.changes ++ (codes " publication " ++ (decimal s.publication ++ codes " last "))))))
-    ++ moment_end s.last
+    codes "resources " ++ (decimal s.resources ++ (codes " changes " ++ (decimal s.changes ++ (codes " publication " ++ (decimal s.publication ++ (codes " last " ++ moment_end s.last))))))
 
 -- one damaged body
 abbrev pub damaged_line : List ℕ → List ℕ

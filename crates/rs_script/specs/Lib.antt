@@ -7,4 +7,6 @@ pub mod Outcomes
 pub mod Answers
 pub mod Script
 pub mod PartialLine
+pub mod Broken
 pub mod Progress
+pub mod Walked

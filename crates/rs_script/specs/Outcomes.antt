@@ -8,7 +8,8 @@ use Rattle.rs_store.specs.Answered.{Answers}
 use Rattle.rs_store.specs.Shows.{status_of}
 use Rattle.rs_store.specs.Source.{Stored, state_of}
 use Rattle.rs_store.specs.declared.refusal.Refusal as stored
-use Rattle.rs_store.specs.declared.refusal.Refusal.TheVariants.{Closed, Device}
+use Rattle.rs_store.specs.declared.refusal.Refusal.TheVariants.{Closed}
+use Rattle.rs_recovery.specs.Prefixes.{counted_as}
 use Rattle.rs_caps.specs.DocumentTexts.{document_text}
 use Rattle.rs_caps.specs.Shows.{shown_of}
 use Rattle.rs_script.specs.declared.refusal.Refusal.{Refusal}
@@ -26,12 +27,6 @@ use Rattle.rs_script.specs.Session.{ScriptState, LineOutcome, moment_set, replie
 abbrev pub outcome_of_reply : Result Reply stored.Refusal → LineOutcome
 outcome_of_reply (Ok reply) = replied reply
 outcome_of_reply (Err refusal) = refused (refusals.Source refusal)
-
--- A command counts where it was accepted, and where the device failed in it, since its step may stand then.
-abbrev pub counted_as : Command → ℕ → Result Reply stored.Refusal → List (Command × ℕ)
-counted_as command now (Ok reply) = (command, now) ∷ []
-counted_as command now (Err Device) = (command, now) ∷ []
-counted_as command now (Err refusal) = []
 
 -- A command was asked of the source, which answered as it may.
 pub record RunAnswers {D : Type 0} (device : D → DiskState) (old : ScriptState (Stored D)) (command : Command) (answer : Answer (Stored D)) : Type 0 where

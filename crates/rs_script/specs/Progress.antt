@@ -4,6 +4,7 @@ use Rattle.std.specs.Io.KnownBytes.{Consumes, IsAtEnd}
 use Rattle.rs_disk.specs.Medium.{DiskState}
 use Rattle.rs_io.specs.declared.watch.Watched.{Watched}
 use Rattle.rs_io.specs.Watch.{watched, is_flushed, EndFailed, Took, Wrote}
+use Rattle.rs_script.specs.Broken.{BreaksOff}
 use Rattle.rs_model.specs.declared.command.Command.{Command}
 use Rattle.rs_store.specs.Source.{Stored}
 use Rattle.rs_script.specs.declared.refusal.Refusal.{Refusal}
@@ -43,9 +44,10 @@ pub record Progress {D W : Type 0} (device : D → DiskState) (contents : W → 
   pub answered : Transcript device start (map cut_return raws) outcomes commands now
   pub written : Wrote contents before after (output_of outcomes)
 
--- the lines of this input were answered, whatever of the answers was written
-abbrev pub Answered : {D : Type 0} → (D → DiskState) → ScriptState (Stored D) → List ℕ → ScriptState (Stored D) → Type 0
-Answered device start input now = (outcomes : List LineOutcome) × (commands : List (Command × ℕ)) × ScriptGives device start input outcomes commands now
+-- the lines of this input were answered, and the writer failed while the answers were written
+abbrev pub Answered : {D W : Type 0} → (D → DiskState) → (W → Option (List ℕ)) → ScriptState (Stored D) → Watched W → List ℕ → Watched W → ScriptState (Stored D) → Type 0
+Answered device contents start before input after now = (outcomes : List LineOutcome) × (commands : List (Command × ℕ))
+    × ScriptGives device start input outcomes commands now × BreaksOff contents before after outcomes
 
 -- where a script stands: what is kept of a line, the writer, and the session
 pub record Stand (D W : Type 0) : Type 0 where
@@ -63,12 +65,13 @@ ComesTo {D} {W} device contents old new bytes =
     → Progress device contents start before input old.line old.writer old.session
     → Progress device contents start before (input ++ bytes) new.line new.writer new.session
 
--- of a script that had come to this stand, the lines up to these bytes more are answered: they end in a line feed
-abbrev pub StopsBy : {D W : Type 0} → (D → DiskState) → (W → Option (List ℕ)) → Stand D W → List ℕ → ScriptState (Stored D) → Type 0
-StopsBy {D} {W} device contents old bytes now =
+-- of a script that had come to this stand, the lines up to these bytes more are answered, and they end in a line feed; then the
+-- writer failed
+abbrev pub StopsBy : {D W : Type 0} → (D → DiskState) → (W → Option (List ℕ)) → Stand D W → List ℕ → Watched W → ScriptState (Stored D) → Type 0
+StopsBy {D} {W} device contents old bytes after now =
     (start : ScriptState (Stored D)) (before : Watched W) (input : List ℕ)
     → Progress device contents start before input old.line old.writer old.session
-    → Answered device start (input ++ bytes) now × AreWholeLines (input ++ bytes)
+    → Answered device contents start before (input ++ bytes) after now × AreWholeLines (input ++ bytes)
 
 -- a script that had come to the one stand has ended at the other: all its lines are answered, and the answers written
 abbrev pub EndsAt : {D W : Type 0} → (D → DiskState) → (W → Option (List ℕ)) → Stand D W → Stand D W → Type 0
@@ -78,11 +81,11 @@ EndsAt {D} {W} device contents old new =
     → (outcomes : List LineOutcome) × (commands : List (Command × ℕ))
     × ScriptGives device start input outcomes commands new.session × Wrote contents before new.writer (output_of outcomes)
 
--- of a script that had come to this stand, and whose input ended there, all lines are answered
-abbrev pub StopsAt : {D W : Type 0} → (D → DiskState) → (W → Option (List ℕ)) → Stand D W → ScriptState (Stored D) → Type 0
-StopsAt {D} {W} device contents old now =
+-- of a script that had come to this stand, and whose input ended there, all lines are answered; then the writer failed
+abbrev pub StopsAt : {D W : Type 0} → (D → DiskState) → (W → Option (List ℕ)) → Stand D W → Watched W → ScriptState (Stored D) → Type 0
+StopsAt {D} {W} device contents old after now =
     (start : ScriptState (Stored D)) (before : Watched W) (input : List ℕ)
-    → Progress device contents start before input old.line old.writer old.session → Answered device start input now
+    → Progress device contents start before input old.line old.writer old.session → Answered device contents start before input after now
 
 -- the reader gave this input, and then a tail that was not looked at
 abbrev pub Gave : Option (List ℕ) → Option (List ℕ) → List ℕ → Type 0

@@ -4,11 +4,13 @@ use Rattle.rs_disk.specs.Medium.{DiskState}
 use Rattle.rs_model.specs.State.{Source}
 use Rattle.rs_model.specs.declared.command.Command.{Command}
 use Rattle.rs_store.specs.Source.{Stored, state_of}
+use Rattle.rs_recovery.specs.Prefixes.{Recovers}
 use Rattle.rs_store.specs.declared.refusal.Refusal as stored
 use Rattle.rs_store.specs.declared.refusal.Refusal.TheVariants as machine
 use Rattle.rs_script.specs.declared.refusal.Refusal.TheVariants as refusals
 use Rattle.rs_script.specs.Outcomes.{LineGives}
 use Rattle.rs_script.specs.Lines.{Splits, script_lines}
+use Rattle.rs_script.specs.Walked.{MakesWalk}
 use Rattle.rs_script.specs.Session.{ScriptState, script_state, LineOutcome, refused, Answer}
 
 -- The lines are answered in turn: what comes of each, the commands that count, and the script_state after them.
@@ -26,13 +28,26 @@ ScriptGives device old input outcomes commands new =
     × Transcript device old (script_lines raws rest) outcomes commands new
 
 -- What ran on a source, from the moment 0 on: the input, what came of each of its lines, the commands that count, and the
--- moment at which the next would come.
+-- moment at which the next would come. Whenever a stop comes, it leaves what the first of these commands make; and the script
+-- makes a walk, whose fetches give what was shown.
 pub record Ran {D : Type 0} (device : D → DiskState) (old new : Stored D) : Type 0 where
   pub input : List ℕ
   pub outcomes : List LineOutcome
   pub commands : List (Command × ℕ)
   pub last : ℕ
   pub gives : ScriptGives device (script_state old 0) input outcomes commands (script_state new last)
+  pub recovers : Recovers device old commands new
+  pub walks : MakesWalk device old 0 input outcomes new
+
+-- Whenever a stop comes within a script, it leaves what the first of the commands make that count in it.
+abbrev pub ScriptsRecover : {D : Type 0} → (D → DiskState) → Type 0
+ScriptsRecover {D} device = (old new : ScriptState (Stored D)) (input : List ℕ) (outcomes : List LineOutcome) (commands : List (Command × ℕ))
+    → ScriptGives device old input outcomes commands new → Recovers device old.source commands new.source
+
+-- Each script makes a walk.
+abbrev pub ScriptsMakeWalks : {D : Type 0} → (D → DiskState) → Type 0
+ScriptsMakeWalks {D} device = (old new : ScriptState (Stored D)) (input : List ℕ) (outcomes : List LineOutcome) (commands : List (Command × ℕ))
+    → ScriptGives device old input outcomes commands new → MakesWalk device old.source old.now input outcomes new.source
 
 -- the refusals of a source that the model does not decide, but for a generation that is not left
 abbrev pub IsOfMachine : stored.Refusal → Type 0

@@ -1,12 +1,14 @@
 //! The texts of answers.
 
-ghost use Rattle.std.specs.Prelude.{◌≡◌, ◌++◌, OnOk, OnErr};
+ghost use Rattle.std.specs.Prelude.{◌≡◌, ◌++◌, codes, OnOk, OnErr};
+ghost use Rattle.std.specs.Fmt.{decimal};
 ghost use Rattle.std.specs.List.{flat_map};
-ghost use Rattle.rs_io.specs.Watch.{EndFailed, Wrote};
+ghost use Rattle.rs_io.specs.Watch.{EndFailed, FailedWithin, Wrote, Writes};
 ghost use Rattle.rs_script.specs.Answers.{moment_end, reply_text, status_text, damaged_line, verified_text, outcome_text, word_of};
 ghost use Rattle.rs_script.specs.Session.{refused};
 
 use crate::refusal::Refusal;
+use itoa::Buffer;
 use rs_io::{Watched, WriteFault};
 use rs_model::Reply;
 use rs_record::Name;
@@ -33,21 +35,12 @@ fn name_of(refusal: Refusal) -> &'static str
 
 /// Writes the answer `refused NAME`.
 pub fn write_refusal<W: Write>(refusal: Refusal, writer: &mut Watched<W>) -> Result<(), WriteFault>
-    ensures ok { OnOk result (Wrote W.contents writer.old writer.new
-        (outcome_text (refused refusal))) }
+    ensures written { Writes W.contents writer.old writer.new result
+        (outcome_text (refused refusal)) }
     ensures failed { OnErr result (EndFailed writer.old writer.new) }
 {
     let name = name_of(refusal);
-    writer.put_text(format_args!("refused {name}\n"))
-}
-
-/// Writes the text of a moment and the end of the line.
-fn write_moment<W: Write>(moment: Moment, writer: &mut Watched<W>) -> Result<(), WriteFault>
-    ensures ok { OnOk result (Wrote W.contents writer.old writer.new (moment_end moment)) }
-    ensures failed { OnErr result (EndFailed writer.old writer.new) }
-{
-    writer.put(&moment.text())?;
-    writer.put(b"\n")
+    writer.put_all(&[b"refused ", name.as_bytes(), b"\n"])
 }
 
 /// Writes a word, the text of a moment and the end of the line.
@@ -56,12 +49,11 @@ fn write_word<W: Write>(
     moment: Moment,
     writer: &mut Watched<W>,
 ) -> Result<(), WriteFault>
-    ensures ok { OnOk result (Wrote W.contents writer.old writer.new
-        (word.now ++ moment_end moment)) }
+    ensures written { Writes W.contents writer.old writer.new result
+        (word.now ++ moment_end moment) }
     ensures failed { OnErr result (EndFailed writer.old writer.new) }
 {
-    writer.put(word)?;
-    write_moment(moment, writer)
+    writer.put_all(&[word, &moment.text(), b"\n"])
 }
 
 /// Writes the answer of a publication.
@@ -70,17 +62,18 @@ fn write_published<W: Write>(
     moment: Moment,
     writer: &mut Watched<W>,
 ) -> Result<(), WriteFault>
-    ensures ok { OnOk result (Wrote W.contents writer.old writer.new
-        (reply_text (Reply.Published number moment))) }
+    ensures written { Writes W.contents writer.old writer.new result
+        (reply_text (Reply.Published number moment)) }
     ensures failed { OnErr result (EndFailed writer.old writer.new) }
 {
-    writer.put_text(format_args!("published {number} "))?;
-    write_moment(moment, writer)
+    let mut digits = Buffer::new();
+    let number = digits.format(number).as_bytes();
+    writer.put_all(&[b"published ", number, b" ", &moment.text(), b"\n"])
 }
 
 /// Writes the answer of an accepted command.
 pub fn write_reply<W: Write>(reply: Reply, writer: &mut Watched<W>) -> Result<(), WriteFault>
-    ensures ok { OnOk result (Wrote W.contents writer.old writer.new (reply_text reply)) }
+    ensures written { Writes W.contents writer.old writer.new result (reply_text reply) }
     ensures failed { OnErr result (EndFailed writer.old writer.new) }
 {
     match reply {
@@ -93,22 +86,37 @@ pub fn write_reply<W: Write>(reply: Reply, writer: &mut Watched<W>) -> Result<()
 
 /// Writes the answer of `status`.
 pub fn write_status<W: Write>(status: Status, writer: &mut Watched<W>) -> Result<(), WriteFault>
-    ensures ok { OnOk result (Wrote W.contents writer.old writer.new (status_text status)) }
+    ensures written { Writes W.contents writer.old writer.new result (status_text status) }
     ensures failed { OnErr result (EndFailed writer.old writer.new) }
 {
-    let resources = status.resources;
-    let changes = status.changes;
-    let publication = status.publication;
-    writer.put_text(format_args!(
-        "resources {resources} changes {changes} publication {publication} last "
-    ))?;
-    write_moment(status.last, writer)
+    let (mut held, mut kept, mut published) = (Buffer::new(), Buffer::new(), Buffer::new());
+    writer.put_all(&[
+        b"resources ",
+        held.format(status.resources).as_bytes(),
+        b" changes ",
+        kept.format(status.changes).as_bytes(),
+        b" publication ",
+        published.format(status.publication).as_bytes(),
+        b" last ",
+        &status.last.text(),
+        b"\n",
+    ])
+}
+
+/// Writes `damaged NAME` and the end of the line.
+fn write_damaged_name<W: Write>(name: &Name, writer: &mut Watched<W>) -> Result<(), WriteFault>
+    ensures written { Writes W.contents writer.old writer.new result (damaged_line name.now) }
+    ensures failed { OnErr result (EndFailed writer.old writer.new) }
+{
+    writer.put_all(&[b"damaged ", name.bytes(), b"\n"])
 }
 
 /// Writes `damaged NAME` and the end of the line for each name.
 #[tactic(auto, using(rs_io::proofs::Growth::appends_each))]
 fn write_damaged<W: Write>(names: &[Name], writer: &mut Watched<W>) -> Result<(), WriteFault>
     ensures ok { OnOk result (Wrote W.contents writer.old writer.new
+        (flat_map damaged_line names.now)) }
+    ensures fault { OnErr result (FailedWithin W.contents writer.old writer.new
         (flat_map damaged_line names.now)) }
     ensures failed { OnErr result (EndFailed writer.old writer.new) }
 {
@@ -118,14 +126,14 @@ fn write_damaged<W: Write>(names: &[Name], writer: &mut Watched<W>) -> Result<()
     Ok(())
 }
 
-/// Writes `damaged NAME` and the end of the line.
-fn write_damaged_name<W: Write>(name: &Name, writer: &mut Watched<W>) -> Result<(), WriteFault>
-    ensures ok { OnOk result (Wrote W.contents writer.old writer.new (damaged_line name.now)) }
+/// Writes how many bodies are sound.
+fn write_sound<W: Write>(sound: usize, writer: &mut Watched<W>) -> Result<(), WriteFault>
+    ensures written { Writes W.contents writer.old writer.new result
+        (codes "verified " ++ (decimal sound ++ codes "\n")) }
     ensures failed { OnErr result (EndFailed writer.old writer.new) }
 {
-    writer.put(b"damaged ")?;
-    writer.put(name.bytes())?;
-    writer.put(b"\n")
+    let mut digits = Buffer::new();
+    writer.put_all(&[b"verified ", digits.format(sound).as_bytes(), b"\n"])
 }
 
 /// Writes the answer of `verify`: the names of the damaged bodies, and how many are sound.
@@ -134,10 +142,10 @@ pub fn write_verified<W: Write>(
     sound: usize,
     writer: &mut Watched<W>,
 ) -> Result<(), WriteFault>
-    ensures ok { OnOk result (Wrote W.contents writer.old writer.new
-        (verified_text names.now sound)) }
+    ensures written { Writes W.contents writer.old writer.new result
+        (verified_text names.now sound) }
     ensures failed { OnErr result (EndFailed writer.old writer.new) }
 {
     write_damaged(names, writer)?;
-    writer.put_text(format_args!("verified {sound}\n"))
+    write_sound(sound, writer)
 }

@@ -2,8 +2,9 @@
 
 ghost use Rattle.std.specs.Prelude.{◌≡◌, ◌++◌, ◌≤◌, ◌^◌, ◌*◌, true, length, ℕ, List, OnOk, OnErr, IsErrOf};
 ghost use Rattle.std.specs.Io.KnownBytes.{Consumes};
-ghost use Rattle.rs_io.specs.Watch.{watched, failures, is_flushed, EndFailed, Wrote};
+ghost use Rattle.rs_io.specs.Watch.{watched, failures, is_flushed, EndFailed, Wrote, Writes};
 ghost use Rattle.rs_script.specs.Answers.{output_of};
+ghost use Rattle.rs_script.specs.Broken.{BreaksOff};
 ghost use Rattle.rs_script.specs.PartialLine.{KeepsLine};
 ghost use Rattle.rs_script.specs.Lines.{HasNoBreak, line_of, with_break};
 ghost use Rattle.rs_script.specs.Progress.{LineAnswers, stand, ComesTo, StopsBy, EndsAt, StopsAt, Came, TookAll, GaveLines, ReadsNoMore};
@@ -13,6 +14,7 @@ ghost use Rattle.rs_script.specs.Session.{script_state};
 use crate::answer::write_refusal;
 use crate::bytes::position_of;
 use crate::execute::answer_line;
+use crate::laws::{scripts_make_walks, scripts_recover};
 use crate::line::{Content, Line};
 use crate::refusal::Refusal;
 use rs_disk::Disk;
@@ -46,7 +48,7 @@ fn answer_kept<D: Disk, W: Write>(
     ensures answered { (raw : List ℕ) → KeepsLine line.now raw
         → LineAnswers D.state
         (script_state source.old now.old) (line_of has_break raw) (script_state source.new now.new)
-        (λ text. OnOk result (Wrote W.contents writer.old writer.new text)) }
+        (Writes W.contents writer.old writer.new result) }
     ensures sound { OnOk result (failures writer.new ≡ failures writer.old) }
     ensures failed { OnErr result (EndFailed writer.old writer.new) }
 {
@@ -72,7 +74,7 @@ fn take_line<D: Disk, W: Write>(
         (stand line.new writer.new source.new now.new) (with_break run.now)) }
     ensures err { OnErr result (HasNoBreak run.now → StopsBy D.state W.contents
         (stand line.old writer.old source.old now.old) (with_break run.now)
-        (script_state source.new now.new)) }
+        writer.new (script_state source.new now.new)) }
     ensures sound { OnOk result (failures writer.new ≡ failures writer.old) }
     ensures failed { OnErr result (EndFailed writer.old writer.new) }
 {
@@ -95,8 +97,8 @@ fn take_piece<D: Disk, W: Write>(
         (stand line.old writer.old source.old now.old)
         (stand line.new writer.new source.new now.new) piece.now) }
     ensures err { OnErr result ((used : List ℕ) × (tail : List ℕ) × (piece.now ≡ used ++ tail)
-        × StopsBy D.state W.contents
-        (stand line.old writer.old source.old now.old) used (script_state source.new now.new)) }
+        × StopsBy D.state W.contents (stand line.old writer.old source.old now.old) used
+        writer.new (script_state source.new now.new)) }
     ensures failed { OnErr result (EndFailed writer.old writer.new) }
 {
     let mut rest = piece;
@@ -120,7 +122,8 @@ fn take_end<D: Disk, W: Write>(
         (stand line.now writer.old source.old now.old)
         (stand line.now writer.new source.new now.new)) }
     ensures err { OnErr result (StopsAt D.state W.contents
-        (stand line.now writer.old source.old now.old) (script_state source.new now.new)) }
+        (stand line.now writer.old source.old now.old)
+        writer.new (script_state source.new now.new)) }
     ensures failed { OnErr result (EndFailed writer.old writer.new) }
 {
     if line.is_empty() {
@@ -145,8 +148,12 @@ const READS: u64 = 1 << 40;
 ///
 /// - [`ScriptFault::Read`]: a read failed in this call, or 2^40 reads came to no end. The lines that
 ///   had come whole are answered, and of a part of a line after them nothing is done.
-/// - [`ScriptFault::Write`]: a call of the writer failed in this one. What the lines up to the one
-///   asked for whose answer was not written is done.
+/// - [`ScriptFault::Write`]: a call of the writer failed in this one. The lines whose answers were
+///   written are done, and the one whose answer was being written; no other was begun.
+///
+/// Whenever the disk stops within the call, what it then holds is what the first of the commands make that
+/// count in it: all that had been answered, and perhaps one more (`recovers` of `Ran`). To a destination the
+/// script is a walk: its commands are tried, refused or stopped, and what is shown is fetched (`walks`).
 pub fn script<D: Disk, R: Read, W: Write>(
     alloc: Global,
     source: &mut Source<D>,
@@ -167,10 +174,12 @@ pub fn script<D: Disk, R: Read, W: Write>(
         × ReadsNoMore reader.old reader.new writer.new (ran.input ++ part) }
 
     // A call of the writer failed, and none of the reader: what the lines so far asked for is done.
-    // They had come whole, or the input had ended.
+    // They had come whole, or the input had ended. All their answers but the last went out whole,
+    // and of the last a beginning.
     ensures write { IsErrOf result ScriptFault.Write → (ran : Ran D.state source.old source.new)
         × Came R.remaining reader.old reader.new ran.input
-        × EndFailed writer.old writer.new × (failures reader.new ≡ failures reader.old) }
+        × BreaksOff W.contents writer.old writer.new ran.outcomes
+        × (failures reader.new ≡ failures reader.old) }
 
     // At the end all that was written is flushed.
     ensures flushed { OnOk result (is_flushed writer.new ≡ true) }
@@ -180,6 +189,8 @@ pub fn script<D: Disk, R: Read, W: Write>(
         × Consumes (R.remaining (watched reader.old)) (R.remaining (watched reader.new)) gave
         × (length gave ≤ 2 ^ 40 * 65536) }
 {
+    scripts_recover::<D>();
+    scripts_make_walks::<D>();
     let mut line = Line::new(alloc);
     let mut now = Moment::first();
     let mut buf = [0u8; PIECE];

@@ -1,7 +1,7 @@
 //! One line: what it asks for is asked of the source, and its answer is written.
 
 ghost use Rattle.std.specs.Prelude.{Ok, OnOk, OnErr};
-ghost use Rattle.rs_io.specs.Watch.{EndFailed, Wrote};
+ghost use Rattle.rs_io.specs.Watch.{EndFailed, Writes};
 ghost use Rattle.rs_store.specs.Answered.{Answers};
 ghost use Rattle.rs_script.specs.Progress.{RequestAnswers};
 ghost use Rattle.rs_script.specs.Requests.{request_of};
@@ -47,7 +47,7 @@ fn run_command<D: Disk, W: Write>(
 ) -> Result<(), WriteFault>
     ensures answered { RequestAnswers D.state
         (script_state source.old now) (Ok (Run command.now)) (script_state source.new now)
-        (λ text. OnOk result (Wrote W.contents writer.old writer.new text)) }
+        (Writes W.contents writer.old writer.new result) }
     ensures failed { OnErr result (EndFailed writer.old writer.new) }
 {
     match ask(source, command, now) {
@@ -65,7 +65,7 @@ fn show_document<D: Disk, W: Write>(
 ) -> Result<(), WriteFault>
     ensures answered { RequestAnswers D.state
         (script_state source.now now) (Ok (Document doc)) (script_state source.now now)
-        (λ text. OnOk result (Wrote W.contents writer.old writer.new text)) }
+        (Writes W.contents writer.old writer.new result) }
     ensures failed { OnErr result (EndFailed writer.old writer.new) }
 {
     let view = match source.view() {
@@ -87,7 +87,7 @@ fn show_body<D: Disk, W: Write>(
 ) -> Result<(), WriteFault>
     ensures answered { RequestAnswers D.state
         (script_state source.old now) (Ok (Shown name.now)) (script_state source.new now)
-        (λ text. OnOk result (Wrote W.contents writer.old writer.new text)) }
+        (Writes W.contents writer.old writer.new result) }
     ensures failed { OnErr result (EndFailed writer.old writer.new) }
 {
     match source.body(name) {
@@ -104,7 +104,7 @@ fn show_status<D: Disk, W: Write>(
 ) -> Result<(), WriteFault>
     ensures answered { RequestAnswers D.state
         (script_state source.now now) (Ok Counted) (script_state source.now now)
-        (λ text. OnOk result (Wrote W.contents writer.old writer.new text)) }
+        (Writes W.contents writer.old writer.new result) }
     ensures failed { OnErr result (EndFailed writer.old writer.new) }
 {
     match source.status() {
@@ -121,7 +121,7 @@ fn show_verified<D: Disk, W: Write>(
 ) -> Result<(), WriteFault>
     ensures answered { RequestAnswers D.state
         (script_state source.old now) (Ok Verified) (script_state source.new now)
-        (λ text. OnOk result (Wrote W.contents writer.old writer.new text)) }
+        (Writes W.contents writer.old writer.new result) }
     ensures failed { OnErr result (EndFailed writer.old writer.new) }
 {
     let held = match source.status() {
@@ -143,7 +143,7 @@ fn answer_request<D: Disk, W: Write>(
 ) -> Result<(), WriteFault>
     ensures answered { RequestAnswers D.state
         (script_state source.old now.old) (Ok request) (script_state source.new now.new)
-        (λ text. OnOk result (Wrote W.contents writer.old writer.new text)) }
+        (Writes W.contents writer.old writer.new result) }
     ensures failed { OnErr result (EndFailed writer.old writer.new) }
 {
     match request {
@@ -174,7 +174,7 @@ pub fn answer_line<D: Disk, W: Write>(
 ) -> Result<(), WriteFault>
     ensures answered { RequestAnswers D.state
         (script_state source.old now.old) (request_of line.now) (script_state source.new now.new)
-        (λ text. OnOk result (Wrote W.contents writer.old writer.new text)) }
+        (Writes W.contents writer.old writer.new result) }
     ensures failed { OnErr result (EndFailed writer.old writer.new) }
 {
     match parse_request(alloc, line) {

@@ -8,10 +8,14 @@ ghost use Rattle.rs_model.specs.declared.command.Command.{Command};
 ghost use Rattle.rs_store.specs.Source.{Stored, Holds, state_of};
 ghost use Rattle.rs_script.specs.Lines.{Splits, script_lines};
 ghost use Rattle.rs_script.specs.Model.{answers_of};
-ghost use Rattle.rs_script.specs.Script.{ScriptGives, AreDecided, told};
+ghost use Rattle.rs_script.specs.Script.{ScriptGives, ScriptsRecover, ScriptsMakeWalks, AreDecided, told};
 ghost use Rattle.rs_script.specs.Session.{ScriptState, LineOutcome};
 
+use rs_caps::laws::answered::paths_are_answered;
 use rs_disk::Disk;
+use rs_recovery::laws::{runs_go_on, runs_recover};
+use rs_recovery::walking::commands_make_walks;
+use rs_store::laws::held_sources_rest;
 
 /// An input is cut into lines in one way.
 pub fn one_cut()
@@ -47,3 +51,25 @@ pub fn transcript_folds<D: Disk>()
         → Holds D.state old.source s → new.source.is_closed ≡ false
         → Holds D.state new.source (fold_of s commands) }
 {}
+
+/// The commands of a script are asked in turn: whenever a stop comes, it leaves what the first of them make that
+/// count, all that were answered by then among them.
+pub fn scripts_recover<D: Disk>()
+    ensures { ScriptsRecover D.state }
+{
+    held_sources_rest::<D>();
+    runs_go_on::<D>();
+    runs_recover::<D>();
+}
+
+/// A script makes a walk: a command that the model decides is tried, one that the machine refuses is refused,
+/// and one in which the device failed is stopped; what is shown is fetched, and is what is answered at its
+/// path; all else is no event. At the end each image of the disk stands for the state after such a walk.
+pub fn scripts_make_walks<D: Disk>()
+    ensures { ScriptsMakeWalks D.state }
+{
+    held_sources_rest::<D>();
+    runs_go_on::<D>();
+    commands_make_walks::<D>();
+    paths_are_answered();
+}

@@ -1,10 +1,12 @@
 //! Showing documents and bodies.
 
-ghost use Rattle.std.specs.Prelude.{◌≡◌, Some, ℕ, List, OnOk, OnErr, length, option_map};
+ghost use Rattle.std.specs.Prelude.{◌≡◌, ◌++◌, Some, ℕ, List, OnErr, codes, length, option_map};
+ghost use Rattle.std.specs.Fmt.{decimal};
 ghost use Rattle.rs_caps.specs.DocumentTexts.{document_text};
-ghost use Rattle.rs_io.specs.Watch.{EndFailed, Wrote};
+ghost use Rattle.rs_io.specs.Watch.{EndFailed, Writes};
 ghost use Rattle.rs_script.specs.Answers.{shown_text};
 
+use itoa::Buffer;
 use rs_caps::write_document;
 use rs_io::{Watched, WriteFault};
 use rs_lists::{Doc, ListError, View};
@@ -14,22 +16,36 @@ use std::io::Write;
 ///
 /// # Errors
 ///
-/// [`WriteFault`] where the writer failed. Some of the text may be written.
+/// [`WriteFault`] where the writer failed. It took a beginning of the text.
 pub fn write_shown<W: Write>(bytes: &[u8], writer: &mut Watched<W>) -> Result<(), WriteFault>
-    ensures ok { OnOk result (Wrote W.contents writer.old writer.new (shown_text bytes.now)) }
+    ensures written { Writes W.contents writer.old writer.new result (shown_text bytes.now) }
     ensures failed { OnErr result (EndFailed writer.old writer.new) }
 {
-    let count = bytes.len();
-    writer.put_text(format_args!("bytes {count}\n"))?;
-    writer.put(bytes)?;
-    writer.put(b"\n")
+    let mut digits = Buffer::new();
+    writer.put_all(&[
+        b"bytes ",
+        digits.format(bytes.len()).as_bytes(),
+        b"\n",
+        bytes,
+        b"\n",
+    ])
+}
+
+/// Writes `bytes N` and a line feed.
+fn write_count<W: Write>(count: u64, writer: &mut Watched<W>) -> Result<(), WriteFault>
+    ensures written { Writes W.contents writer.old writer.new result
+        (codes "bytes " ++ (decimal count ++ codes "\n")) }
+    ensures failed { OnErr result (EndFailed writer.old writer.new) }
+{
+    let mut digits = Buffer::new();
+    writer.put_all(&[b"bytes ", digits.format(count).as_bytes(), b"\n"])
 }
 
 /// Writes `bytes N`, a line feed, the N bytes of the text of a document that is there, and a line feed.
 ///
 /// # Errors
 ///
-/// [`WriteFault`] where the writer failed. Some of the text may be written.
+/// [`WriteFault`] where the writer failed. It took a beginning of the text.
 pub fn write_shown_document<V: View, W: Write>(
     view: &V,
     doc: Doc,
@@ -37,15 +53,14 @@ pub fn write_shown_document<V: View, W: Write>(
     writer: &mut Watched<W>,
 ) -> Result<(), WriteFault>
     requires { option_map length (document_text (V.shown view.now) doc) ≡ Some count }
-    ensures ok { OnOk result ((text : List ℕ) × (document_text (V.shown view.now) doc ≡ Some text)
-        × Wrote W.contents writer.old writer.new (shown_text text)) }
+    ensures written { (text : List ℕ) × (document_text (V.shown view.now) doc ≡ Some text)
+        × Writes W.contents writer.old writer.new result (shown_text text) }
     ensures failed { OnErr result (EndFailed writer.old writer.new) }
 {
-    writer.put_text(format_args!("bytes {count}\n"))?;
+    write_count(count, writer)?;
     match write_document(view, doc, writer) {
-        Ok(()) => {}
+        Ok(()) => writer.put(b"\n"),
         Err(ListError::NoSuchDocument) => unreachable!(),
-        Err(ListError::WriteFault) => return Err(WriteFault),
+        Err(ListError::WriteFault) => Err(WriteFault),
     }
-    writer.put(b"\n")
 }

@@ -19,16 +19,16 @@ fold_of-append s (c ∷ commands) more = fold_of-append (state_after s (step s c
 
 module _ {D : Type 0} (device : D → DiskState) (old new : Stored D) where
   -- whatever came of a request
-  pub request_connects : (now : ℕ) (left rest : Option (List ℕ)) (Took Came Wrote : List ℕ → Type 0) (Broken Stuck : Type 0) (result : Result Served FrontFault)
+  pub request_connects : (now : ℕ) (left rest before after : Option (List ℕ)) (Took Came Wrote : List ℕ → Type 0) (Broken Stuck : Type 0) (result : Result Served FrontFault)
       → IfOk result (λ served. (input : List ℕ) × (output : List ℕ) × Took input × Wrote output × Serves device old now left input rest output served new)
       → (IsErrOf result Read → Broken × (input : List ℕ) × (output : List ℕ) × Came input × Wrote output × Breaks device old now left input rest output new)
-      → (IsErrOf result Write → Stuck × (input : List ℕ) × Took input × Halts device old now left input rest new)
+      → (IsErrOf result Write → Stuck × (input : List ℕ) × Took input × Halts device old now left input rest before after new)
       → GoesOnOnce device old now new → Connects device old new
-  request_connects now left rest Took Came Wrote Broken Stuck (Ok served) ok read write on = inr (now, left, ok.0, rest, inl (ok.1, served, ok.4), on)
-  request_connects now left rest Took Came Wrote Broken Stuck (Err Read) ok read write on =
+  request_connects now left rest before after Took Came Wrote Broken Stuck (Ok served) ok read write on = inr (now, left, ok.0, rest, inl (ok.1, served, ok.4), on)
+  request_connects now left rest before after Took Came Wrote Broken Stuck (Err Read) ok read write on =
       let r = read refl in inr (now, left, r.1, rest, inr (inl (r.2, r.5)), on)
-  request_connects now left rest Took Came Wrote Broken Stuck (Err Write) ok read write on =
-      let w = write refl in inr (now, left, w.1, rest, inr (inr w.3), on)
+  request_connects now left rest before after Took Came Wrote Broken Stuck (Err Write) ok read write on =
+      let w = write refl in inr (now, left, w.1, rest, inr (inr (before, after, w.3)), on)
 
 module _ {D : Type 0} (device : D → DiskState) where
   -- a source that nothing was asked of

@@ -11,7 +11,8 @@ use Rattle.rs_http.specs.Serving.{Serves, Breaks, Halts}
 abbrev pub Requests : {D : Type 0} → (D → DiskState) → Stored D → ℕ → Option (List ℕ) → List ℕ → Option (List ℕ) → Stored D → Type 0
 Requests device old now left input rest new =
     ((output : List ℕ) × (served : Served) × Serves device old now left input rest output served new)
-    ⊎ (((output : List ℕ) × Breaks device old now left input rest output new) ⊎ Halts device old now left input rest new)
+    ⊎ (((output : List ℕ) × Breaks device old now left input rest output new)
+    ⊎ ((before : Option (List ℕ)) × (after : Option (List ℕ)) × Halts device old now left input rest before after new))
 
 -- what one connection does: nothing, or one request, which is one command of the model at most
 abbrev pub Connects : {D : Type 0} → (D → DiskState) → Stored D → Stored D → Type 0

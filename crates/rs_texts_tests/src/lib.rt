@@ -16,3 +16,5 @@ mod paths;
 mod pieces;
 #[cfg(test)]
 mod values;
+#[cfg(test)]
+mod walks;

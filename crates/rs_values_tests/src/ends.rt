@@ -107,7 +107,7 @@ fn told_by_writes(alloc: Global, fails_at: u32) -> ([Result<(), WriteFault>; 3],
     });
     let told = [
         writer.put(b"abcd"),
-        writer.put_text(format_args!("{}:{}", 12, "30")),
+        writer.put_all(&[b"12", b":", b"30"]),
         writer.flush(),
     ];
     let failures = writer.failures();
@@ -124,6 +124,95 @@ fn a_write_fails_where_the_writer_does(rt: HostRuntime) {
             "call {fails_at} fails"
         );
     }
+}
+
+/// The call of a writer that fails, and what is written of the number 12345.
+const NUMBERS: [(u32, Result<(), WriteFault>, &[u8]); 4] = [
+    (0, FAILED, b""),
+    (1, FAILED, b"12"),
+    (2, FAILED, b"1234"),
+    (3, WROTE, b"12345"),
+];
+
+#[test]
+fn a_number_fails_within(rt: HostRuntime) {
+    for (fails_at, want, written) in NUMBERS {
+        let mut writer = Watched::new(FailsOnce {
+            inner: Vec::new(rt.alloc()),
+            calls_before: Some(fails_at),
+        });
+        assert_eq!(rt; writer.put_number(12345), want, "call {fails_at} fails");
+        assert_eq!(rt; writer.into_inner().inner.as_slice(), written);
+    }
+}
+
+/// A writer of which the first calls are interrupted.
+#[derive(Drop)]
+struct Interrupted<W> {
+    inner: W,
+    /// How many calls are interrupted still.
+    times: u32,
+}
+
+impl<W: Write> Write for Interrupted<W> {
+    fn write(&mut self, buf: &[u8]) -> io::Result<usize> {
+        if self.times > 0 {
+            self.times -= 1;
+            return Err(io::Error::from(ErrorKind::Interrupted));
+        }
+        self.inner.write(buf)
+    }
+
+    fn flush(&mut self) -> io::Result<()> {
+        self.inner.flush()
+    }
+}
+
+/// How many calls of a writer are interrupted, what is answered then to the bytes `ab` and to `cd`, how many failures the
+/// writer then tells, and all that is written: 100 are tried again, by each put anew.
+const INTERRUPTIONS: [(u32, [Result<(), WriteFault>; 2], u64, &[u8]); 5] = [
+    (0, [WROTE, WROTE], 0, b"abcd"),
+    (1, [WROTE, WROTE], 0, b"abcd"),
+    (100, [WROTE, WROTE], 0, b"abcd"),
+    (101, [FAILED, WROTE], 1, b"cd"),
+    (202, [FAILED, FAILED], 2, b""),
+];
+
+#[test]
+fn an_interrupted_write_is_tried_again(rt: HostRuntime) {
+    for (times, want, failures, written) in INTERRUPTIONS {
+        let mut writer = Watched::new(Interrupted {
+            inner: Vec::new(rt.alloc()),
+            times,
+        });
+        let told = [writer.put(b"ab"), writer.put(b"cd")];
+        assert_eq!(rt; told, want, "{times} interruptions");
+        assert_eq!(rt; writer.failures(), failures);
+        assert_eq!(rt; writer.into_inner().inner.as_slice(), written);
+    }
+}
+
+/// A writer that takes no byte, and fails nowhere.
+#[derive(Drop)]
+struct Full;
+
+impl Write for Full {
+    fn write(&mut self, _: &[u8]) -> io::Result<usize> {
+        Ok(0)
+    }
+
+    fn flush(&mut self) -> io::Result<()> {
+        Ok(())
+    }
+}
+
+#[test]
+fn a_write_of_no_byte_is_a_fault(rt: HostRuntime) {
+    let mut writer = Watched::new(Full);
+    assert_eq!(rt; writer.put(b""), WROTE);
+    assert_eq!(rt; writer.failures(), 0);
+    assert_eq!(rt; writer.put(b"a"), FAILED);
+    assert_eq!(rt; writer.failures(), 1);
 }
 
 /// A writer of which each call fails.
@@ -164,6 +253,6 @@ fn flushed_until_more_is_put(rt: HostRuntime) {
     assert!(rt; !writer.is_flushed());
     assert_eq!(rt; writer.flush(), WROTE);
     assert!(rt; writer.is_flushed());
-    assert_eq!(rt; writer.put_text("c"), WROTE);
+    assert_eq!(rt; writer.put(b"c"), WROTE);
     assert!(rt; !writer.is_flushed());
 }

@@ -1,20 +1,19 @@
 -- A document is shown where it is there, unless the source is closed.
-use Rattle.std.proofs.Common.{List, ℕ, ap, sym, ◌∙◌, codes}
-use Rattle.rs_io.specs.Watch.{Wrote}
+use Rattle.std.proofs.Common.{ap, sym, ◌∙◌, codes}
+use Rattle.rs_io.specs.Watch.{Writes}
 use Rattle.rs_caps.specs.DocumentTexts.{document_text}
 use Rattle.rs_store.specs.Views.{shown_by_source}
 use Rattle.rs_http.specs.declared.request.RequestFault.TheVariants.{NoSuchDocument}
-use Rattle.rs_http.specs.Responses.{shown, faulted, response_text}
+use Rattle.rs_http.specs.Responses.{shown, faulted}
 use Rattle.rs_http.specs.Outcomes.{document_or_none}
-use Rattle.rs_http.proofs.Asking.{answered, document_is, shown_whole, shown_none}
+use Rattle.rs_http.proofs.Asking.{answered, document_is, shown_none}
 use Rattle.rs_http.proofs.ask.show_document.Goals as goal
 
 pub returns-in-Some-clause-answered : goal.returns-in-Some-clause-answered
 returns-in-Some-clause-answered g c =
     let view = shown_by_source c.in-Ok.view in
-    let W : List ℕ → Type 0 = λ text. Wrote g.W.Write.contents c.args.writer.now c.write_shown_document.new.writer (response_text c.args.framing (shown (codes "application/xml") text)) in
-    let whole = shown_whole c.write_shown_document.result (document_text view c.args.doc) c.in-Some.length W (sym c.document_length.ensures ∙ c.in-Some.is) c.write_shown_document.ensures.ok in
-    answered c.args.framing (Wrote g.W.Write.contents c.args.writer.now c.write_shown_document.new.writer) _ c.write_shown_document.result (shown (codes "application/xml") whole.0)
+    let whole = c.write_shown_document.ensures.written in
+    answered c.args.framing (Writes g.W.Write.contents c.args.writer.now c.write_shown_document.new.writer c.write_shown_document.result) _ c.write_shown_document.result (shown (codes "application/xml") whole.0)
     (document_is g.D.Disk.state c.args.source.now c.args.doc view _ c.in-Ok.view c.in-Ok.ensures.closed c.in-Ok.ensures.shows (ap document_or_none whole.1))
     c.write_shown_document.ensures.status whole.2
 
@@ -22,6 +21,6 @@ pub returns-in-None-clause-answered : goal.returns-in-None-clause-answered
 returns-in-None-clause-answered g c =
     let view = shown_by_source c.in-Ok.view in
     let none = shown_none (document_text view c.args.doc) (sym c.document_length.ensures ∙ c.in-None.is) in
-    answered c.args.framing (Wrote g.W.Write.contents c.args.writer.now c.write_fault.new.writer) _ c.write_fault.result (faulted NoSuchDocument)
+    answered c.args.framing (Writes g.W.Write.contents c.args.writer.now c.write_fault.new.writer c.write_fault.result) _ c.write_fault.result (faulted NoSuchDocument)
     (document_is g.D.Disk.state c.args.source.now c.args.doc view _ c.in-Ok.view c.in-Ok.ensures.closed c.in-Ok.ensures.shows (ap document_or_none none))
-    c.write_fault.ensures.status c.write_fault.ensures.ok
+    c.write_fault.ensures.status c.write_fault.ensures.written

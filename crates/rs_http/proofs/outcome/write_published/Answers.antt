@@ -1,23 +1,23 @@
-use Rattle.std.proofs.Common.{◌≡◌, ◌+◌, ℕ, length, decimal, subst, length-append, arith}
-use Rattle.httpdate.specs.Date.{date_text}
+-- The length, between what is always there, and the number and the moment.
+use Rattle.std.proofs.Common.{◌≡◌, ◌∙◌, ◌++◌, ◌+◌, [], ◌∷◌, ap, sym, codes, decimal, length, length-append, append_assoc, arith, List, ℕ}
+use Rattle.rs_time.specs.Moment.{moment_text}
 use Rattle.rs_lists.proofs.Lengths.{length-moment_text}
-use Rattle.rs_io.specs.Watch.{Wrote}
-use Rattle.rs_http.specs.Responses.{first_lines, content_lines, sent_body, published_text, plain}
-use Rattle.rs_http.proofs.Chains.{three}
+use Rattle.rs_io.proofs.Faults.{writes_same}
+use Rattle.rs_http.specs.Responses.{content_lines, framed, plain, published_text}
 use Rattle.rs_http.proofs.outcome.write_published.Goals as goal
 
-published_len : (number moment n : ℕ) → n ≡ length (decimal number) → n + 36 ≡ length (published_text number moment)
-published_len number moment n e =
+published_length : (number moment : ℕ) → length (decimal number) + 36 ≡ length (published_text number moment)
+published_length number moment =
     let t = length-moment_text moment in
     simp length-append (omega arith)
 
-pub returns-clause-ok : goal.returns-clause-ok
-returns-clause-ok g c =
-    let mid = c.write_first.new.writer in
-    let described = c.write_content.new.writer in
-    let text = published_text c.args.number c.args.moment in
-    let P : ℕ → Type 0 = λ n. Wrote g.W.Write.contents mid described (content_lines plain n) in
-    three g.W.Write.contents c.write_publication.result c.args.writer.now mid described c.write_publication.new.writer
-    (first_lines 200 (date_text c.args.framing.date)) (content_lines plain (length text)) (sent_body c.args.framing text)
-    c.in_ok-write_first.ensures.ok (subst P (published_len c.args.number c.args.moment c.count_digits-length.result c.count_digits-length.ensures.value) c.in_ok-write_content.ensures.ok)
-    c.write_publication.ensures.ok
+pub returns-clause-written : goal.returns-clause-written
+unfolding content_lines
+returns-clause-written g c =
+    let number : c.as_bytes-number.result.now ≡ decimal c.args.number = c.as_bytes-number.ensures.value ∙ c.format.ensures.text in
+    let moment : c.text.result ≡ moment_text c.args.moment = c.text.ensures in
+    let digits : c.as_bytes.result.now ≡ decimal (length (published_text c.args.number c.args.moment)) = c.as_bytes.ensures.value ∙ c.format-2.ensures.text ∙ ap decimal (ap (λ (l : List ℕ). length l + 36) number ∙ published_length c.args.number c.args.moment) in
+    writes_same g.W.Write.contents c.write_response.result c.args.writer.now c.write_response.new.writer _
+    (framed c.args.framing 200 (content_lines plain (length (published_text c.args.number c.args.moment))) (published_text c.args.number c.args.moment)) c.write_response.ensures.written
+    (λ i. framed c.args.framing 200 (codes "Content-Type: " ++ (plain ++ (codes "\r\nContent-Length: " ++ (digits i ++ codes "\r\n\r\n"))))
+    (codes "published " ++ (number i ++ (codes " " ++ (moment i ++ 10 ∷ [])))))

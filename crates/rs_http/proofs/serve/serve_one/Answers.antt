@@ -13,6 +13,10 @@ returns-in-Ok-answer-clause-ok g c =
     let whole = served g.D.Disk.state c.args.source.now c.answer.new.source c.args.now c.in-Some.request bytes c.in-Ok.read
     (g.R.Read.remaining (watched c.args.reader.now)) (g.R.Read.remaining (watched c.read_head.new.reader)) (g.R.Read.remaining (watched c.answer.new.reader))
     (g.W.Write.contents (watched c.args.writer.now)) (g.W.Write.contents (watched c.answer.new.writer))
+    (λ plan more outcome. c.requests_recover.ensures.answered c.args.source.now c.answer.new.source c.args.now plan more (g.R.Read.remaining (watched c.answer.new.reader)) outcome)
+    (c.requests_recover.ensures.broken c.args.source.now c.answer.new.source c.args.now)
+    (λ more outcome. c.requests_make_walks.ensures.answered c.args.source.now c.answer.new.source c.args.now bytes c.in-Ok.read c.in-Some.request more (g.R.Read.remaining (watched c.answer.new.reader)) outcome c.in-Some.ensures)
+    (c.requests_make_walks.ensures.broken c.args.source.now c.answer.new.source c.args.now)
     c.in-Ok.ensures.ok.1.0 c.in-Ok.ensures.ok.2 c.in-Ok.ensures.end c.in-Some.ensures c.in-Ok-answer.status c.in-Ok-answer.ensures.ends in
     let sound = c.in-Ok-answer.ensures.sound in
     (whole.0, whole.1, (whole.2, sound.0 ∙ c.in-Ok.ensures.ok.1.1), (whole.3, sound.1), whole.4)
@@ -24,6 +28,10 @@ returns-in-Err-clause-read g c = λ e.
     let whole = broken g.D.Disk.state c.args.source.now c.answer.new.source c.args.now c.in-Some.request bytes c.in-Ok.read
     (g.R.Read.remaining (watched c.args.reader.now)) (g.R.Read.remaining (watched c.read_head.new.reader)) (g.R.Read.remaining (watched c.answer.new.reader))
     (g.W.Write.contents (watched c.args.writer.now)) (g.W.Write.contents (watched c.answer.new.writer))
+    (λ plan more outcome. c.requests_recover.ensures.answered c.args.source.now c.answer.new.source c.args.now plan more (g.R.Read.remaining (watched c.answer.new.reader)) outcome)
+    (c.requests_recover.ensures.broken c.args.source.now c.answer.new.source c.args.now)
+    (λ more outcome. c.requests_make_walks.ensures.answered c.args.source.now c.answer.new.source c.args.now bytes c.in-Ok.read c.in-Some.request more (g.R.Read.remaining (watched c.answer.new.reader)) outcome c.in-Some.ensures)
+    (c.requests_make_walks.ensures.broken c.args.source.now c.answer.new.source c.args.now)
     c.in-Ok.ensures.ok.1.0 c.in-Ok.ensures.ok.2 c.in-Ok.ensures.end c.in-Some.ensures c.in-Err.fault is c.in-Err.ensures.ends in
     let failed = c.in-Err.ensures.read (ap Err is) in
     (later_fault c.args.reader.now c.read_head.new.reader c.answer.new.reader c.in-Ok.ensures.ok.1.1 failed.0, whole.0, whole.1, whole.2, (whole.3, failed.1), whole.4)
@@ -35,6 +43,10 @@ returns-in-Err-clause-write g c = λ e.
     let whole = halted g.D.Disk.state c.args.source.now c.answer.new.source c.args.now c.in-Some.request bytes c.in-Ok.read
     (g.R.Read.remaining (watched c.args.reader.now)) (g.R.Read.remaining (watched c.read_head.new.reader)) (g.R.Read.remaining (watched c.answer.new.reader))
     (g.W.Write.contents (watched c.args.writer.now)) (g.W.Write.contents (watched c.answer.new.writer))
+    (λ plan more outcome. c.requests_recover.ensures.answered c.args.source.now c.answer.new.source c.args.now plan more (g.R.Read.remaining (watched c.answer.new.reader)) outcome)
+    (c.requests_recover.ensures.broken c.args.source.now c.answer.new.source c.args.now)
+    (λ more outcome. c.requests_make_walks.ensures.answered c.args.source.now c.answer.new.source c.args.now bytes c.in-Ok.read c.in-Some.request more (g.R.Read.remaining (watched c.answer.new.reader)) outcome c.in-Some.ensures)
+    (c.requests_make_walks.ensures.broken c.args.source.now c.answer.new.source c.args.now)
     c.in-Ok.ensures.ok.1.0 c.in-Ok.ensures.ok.2 c.in-Ok.ensures.end c.in-Some.ensures c.in-Err.fault is c.in-Err.ensures.ends in
     let failed = c.in-Err.ensures.write (ap Err is) in
     (failed.0, whole.0, (whole.1, failed.1 ∙ c.in-Ok.ensures.ok.1.1), whole.2)

@@ -1,7 +1,9 @@
 use Rattle.rs_lists.specs.Text.{change_entry}
 use Rattle.rs_lists.proofs.Bounds.{lines_small}
-use Rattle.rs_lists.proofs.Runs.{two_in_turn}
-use Rattle.rs_lists.proofs.Lines.{part_lines}
+use Rattle.rs_lists.proofs.Runs.{two_in_turn, err_then}
+use Rattle.rs_lists.proofs.Lines.{part_lines, part_lines_begin}
+use Rattle.std.proofs.Common.{◌<◌}
+use Rattle.rs_lists.specs.Shown.{change_parts_of}
 use Rattle.rs_lists.proofs.change_list.put_change_entries.Goals as goal
 
 pub loop-part-preserved : goal.loop-part-preserved
@@ -12,3 +14,10 @@ loop-part-preserved g c =
       taken = two_in_turn g.S.Sink.takes g.met.S.Sink.takes_more _ _ _ _ _ _ c.loop-part.invariant.taken c.in_ok-put_change_entry.ensures.taken next;
       small = lines_small 276 c.loop-part.part _ _ _ next c.loop-part.invariant.small c.in_ok-put_change_entry.ensures.small;
     }
+
+pub returns-in_err-put_change_entry-clause-fault : goal.returns-in_err-put_change_entry-clause-fault
+returns-in_err-put_change_entry-clause-fault g c =
+    let s = g.V.View.shown c.args.view.now in
+    let below : c.loop-part.part < change_parts_of s = rw c.change_parts-part-end.ensures at c.loop-part-test.true in
+    err_then g.S.Sink.takes g.S.Sink.fails g.met.S.Sink.fails_sooner g.met.S.Sink.fails_later c.from_residual.result _ _ _ _ _ _ _ c.loop-part.invariant.taken c.in_err-put_change_entry.ensures.fault
+    (part_lines_begin (change_entry s) c.loop-part.part (change_parts_of s) below)

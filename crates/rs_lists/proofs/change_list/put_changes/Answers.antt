@@ -1,8 +1,8 @@
-use Rattle.std.proofs.Common.{◌∙◌, ◌-◌, ◌+◌, ◌++◌, ap, take, drop, map, List, ℕ}
+use Rattle.std.proofs.Common.{◌∙◌, ◌-◌, ◌+◌, ◌++◌, ap, take, drop, map, List, ℕ, arith}
 use Rattle.rs_lists.specs.Text.{joined, line, change_line}
 use Rattle.rs_lists.proofs.Bounds.{items_small}
-use Rattle.rs_lists.proofs.Runs.{two_in_turn}
-use Rattle.rs_lists.proofs.Lines.{item_lines}
+use Rattle.rs_lists.proofs.Runs.{two_in_turn, err_then}
+use Rattle.rs_lists.proofs.Lines.{item_lines, lines_begin}
 use Rattle.rs_lists.proofs.change_list.put_changes.Goals as goal
 
 pub loop-i-preserved : goal.loop-i-preserved
@@ -15,3 +15,15 @@ loop-i-preserved g c =
       taken = two_in_turn g.S.Sink.takes g.met.S.Sink.takes_more _ _ _ (text c.loop-i.i) _ (text (c.loop-i.i + 1)) c.loop-i.invariant.taken c.in_ok-put_change.ensures.taken next;
       small = items_small _ _ _ _ _ _ c.loop-i.auto.i next c.loop-i.invariant.small c.in_ok-put_change.ensures.small;
     }
+
+pub returns-in_err-put_change-clause-fault : goal.returns-in_err-put_change-clause-fault
+returns-in_err-put_change-clause-fault g c =
+    let s = g.V.View.shown c.args.view.now in
+    let from = c.args.from in
+    let i = c.loop-i.i in
+    let text = λ (j : ℕ). joined (map (change_line s.base) (take (j - from) (drop from s.changes))) in
+    let next = ap (λ (b : List ℕ). text i ++ line (change_line b c.change.result.now)) c.base.ensures
+    ∙ item_lines (change_line s.base) s.changes from i c.change.result.now c.change.ensures c.loop-i.auto.i in
+    let rest = joined (map (change_line s.base) (drop (i + 1 - from) (take (c.args.to - from) (drop from s.changes)))) in
+    err_then g.S.Sink.takes g.S.Sink.fails g.met.S.Sink.fails_sooner g.met.S.Sink.fails_later c.from_residual.result _ _ _ (text i) _ rest (text c.args.to) c.loop-i.invariant.taken c.in_err-put_change.ensures.fault
+    (ap (λ (l : List ℕ). l ++ rest) next ∙ lines_begin (change_line s.base) (drop from s.changes) (i + 1 - from) (c.args.to - from) (omega (arith, c.loop-i-test.true)))

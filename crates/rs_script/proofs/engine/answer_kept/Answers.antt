@@ -13,14 +13,14 @@ returns-in-Bytes-clause-answered g c = λ raw kept.
 pub returns-in-Foreign-clause-answered : goal.returns-in-Foreign-clause-answered
 returns-in-Foreign-clause-answered g c = λ raw kept.
     foreign_answered g.D.Disk.state (script_state c.args.source.now c.args.now.now) (line_of c.args.has_break raw) _
-    (c.in-Foreign.ensures raw kept) c.write_refusal.ensures.ok
+    (c.in-Foreign.ensures raw kept) c.write_refusal.ensures.written
 
 pub returns-in-Refused-clause-answered : goal.returns-in-Refused-clause-answered
 returns-in-Refused-clause-answered g c = λ raw kept.
     no_room_for_line g.D.Disk.state (script_state c.args.source.now c.args.now.now) (line_of c.args.has_break raw) _
-    (c.in-Refused.ensures raw kept) c.write_refusal-in-Refused.ensures.ok
+    (c.in-Refused.ensures raw kept) c.write_refusal-in-Refused.ensures.written
 
 pub returns-in-TooLong-clause-answered : goal.returns-in-TooLong-clause-answered
 returns-in-TooLong-clause-answered g c = λ raw kept.
     long_answered g.D.Disk.state (script_state c.args.source.now c.args.now.now) (line_of c.args.has_break raw) _
-    (c.in-TooLong.ensures raw kept) c.write_refusal-in-TooLong.ensures.ok
+    (c.in-TooLong.ensures raw kept) c.write_refusal-in-TooLong.ensures.written

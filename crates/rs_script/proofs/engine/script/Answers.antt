@@ -6,7 +6,7 @@ use Rattle.rs_io.proofs.Faults.{later_fault}
 use Rattle.rs_script.specs.Answers.{output_of}
 use Rattle.rs_script.specs.Progress.{Progress}
 use Rattle.rs_script.specs.Session.{script_state}
-use Rattle.rs_script.proofs.Steps.{Progress-none, Progress-kept, Progress-whole, Consumes-end, Gave-front, count_more, no_more}
+use Rattle.rs_script.proofs.Steps.{Progress-none, Progress-kept, Progress-whole, ran_of, broke_after, Consumes-end, Gave-front, count_more, no_more}
 use Rattle.rs_script.proofs.engine.script.Goals as goal
 
 pub loop-init : goal.loop-init
@@ -25,10 +25,10 @@ pub returns-in_default-clause-write : goal.returns-in_default-clause-write
 returns-in_default-clause-write g c = λ _.
     let inv = c.loop.invariant in
     let whole = Progress-whole g.D.Disk.state g.W.Write.contents g.R.Read.remaining c.args.source.now c.args.writer.now inv.0 c.loop.line c.loop.writer c.loop.source c.loop.now
-    c.args.reader.now c.loop.reader (0 ≤ 0) (inl (omega arith)) inv.1.0 inv.2 in (
+    c.args.reader.now c.loop.reader (0 ≤ 0) (c.scripts_recover.ensures, c.scripts_make_walks.ensures) (inl (omega arith)) inv.1.0 inv.2 in (
       whole.0,
       inl ((whole.1, whole.2.0), whole.2.1),
-      later_fault c.args.writer.now c.loop.writer c.flush.new.self inv.2.written.1 c.in_default.ensures.failed,
+      broke_after g.W.Write.contents c.args.writer.now c.loop.writer c.flush.new.self whole.0.outcomes whole.3 c.flush.ensures.bytes c.in_default.ensures.failed,
       inv.1.1,
     )
 
@@ -39,7 +39,7 @@ returns-in_default-read-clause-read g c = λ _.
     let inv = c.loop.invariant in
     let p = Progress-kept g.D.Disk.state g.W.Write.contents _ _ inv.0 _ _ c.flush.new.self _ c.flush.ensures.bytes c.in-Ok.ensures.sound inv.2 in
     Progress-whole g.D.Disk.state g.W.Write.contents g.R.Read.remaining c.args.source.now c.args.writer.now inv.0 c.loop.line c.flush.new.self c.loop.source c.loop.now
-    c.args.reader.now c.read.new.self (EndFailed c.args.reader.now c.read.new.self × (is_flushed c.flush.new.self ≡ true))
+    c.args.reader.now c.read.new.self (EndFailed c.args.reader.now c.read.new.self × (is_flushed c.flush.new.self ≡ true)) (c.scripts_recover.ensures, c.scripts_make_walks.ensures)
     (inl (later_fault c.args.reader.now c.loop.reader c.read.new.self inv.1.1 c.in_default-read.ensures.failed, c.in-Ok.ensures.flushed))
     (Consumes-kept before (g.R.Read.remaining (watched c.loop.reader)) after inv.0 inv.1.0 c.in_default-read.ensures.err) p
 
@@ -47,7 +47,7 @@ pub returns-clause-read : goal.returns-clause-read
 returns-clause-read g c = λ _.
     let inv = c.loop.invariant in
     Progress-whole g.D.Disk.state g.W.Write.contents g.R.Read.remaining c.args.source.now c.args.writer.now inv.0 c.loop.line c.loop.writer c.loop.source c.loop.now
-    c.args.reader.now c.loop.reader (EndFailed c.args.reader.now c.loop.reader × (is_flushed c.loop.writer ≡ true)) (inr (omega (arith, inv.3))) inv.1.0 inv.2
+    c.args.reader.now c.loop.reader (EndFailed c.args.reader.now c.loop.reader × (is_flushed c.loop.writer ≡ true)) (c.scripts_recover.ensures, c.scripts_make_walks.ensures) (inr (omega (arith, inv.3))) inv.1.0 inv.2
 
 pub returns-in_default-take_end-clause-write : goal.returns-in_default-take_end-clause-write
 returns-in_default-take_end-clause-write g c = λ _.
@@ -57,9 +57,9 @@ returns-in_default-take_end-clause-write g c = λ _.
     let p = Progress-kept g.D.Disk.state g.W.Write.contents _ _ inv.0 _ _ c.flush.new.self _ c.flush.ensures.bytes c.in-Ok.ensures.sound inv.2 in
     let gave = Consumes-end before (g.R.Read.remaining (watched c.loop.reader)) after inv.0 c.read.new.buf c.in-Ok-read.count c.if-count-eq0.true inv.1.0 c.in-Ok-read.ensures.ok.0 in
     let end = c.in_default-take_end.ensures.err _ _ inv.0 p in (
-      record { input = inv.0; outcomes = end.0; commands = end.1; last = c.take_end.new.now; gives = end.2 },
+      ran_of g.D.Disk.state (c.scripts_recover.ensures, c.scripts_make_walks.ensures) c.args.source.now c.take_end.new.source inv.0 end.0 end.1 c.take_end.new.now end.2,
       inr (gave, c.in-Ok-read.ensures.end c.if-count-eq0.true (omega arith)),
-      later_fault c.args.writer.now c.flush.new.self c.take_end.new.writer p.written.1 c.in_default-take_end.ensures.failed,
+      end.3,
       c.in-Ok-read.ensures.ok.1 ∙ inv.1.1,
     )
 
@@ -71,9 +71,9 @@ returns-in_default-flush-clause-write g c = λ _.
     let p = Progress-kept g.D.Disk.state g.W.Write.contents _ _ inv.0 _ _ c.flush.new.self _ c.flush.ensures.bytes c.in-Ok.ensures.sound inv.2 in
     let gave = Consumes-end before (g.R.Read.remaining (watched c.loop.reader)) after inv.0 c.read.new.buf c.in-Ok-read.count c.if-count-eq0.true inv.1.0 c.in-Ok-read.ensures.ok.0 in
     let end = c.in-Ok-take_end.ensures.ok _ _ inv.0 p in (
-      record { input = inv.0; outcomes = end.0; commands = end.1; last = c.take_end.new.now; gives = end.2 },
+      ran_of g.D.Disk.state (c.scripts_recover.ensures, c.scripts_make_walks.ensures) c.args.source.now c.take_end.new.source inv.0 end.0 end.1 c.take_end.new.now end.2,
       inr (gave, c.in-Ok-read.ensures.end c.if-count-eq0.true (omega arith)),
-      later_fault c.args.writer.now c.take_end.new.writer c.flush-then-count-eq0.new.self end.3.1 c.in_default-flush.ensures.failed,
+      broke_after g.W.Write.contents c.args.writer.now c.take_end.new.writer c.flush-then-count-eq0.new.self end.0 end.3 c.flush-then-count-eq0.ensures.bytes c.in_default-flush.ensures.failed,
       c.in-Ok-read.ensures.ok.1 ∙ inv.1.1,
     )
 
@@ -85,7 +85,7 @@ returns-then-count-eq0-clause-ok g c =
     let p = Progress-kept g.D.Disk.state g.W.Write.contents _ _ inv.0 _ _ c.flush.new.self _ c.flush.ensures.bytes c.in-Ok.ensures.sound inv.2 in
     let gave = Consumes-end before (g.R.Read.remaining (watched c.loop.reader)) after inv.0 c.read.new.buf c.in-Ok-read.count c.if-count-eq0.true inv.1.0 c.in-Ok-read.ensures.ok.0 in
     let end = c.in-Ok-take_end.ensures.ok _ _ inv.0 p in (
-      record { input = inv.0; outcomes = end.0; commands = end.1; last = c.take_end.new.now; gives = end.2 },
+      ran_of g.D.Disk.state (c.scripts_recover.ensures, c.scripts_make_walks.ensures) c.args.source.now c.take_end.new.source inv.0 end.0 end.1 c.take_end.new.now end.2,
       ((gave, c.in-Ok-read.ensures.ok.1 ∙ inv.1.1), c.in-Ok-read.ensures.end c.if-count-eq0.true (omega arith)),
       (
         Appends-kept (g.W.Write.contents (watched c.args.writer.now)) (g.W.Write.contents (watched c.take_end.new.writer))
@@ -102,9 +102,9 @@ returns-in_default-take_piece-clause-write g c = λ _.
     let p = Progress-kept g.D.Disk.state g.W.Write.contents _ _ inv.0 _ _ c.flush.new.self _ c.flush.ensures.bytes c.in-Ok.ensures.sound inv.2 in
     let e = c.in_default-take_piece.ensures.err in
     let stops = e.3 _ _ inv.0 p in (
-      record { input = inv.0 ++ e.0; outcomes = stops.0.0; commands = stops.0.1; last = c.take_piece.new.now; gives = stops.0.2 },
+      ran_of g.D.Disk.state (c.scripts_recover.ensures, c.scripts_make_walks.ensures) c.args.source.now c.take_piece.new.source (inv.0 ++ e.0) stops.0.0 stops.0.1 c.take_piece.new.now stops.0.2,
       inl (Gave-front before (g.R.Read.remaining (watched c.loop.reader)) after inv.0 (take c.in-Ok-read.count c.read.new.buf) e.0 e.1 e.2 inv.1.0 c.in-Ok-read.ensures.ok.0, stops.1),
-      later_fault c.args.writer.now c.flush.new.self c.take_piece.new.writer p.written.1 c.in_default-take_piece.ensures.failed,
+      stops.0.3,
       c.in-Ok-read.ensures.ok.1 ∙ inv.1.1,
     )
 

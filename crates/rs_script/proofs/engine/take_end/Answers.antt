@@ -16,5 +16,5 @@ returns-clause-err g c =
     end_err g.D.Disk.state g.W.Write.contents c.answer_kept.result c.args.line.now
     (script_state c.args.source.now c.args.now.now)
     (script_state c.answer_kept.new.source c.answer_kept.new.now)
-    c.args.writer.now _
+    c.args.writer.now c.answer_kept.new.writer
     (c.is_empty.ensures.some c.if-is_empty.false) c.answer_kept.ensures.answered

@@ -16,5 +16,5 @@ returns-clause-err g c =
     take_err g.D.Disk.state g.W.Write.contents c.answer_kept-written.result c.args.line.now c.extend.new.self
     (script_state c.args.source.now c.args.now.now)
     (script_state c.answer_kept-written.new.source c.answer_kept-written.new.now)
-    c.args.writer.now c.args.run.now _
+    c.args.writer.now c.answer_kept-written.new.writer c.args.run.now
     c.extend.ensures c.answer_kept-written.ensures.answered

@@ -20,7 +20,7 @@ returns-in_err-take_line-clause-err g c =
       drop (i + 1) rest,
       piece_cut c.args.piece.now inv.0 rest i inv.1 found,
       λ start before input p.
-          let P : List ℕ → Type 0 = λ bytes. Answered g.D.Disk.state start bytes (script_state c.take_line.new.source c.take_line.new.now) × AreWholeLines bytes in
+          let P : List ℕ → Type 0 = λ bytes. Answered g.D.Disk.state g.W.Write.contents start before bytes c.take_line.new.writer (script_state c.take_line.new.source c.take_line.new.now) × AreWholeLines bytes in
           subst P (append_assoc input inv.0 run)
           (c.in_err-take_line.ensures.err (before_break rest i found) start before (input ++ inv.0) (inv.2 start before input p)),
     )

@@ -12,4 +12,4 @@ returns-in-Ok-clause-answered g c =
 pub returns-in-Err-clause-answered : goal.returns-in-Err-clause-answered
 returns-in-Err-clause-answered g c =
     refused_answered g.D.Disk.state (script_state c.args.source.now c.args.now.now) (request_of c.args.line.now) c.in-Err.refusal _
-    c.in-Err.ensures c.write_refusal.ensures.ok
+    c.in-Err.ensures c.write_refusal.ensures.written

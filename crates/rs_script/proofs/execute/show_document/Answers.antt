@@ -1,24 +1,22 @@
 -- A document is shown where it is there, unless the source is closed.
-use Rattle.std.proofs.Common.{List, ℕ, ap, sym, ◌∙◌}
-use Rattle.rs_io.specs.Watch.{Wrote}
+use Rattle.std.proofs.Common.{ap, sym, ◌∙◌}
 use Rattle.rs_caps.specs.DocumentTexts.{document_text}
 use Rattle.rs_store.specs.Views.{shown_by_source}
 use Rattle.rs_script.specs.declared.refusal.Refusal.TheVariants.{NoSuchDocument}
 use Rattle.rs_script.specs.Model.{shown_or}
 use Rattle.rs_script.specs.Session.{shown, refused}
-use Rattle.rs_script.proofs.AnswerLemmas.{document_answered, document_closed, is_open, is_closed, shown_whole, shown_none}
+use Rattle.rs_script.proofs.AnswerLemmas.{document_answered, document_closed, is_open, is_closed, shown_none}
 use Rattle.rs_script.proofs.execute.show_document.Goals as goal
 
 pub returns-in-Err-clause-answered : goal.returns-in-Err-clause-answered
 returns-in-Err-clause-answered g c =
     document_closed g.D.Disk.state c.args.source.now c.args.now c.args.doc c.in-Err.refusal _ c.in-Err.ensures.only
-    (is_closed c.view.result c.in-Err.refusal c.args.source.now.is_closed c.in-Err.is c.in-Err.ensures.only c.view.ensures.closed) c.write_refusal.ensures.ok
+    (is_closed c.view.result c.in-Err.refusal c.args.source.now.is_closed c.in-Err.is c.in-Err.ensures.only c.view.ensures.closed) c.write_refusal.ensures.written
 
 pub returns-in-Some-clause-answered : goal.returns-in-Some-clause-answered
 returns-in-Some-clause-answered g c =
     let view = shown_by_source c.in-Ok.view in
-    let W : List ℕ → Type 0 = λ text. Wrote g.W.Write.contents c.args.writer.now c.write_shown_document.new.writer text in
-    let whole = shown_whole c.write_shown_document.result (document_text view c.args.doc) c.in-Some.length W (sym c.document_length.ensures ∙ c.in-Some.is) c.write_shown_document.ensures.ok in
+    let whole = c.write_shown_document.ensures.written in
     document_answered g.D.Disk.state c.args.source.now c.args.now c.args.doc view (shown whole.0) _
     (is_open c.view.result c.in-Ok.view c.args.source.now.is_closed c.in-Ok.is c.view.ensures.closed) c.in-Ok.ensures.shows
     (ap (shown_or NoSuchDocument) whole.1) whole.2
@@ -29,4 +27,4 @@ returns-in-None-clause-answered g c =
     let none = shown_none (document_text view c.args.doc) (sym c.document_length.ensures ∙ c.in-None.is) in
     document_answered g.D.Disk.state c.args.source.now c.args.now c.args.doc view (refused NoSuchDocument) _
     (is_open c.view.result c.in-Ok.view c.args.source.now.is_closed c.in-Ok.is c.view.ensures.closed) c.in-Ok.ensures.shows
-    (ap (shown_or NoSuchDocument) none) c.write_refusal-in-None.ensures.ok
+    (ap (shown_or NoSuchDocument) none) c.write_refusal-in-None.ensures.written

@@ -1,0 +1,108 @@
+-- What a stop within a request leaves.
+use Rattle.std.proofs.Common.{◌≡◌, ◌⊎◌, inl, inr, ℕ, List, [], ◌∷◌, length, take, Option, Result, Ok, Err, refl, ap, sym, ◌∙◌, subst, arith}
+use Rattle.std.proofs.Math.Seq.{take-length}
+use Rattle.rs_disk.specs.Medium.{DiskState}
+use Rattle.rs_model.specs.declared.command.Command.{Command}
+use Rattle.rs_model.specs.declared.command.Command.TheVariants as commands
+use Rattle.rs_model.specs.declared.command.Reply.{Reply}
+use Rattle.rs_store.specs.Answered.{Answers}
+use Rattle.rs_store.specs.OnlyReads.{OnlyReads}
+use Rattle.rs_store.specs.Received.{IsBodyOf, AnswersFrom}
+use Rattle.rs_store.specs.Laws.{RestIsIdle}
+use Rattle.rs_store.specs.Runs.{IsIdle}
+use Rattle.rs_store.specs.Source.{Stored}
+use Rattle.rs_store.specs.declared.refusal.Refusal as stored
+use Rattle.rs_store.specs.declared.refusal.Refusal.TheVariants.{Closed, TooLong, NotHeld, TooManyResources, TooManyChanges, Exhausted, Full, ReadFault, ShortBody, Device, Damaged, NoMemory}
+use Rattle.rs_recovery.specs.Prefixes.{counted_as, IsRunOf, Recovers, RunsRecover, IdleIsRun, CommandIsRun}
+use Rattle.rs_recovery.specs.Turns.{ReadingsIdle, CutPutsIdle}
+use Rattle.rs_http.specs.declared.request.Plan.{Plan}
+use Rattle.rs_http.specs.declared.request.Plan.TheVariants.{ShowBody, ShowDocument, Put, Delete, Publish}
+use Rattle.rs_http.specs.declared.request.NoPlan.{NoPlan}
+use Rattle.rs_http.specs.Outcomes.{RequestGives, outcome_replied}
+use Rattle.rs_http.specs.Responses.{RequestOutcome}
+use Rattle.rs_http.specs.Counted.{counted_with, Counts, RequestRecovers}
+use Rattle.rs_http.specs.Serving.{IsBroken}
+
+-- what counts by the outcome counts by the answer of the source
+counts_alike : (command : Command) (now : ℕ) (result : Result Reply stored.Refusal) → counted_with command now (outcome_replied result) ≡ counted_as command now result
+counts_alike command now (Ok reply) = refl
+counts_alike command now (Err Closed) = refl
+counts_alike command now (Err TooLong) = refl
+counts_alike command now (Err NotHeld) = refl
+counts_alike command now (Err TooManyResources) = refl
+counts_alike command now (Err TooManyChanges) = refl
+counts_alike command now (Err Exhausted) = refl
+counts_alike command now (Err Full) = refl
+counts_alike command now (Err ReadFault) = refl
+counts_alike command now (Err ShortBody) = refl
+counts_alike command now (Err Device) = refl
+counts_alike command now (Err Damaged) = refl
+counts_alike command now (Err NoMemory) = refl
+
+-- a body that came whole is the only one
+whole_body : (n : ℕ) (came body : List ℕ) → length came ≡ n → IsBodyOf n came body → body ≡ came
+whole_body n came body all is =
+    let same : length body ≡ length came = is.len ∙ sym all in
+    sym (take-length body) ∙ ap (λ (m : ℕ). take m body) same ∙ is.front
+
+module _ {D : Type 0} (device : D → DiskState) (rest : RestIsIdle device) (reading : ReadingsIdle device) (cut : CutPutsIdle device)
+    (recover : RunsRecover device) (idle : IdleIsRun device) (one : CommandIsRun device) (old new : Stored D) (now : ℕ) where
+  idles : IsIdle device old new → Recovers device old [] new
+  idles is = recover old new [] (idle old new is)
+
+  -- nothing was done
+  same_recovers : new ≡ old → Recovers device old [] new
+  same_recovers same = idles (subst (λ (s : Stored D). IsIdle device old s) (sym same) (rest old))
+
+  -- a command was asked
+  run_recovers : (command : Command) (result : Result Reply stored.Refusal) (outcome : RequestOutcome) → outcome ≡ outcome_replied result
+      → Answers device old new command now result → Recovers device old (counted_with command now outcome) new
+  run_recovers command result outcome is answers =
+      let same : counted_as command now result ≡ counted_with command now outcome = sym (counts_alike command now result) ∙ ap (counted_with command now) (sym is) in
+      subst (λ (l : List (Command × ℕ)). Recovers device old l new) same (recover old new (counted_as command now result) (one old new command now result answers))
+
+  -- a put was asked
+  put_recovers : (name kind : List ℕ) (n : ℕ) (came body : List ℕ) (result : Result Reply stored.Refusal) (outcome : RequestOutcome) → outcome ≡ outcome_replied result
+      → AnswersFrom device old new name kind n now came result → IsBodyOf n came body → Recovers device old (counted_with (commands.Put name kind body) now outcome) new
+  put_recovers name kind n came body (Ok reply) outcome is a whole =
+      subst (λ (b : List ℕ). Recovers device old (counted_with (commands.Put name kind b) now outcome) new) (sym (whole_body n came body a.0 whole))
+      (run_recovers (commands.Put name kind came) (Ok reply) outcome is a.1)
+  put_recovers name kind n came body (Err ReadFault) outcome is a whole =
+      subst (λ (l : List (Command × ℕ)). Recovers device old l new) (ap (counted_with (commands.Put name kind body) now) (sym is)) (idles (cut old new name kind n now came (inl a)))
+  put_recovers name kind n came body (Err ShortBody) outcome is a whole =
+      subst (λ (l : List (Command × ℕ)). Recovers device old l new) (ap (counted_with (commands.Put name kind body) now) (sym is)) (idles (cut old new name kind n now came (inr a)))
+  put_recovers name kind n came body (Err Closed) outcome is a whole = run_recovers (commands.Put name kind body) (Err Closed) outcome is (a.1 body whole)
+  put_recovers name kind n came body (Err TooLong) outcome is a whole = run_recovers (commands.Put name kind body) (Err TooLong) outcome is (a.1 body whole)
+  put_recovers name kind n came body (Err NotHeld) outcome is a whole = run_recovers (commands.Put name kind body) (Err NotHeld) outcome is (a.1 body whole)
+  put_recovers name kind n came body (Err TooManyResources) outcome is a whole = run_recovers (commands.Put name kind body) (Err TooManyResources) outcome is (a.1 body whole)
+  put_recovers name kind n came body (Err TooManyChanges) outcome is a whole = run_recovers (commands.Put name kind body) (Err TooManyChanges) outcome is (a.1 body whole)
+  put_recovers name kind n came body (Err Exhausted) outcome is a whole = run_recovers (commands.Put name kind body) (Err Exhausted) outcome is (a.1 body whole)
+  put_recovers name kind n came body (Err Full) outcome is a whole = run_recovers (commands.Put name kind body) (Err Full) outcome is (a.1 body whole)
+  put_recovers name kind n came body (Err Device) outcome is a whole = run_recovers (commands.Put name kind body) (Err Device) outcome is (a.1 body whole)
+  put_recovers name kind n came body (Err Damaged) outcome is a whole = run_recovers (commands.Put name kind body) (Err Damaged) outcome is (a.1 body whole)
+  put_recovers name kind n came body (Err NoMemory) outcome is a whole = run_recovers (commands.Put name kind body) (Err NoMemory) outcome is (a.1 body whole)
+
+  recounted : (l k : List (Command × ℕ)) → l ≡ k → Recovers device old k new → Recovers device old l new
+  recounted l k same r = subst (λ (x : List (Command × ℕ)). Recovers device old x new) (sym same) r
+
+  -- what may come of a request
+  pub request_recovers : (plan : Result Plan NoPlan) (more : List ℕ) (left : Option (List ℕ)) (outcome : RequestOutcome)
+      → RequestGives device old now plan more left outcome new → RequestRecovers device old now plan more outcome new
+  request_recovers (Ok (ShowBody name)) more left outcome gives counted is = recounted counted [] is (idles (reading old new gives.1.answers.reads_only))
+  request_recovers (Ok (ShowDocument doc)) more left outcome gives counted is = recounted counted [] is (same_recovers gives.2)
+  request_recovers (Ok (Put name kind n waits)) more left outcome gives counted is =
+      recounted counted (counted_with (commands.Put name kind is.0) now outcome) is.2 (put_recovers name kind n more is.0 gives.result outcome gives.outcome_is gives.answers is.1)
+  request_recovers (Ok (Delete name)) more left outcome gives counted is =
+      recounted counted (counted_with (commands.Delete name) now outcome) is (run_recovers (commands.Delete name) gives.1.result outcome gives.1.outcome_is gives.1.answers)
+  request_recovers (Ok Publish) more left outcome gives counted is =
+      recounted counted (counted_with commands.Publish now outcome) is (run_recovers commands.Publish gives.1.result outcome gives.1.outcome_is gives.1.answers)
+  request_recovers (Err reason) more left outcome gives counted is = recounted counted [] is (same_recovers gives.2)
+
+  -- a put whose reader failed
+  pub broken_recovers : (plan : Result Plan NoPlan) (more : List ℕ) → IsBroken device old now plan more new → Recovers device old [] new
+  broken_recovers (Ok (Put name kind n waits)) more broken = idles (cut old new name kind n now more (inl broken))
+  broken_recovers (Ok (ShowBody name)) more broken = absurd broken
+  broken_recovers (Ok (ShowDocument doc)) more broken = absurd broken
+  broken_recovers (Ok (Delete name)) more broken = absurd broken
+  broken_recovers (Ok Publish) more broken = absurd broken
+  broken_recovers (Err reason) more broken = absurd broken

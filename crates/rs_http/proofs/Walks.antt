@@ -1,0 +1,202 @@
+-- A request makes a walk.
+use Rattle.std.proofs.Common.{◌≡◌, ◌≤◌, ◌-◌, ℕ, Bool, true, false, List, [], ◌∷◌, ◌++◌, length, take, refl, sym, ◌∙◌, ap, subst, arith, cond, Option, Some, None, Result, Ok, Err, Vec, Global, IsTrue, length-append}
+use Rattle.std.proofs.Math.Seq.{take-length, take-append_seam}
+use Rattle.std.proofs.lemmas.List.{length-replicate}
+use Rattle.std.specs.Prelude.{replicate, codes}
+use Rattle.rs_disk.specs.Medium.{DiskState, IsMedium}
+use Rattle.rs_model.specs.State.{Source, body_of}
+use Rattle.rs_model.specs.declared.command.Command.{Command}
+use Rattle.rs_model.specs.declared.command.Command.TheVariants as commands
+use Rattle.rs_model.specs.declared.command.Reply.{Reply}
+use Rattle.rs_model.specs.declared.event.Event.{Event}
+use Rattle.rs_model.specs.declared.event.Event.TheVariants.{Fetch}
+use Rattle.rs_lists.specs.declared.doc.Doc.{Doc}
+use Rattle.rs_caps.specs.Answer.{answer}
+use Rattle.rs_caps.specs.DocumentTexts.{document_text}
+use Rattle.rs_caps.specs.PathAnswers.{body_path, DocumentsAreAnswered, BodiesAreAnswered}
+use Rattle.rs_caps.specs.Paths.{path_of, HasCounts}
+use Rattle.rs_caps.specs.Shows.{shown_of}
+use Rattle.rs_store.specs.Answered.{Answers}
+use Rattle.rs_store.specs.AnswersBody.{AnswersBody}
+use Rattle.rs_store.specs.Laws.{HeldStands}
+use Rattle.rs_store.specs.Received.{IsBodyOf, AnswersFrom}
+use Rattle.rs_store.specs.Source.{Stored, Holds, state_of}
+use Rattle.rs_store.specs.declared.refusal.Refusal as stored
+use Rattle.rs_store.specs.declared.refusal.Refusal.TheVariants.{Closed, TooLong, NotHeld, TooManyResources, TooManyChanges, Exhausted, Full, ReadFault, ShortBody, Device, Damaged, NoMemory}
+use Rattle.rs_recovery.specs.Turns.{ReadingsIdle}
+use Rattle.rs_recovery.specs.Walked.{CommandEvents, LeavesWalk, CommandsMakeWalks}
+use Rattle.rs_recovery.proofs.Walked.{told, walked}
+use Rattle.rs_http.specs.declared.request.Plan.{Plan}
+use Rattle.rs_http.specs.declared.request.Plan.TheVariants.{ShowBody, ShowDocument, Put, Delete, Publish}
+use Rattle.rs_http.specs.declared.request.NoPlan.{NoPlan}
+use Rattle.rs_http.specs.Outcomes.{outcome_replied, IsShownAs, RunComesTo, document_or_none, document_shown, RequestGives}
+use Rattle.rs_http.specs.Responses.{RequestOutcome, shown, refused}
+use Rattle.rs_http.specs.Serving.{IsBroken}
+use Rattle.rs_http.specs.Walked.{RunEvents, PutEvents, ShowEvents, PlanEvents, IsBodyFor}
+use Rattle.rs_http.specs.Laws.{RequestsMakeWalks, BrokenPutsMakeNoEvent}
+use Rattle.rs_http.proofs.NamedDocuments.{HasPath, asked_has}
+
+abbrev Kind : Type 1
+Kind = List Event → Type 0
+
+-- no more came than the body has: there is a body that begins so
+begins_one : (n : ℕ) (came : List ℕ) → length came ≤ n → (body : List ℕ) × IsBodyOf n came body
+begins_one n came le = (
+  came ++ replicate (n - length came) 0,
+  record {
+    len = length-append came (replicate (n - length came) 0) ∙ (omega (arith, length-replicate {A = ℕ} (n - length came) 0));
+    front = take-append_seam came (replicate (n - length came) 0);
+  },
+)
+
+-- a body that came whole is the only one
+whole_body : (n : ℕ) (came body : List ℕ) → length came ≡ n → IsBodyOf n came body → body ≡ came
+whole_body n came body all is =
+    let same : length body ≡ length came = is.len ∙ sym all in
+    sym (take-length body) ∙ ap (λ (m : ℕ). take m body) same ∙ is.front
+
+module _ {D : Type 0} (device : D → DiskState) (old new : Stored D) (now : ℕ) where
+  some_of : (name kind : List ℕ) (n : ℕ) (came : List ℕ) (result : Result Reply stored.Refusal) → AnswersFrom device old new name kind n now came result → length came ≤ n
+  some_of name kind n came (Ok reply) a = omega (arith, a.0)
+  some_of name kind n came (Err ReadFault) a = omega (arith, a.fewer)
+  some_of name kind n came (Err ShortBody) a = omega (arith, a.fewer)
+  some_of name kind n came (Err Device) a = a.0
+  some_of name kind n came (Err NoMemory) a = a.0
+  some_of name kind n came (Err Closed) a = rw a.0 (omega arith)
+  some_of name kind n came (Err TooLong) a = rw a.0 (omega arith)
+  some_of name kind n came (Err NotHeld) a = rw a.0 (omega arith)
+  some_of name kind n came (Err TooManyResources) a = rw a.0 (omega arith)
+  some_of name kind n came (Err TooManyChanges) a = rw a.0 (omega arith)
+  some_of name kind n came (Err Exhausted) a = rw a.0 (omega arith)
+  some_of name kind n came (Err Full) a = rw a.0 (omega arith)
+  some_of name kind n came (Err Damaged) a = rw a.0 (omega arith)
+
+  some_body : (plan : Result Plan NoPlan) (more : List ℕ) (rest : Option (List ℕ)) (outcome : RequestOutcome) → RequestGives device old now plan more rest outcome new
+      → (body : List ℕ) × IsBodyFor plan more body
+  some_body (Ok (Put name kind n waits)) more rest outcome gives = begins_one n more (some_of name kind n more gives.result gives.answers)
+  some_body (Ok (ShowBody name)) more rest outcome gives = ([], tt)
+  some_body (Ok (ShowDocument doc)) more rest outcome gives = ([], tt)
+  some_body (Ok (Delete name)) more rest outcome gives = ([], tt)
+  some_body (Ok Publish) more rest outcome gives = ([], tt)
+  some_body (Err reason) more rest outcome gives = ([], tt)
+
+module _ {D : Type 0} (device : D → DiskState) (sound : (disk : D) → IsMedium (device disk).size (device disk).now) (stands : HeldStands device)
+    (reading : ReadingsIdle device) (commands_walk : CommandsMakeWalks device) (documents : DocumentsAreAnswered) (bodies : BodiesAreAnswered)
+    (old new : Stored D) (s : Source) (now : ℕ) (holds : Holds device old s) where
+  -- no event
+  nothing : (M : Kind) → M [] → Holds device new s → LeavesWalk device s M new
+  nothing M none held = walked device stands s M new [] none held
+
+  same_held : new ≡ old → Holds device new s
+  same_held same = subst (λ (x : Stored D). Holds device x s) (sym same) holds
+
+  of_reply : (command : Command) (result : Result Reply stored.Refusal) → LeavesWalk device s (CommandEvents s command now result) new
+      → LeavesWalk device s (RunEvents s command now (outcome_replied result)) new
+  of_reply command (Ok reply) walk = walk
+  of_reply command (Err refusal) walk = walk
+
+  run_walk : (command : Command) (outcome : RequestOutcome) → RunComesTo device old new command now outcome
+      → LeavesWalk device s (RunEvents s command now outcome) new
+  run_walk command outcome r =
+      let P : RequestOutcome → Type 0 = λ o. LeavesWalk device s (RunEvents s command now o) new in
+      subst P (sym r.outcome_is) (of_reply command r.result (commands_walk old new s command now r.result holds r.answers))
+
+  -- a put, by its answer
+  module _ (name kind : List ℕ) (n : ℕ) (came body : List ℕ) (whole : IsBodyOf n came body) where
+    abbrev put : Command
+    put = commands.Put name kind body
+
+    was_put : (result : Result Reply stored.Refusal) → Answers device old new put now result → LeavesWalk device s (CommandEvents s put now result) new
+    was_put result answers = commands_walk old new s put now result holds answers
+
+    all_came : (reply : Reply) → length came ≡ n → Answers device old new (commands.Put name kind came) now (Ok reply) → Answers device old new put now (Ok reply)
+    all_came reply all answers =
+        subst (λ (b : List ℕ). Answers device old new (commands.Put name kind b) now (Ok reply)) (sym (whole_body n came body all whole)) answers
+
+    put_walk : (result : Result Reply stored.Refusal) → AnswersFrom device old new name kind n now came result
+        → LeavesWalk device s (PutEvents s put now (outcome_replied result)) new
+    put_walk (Ok reply) a = was_put (Ok reply) (all_came reply a.0 a.1)
+    put_walk (Err ReadFault) a = nothing (PutEvents s put now (refused ReadFault)) refl (a.left.holds s holds).0
+    put_walk (Err ShortBody) a = nothing (PutEvents s put now (refused ShortBody)) refl (a.left.holds s holds).0
+    put_walk (Err Device) a = was_put (Err Device) (a.1 body whole)
+    put_walk (Err NoMemory) a = was_put (Err NoMemory) (a.1 body whole)
+    put_walk (Err Closed) a = was_put (Err Closed) (a.1 body whole)
+    put_walk (Err TooLong) a = was_put (Err TooLong) (a.1 body whole)
+    put_walk (Err NotHeld) a = was_put (Err NotHeld) (a.1 body whole)
+    put_walk (Err TooManyResources) a = was_put (Err TooManyResources) (a.1 body whole)
+    put_walk (Err TooManyChanges) a = was_put (Err TooManyChanges) (a.1 body whole)
+    put_walk (Err Exhausted) a = was_put (Err Exhausted) (a.1 body whole)
+    put_walk (Err Full) a = was_put (Err Full) (a.1 body whole)
+    put_walk (Err Damaged) a = was_put (Err Damaged) (a.1 body whole)
+
+  -- what is shown
+  shown_walk : (is_head : Bool) (path kind bytes : List ℕ) → answer s path ≡ Some bytes → Holds device new s
+      → LeavesWalk device s (ShowEvents is_head s path (shown kind bytes)) new
+  shown_walk true path kind bytes is held = nothing (ShowEvents true s path (shown kind bytes)) refl held
+  shown_walk false path kind bytes is held = walked device stands s (ShowEvents false s path (shown kind bytes)) new (Fetch ∷ []) (is, refl) held
+
+  unshown_walk : (is_head : Bool) (path : List ℕ) (refusal : stored.Refusal) → Holds device new s → LeavesWalk device s (ShowEvents is_head s path (refused refusal)) new
+  unshown_walk true path refusal held = nothing (ShowEvents true s path (refused refusal)) refl held
+  unshown_walk false path refusal held = nothing (ShowEvents false s path (refused refusal)) refl held
+
+  found_walk : (is_head : Bool) (path : List ℕ) (found : Option (List ℕ)) → answer s path ≡ found → Holds device new s
+      → LeavesWalk device s (ShowEvents is_head s path (document_or_none found)) new
+  found_walk is_head path (Some bytes) is held = shown_walk is_head path (codes "application/xml") bytes is held
+  found_walk true path None is held = nothing (ShowEvents true s path (document_or_none None)) refl held
+  found_walk false path None is held = nothing (ShowEvents false s path (document_or_none None)) refl held
+
+  document_walk : (is_head : Bool) (doc : Doc) (outcome : RequestOutcome) → HasCounts doc → outcome ≡ document_shown device old doc → new ≡ old
+      → LeavesWalk device s (ShowEvents is_head s (path_of doc) outcome) new
+  document_walk is_head doc outcome counts is same =
+      let P : RequestOutcome → Type 0 = λ o. LeavesWalk device s (ShowEvents is_head s (path_of doc) o) new in
+      let shows : Source → RequestOutcome = λ t. document_or_none (document_text (shown_of t) doc) in
+      let open_shows : document_shown device old doc ≡ shows s =
+      ap (λ (b : Bool). cond b (refused Closed) (shows (state_of device old))) holds.is_open ∙ ap shows (told device sound old s holds) in
+      subst P (sym (is ∙ open_shows)) (found_walk is_head (path_of doc) (document_text (shown_of s) doc) (documents s doc counts) (same_held same))
+
+  read_walk : (is_head : Bool) (name : List ℕ) (result : Result (Vec ℕ Global) stored.Refusal) (outcome : RequestOutcome) → AnswersBody device old new name result
+      → IsShownAs (state_of device old) name result outcome → IsTrue (device new.disk).honest
+      → LeavesWalk device s (ShowEvents is_head s (body_path name) outcome) new
+  read_walk is_head name (Ok bytes) outcome a is honest =
+      let P : RequestOutcome → Type 0 = λ o. LeavesWalk device s (ShowEvents is_head s (body_path name) o) new in
+      let here : body_of name s ≡ Some bytes.items = ap (body_of name) (sym (told device sound old s holds)) ∙ a.reads honest in
+      subst P (sym is.2) (shown_walk is_head (body_path name) is.0 bytes.items (bodies s name ∙ here) ((reading old new a.reads_only).holds s holds).0)
+  read_walk is_head name (Err refusal) outcome a is honest =
+      let P : RequestOutcome → Type 0 = λ o. LeavesWalk device s (ShowEvents is_head s (body_path name) o) new in
+      subst P (sym is) (unshown_walk is_head (body_path name) refusal ((reading old new a.reads_only).holds s holds).0)
+
+  plan_walk : (is_head : Bool) (plan : Result Plan NoPlan) (more : List ℕ) (rest : Option (List ℕ)) (outcome : RequestOutcome) (body : List ℕ) → HasPath plan
+      → RequestGives device old now plan more rest outcome new → IsTrue (device new.disk).honest → IsBodyFor plan more body
+      → LeavesWalk device s (PlanEvents is_head s now plan body outcome) new
+  plan_walk is_head (Ok (ShowBody name)) more rest outcome body has gives honest is =
+      read_walk is_head name gives.1.result outcome gives.1.answers gives.1.outcome_is honest
+  plan_walk is_head (Ok (ShowDocument doc)) more rest outcome body has gives honest is = document_walk is_head doc outcome has gives.1 gives.2
+  plan_walk is_head (Ok (Put name kind n waits)) more rest outcome body has gives honest is =
+      let P : RequestOutcome → Type 0 = λ o. LeavesWalk device s (PutEvents s (commands.Put name kind body) now o) new in
+      subst P (sym gives.outcome_is) (put_walk name kind n more body is gives.result gives.answers)
+  plan_walk is_head (Ok (Delete name)) more rest outcome body has gives honest is = run_walk (commands.Delete name) outcome gives.1
+  plan_walk is_head (Ok Publish) more rest outcome body has gives honest is = run_walk commands.Publish outcome gives.1
+  plan_walk is_head (Err reason) more rest outcome body has gives honest is =
+      nothing (PlanEvents is_head s now (Err reason) body outcome) refl (same_held gives.2)
+
+  broken_walk : (plan : Result Plan NoPlan) (more : List ℕ) → IsBroken device old now plan more new → LeavesWalk device s (λ events. events ≡ []) new
+  broken_walk (Ok (Put name kind n waits)) more broken = nothing (λ events. events ≡ []) refl (broken.left.holds s holds).0
+  broken_walk (Ok (ShowBody name)) more broken = absurd broken
+  broken_walk (Ok (ShowDocument doc)) more broken = absurd broken
+  broken_walk (Ok (Delete name)) more broken = absurd broken
+  broken_walk (Ok Publish) more broken = absurd broken
+  broken_walk (Err reason) more broken = absurd broken
+
+module _ {D : Type 0} (device : D → DiskState) (sound : (disk : D) → IsMedium (device disk).size (device disk).now) (stands : HeldStands device)
+    (reading : ReadingsIdle device) (walking : CommandsMakeWalks device) (documents : DocumentsAreAnswered) (bodies : BodiesAreAnswered) where
+  pub requests_walk : RequestsMakeWalks device
+  requests_walk old new now bytes read request more rest outcome asks gives = record {
+    some_body = some_body device old new now request.plan more rest outcome gives;
+    walks = λ s body holds honest is.
+        plan_walk device sound stands reading walking documents bodies old new s now holds request.is_head request.plan more rest outcome body
+        (asked_has bytes read request asks) gives honest is;
+  }
+
+  pub broken_puts_walk : BrokenPutsMakeNoEvent device
+  broken_puts_walk old new now plan more broken s holds =
+      broken_walk device sound stands reading walking documents bodies old new s now holds plan more broken

@@ -1,0 +1,36 @@
+-- Laws of requests.
+use Rattle.std.specs.Prelude.{ℕ, List, [], Option, Some, Result}
+use Rattle.rs_disk.specs.Medium.{DiskState}
+use Rattle.rs_store.specs.Source.{Stored}
+use Rattle.rs_recovery.specs.Prefixes.{Recovers}
+use Rattle.rs_http.specs.declared.head.HeadRead.{HeadRead}
+use Rattle.rs_http.specs.declared.request.Plan.{Plan}
+use Rattle.rs_http.specs.declared.request.NoPlan.{NoPlan}
+use Rattle.rs_http.specs.declared.request.Request.{Request}
+use Rattle.rs_http.specs.Requests.{Asks}
+use Rattle.rs_http.specs.Responses.{RequestOutcome}
+use Rattle.rs_http.specs.Outcomes.{RequestGives}
+use Rattle.rs_http.specs.Counted.{RequestRecovers}
+use Rattle.rs_http.specs.Walked.{MakesWalk, MakesNoEvent}
+use Rattle.rs_http.specs.Serving.{IsBroken}
+
+-- Whatever comes of a request, whenever a stop comes: it leaves what the command of the request makes that counts.
+abbrev pub RequestsRecover : {D : Type 0} → (D → DiskState) → Type 0
+RequestsRecover {D} device = (old new : Stored D) (now : ℕ) (plan : Result Plan NoPlan) (more : List ℕ) (rest : Option (List ℕ)) (outcome : RequestOutcome)
+    → RequestGives device old now plan more rest outcome new → RequestRecovers device old now plan more outcome new
+
+-- A put whose reader failed is not done, whenever a stop comes.
+abbrev pub BrokenPutsRecover : {D : Type 0} → (D → DiskState) → Type 0
+BrokenPutsRecover {D} device = (old new : Stored D) (now : ℕ) (plan : Result Plan NoPlan) (more : List ℕ)
+    → IsBroken device old now plan more new → Recovers device old [] new
+
+-- Each request that the bytes of a head ask for makes a walk, whatever comes of it.
+abbrev pub RequestsMakeWalks : {D : Type 0} → (D → DiskState) → Type 0
+RequestsMakeWalks {D} device = (old new : Stored D) (now : ℕ) (bytes : List ℕ) (read : HeadRead) (request : Request) (more : List ℕ) (rest : Option (List ℕ)) (outcome : RequestOutcome)
+    → Asks bytes read (Some request) → RequestGives device old now request.plan more rest outcome new
+    → MakesWalk device old now request more outcome new
+
+-- A put whose reader failed leaves a walk of no event.
+abbrev pub BrokenPutsMakeNoEvent : {D : Type 0} → (D → DiskState) → Type 0
+BrokenPutsMakeNoEvent {D} device = (old new : Stored D) (now : ℕ) (plan : Result Plan NoPlan) (more : List ℕ)
+    → IsBroken device old now plan more new → MakesNoEvent device old new

@@ -1,0 +1,62 @@
+-- The walk that a request makes of a source.
+use Rattle.std.specs.Prelude.{◌≡◌, ℕ, Bool, false, List, [], ◌∷◌, Some, Result, Ok, Err, IsTrue}
+use Rattle.rs_disk.specs.Medium.{DiskState}
+use Rattle.rs_model.specs.State.{Source}
+use Rattle.rs_model.specs.declared.command.Command.{Command}
+use Rattle.rs_model.specs.declared.command.Command.TheVariants as commands
+use Rattle.rs_model.specs.declared.event.Event.{Event}
+use Rattle.rs_model.specs.declared.event.Event.TheVariants.{Fetch}
+use Rattle.rs_store.specs.Received.{IsBodyOf}
+use Rattle.rs_store.specs.Source.{Stored, Holds}
+use Rattle.rs_store.specs.declared.refusal.Refusal.TheVariants.{ReadFault, ShortBody}
+use Rattle.rs_recovery.specs.Walked.{CommandEvents, LeavesWalk}
+use Rattle.rs_caps.specs.Answer.{answer}
+use Rattle.rs_caps.specs.PathAnswers.{body_path}
+use Rattle.rs_caps.specs.Paths.{path_of}
+use Rattle.rs_http.specs.declared.request.Plan.{Plan}
+use Rattle.rs_http.specs.declared.request.Plan.TheVariants.{ShowBody, ShowDocument, Put, Delete, Publish}
+use Rattle.rs_http.specs.declared.request.NoPlan.{NoPlan}
+use Rattle.rs_http.specs.declared.request.Request.{Request}
+use Rattle.rs_http.specs.Responses.{RequestOutcome, replied, shown, refused}
+
+-- the event of a command, by what came of it
+abbrev pub RunEvents : Source → Command → ℕ → RequestOutcome → List Event → Type 0
+RunEvents s command now (replied reply) events = CommandEvents s command now (Ok reply) events
+RunEvents s command now (refused refusal) events = CommandEvents s command now (Err refusal) events
+RunEvents s command now outcome events = events ≡ []
+
+-- the event of a put: where its body did not come whole, nothing was put
+abbrev pub PutEvents : Source → Command → ℕ → RequestOutcome → List Event → Type 0
+PutEvents s command now (refused ReadFault) events = events ≡ []
+PutEvents s command now (refused ShortBody) events = events ≡ []
+PutEvents s command now outcome events = RunEvents s command now outcome events
+
+-- What the response to a GET shows was fetched: the bytes are those that are answered at its path. A HEAD fetches nothing.
+abbrev pub ShowEvents : Bool → Source → List ℕ → RequestOutcome → List Event → Type 0
+ShowEvents false s path (shown kind bytes) events = (answer s path ≡ Some bytes) × (events ≡ Fetch ∷ [])
+ShowEvents is_head s path outcome events = events ≡ []
+
+-- The events of a plan in a state and at a moment, where a put has this body: one, or none.
+abbrev pub PlanEvents : Bool → Source → ℕ → Result Plan NoPlan → List ℕ → RequestOutcome → List Event → Type 0
+PlanEvents is_head s now (Ok (Put name kind n waits)) body outcome events = PutEvents s (commands.Put name kind body) now outcome events
+PlanEvents is_head s now (Ok (Delete name)) body outcome events = RunEvents s (commands.Delete name) now outcome events
+PlanEvents is_head s now (Ok Publish) body outcome events = RunEvents s commands.Publish now outcome events
+PlanEvents is_head s now (Ok (ShowBody name)) body outcome events = ShowEvents is_head s (body_path name) outcome events
+PlanEvents is_head s now (Ok (ShowDocument doc)) body outcome events = ShowEvents is_head s (path_of doc) outcome events
+PlanEvents is_head s now (Err reason) body outcome events = events ≡ []
+
+-- what a put may have for its body, of which these bytes came
+abbrev pub IsBodyFor : Result Plan NoPlan → List ℕ → List ℕ → Type 0
+IsBodyFor (Ok (Put name kind n waits)) more body = IsBodyOf n more body
+IsBodyFor plan more body = Unit {0}
+
+-- What came of a request to a source that held a state, of a device that has followed the model, leaves a walk of its one event or
+-- none. A put that was answered before its body was read whole is the put of some body that begins so, and it holds of each.
+pub record MakesWalk {D : Type 0} (device : D → DiskState) (old : Stored D) (now : ℕ) (request : Request) (more : List ℕ) (outcome : RequestOutcome) (new : Stored D) : Type 0 where
+  pub some_body : (body : List ℕ) × IsBodyFor request.plan more body
+  pub walks : (s : Source) (body : List ℕ) → Holds device old s → IsTrue (device new.disk).honest → IsBodyFor request.plan more body
+      → LeavesWalk device s (PlanEvents request.is_head s now request.plan body outcome) new
+
+-- What a source is left as that held a state is a walk of no event.
+abbrev pub MakesNoEvent : {D : Type 0} → (D → DiskState) → Stored D → Stored D → Type 0
+MakesNoEvent device old new = (s : Source) → Holds device old s → LeavesWalk device s (λ events. events ≡ []) new

@@ -1,0 +1,188 @@
+-- Whoever asks sources of several sessions for both lists mirrors what was held.
+use Rattle.std.proofs.Common.{◌≡◌, ◌≤◌, ℕ, zero, suc, Bool, true, false, List, [], ◌∷◌, ◌++◌, length, take, drop, map, refl, sym, ◌∙◌, ap, subst, arith, cond, Option, IsTrue, is_some, length-append}
+use Rattle.std.specs.List.{AllByRecursion}
+use Rattle.std.proofs.Math.Seq.{take-append_seam}
+use Rattle.std.proofs.lemmas.List.{take-append-drop, take-take}
+use Rattle.rs_disk.specs.Medium.{DiskState, IsMedium}
+use Rattle.rs_model.specs.State.{Source, start_of, entries}
+use Rattle.rs_model.specs.Step.{step, state_after, fold_of}
+use Rattle.rs_model.specs.Lawful.{IsLawful, IsLawfulTimed}
+use Rattle.rs_model.specs.Walk.{state_at, IsLawfulEvent}
+use Rattle.rs_model.specs.declared.command.Command.{Command}
+use Rattle.rs_model.specs.declared.event.Event.{Event}
+use Rattle.rs_model.specs.declared.event.Event.TheVariants.{Tried}
+use Rattle.rs_caps.specs.Answer.{answer}
+use Rattle.rs_caps.specs.Destination.{part_paths, fetched_at, IsFetchedPart, IsFollowed, Mirrors, WasHeld, DestinationMirrors, MirrorWasHeld}
+use Rattle.rs_caps.specs.Gather.{gather_resources, gather_changes}
+use Rattle.rs_store.specs.Counted.{is_accepted, is_in_doubt, answered, counted_commands}
+use Rattle.rs_store.specs.declared.running.Ack.{Ack}
+use Rattle.rs_recovery.specs.Sessions.{Session, commands_standing}
+use Rattle.rs_recovery.specs.Served.{IsNoLater, IsPrefixOf, Stand, SessionsStand}
+use Rattle.rs_recovery.specs.Mirrored.{AreLawfulSessions, list_head, changes_head, Asked, answered_by, IsAskedPart, AsksBoth, IsMirrored, SessionsAreMirrored}
+use Rattle.rs_recovery.proofs.Below.{Commands, Acks}
+use Rattle.rs_recovery.proofs.Walked.{told}
+
+-- what holds of each of some elements
+all_so : {A : Type 0} (P Q : A → Type 0) → ((x : A) → P x → Q x) → (xs : List A) → AllByRecursion P xs → AllByRecursion Q xs
+all_so P Q so [] all = tt
+all_so P Q so (x ∷ xs) all = (so x all.0, all_so P Q so xs all.1)
+
+all_both : {A : Type 0} (P Q : A → Type 0) (xs : List A) → AllByRecursion P xs → AllByRecursion Q xs → AllByRecursion (λ x. P x × Q x) xs
+all_both P Q [] one other = tt
+all_both P Q (x ∷ xs) one other = ((one.0, other.0), all_both P Q xs one.1 other.1)
+
+all_joined : {A : Type 0} (P : A → Type 0) (xs ys : List A) → AllByRecursion P xs → AllByRecursion P ys → AllByRecursion P (xs ++ ys)
+all_joined P [] ys one other = other
+all_joined P (x ∷ xs) ys one other = (one.0, all_joined P xs ys one.1 other)
+
+all_first : {A : Type 0} (P : A → Type 0) (n : ℕ) (xs : List A) → AllByRecursion P xs → AllByRecursion P (take n xs)
+all_first P zero xs all = tt
+all_first P (suc n) [] all = tt
+all_first P (suc n) (x ∷ xs) all = (all.0, all_first P n xs all.1)
+
+-- the commands that stand are lawful
+one_more : (b : Bool) (c : Command × ℕ) (rest : Commands) → IsLawfulTimed c → AllByRecursion IsLawfulTimed rest → AllByRecursion IsLawfulTimed (cond b (c ∷ rest) rest)
+one_more true c rest one all = (one, all)
+one_more false c rest one all = all
+
+answered_lawful : (test : Ack → Bool) (commands : Commands) (acks : Acks) → AllByRecursion IsLawfulTimed commands → AllByRecursion IsLawfulTimed (answered test commands acks)
+answered_lawful test [] acks all = tt
+answered_lawful test (c ∷ commands) [] all = tt
+answered_lawful test (c ∷ commands) (a ∷ acks) all =
+    one_more (test a) c (answered test commands acks) all.0 (answered_lawful test commands acks all.1)
+
+standing_lawful : {D : Type 0} (sessions : List (Session D)) (standing : List ℕ) → AreLawfulSessions sessions → AllByRecursion IsLawfulTimed (commands_standing sessions standing)
+standing_lawful [] standing all = tt
+standing_lawful (x ∷ past) [] all = tt
+standing_lawful (x ∷ past) (j ∷ standing) all =
+    let counted : AllByRecursion IsLawfulTimed (counted_commands x.commands x.acks) =
+    all_joined IsLawfulTimed (answered is_accepted x.commands x.acks) (answered is_in_doubt x.commands x.acks)
+    (answered_lawful is_accepted x.commands x.acks all.0) (answered_lawful is_in_doubt x.commands x.acks all.0) in
+    all_joined IsLawfulTimed (commands_standing past standing) (take j (counted_commands x.commands x.acks))
+    (standing_lawful past standing all.1) (all_first IsLawfulTimed j (counted_commands x.commands x.acks) counted)
+
+-- a command as an event of a walk
+abbrev tried : Command × ℕ → Event
+tried c = Tried c.0 c.1
+
+tried_lawful : (commands : Commands) → AllByRecursion IsLawfulTimed commands → AllByRecursion IsLawfulEvent (map tried commands)
+tried_lawful [] all = tt
+tried_lawful (c ∷ commands) all = ((all.0, tt), tried_lawful commands all.1)
+
+tried_walk : (s : Source) (n : ℕ) (commands : Commands) → state_at s (map tried commands) n ≡ fold_of s (take n commands)
+tried_walk s zero commands = refl
+tried_walk s (suc n) [] = refl
+tried_walk s (suc n) (c ∷ commands) = tried_walk (state_after s (step s c.0 c.1)) n commands
+
+-- the first of some commands
+first_are : (commands whole : Commands) → IsPrefixOf commands whole → take (length commands) whole ≡ commands
+first_are commands whole is = ap (take (length commands)) (sym is.1) ∙ take-append_seam commands is.0
+
+no_more : (commands whole : Commands) → IsPrefixOf commands whole → length commands ≤ length whole
+no_more commands whole is = let all : length (commands ++ is.0) ≡ length whole = ap length is.1 in omega (arith, all, length-append commands is.0)
+
+first_of_first : (n m : ℕ) (whole : Commands) → n ≤ m → IsPrefixOf (take n whole) (take m whole)
+first_of_first n m whole le =
+    (drop n (take m whole), ap (λ l. l ++ drop n (take m whole)) (sym (take-take n m whole le)) ∙ take-append-drop n (take m whole))
+
+module _ {D : Type 0} (device : D → DiskState) (sound : (disk : D) → IsMedium (device disk).size (device disk).now)
+    (mirrors : DestinationMirrors) (was_held : MirrorWasHeld) (base : List ℕ) (limit moment : ℕ) (sessions : List (Session D)) (standing : List ℕ)
+    (lawful : IsLawful (start_of base limit moment)) (all : AreLawfulSessions sessions) (stand : Stand device (start_of base limit moment) sessions standing)
+    (asked : Asked device sessions standing) (asks : AsksBoth device asked.asking asked.last) where
+  abbrev start : Source
+  start = start_of base limit moment
+
+  abbrev whole : Commands
+  whole = commands_standing sessions standing
+
+  abbrev events : List Event
+  events = map tried whole
+
+  abbrev when : List ℕ → ℕ
+  when path = length (asked.behind path)
+
+  abbrev latest : ℕ
+  latest = length asked.behind_last
+
+  -- what was answered is what the walk answers
+  answered_alike : (path : List ℕ) → answered_by device asked.asking path ≡ fetched_at start events when path
+  answered_alike path =
+      let served = stand.served (asked.asking path) (asked.behind path) (asked.served path) in
+      let state : state_at start events (when path) ≡ fold_of start (asked.behind path) =
+      tried_walk start (when path) whole ∙ ap (fold_of start) (first_are (asked.behind path) whole served.1) in
+      ap (λ t. answer t path) (told device sound (asked.asking path).source (fold_of start (asked.behind path)) served.0 ∙ sym state)
+
+  alike : answered_by device asked.asking ≡ fetched_at start events when
+  alike = λ i path. answered_alike path i
+
+  -- what is asked no later has no more behind it
+  later_path : (path other : List ℕ) → IsNoLater (asked.asking path) (asked.asking other) → when path ≤ when other
+  later_path path other order =
+      no_more (asked.behind path) (asked.behind other)
+      (stand.ordered (asked.asking path) (asked.asking other) (asked.behind path) (asked.behind other) order (asked.served path) (asked.served other))
+
+  by_last : (path : List ℕ) → IsNoLater (asked.asking path) asked.last → when path ≤ latest
+  by_last path order =
+      no_more (asked.behind path) asked.behind_last
+      (stand.ordered (asked.asking path) asked.last (asked.behind path) asked.behind_last order (asked.served path) asked.last_served)
+
+  at_most : (path : List ℕ) → when path ≤ length whole
+  at_most path = no_more (asked.behind path) whole (stand.served (asked.asking path) (asked.behind path) (asked.served path)).1
+
+  part_fetched : (head path : List ℕ) (last : ℕ) → IsAskedPart device asked.asking head path → when path ≤ last → IsFetchedPart start events when (when head) last path
+  part_fetched head path last part le = record {
+    after_head = later_path head path part.after_head;
+    by_last = le;
+    answered = subst (λ (found : Option (List ℕ)). IsTrue (is_some found)) (answered_alike path) part.answered;
+  }
+
+  followed : IsFollowed start events when (length whole) latest
+  followed = record {
+    resources = record {
+      by_last = at_most list_head;
+      parts = λ text document found read.
+          all_so (IsAskedPart device asked.asking list_head) (IsFetchedPart start events when (when list_head) (length whole))
+          (λ path part. part_fetched list_head path (length whole) part (at_most path)) (part_paths document)
+          (asks.resources text document (answered_alike list_head ∙ found) read);
+    };
+    order = later_path list_head changes_head asks.order;
+    changes = record {
+      by_last = by_last changes_head asks.head_by_last;
+      parts = λ text document found read.
+          let here = answered_alike changes_head ∙ found in
+          let Part : List ℕ → Type 0 = IsAskedPart device asked.asking changes_head in
+          let InTime : List ℕ → Type 0 = λ path. IsNoLater (asked.asking path) asked.last in
+          all_so (λ path. Part path × InTime path) (IsFetchedPart start events when (when changes_head) latest)
+          (λ path part. part_fetched changes_head path latest part.0 (by_last path part.1)) (part_paths document)
+          (all_both Part InTime (part_paths document) (asks.changes text document here read) (asks.parts_by_last text document here read));
+    };
+  }
+
+  pub is_mirrored : IsMirrored device start sessions standing asked
+  is_mirrored =
+      let are = tried_lawful whole (standing_lawful sessions standing all) in
+      let m : Mirrors start events when latest = mirrors base limit moment events when (length whole) latest lawful are followed in
+      let w : WasHeld start events when latest _ =
+      was_held base limit moment events when (length whole) latest m.at m.start m.listed m.changes lawful are followed m.resources_gathered m.changes_gathered in
+      let last_first = first_are asked.behind_last whole (stand.served asked.last asked.behind_last asked.last_served).1 in
+      let head_first = first_are (asked.behind changes_head) whole (stand.served (asked.asking changes_head) (asked.behind changes_head) (asked.served changes_head)).1 in
+      record {
+        at = m.at;
+        listed = m.listed;
+        from = m.start;
+        changes = m.changes;
+        commands = take w.point whole;
+        resources_gathered = ap gather_resources alike ∙ m.resources_gathered;
+        changes_gathered = ap gather_changes alike ∙ m.changes_gathered;
+        no_gap = m.no_gap;
+        after_head = subst (λ (l : Commands). IsPrefixOf l (take w.point whole)) head_first (first_of_first (when changes_head) w.point whole w.after_head);
+        by_last = subst (λ (l : Commands). IsPrefixOf (take w.point whole) l) last_first (first_of_first w.point latest whole w.by_last);
+        stands = (drop w.point whole, take-append-drop w.point whole);
+        mirrored = w.held ∙ ap (λ (t : Source). entries t.held) (tried_walk start w.point whole);
+      }
+
+pub sessions_mirrored : {D : Type 0} (device : D → DiskState) (sound : (disk : D) → IsMedium (device disk).size (device disk).now)
+    → DestinationMirrors → MirrorWasHeld → SessionsStand device → SessionsAreMirrored device
+sessions_mirrored device sound mirrors was_held stands base limit moment sessions lawful all are =
+    let stand = stands (start_of base limit moment) sessions are in
+    (stand.0, stand.1, λ asked asks. is_mirrored device sound mirrors was_held base limit moment sessions stand.0 lawful all stand.1 asked asks)

@@ -1,0 +1,86 @@
+-- A destination that asks sources of several sessions, between which there were stops.
+use Rattle.std.specs.Prelude.{◌≡◌, ℕ, ◌≤◌, List, map, codes, Option, Some, is_some, IsTrue}
+use Rattle.std.specs.List.{AllByRecursion}
+use Rattle.rs_disk.specs.Medium.{DiskState}
+use Rattle.rs_record.specs.declared.change.Change.{Change}
+use Rattle.rs_model.specs.State.{Source, start_of, entries}
+use Rattle.rs_model.specs.Step.{fold_of, mirror_of}
+use Rattle.rs_model.specs.Lawful.{IsLawful, IsLawfulTimed}
+use Rattle.rs_model.specs.declared.command.Command.{Command}
+use Rattle.rs_caps.specs.Answer.{answer}
+use Rattle.rs_caps.specs.Destination.{part_paths}
+use Rattle.rs_caps.specs.Gather.{gather_resources, gather_changes, listed_entry}
+use Rattle.rs_caps.specs.Readings.{Listed, Document}
+use Rattle.rs_caps.specs.Reads.{reads}
+use Rattle.rs_store.specs.Source.{state_of}
+use Rattle.rs_recovery.specs.Sessions.{Session, AreSessions, commands_standing}
+use Rattle.rs_recovery.specs.Served.{Asking, HasServed, IsNoLater, IsPrefixOf, Stand}
+
+-- each command of these sessions has a lawful name, a lawful type and a moment
+abbrev pub AreLawfulSessions : {D : Type 0} → List (Session D) → Type 0
+AreLawfulSessions sessions = AllByRecursion (λ x. AllByRecursion IsLawfulTimed x.commands) sessions
+
+abbrev pub list_head : List ℕ
+list_head = codes "/resourcelist.xml"
+
+abbrev pub changes_head : List ℕ
+changes_head = codes "/changelist.xml"
+
+-- Each path is asked of a source that could be asked then, and these are the commands behind it; and so of the last time.
+pub record Asked {D : Type 0} (device : D → DiskState) (sessions : List (Session D)) (standing : List ℕ) : Type 0 where
+  pub asking : List ℕ → Asking D
+  pub behind : List ℕ → List (Command × ℕ)
+  pub served : (path : List ℕ) → HasServed device sessions standing (asking path) (behind path)
+  pub last : Asking D
+  pub behind_last : List (Command × ℕ)
+  pub last_served : HasServed device sessions standing last behind_last
+
+-- what is answered at a path, by the source that is asked for it
+abbrev pub answered_by : {D : Type 0} → (D → DiskState) → (List ℕ → Asking D) → List ℕ → Option (List ℕ)
+answered_by device asking path = answer (state_of device (asking path).source) path
+
+-- A part is asked with its head or later, and is answered.
+pub record IsAskedPart {D : Type 0} (device : D → DiskState) (asking : List ℕ → Asking D) (head path : List ℕ) : Type 0 where
+  pub after_head : IsNoLater (asking head) (asking path)
+  pub answered : IsTrue (is_some (answered_by device asking path))
+
+-- Of all parts that a head names as it is asked this holds.
+abbrev pub OfParts : {D : Type 0} → (D → DiskState) → (List ℕ → Asking D) → List ℕ → (List ℕ → Type 0) → Type 0
+OfParts device asking head IsPart =
+    (text : List ℕ) (document : Document) → answered_by device asking head ≡ Some text → reads text ≡ Some document
+    → AllByRecursion IsPart (part_paths document)
+
+-- A destination asks for the Resource List's head and its parts, and for the Change List's, in any order among the parts: the
+-- Change List's head with the other head or later, and none of its documents after the last time.
+pub record AsksBoth {D : Type 0} (device : D → DiskState) (asking : List ℕ → Asking D) (last : Asking D) : Type 0 where
+  pub resources : OfParts device asking list_head (IsAskedPart device asking list_head)
+  pub order : IsNoLater (asking list_head) (asking changes_head)
+  pub changes : OfParts device asking changes_head (IsAskedPart device asking changes_head)
+  pub head_by_last : IsNoLater (asking changes_head) last
+  pub parts_by_last : OfParts device asking changes_head (λ path. IsNoLater (asking path) last)
+
+-- Both lists read, and nothing between them is left out. The one mirrored with the other is what the source held after the first
+-- of the commands that stand: all that were behind it as the Change List's head was asked, and none that was not yet at the last
+-- time.
+pub record IsMirrored {D : Type 0} (device : D → DiskState) (start : Source) (sessions : List (Session D)) (standing : List ℕ) (asked : Asked device sessions standing) : Type 0 where
+  pub at : ℕ
+  pub listed : List Listed
+  pub from : ℕ
+  pub changes : List Change
+  pub commands : List (Command × ℕ)
+  pub resources_gathered : gather_resources (answered_by device asked.asking) ≡ Some (at, listed)
+  pub changes_gathered : gather_changes (answered_by device asked.asking) ≡ Some (from, changes)
+  pub no_gap : from ≤ at
+  pub after_head : IsPrefixOf (asked.behind changes_head) commands
+  pub by_last : IsPrefixOf commands asked.behind_last
+  pub stands : IsPrefixOf commands (commands_standing sessions standing)
+  pub mirrored : mirror_of (map listed_entry listed) at changes ≡ entries (fold_of start commands).held
+
+-- Over any number of sessions, whatever the stops, commands stand so that whoever asks for both lists mirrors what was held.
+abbrev pub SessionsAreMirrored : {D : Type 0} → (D → DiskState) → Type 0
+SessionsAreMirrored {D} device =
+    (base : List ℕ) (limit moment : ℕ) (sessions : List (Session D))
+    → let start = start_of base limit moment in
+    IsLawful start → AreLawfulSessions sessions → AreSessions device start sessions
+    → (standing : List ℕ) × Stand device start sessions standing
+    × ((asked : Asked device sessions standing) → AsksBoth device asked.asking asked.last → IsMirrored device start sessions standing asked)

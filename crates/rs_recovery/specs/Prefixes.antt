@@ -1,0 +1,71 @@
+-- What a stop leaves of commands that a source is asked one by one, as the lines of a script or the requests of a server are.
+use Rattle.std.specs.Prelude.{◌≡◌, ℕ, ◌+◌, ◌≤◌, false, List, [], ◌∷◌, ◌++◌, length, take, Result, Ok, Err}
+use Rattle.rs_disk.specs.Medium.{DiskState, IsImage}
+use Rattle.rs_disk.specs.Leaves.{Leaves}
+use Rattle.rs_model.specs.State.{Source}
+use Rattle.rs_model.specs.Step.{fold_of}
+use Rattle.rs_model.specs.declared.command.Command.{Command}
+use Rattle.rs_model.specs.declared.command.Reply.{Reply}
+use Rattle.rs_image.specs.StateOfImage.{StandsFor}
+use Rattle.rs_store.specs.declared.refusal.Refusal.{Refusal}
+use Rattle.rs_store.specs.declared.refusal.Refusal.TheVariants.{Device}
+use Rattle.rs_store.specs.declared.running.Ack.{Ack}
+use Rattle.rs_store.specs.Source.{Stored, Holds}
+use Rattle.rs_store.specs.Answered.{Answers}
+use Rattle.rs_store.specs.Counted.{counted_commands}
+use Rattle.rs_store.specs.Runs.{IsIdle, InTurn}
+
+-- A command counts where it was accepted, and where the device failed in it, since its step may stand then.
+abbrev pub counted_as : Command → ℕ → Result Reply Refusal → List (Command × ℕ)
+counted_as command now (Ok reply) = (command, now) ∷ []
+counted_as command now (Err Device) = (command, now) ∷ []
+counted_as command now (Err refusal) = []
+
+-- A source was asked commands in their turn, and these of them count.
+pub record IsRunOf {D : Type 0} (device : D → DiskState) (old : Stored D) (commands : List (Command × ℕ)) (new : Stored D) : Type 0 where
+  pub asked : List (Command × ℕ)
+  pub acks : List Ack
+  pub turn : InTurn device old asked acks new
+  pub count : counted_commands asked acks ≡ commands
+
+-- an image stands for what the first j of these commands make of a state
+pub record StandsForFirst (s : Source) (commands : List (Command × ℕ)) (j : ℕ) (image : List ℕ) : Type 0 where
+  pub most : j ≤ length commands
+  pub stands : StandsFor image (fold_of s (take j commands))
+
+-- Whenever a stop comes, each image stands for what the first commands make of the state that was held.
+-- `done m` of them had been answered when m calls were counted; it does not fall.
+-- `each`: an image of that moment stands for those, or for one more, which had begun. So none of a later moment stands for fewer
+-- than all but one of those that an earlier one stands for.
+-- `holds`: a source that is open at the end holds what all make.
+-- `at_exit`: each image then stands for all. The last may be missing where the source is closed, since the device failed in it.
+pub record LeavesPrefixes {D : Type 0} (device : D → DiskState) (old : Stored D) (s : Source) (commands : List (Command × ℕ)) (new : Stored D) : Type 0 where
+  pub done : ℕ → ℕ
+  pub rises : (m n : ℕ) → m ≤ n → done m ≤ done n
+  pub each : Leaves (device old.disk) (device new.disk)
+      (λ m image. (j : ℕ) × (done m ≤ j) × (j ≤ done m + 1) × StandsForFirst s commands j image)
+  pub holds : new.is_closed ≡ false → Holds device new (fold_of s commands)
+  pub at_exit : (image : List ℕ) → IsImage (device new.disk).now image
+      → (j : ℕ) × (length commands ≤ j + 1) × (new.is_closed ≡ false → j ≡ length commands) × StandsForFirst s commands j image
+
+-- A source that held a state was asked these commands: a stop leaves what the first of them make.
+abbrev pub Recovers : {D : Type 0} → (D → DiskState) → Stored D → List (Command × ℕ) → Stored D → Type 0
+Recovers device old commands new = (s : Source) → Holds device old s → LeavesPrefixes device old s commands new
+
+-- Whatever was asked in turn: a stop leaves what the first of the counted commands make.
+abbrev pub RunsRecover : {D : Type 0} → (D → DiskState) → Type 0
+RunsRecover {D} device = (old new : Stored D) (commands : List (Command × ℕ)) → IsRunOf device old commands new → Recovers device old commands new
+
+-- A source that idles was asked nothing that counts.
+abbrev pub IdleIsRun : {D : Type 0} → (D → DiskState) → Type 0
+IdleIsRun {D} device = (old new : Stored D) → IsIdle device old new → IsRunOf device old [] new
+
+-- One command, answered as it may be.
+abbrev pub CommandIsRun : {D : Type 0} → (D → DiskState) → Type 0
+CommandIsRun {D} device = (old new : Stored D) (command : Command) (now : ℕ) (reply : Result Reply Refusal)
+    → Answers device old new command now reply → IsRunOf device old (counted_as command now reply) new
+
+-- One run and then another.
+abbrev pub RunsJoin : {D : Type 0} → (D → DiskState) → Type 0
+RunsJoin {D} device = (old mid new : Stored D) (first then : List (Command × ℕ))
+    → IsRunOf device old first mid → IsRunOf device mid then new → IsRunOf device old (first ++ then) new

@@ -1,0 +1,52 @@
+-- Walks of a source: which events commands are by their answers, and what is left after them.
+use Rattle.std.specs.Prelude.{◌≡◌, ◌⊎◌, ℕ, Bool, false, List, [], ◌∷◌, Some, Result, Ok, Err, IsTrue}
+use Rattle.rs_disk.specs.Medium.{DiskState, IsImage}
+use Rattle.rs_model.specs.State.{Source}
+use Rattle.rs_model.specs.Step.{refusal_of}
+use Rattle.rs_model.specs.Walk.{walk_of}
+use Rattle.rs_model.specs.declared.command.Command.{Command}
+use Rattle.rs_model.specs.declared.command.Reply.{Reply}
+use Rattle.rs_model.specs.declared.command.Refusal as model
+use Rattle.rs_model.specs.declared.event.Event.{Event}
+use Rattle.rs_model.specs.declared.event.Event.TheVariants.{Tried, Refused, Stopped}
+use Rattle.rs_image.specs.StateOfImage.{StandsFor}
+use Rattle.rs_store.specs.Answered.{Answers}
+use Rattle.rs_store.specs.Refusals.{named_as}
+use Rattle.rs_store.specs.Source.{Stored, Holds}
+use Rattle.rs_store.specs.declared.refusal.Refusal.{Refusal}
+use Rattle.rs_store.specs.declared.refusal.Refusal.TheVariants.{Closed, Device}
+
+-- the model refuses the command in this state, by this name
+abbrev pub ModelRefuses : Source → Command → Refusal → Type 0
+ModelRefuses s command refusal = (reason : model.Refusal) × (refusal_of s command ≡ Some reason) × (named_as reason ≡ refusal)
+
+-- A command that was refused was tried, where the model refuses it so; else the machine refused it.
+abbrev pub RefusalEvents : Source → Command → ℕ → Refusal → List Event → Type 0
+RefusalEvents s command now refusal events =
+    (ModelRefuses s command refusal × (events ≡ Tried command now ∷ []))
+    ⊎ ((¬ ModelRefuses s command refusal) × (events ≡ Refused command ∷ []))
+
+-- The event that a command is in this state, by its answer. Accepted, it was tried; where the device failed, the source was
+-- stopped within it, and it stands or not.
+abbrev pub CommandEvents : Source → Command → ℕ → Result Reply Refusal → List Event → Type 0
+CommandEvents s command now (Ok reply) events = events ≡ Tried command now ∷ []
+CommandEvents s command now (Err Device) events = (stands : Bool) × (events ≡ Stopped command now stands ∷ [])
+CommandEvents s command now (Err refusal) events = RefusalEvents s command now refusal events
+
+-- A walk of such events leaves this of a source that held a state.
+-- `held`: where it is open, it holds the state after such a walk.
+-- `at_exit`: each image of its disk stands for the state after such a walk.
+pub record LeavesWalk {D : Type 0} (device : D → DiskState) (s : Source) (AreEvents : List Event → Type 0) (new : Stored D) : Type 0 where
+  pub held : new.is_closed ≡ false → (events : List Event) × AreEvents events × Holds device new (walk_of s events)
+  pub at_exit : (image : List ℕ) → IsImage (device new.disk).now image → (events : List Event) × AreEvents events × StandsFor image (walk_of s events)
+
+-- A command of a source that holds a state leaves a walk of the one event that it is.
+abbrev pub CommandsMakeWalks : {D : Type 0} → (D → DiskState) → Type 0
+CommandsMakeWalks {D} device = (old new : Stored D) (s : Source) (command : Command) (now : ℕ) (result : Result Reply Refusal)
+    → Holds device old s → Answers device old new command now result → LeavesWalk device s (CommandEvents s command now result) new
+
+-- A closed source refuses each command by a refusal of the machine, and nothing changes.
+abbrev pub ClosedCommandsAreRefused : {D : Type 0} → (D → DiskState) → Type 0
+ClosedCommandsAreRefused {D} device = (old new : Stored D) (s : Source) (command : Command) (now : ℕ) (result : Result Reply Refusal)
+    → IsTrue old.is_closed → Answers device old new command now result
+    → (result ≡ Err Closed) × (new ≡ old) × CommandEvents s command now result (Refused command ∷ [])

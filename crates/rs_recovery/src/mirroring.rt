@@ -1,0 +1,19 @@
+//! The law of a destination that asks sources of several sessions.
+
+ghost use Rattle.rs_recovery.specs.Mirrored.{SessionsAreMirrored};
+
+use crate::laws::sessions_stand;
+use rs_caps::laws::destination::destination_mirrors;
+use rs_disk::Disk;
+
+/// Whatever the stops between sessions, commands of each stand so that this holds of a destination that asks for the
+/// Resource List and then for the Change List, each with the parts that its head names, and each document in whatever
+/// session: what it gathers and mirrors is what was held after the first of the commands that stand. All are among
+/// these that were behind the source as the Change List's head was asked, and none that was not yet behind it at
+/// the last.
+pub fn sessions_are_mirrored<D: Disk>()
+    ensures { SessionsAreMirrored D.state }
+{
+    destination_mirrors();
+    sessions_stand::<D>();
+}
