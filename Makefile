@@ -5,7 +5,8 @@
 #   make build    builds the proved program
 #   make rows     runs the worked rows of examples/rows on the proved program
 #   make bench    measures speed (docs/BENCH.md has figures; it needs wrk, lighttpd and python3-lmdb of Debian)
-#   make memory   refuses each growth of memory of the program in turn
+#   make memory   refuses each growth of memory of the program in turn, in scripts and in requests
+#   make ends     makes each read and each write of scripts and requests fail in turn ('make test' has a short form)
 #   make mirror   mirrors sources that change and are killed meanwhile, ROUNDS=200 of them ('make test' has three)
 #   make operate  looks at what is installed beside the program: the page, the units, the site (mandoc, systemd-analyze, strace, nginx, openssl)
 #   make pictures draws the pictures of docs/ anew, from runs of the proved program
@@ -29,7 +30,7 @@ AT = $(DESTDIR)$(PREFIX)
 # How many checks go side by side: one a processor, with 3 GB of free memory for each.
 LANES ?= $(shell awk -v processors=$$(nproc) '/^MemAvailable:/ { fit = int($$2 / 3000000); print fit < 1 ? 1 : fit < processors ? fit : processors }' /proc/meminfo)
 
-.PHONY: demo test edits build rows bench memory crash hostile mirror operate pictures install uninstall
+.PHONY: demo test edits build rows bench memory ends crash hostile mirror operate pictures install uninstall
 
 # `rt try` builds without proving: quick, and no more than an unproved build.
 demo:
@@ -62,6 +63,9 @@ bench: build
 
 memory: build
 	@python3 examples/check_memory.py
+
+ends: build
+	@python3 examples/check_ends.py
 
 crash: build
 	@python3 examples/crash.py

@@ -6,23 +6,37 @@ memory, for N from 1 until none is left to refuse (`cc` builds that library into
 refused
   - before the script begins, the program writes nothing and ends with `rs_source: NoMemory` and status 1, or with
     `rs_source: Device` where it was the disk's note of a write;
-  - within a line, exactly that line is answered `refused NoMemory`, and all other lines as in a run of the script
-    without it: so nothing was changed, and later lines work;
+  - within a line, exactly that line is answered `refused NoMemory`, and all other lines as if the script were without
+    it: so nothing was changed, and later lines work;
   - for the disk's note of a write, that line is answered `refused Device`, all lines before it as ever, and each later
-    line that asks the source `refused Closed`.
-The script has every line and every document, bodies that grow, and bad lines. It is given at once, and in pieces of
-7 bytes and of one byte. Exit status 1 where anything differs.
+    line that asks the source `refused Closed`;
+  - within a request, its response is 503 NoMemory, or none where there is no memory to begin; the next request finds
+    nothing changed, and the same request is then answered as ever.
+What is answered else is a plain reading of docs/SCRIPT.md and docs/HTTP.md (line_judge.py, request_judge.py). A long
+script has every line and every document, bodies that grow, and bad lines; it is given at once, and in pieces of 7 bytes
+and of one byte. The worked rows of scripts and of requests whose ends check_ends.py makes fail are given at once.
+
+usage: check_memory.py [PROGRAM]     the built program, where none is given
+Exit status 1 where anything differs.
 """
 import os
-import pathlib
 import subprocess
 import sys
 import tempfile
 import threading
 import time
 
-ROOT = pathlib.Path(__file__).resolve().parent.parent
-PROGRAM = [str(ROOT / "crates" / "rs_source" / "out" / "rs_source"), "mem", "65536", "http://127.0.0.1:8080", "2"]
+import check_edges
+import crash_model
+import line_judge
+from check_rows import CLOCK, MEMORY, PROGRAM, interposed
+from ends_of_requests import LOOK, Model, exchanges, told
+from ends_of_scripts import ROWS_OF_SCRIPTS, Script
+from front_model import Source
+from request_judge import CONTINUE, date_of, response
+from served_source import exchanged
+
+SIZE, BASE, LIMIT = int(MEMORY[1]), MEMORY[2], int(MEMORY[3])
 REFUSED = b"refused NoMemory\n"
 FAILED = b"refused Device\n"
 CLOSED = b"refused Closed\n"
@@ -88,17 +102,22 @@ def feed(pipe, data, piece):
     pipe.close()
 
 
-def run(lines, piece, shim="", refused_at=0):
+def run(program, lines, piece, shim, refused_at):
     """Status, standard output and standard error."""
     data = b"".join(line + b"\n" for line in lines)
-    extra = {"LD_PRELOAD": shim, "REFUSED_AT": str(refused_at)} if shim else {}
-    with subprocess.Popen(PROGRAM, stdin=subprocess.PIPE, stdout=subprocess.PIPE, stderr=subprocess.PIPE,
-                          env=os.environ | extra) as program:
-        feeder = threading.Thread(target=feed, args=(program.stdin, data, piece or len(data)))
+    with subprocess.Popen([program, *MEMORY], stdin=subprocess.PIPE, stdout=subprocess.PIPE, stderr=subprocess.PIPE,
+                          env=shim | {"REFUSED_AT": str(refused_at)}) as child:
+        feeder = threading.Thread(target=feed, args=(child.stdin, data, piece or len(data)))
         feeder.start()
-        output, error = program.stdout.read(), program.stderr.read()
+        output, error = child.stdout.read(), child.stderr.read()
         feeder.join()
-    return program.returncode, output, error
+    return child.returncode, output, error
+
+
+def usual(lines):
+    """The answer to each line where no growth is refused."""
+    judge = line_judge.Judge(Source(crash_model.State(BASE, LIMIT), SIZE))
+    return [judge.answer(it) for it in lines]
 
 
 def answers(output):
@@ -113,7 +132,7 @@ def answers(output):
     return found
 
 
-def wrong(result, clean, piece):
+def wrong(lines, result):
     """What is wrong with a run, or nothing."""
     status, output, error = result
     if status == 1 and error in (b"rs_source: NoMemory\n", b"rs_source: Device\n"):
@@ -122,40 +141,119 @@ def wrong(result, clean, piece):
         return f"status {status}, {error}"
     given = answers(output)
     refused = [i for i, answer in enumerate(given) if answer == REFUSED]
-    if len(given) != len(LINES) or len(refused) > 1:
+    if len(given) != len(lines) or len(refused) > 1:
         return f"{len(given)} answers, refused {refused}"
     if FAILED in given:
         place = given.index(FAILED)
-        usual = answers(clean)
-        wanted = usual[:place] + [FAILED] + [answer if answer in UNASKED else CLOSED for answer in usual[place + 1:]]
+        whole = usual(lines)
+        before, behind = whole[:place], whole[place + 1:]
+        wanted = before + [FAILED] + [answer if answer in UNASKED else CLOSED for answer in behind]
         return given != wanted and f"other answers around the fault in line {place}"
     if not refused:
-        return output != clean and "other answers, and none refused"
+        return given != usual(lines) and "other answers, and none refused"
     place = refused[0]
-    without = run(LINES[:place] + LINES[place + 1:], piece)[1]
-    return answers(without) != given[:place] + given[place + 1:] and f"other answers around line {place}"
+    without = usual(lines[:place] + lines[place + 1:])
+    return without != given[:place] + given[place + 1:] and f"other answers around line {place}"
+
+
+def passing():
+    """What is wrong and not noticed: answers of a program that goes on otherwise behind a refused growth."""
+    whole = usual(LINES)
+    place = next(i for i, it in enumerate(whole) if it.startswith(b"created"))
+    right = usual(LINES[:place] + LINES[place + 1:])
+    made = {
+        "a refused line is done": [*whole[:place], REFUSED, *whole[place + 1:]],
+        "a refused line has no answer": right,
+        "two lines are refused": [*right[:place], REFUSED, REFUSED, *right[place + 1:]],
+        "a failed line closes nothing": [*whole[:place], FAILED, *whole[place + 1:]],
+        "an answer is left out": whole[:-1],
+    }
+    found = [name for name, it in made.items() if not wrong(LINES, (0, b"".join(it), b""))]
+    is_right = not wrong(LINES, (0, b"".join([*right[:place], REFUSED, *right[place:]]), b""))
+    return found + ([] if is_right else ["the right answers, which are as they have to be"])
+
+
+def refuse_in_script(program, shim, name, lines, piece):
+    """Refuses each growth of a run of a script. Gives how many answers are wrong."""
+    clean, faults, refused_at, quiet, within, noted = b"".join(usual(lines)), 0, 0, 0, 0, 0
+    # Sixty growths that nobody asked for, one after another: none is left to refuse.
+    while quiet < 60:
+        refused_at += 1
+        result = run(program, lines, piece, shim, refused_at)
+        quiet = quiet + 1 if result[1] == clean else 0
+        within, noted = within + (REFUSED in result[1]), noted + (FAILED in result[1])
+        if found := wrong(lines, result):
+            faults += 1
+            print(f"{name}, growth {refused_at}, pieces of {piece or 'all'}: {found}")
+    what = f"{name}, pieces of {piece or 'all'}"
+    counts = f"{within} of them within a line and {noted} of the disk's notes"
+    print(f"{what}: {refused_at - 60} growths refused in turn, {counts}", flush=True)
+    return faults + (within == 0) + (noted == 0)
+
+
+def no_memory(model, sent):
+    """What a request is answered for want of memory: no response, or the refusal, behind the word to go on or alone."""
+    waits = model.peeked(sent).startswith(CONTINUE)
+    it = response(503, date_of(CLOCK), "text/plain", b"NoMemory\n", is_head=sent.startswith(b"HEAD "))
+    return {b"", it, CONTINUE + it} if waits else {b"", it}
+
+
+def refuse_in_request(program, room, state, sent, growth):
+    """Refuses a growth while a request, a look and the request again are answered. Gives the answers refused, and a fault."""
+    model, refused = Model(state), []
+    with check_edges.served(program, room, 3, GROWTH_REFUSED_AT=str(growth)) as (port, _):
+        for place, it in enumerate([sent, LOOK, sent]):
+            found, _ = exchanged(port, [it])
+            if found == model.peeked(it):
+                model.answer(it)
+            elif not refused and found in no_memory(model, it):
+                refused.append(place)
+            else:
+                return refused, f"request {place} is answered {found!r}, refused before {refused}"
+    return refused, None
+
+
+def refuse_in_requests(program, room):
+    """Refuses each growth of each request, on a file on which those before it were done. Gives how many answers are wrong."""
+    file = os.path.join(room, check_edges.formatted(program, room))
+    model, faults = Model(crash_model.State(BASE, LIMIT)), 0
+    for sent, _ in exchanges():
+        with open(file, "rb") as it:
+            kept = it.read()
+        growth, quiet, within = 0, 0, 0
+        # Six growths in a row that are those of the requests behind it, or nobody's.
+        while quiet < 6:
+            growth += 1
+            with open(file, "wb") as it:
+                it.write(kept)
+            refused, fault = refuse_in_request(program, room, model.source.state, sent, growth)
+            within, quiet = within + (refused == [0]), 0 if refused == [0] else quiet + 1
+            if fault:
+                faults += 1
+                print(f"{told(sent)}, growth {growth}: {fault}")
+        print(f"{told(sent)}: {within} growths refused in turn", flush=True)
+        faults += within == 0
+        with open(file, "wb") as it:
+            it.write(kept)
+        with check_edges.served(program, room, 1) as (port, _):
+            faults += exchanged(port, [sent])[0] != model.answer(sent)
+    return faults
 
 
 def main():
-    with tempfile.TemporaryDirectory() as folder:
-        source, shim = pathlib.Path(folder, "shim.c"), str(pathlib.Path(folder, "shim.so"))
-        source.write_text(SHIM)
-        subprocess.run(["cc", "-O1", "-shared", "-fPIC", "-o", shim, str(source)], check=True)
-        faults = 0
-        for piece in (0, 7, 1):
-            clean = run(LINES, 0)[1]
-            refused_at, quiet, lines = 0, 0, 0
-            # Sixty growths that nobody asked for, one after another: none is left to refuse.
-            while quiet < 60:
-                refused_at += 1
-                result = run(LINES, piece, shim, refused_at)
-                quiet = quiet + 1 if result[1] == clean else 0
-                lines += REFUSED in result[1] or FAILED in result[1]
-                if found := wrong(result, clean, piece):
-                    faults += 1
-                    print(f"growth {refused_at}, pieces of {piece or 'all'}: {found}")
-            print(f"pieces of {piece or 'all'}: {refused_at - 60} growths refused in turn, {lines} of them within a line")
-    sys.exit(1 if faults else 0)
+    program = os.path.abspath(sys.argv[1] if len(sys.argv) > 1 else PROGRAM)
+    with tempfile.TemporaryDirectory() as room:
+        shim = interposed(room, "refusing", SHIM)
+        faults = sum(refuse_in_script(program, shim, "each line", LINES, piece) for piece in (0, 7, 1))
+        for name in ROWS_OF_SCRIPTS:
+            faults += refuse_in_script(program, shim, name, Script(name).lines, 0)
+        faults += refuse_in_requests(program, room)
+    for it in passing():
+        faults += 1
+        print(f"not noticed: {it}")
+    print(f"memory: {faults} wrong")
+    return 1 if faults else 0
 
 
-main()
+if __name__ == "__main__":
+    sys.exit(main())
