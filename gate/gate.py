@@ -8,8 +8,8 @@
     older than its crate fails the gate;
   - on the program that the copy proved and built: the worked rows, its calls of the system, its edges, its growths of
     memory at an opening, the documents read by tools that are not ours, the pages that it leaves on a file, the blocks that it takes, the tour, mirrors of
-    sources that are killed meanwhile, folders that are published, the images of crashes at its calls on a file,
-    hostile disks;
+    sources that are killed meanwhile, folders that are published, the sizes of disks, the pictures of docs/, what is installed
+    beside it, the images of crashes at its calls on a file, hostile disks, lines and requests, ends that fail;
   - the tests of the gate itself, the layout of the files, and the list of proofs by hand.
 
 N counts crates, edits and the other parts. The minutes of a processor of each part are told before.
@@ -32,7 +32,9 @@ from meter import Meter
 
 ROOT = Path(__file__).resolve().parent.parent
 # What is looked at on the proved program: examples/check_NAME.py for each.
-CHECKS = ["rows", "calls", "edges", "growths", "documents", "pages", "kept", "tour", "mirror", "folder"]
+CHECKS = ["rows", "calls", "edges", "growths", "documents", "pages", "kept", "tour", "mirror", "folder", "sizes", "pictures", "install"]
+# And those that have a short form: examples/NAME.py for each.
+SHORT = ["crash", "hostile", "hostile_lines", "hostile_requests", "check_ends"]
 
 
 def copied(room):
@@ -151,7 +153,7 @@ def main():
             parts.run("must-fail edits", lambda: some_edits(copy))
             for name in CHECKS:
                 parts.run(name, script(copy / "examples" / f"check_{name}.py"))
-            for name in ("crash", "hostile"):
+            for name in SHORT:
                 parts.run(name, script(copy / "examples" / f"{name}.py", "--short"))
         tell(parts, meter, started)
     for it in parts.failed:

@@ -1,7 +1,7 @@
 """What the crates below say to a crate: of their texts the items that its own words lead to.
 
 The source texts of the crates below are taken without bodies, comments and tests, an item at a time: a function with its
-clauses, a type, an `impl` by the words of its head, an import by what it brings in. Of their specs a file is an item, by the name of
+clauses, a type, an `impl` by the words of its head and without its private methods, an import by what it brings in. Of their specs a file is an item, by the name of
 its module. An item is said to a crate if one of the item's names is a word of the crate's own texts, or of another item that is
 said to it; an import of a file also needs another item of that file that is said. So a change of an item that nothing of a crate
 leads to changes nothing that its proofs or edits rest on.
@@ -62,6 +62,20 @@ def names_of(item):
     return frozenset(filter(None, NAMED.search(code).groups())) if NAMED.search(code) else frozenset()
 
 
+def is_private(method):
+    """Whether a part of an `impl` is a method that no other crate can name."""
+    begins = re.search(r"\bfn\b", source.blanked(method))
+    return bool(begins and not re.search(r"\bpub\s", method[: begins.start()]))
+
+
+def shown(item):
+    """An item as the crates above see it: the `impl` of a type without its private methods."""
+    head = re.match(r"impl\b([^{]*)\{", source.blanked(item))
+    if not head or re.search(r"\bfor\b", head[1]) or not item.endswith("}"):
+        return item
+    return " ".join([item[: head.end()], *(it for it in split(item[head.end() : -1]) if not is_private(it)), "}"])
+
+
 def is_import(item):
     """Whether an item of a source text brings something in for its file alone."""
     brought = IMPORT.match(item)
@@ -72,7 +86,7 @@ def items_in(file, label):
     """The items of a text of a crate."""
     text = file.read_text()
     if file.suffix == ".rt":
-        return [Item(label, names_of(it), it, is_import(it)) for it in split(source.outline(text))]
+        return [Item(label, names_of(it), shown(it), is_import(it)) for it in split(source.outline(text))]
     if file.name == "Lib.antt":
         return [Item(label, frozenset(WORD.findall(it)) - {"pub", "mod"}, it) for it in text.splitlines() if it.strip()]
     return [Item(label, frozenset({file.stem}), text)]
