@@ -63,19 +63,29 @@ def timed(command):
     return time.perf_counter() - start
 
 
+def built(folder):
+    """The program, proved and built in this folder."""
+    root = pathlib.Path(folder)
+    shutil.copytree(ROOT / "crates" / "rs_fixity", root / "crates" / "rs_fixity")
+    crate = root / "crates" / "hashing"
+    (crate / "src").mkdir(parents=True)
+    (crate / "src" / "main.rt").write_text(PROGRAM)
+    lines = [l for l in (ROOT / "crates.txt").read_text().split("\n") if l.startswith("rs_fixity")]
+    (root / "crates.txt").write_text("\n".join(lines + ["hashing: rs_fixity md5 sha2"]) + "\n")
+    subprocess.run(["rt", "run"], cwd=crate, stdout=subprocess.DEVNULL, stderr=subprocess.DEVNULL, check=True)
+    return str(crate / "out" / "hashing")
+
+
+def once(program, *words):
+    """How long 16 MiB take: both digests in pieces (`pieces`), both of the whole (no word), SHA-256 alone (`sha256`, `alone`)."""
+    return timed([program, *words]) / 8
+
+
 def seconds():
-    """How long 16 MiB take: both digests in pieces, both of the whole, SHA-256 alone."""
+    """The least of five times for each of the three."""
     with tempfile.TemporaryDirectory() as folder:
-        root = pathlib.Path(folder)
-        shutil.copytree(ROOT / "crates" / "rs_fixity", root / "crates" / "rs_fixity")
-        crate = root / "crates" / "hashing"
-        (crate / "src").mkdir(parents=True)
-        (crate / "src" / "main.rt").write_text(PROGRAM)
-        lines = [l for l in (ROOT / "crates.txt").read_text().split("\n") if l.startswith("rs_fixity")]
-        (root / "crates.txt").write_text("\n".join(lines + ["hashing: rs_fixity md5 sha2"]) + "\n")
-        subprocess.run(["rt", "run"], cwd=crate, stdout=subprocess.DEVNULL, stderr=subprocess.DEVNULL, check=True)
-        built = str(crate / "out" / "hashing")
-        return [min(timed([built, *words]) for _ in range(5)) / 8 for words in (["pieces"], [], ["sha256", "alone"])]
+        program = built(folder)
+        return [min(once(program, *words) for _ in range(5)) for words in (["pieces"], [], ["sha256", "alone"])]
 
 
 def main():

@@ -1,12 +1,15 @@
 #!/usr/bin/env python3
-"""GETs on loopback, one connection each, beside lighttpd (one thread) on the same machine; and a PUT and a GET of 16 MiB beside the kit's own hashing.
+"""GETs on loopback, one connection each, beside lighttpd (one thread) on the same machine; and PUTs and GETs of 16 MiB to a client on
+a bare socket, each ten times in turn with the kit's own hashing, of which the medians are told.
 
-Needs Debian's wrk and lighttpd.
+Needs Debian's wrk and lighttpd. ROOM in the environment is the folder for the source's file: /dev/shm shows what is left without the disk's syncs.
 """
 import http.client
 import os
 import pathlib
 import re
+import socket
+import statistics
 import subprocess
 import sys
 import tempfile
@@ -17,6 +20,7 @@ import hashing
 PROGRAM = pathlib.Path(__file__).resolve().parent.parent / "crates/rs_source/out/rs_source"
 LENGTHS = (100, 4096, 65_536)
 SECONDS = 5
+LARGE, TIMES = 16 << 20, 10
 
 
 def serve(file, count):
@@ -64,28 +68,43 @@ def loads(room, file):
         other.wait()
 
 
-def big(file):
-    server, port = serve(file, 2)
-    data = os.urandom(16 << 20)
-    began = time.monotonic()
-    assert ask(port, "PUT", "/resource/big", data)[0] == 201
-    put = time.monotonic() - began
-    began = time.monotonic()
-    assert ask(port, "GET", "/resource/big") == (200, data)
-    get = time.monotonic() - began
+def raw(port, *pieces):
+    """The seconds from a request, in pieces, to the end of its response, and the response."""
+    found = bytearray(LARGE + 4_096)
+    with socket.create_connection(("127.0.0.1", port)) as connection:
+        began, n = time.perf_counter(), 0
+        for piece in pieces:
+            connection.sendall(piece)
+        while come := connection.recv_into(memoryview(found)[n:]):
+            n += come
+        return time.perf_counter() - began, bytes(found[:n])
+
+
+def big(file, hasher):
+    """PUTs and GETs in turn with the hashing, so that what else the machine does meets both alike."""
+    server, port = serve(file, 2 * TIMES)
+    data, rows = os.urandom(LARGE), []
+    head = f"PUT /resource/big HTTP/1.1\r\nHost: a\r\nContent-Length: {LARGE}\r\n\r\n".encode()
+    for _ in range(TIMES):
+        put, found = raw(port, head, data)
+        assert found[9:12] in (b"201", b"204"), found[:80]
+        get, found = raw(port, b"GET /resource/big HTTP/1.1\r\nHost: a\r\n\r\n")
+        assert found.endswith(data)
+        rows.append((put, hashing.once(hasher), get, hashing.once(hasher, "sha256", "alone")))
     server.wait()
-    _, both, sha256 = hashing.seconds()
-    print(f"16 MiB: PUT {1000 * put:.0f} ms, {put / both:.1f} times the kit's MD5 and SHA-256 over it ({1000 * both:.0f} ms)")
-    print(f"16 MiB: GET {1000 * get:.0f} ms, {get / sha256:.1f} times the kit's SHA-256 over it ({1000 * sha256:.0f} ms)")
+    put, both, get, sha256 = (statistics.median(column) for column in zip(*rows))
+    for name, took, than, least in (("PUT", put, "MD5 and SHA-256", both), ("GET", get, "SHA-256", sha256)):
+        print(f"16 MiB: {name} {1000 * took:.0f} ms, {took / least:.2f} times the kit's {than} over it ({1000 * least:.0f} ms)")
 
 
 def main():
-    with tempfile.TemporaryDirectory() as room:
+    with tempfile.TemporaryDirectory(dir=os.environ.get("ROOM")) as room:
         os.chmod(room, 0o755)
         file = f"{room}/source"
         subprocess.run([str(PROGRAM), "format", file, str(64 << 20), "http://a", "1000"], check=True, capture_output=True)
         loads(room, file)
-        big(file)
+        os.makedirs(f"{room}/hashing")
+        big(file, hashing.built(f"{room}/hashing"))
     return 0
 
 

@@ -212,6 +212,8 @@ impl<W: Write> Watched<W> {
         ensures fault { OnErr result (FailedWithin W.contents self.old self.new
             (flat_map (λ piece. piece.now) pieces.now)) }
         ensures failed { OnErr result (EndFailed self.old self.new) }
+        ensures unflushed { 0 < length pieces.now → is_flushed self.new ≡ false }
+        ensures untouched { pieces.now ≡ [] → is_flushed self.new ≡ is_flushed self.old }
     {
         for piece in pieces {
             self.put(piece)?;
