@@ -1,7 +1,8 @@
--- What the page rule gives for 130 names and changes.
+-- What the page rule gives for 130 names and changes, and what is left of these without the first of them.
 use Rattle.std.specs.Prelude.{◌≡◌, ℕ, zero, suc, ◌+◌, ◌/◌, ◌%◌, List, [], ◌∷◌, length, map, take, drop, refl}
 use Rattle.rs_page.specs.Pages.{Page}
 use Rattle.rs_pages.specs.Rule.{touched, bound_in, appended_to}
+use Rattle.rs_pages.specs.Dropped.{dropped_front}
 
 -- `n000`, `n001`, ..
 abbrev name_at : ℕ → List ℕ
@@ -42,3 +43,27 @@ names_up_to from (suc n) = name_at from ∷ names_up_to (from + 1) n
 
 older_page : lengths (bound_in (λ t. t) (name_at 129) (touched (names_up_to 0 129) ∷ [])) ≡ 32 ∷ 32 ∷ 32 ∷ 34 ∷ []
 older_page = refl
+
+-- pages of 64, 64 and 2 items without the first 70 of these: what is left of the second one is a page, and the last one stays
+abbrev three_pages : List (Page (List ℕ))
+three_pages = touched (names_up_to 0 64) ∷ touched (names_up_to 64 64) ∷ touched (names_up_to 128 2) ∷ []
+
+part_dropped : dropped_front 70 three_pages ≡ touched (names_up_to 70 58) ∷ touched (names_up_to 128 2) ∷ []
+part_dropped = refl
+
+-- without the first one, all and none
+page_dropped : dropped_front 64 three_pages ≡ touched (names_up_to 64 64) ∷ touched (names_up_to 128 2) ∷ []
+page_dropped = refl
+
+all_dropped : dropped_front 130 three_pages ≡ []
+all_dropped = refl
+
+none_dropped : dropped_front 0 three_pages ≡ three_pages
+none_dropped = refl
+
+-- the changes of pages of 64, 64 and 2, and a page of 200 items without the first 3 of these
+changes_dropped : lengths (dropped_front 70 (appended_up_to 130)) ≡ 58 ∷ 2 ∷ []
+changes_dropped = refl
+
+older_dropped : lengths (dropped_front 3 (touched (names_up_to 0 200) ∷ [])) ≡ 64 ∷ 64 ∷ 64 ∷ 5 ∷ []
+older_dropped = refl

@@ -22,3 +22,5 @@ pub mod FilledAt
 pub mod FoundEntries
 pub mod ByEntry
 pub mod LoadedBeside
+pub mod CutFull
+pub mod Dropped

@@ -7,3 +7,4 @@ pub mod Filled
 pub mod Changed
 pub mod Entries
 pub mod Beside
+pub mod Dropped

@@ -4,6 +4,7 @@
 //! new one, in which all pages but the one that was touched are the same. Where an item goes, and
 //! how a touched page is cut into pages of at most 64 items, is a function on lists of pages in
 //! `specs/Rule.antt`, and the contracts say that the new list is exactly it.
+//! [`Pages::without_front`] makes one without the first items, by `specs/Dropped.antt`.
 //! [`Pages::fill`] and [`Pages::fill_last`] change an item where it stands, in a page that is not
 //! on the disk. [`Pages::place_touched`] and [`Pages::store_touched`] bring the pages onto the disk,
 //! and [`Pages::load`] reads them back, up to 50,000 items; [`Pages::pages`], [`Pages::entry_for`] and
@@ -11,6 +12,7 @@
 #![tactic(auto)]
 
 mod beside;
+mod dropping;
 mod entries;
 mod filling;
 pub mod laws;

@@ -8,6 +8,8 @@
 #[cfg(test)]
 mod directories;
 #[cfg(test)]
+mod dropping;
+#[cfg(test)]
 mod images;
 #[cfg(test)]
 mod lists;

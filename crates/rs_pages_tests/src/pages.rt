@@ -48,7 +48,7 @@ fn replace_first(rt: &impl Abort, page: &mut Page<Change>, change: Change) {
 }
 
 // Stores a page that was given blocks of the disk.
-fn store(
+pub(super) fn store(
     rt: &(impl Abort + AllocGlobal),
     page: &mut Page<Change>,
     disk: &mut MemoryDisk,

@@ -1,0 +1,217 @@
+-- A list of pages without its first items.
+use Rattle.std.proofs.Common.{◌≡◌, ℕ, zero, suc, ◌-◌, ◌<◌, ◌≤◌, List, [], ◌∷◌, ◌++◌, length, get_or, take, drop, map, Bool, true, false, cond, refl, sym, ap, ◌∙◌, subst, inl, inr, arith}
+use Rattle.std.specs.Prelude.{nat_le, is_some, All}
+use Rattle.std.specs.List.{AllByRecursion}
+use Rattle.std.proofs.lemmas.List.{append-nil, length-append, take_rest, drop-append-le}
+use Rattle.std.proofs.lemmas.List.Concat.{flat_map-append}
+use Rattle.std.proofs.lemmas.List.Elements.{All-cons, All-tail}
+use Rattle.std.proofs.lemmas.Bool.Decides.{nat_tests}
+use Rattle.rs_page.specs.Pages.{Page, items_of, placed_extent, placed_extents, stored_ref}
+use Rattle.rs_page.specs.SharedPages.{IsSublist, stored_pages}
+use Rattle.rs_pages.specs.Rule.{touched, HaveItems, items_at}
+use Rattle.rs_pages.specs.Laws.{IsFreshPage}
+use Rattle.rs_pages.specs.Dropped.{cut_full, full_pages, dropped_front, TouchesFew, DropsAsOne, DroppingKeeps, DroppingHasItems, DroppingTouchesFew}
+use Rattle.rs_pages.proofs.Cut.{IsFitting}
+use Rattle.rs_pages.proofs.CutFull.{items_of-full, full_fit}
+use Rattle.rs_pages.proofs.AtHome.{have_both}
+use Rattle.rs_pages.proofs.Touched.{rest_none}
+
+-- what holds of each of two lists of pages holds of the one that is taken
+either : {A : Type 0} (P : A → Type 0) (b : Bool) (x y : A) → (b ≡ true → P x) → (b ≡ false → P y) → P (cond b x y)
+either P true x y h k = h refl
+either P false x y h k = k refl
+
+is_whole : (a b : ℕ) → nat_le a b ≡ true → a ≤ b
+is_whole a b h = grind (arith, nat_tests)
+
+is_cut : (a b : ℕ) → nat_le a b ≡ false → b < a
+is_cut a b h = grind (arith, nat_tests)
+
+cut_in : (a b : ℕ) → b < a → nat_le a b ≡ false
+cut_in a b h = grind (arith, nat_tests)
+
+drop_all : {A : Type 0} (n : ℕ) (xs ys : List A) → length xs ≤ n → drop n (xs ++ ys) ≡ drop (n - length xs) ys
+drop_all n [] ys h = ap (λ (k : ℕ). drop k ys) (omega arith)
+drop_all zero (x ∷ xs) ys h = absurd (omega arith)
+drop_all (suc n) (x ∷ xs) ys h = drop_all n xs ys (omega arith) ∙ ap (λ (k : ℕ). drop k ys) (omega arith)
+
+-- parts of a list
+itself : {A : Type 0} (xs : List A) → IsSublist xs xs
+itself [] = tt
+itself (x ∷ xs) = inl (refl, itself xs)
+
+skip : {A : Type 0} (xs : List A) (y : A) (ys : List A) → IsSublist xs ys → IsSublist xs (y ∷ ys)
+skip [] y ys h = tt
+skip (x ∷ xs) y ys h = inr h
+
+skip_if : {A : Type 0} (y : A) (b : Bool) (xs ys : List A) → IsSublist xs ys → IsSublist xs (cond b (y ∷ ys) ys)
+skip_if y true xs ys h = skip xs y ys h
+skip_if y false xs ys h = h
+
+module _ {T : Type 0} where
+  abbrev Some : Page T → Type 0
+  Some page = 1 ≤ length page.items
+
+  -- full pages before others: their items, none of them on the disk, none with blocks, none empty
+  full_first : (items : List T) (pages : List (Page T)) → items_of (full_pages items ++ pages) ≡ items ++ items_of pages
+  full_first items pages = flat_map-append (λ page. page.items) (full_pages items) pages ∙ ap (λ xs. xs ++ items_of pages) (items_of-full items)
+
+  stored_behind : (cut : List (List T)) (pages : List (Page T)) → stored_pages (map touched cut ++ pages) ≡ stored_pages pages
+  stored_behind [] pages = refl
+  stored_behind (items ∷ cut) pages = stored_behind cut pages
+
+  stored_full : (items : List T) (pages : List (Page T)) → stored_pages (full_pages items ++ pages) ≡ stored_pages pages
+  stored_full [] pages = refl
+  stored_full (x ∷ xs) pages = stored_behind (cut_full (x ∷ xs)) pages
+
+  placed_behind : (cut : List (List T)) (pages : List (Page T)) → placed_extents (map touched cut ++ pages) ≡ placed_extents pages
+  placed_behind [] pages = refl
+  placed_behind (items ∷ cut) pages = placed_behind cut pages
+
+  placed_full : (items : List T) (pages : List (Page T)) → placed_extents (full_pages items ++ pages) ≡ placed_extents pages
+  placed_full [] pages = refl
+  placed_full (x ∷ xs) pages = placed_behind (cut_full (x ∷ xs)) pages
+
+  fresh_all : (cut : List (List T)) → AllByRecursion IsFitting (map touched cut) → All IsFreshPage (map touched cut)
+  fresh_all [] h = λ k d inside. absurd (omega arith)
+  fresh_all (items ∷ cut) h = All-cons IsFreshPage (touched items) (map touched cut) (tt, h.0.0, h.0.1) (fresh_all cut h.1)
+
+  fresh_full : (items : List T) → All IsFreshPage (full_pages items)
+  fresh_full [] = λ k d inside. absurd (omega arith)
+  fresh_full (x ∷ xs) = fresh_all (cut_full (x ∷ xs)) (full_fit (x ∷ xs))
+
+  some_of : (pages : List (Page T)) → AllByRecursion IsFitting pages → HaveItems pages
+  some_of [] h = λ k d inside. absurd (omega arith)
+  some_of (page ∷ pages) h = All-cons Some page pages h.0.0 (some_of pages h.1)
+
+  -- the laws
+  pub drops_as_one : DropsAsOne T
+  drops_as_one zero [] = refl
+  drops_as_one (suc n) [] = refl
+  drops_as_one zero (page ∷ pages) = refl
+  drops_as_one (suc n) (page ∷ pages) =
+      either (λ (new : List (Page T)). items_of new ≡ drop (suc n) (page.items ++ items_of pages)) (nat_le (length page.items) (suc n))
+      (dropped_front (suc n - length page.items) pages) (full_pages (drop (suc n) page.items) ++ pages)
+      (λ is. drops_as_one (suc n - length page.items) pages ∙ sym (drop_all (suc n) page.items (items_of pages) (is_whole (length page.items) (suc n) is)))
+      (λ is. let inside = is_cut (length page.items) (suc n) is in full_first (drop (suc n) page.items) pages ∙ sym (drop-append-le (suc n) page.items (items_of pages) (omega arith)))
+
+  kept : (n : ℕ) (pages : List (Page T)) → IsSublist (stored_pages (dropped_front n pages)) (stored_pages pages)
+  kept n [] = tt
+  kept zero (page ∷ pages) = itself (stored_pages (page ∷ pages))
+  kept (suc n) (page ∷ pages) =
+      skip_if page (is_some (stored_ref page.place)) (stored_pages (dropped_front (suc n) (page ∷ pages))) (stored_pages pages)
+      (either (λ (new : List (Page T)). IsSublist (stored_pages new) (stored_pages pages)) (nat_le (length page.items) (suc n))
+      (dropped_front (suc n - length page.items) pages) (full_pages (drop (suc n) page.items) ++ pages)
+      (λ is. kept (suc n - length page.items) pages)
+      (λ is. subst (λ (stored : List (Page T)). IsSublist stored (stored_pages pages)) (sym (stored_full (drop (suc n) page.items) pages)) (itself (stored_pages pages))))
+
+  none_placed : (n : ℕ) (pages : List (Page T)) → placed_extents pages ≡ [] → placed_extents (dropped_front n pages) ≡ []
+  none_placed n [] h = refl
+  none_placed zero (page ∷ pages) h = h
+  none_placed (suc n) (page ∷ pages) h =
+      let later = (rest_none (placed_extent page.place) (placed_extents pages) h).1 in
+      either (λ (new : List (Page T)). placed_extents new ≡ []) (nat_le (length page.items) (suc n))
+      (dropped_front (suc n - length page.items) pages) (full_pages (drop (suc n) page.items) ++ pages)
+      (λ is. none_placed (suc n - length page.items) pages later)
+      (λ is. placed_full (drop (suc n) page.items) pages ∙ later)
+
+  pub dropping_keeps : DroppingKeeps T
+  dropping_keeps n pages = (kept n pages, none_placed n pages)
+
+  pub dropping_has_items : DroppingHasItems T
+  dropping_has_items n [] h = h
+  dropping_has_items zero (page ∷ pages) h = h
+  dropping_has_items (suc n) (page ∷ pages) h =
+      let later = All-tail Some page pages h in
+      either HaveItems (nat_le (length page.items) (suc n))
+      (dropped_front (suc n - length page.items) pages) (full_pages (drop (suc n) page.items) ++ pages)
+      (λ is. dropping_has_items (suc n - length page.items) pages later)
+      (λ is. have_both (full_pages (drop (suc n) page.items)) pages (some_of (full_pages (drop (suc n) page.items)) (full_fit (drop (suc n) page.items))) later)
+
+  none_fresh : All (IsFreshPage {T = T}) []
+  none_fresh = λ k d inside. absurd (omega arith)
+
+  drop_none : (n : ℕ) → [] ≡ drop n (items_of {T = T} [])
+  drop_none zero = refl
+  drop_none (suc n) = refl
+
+  all_stay : (n : ℕ) (pages : List (Page T)) → TouchesFew n pages pages
+  all_stay n pages =
+      record { gone = []; cut = []; made = []; after = pages; was = refl; is = refl; whole = omega arith; one = omega arith; left = drop_none (n - 0); fresh = none_fresh }
+
+  first_goes : (n : ℕ) (page : Page T) (pages new : List (Page T)) → length page.items ≤ n → TouchesFew (n - length page.items) pages new → TouchesFew n (page ∷ pages) new
+  first_goes n page pages new whole rest =
+      let sizes = length-append page.items (items_of rest.gone) in
+      let within = rest.whole in
+      record {
+        gone = page ∷ rest.gone;
+        cut = rest.cut;
+        made = rest.made;
+        after = rest.after;
+        was = ap (λ later. page ∷ later) rest.was;
+        is = rest.is;
+        whole = omega (arith, sizes, within);
+        one = rest.one;
+        left = rest.left ∙ ap (λ (k : ℕ). drop k (items_of rest.cut)) (omega (arith, sizes, within));
+        fresh = rest.fresh;
+      }
+
+  first_cut : (n : ℕ) (page : Page T) (pages : List (Page T)) → TouchesFew n (page ∷ pages) (full_pages (drop n page.items) ++ pages)
+  first_cut n page pages =
+      record {
+        gone = [];
+        cut = page ∷ [];
+        made = full_pages (drop n page.items);
+        after = pages;
+        was = refl;
+        is = refl;
+        whole = omega arith;
+        one = omega arith;
+        left = items_of-full (drop n page.items) ∙ (ap (λ (k : ℕ). drop k page.items) (omega arith) ∙ ap (drop (n - 0)) (sym (append-nil page.items)));
+        fresh = fresh_full (drop n page.items);
+      }
+
+  pub dropping_touches_few : DroppingTouchesFew T
+  dropping_touches_few n [] = all_stay n []
+  dropping_touches_few zero (page ∷ pages) = all_stay 0 (page ∷ pages)
+  dropping_touches_few (suc n) (page ∷ pages) =
+      either (TouchesFew (suc n) (page ∷ pages)) (nat_le (length page.items) (suc n))
+      (dropped_front (suc n - length page.items) pages) (full_pages (drop (suc n) page.items) ++ pages)
+      (λ is. first_goes (suc n) page pages (dropped_front (suc n - length page.items) pages) (is_whole (length page.items) (suc n) is) (dropping_touches_few (suc n - length page.items) pages))
+      (λ is. first_cut (suc n) page pages)
+
+  -- one page as the code meets it
+  stay : (pages : List (Page T)) → dropped_front 0 pages ≡ pages
+  stay [] = refl
+  stay (page ∷ pages) = refl
+
+  cut_first : (n : ℕ) (page : Page T) (pages : List (Page T)) → 0 < n → n < length page.items → dropped_front n (page ∷ pages) ≡ full_pages (drop n page.items) ++ pages
+  cut_first zero page pages some h = absurd (omega arith)
+  cut_first (suc n) page pages some h =
+      ap (λ b. cond b (dropped_front (suc n - length page.items) pages) (full_pages (drop (suc n) page.items) ++ pages)) (cut_in (length page.items) (suc n) h)
+
+  page_cut : (n : ℕ) (pages : List (Page T)) (page : Page T) → 0 < n → n < length (items_at 0 pages) → page ≡ get_or pages 0 page
+      → full_pages (drop n page.items) ++ drop 1 pages ≡ dropped_front n pages
+  page_cut n [] page some h is = absurd (omega arith)
+  page_cut n (first ∷ pages) page some h is = ap (λ (it : Page T). full_pages (drop n it.items) ++ pages) is ∙ sym (cut_first n first pages some h)
+
+  -- what is left, as the code has it
+  pub stays_is : (n : ℕ) (pages left new : List (Page T)) → n ≡ 0 → left ≡ [] → new ≡ left ++ pages → new ≡ dropped_front n pages
+  stays_is n pages left new none is_left is_new =
+      is_new ∙ (ap (λ front. front ++ pages) is_left ∙ (sym (stay pages) ∙ ap (λ (k : ℕ). dropped_front k pages) (sym none)))
+
+  pub cut_is : (n : ℕ) (pages left mid new : List (Page T)) (page : Page T) (items cut : List T) → 0 < n → n < length (items_at 0 pages) → page ≡ get_or pages 0 page → items ≡ page.items
+      → cut ≡ take (length items - n) (drop n items) → left ≡ [] → mid ≡ left ++ full_pages cut → new ≡ mid ++ take (length pages - 1) (drop 1 pages) → new ≡ dropped_front n pages
+  cut_is n pages left mid new page items cut some h at is_items is_cut is_left is_mid is_new =
+      let rest : List (Page T) = take (length pages - 1) (drop 1 pages) in
+      is_new
+      ∙ (ap (λ front. front ++ rest) (is_mid ∙ ap (λ front. front ++ full_pages cut) is_left)
+      ∙ (ap (λ xs. full_pages xs ++ rest) (is_cut ∙ (take_rest items n ∙ ap (drop n) is_items))
+      ∙ (ap (λ later. full_pages (drop n page.items) ++ later) (take_rest pages 1) ∙ page_cut n pages page some h at)))
+
+  pub left_is : (n k m : ℕ) (pages first second new : List (Page T)) → first ≡ pages → second ≡ pages → dropped_front n first ≡ dropped_front m (drop k first)
+      → new ≡ dropped_front m (take (length second - k) (drop k second)) → new ≡ dropped_front n pages
+  left_is n k m pages first second new is_first is_second dropped is_new =
+      is_new
+      ∙ (ap (dropped_front m) (take_rest second k)
+      ∙ (ap (λ later. dropped_front m (drop k later)) (is_second ∙ sym is_first) ∙ (sym dropped ∙ ap (dropped_front n) is_first)))

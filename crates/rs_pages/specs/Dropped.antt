@@ -1,0 +1,59 @@
+-- What is left of a list of pages without its first items.
+use Rattle.std.specs.Prelude.{◌≡◌, ◌≤◌, ◌-◌, ℕ, zero, suc, All, cond, nat_le, List, [], ◌∷◌, ◌++◌, length, map, take, drop}
+use Rattle.rs_page.specs.Pages.{Page, items_of, placed_extents}
+use Rattle.rs_page.specs.SharedPages.{KeepsPages}
+use Rattle.rs_pages.specs.Rule.{touched, HaveItems}
+use Rattle.rs_pages.specs.Laws.{IsFreshPage}
+
+-- cut from the front into lists of 64, at most n times, until at most 64 are left
+abbrev pub cut_full_up_to : {T : Type 0} → ℕ → List T → List (List T)
+cut_full_up_to zero items = items ∷ []
+cut_full_up_to (suc n) items = cond (nat_le (length items) 64) (items ∷ []) (take 64 items ∷ cut_full_up_to n (drop 64 items))
+
+-- cut from the front into lists of 64, until at most 64 are left
+abbrev pub cut_full : {T : Type 0} → List T → List (List T)
+cut_full items = cut_full_up_to (length items) items
+
+-- the touched pages of 64 items that items are cut into, of which the last has the rest; there is no page of no items
+abbrev pub full_pages : {T : Type 0} → List T → List (Page T)
+full_pages [] = []
+full_pages (x ∷ xs) = map touched (cut_full (x ∷ xs))
+
+-- the pages without their first n items: a page whose items are all among them goes, what is left of the page in which the cut
+-- falls is cut into full pages, and all pages after it stay
+abbrev pub dropped_front : {T : Type 0} → ℕ → List (Page T) → List (Page T)
+dropped_front n [] = []
+dropped_front zero (page ∷ pages) = page ∷ pages
+dropped_front (suc n) (page ∷ pages) =
+    cond (nat_le (length page.items) (suc n)) (dropped_front (suc n - length page.items) pages) (full_pages (drop (suc n) page.items) ++ pages)
+
+-- The first pages of the old list go, all of whose items are among its first n. At most one page after them goes too, and what
+-- it has after the first n items comes in its place, in touched pages of 1 to 64 items. All other pages stay as they are.
+pub record TouchesFew {T : Type 0} (n : ℕ) (old new : List (Page T)) : Type 0 where
+  pub gone : List (Page T)
+  pub cut : List (Page T)
+  pub made : List (Page T)
+  pub after : List (Page T)
+  pub was : old ≡ gone ++ (cut ++ after)
+  pub is : new ≡ made ++ after
+  pub whole : length (items_of gone) ≤ n
+  pub one : length cut ≤ 1
+  pub left : items_of made ≡ drop (n - length (items_of gone)) (items_of cut)
+  pub fresh : All IsFreshPage made
+
+-- Through all pages, the first items are dropped as from one list.
+abbrev pub DropsAsOne : Type 0 → Type 0
+DropsAsOne T = (n : ℕ) (pages : List (Page T)) → items_of (dropped_front n pages) ≡ drop n (items_of pages)
+
+-- The pages on the disk are kept, and no page is given blocks.
+abbrev pub DroppingKeeps : Type 0 → Type 0
+DroppingKeeps T = (n : ℕ) (pages : List (Page T))
+    → KeepsPages pages (dropped_front n pages) × (placed_extents pages ≡ [] → placed_extents (dropped_front n pages) ≡ [])
+
+-- Where no page is empty, none is left empty.
+abbrev pub DroppingHasItems : Type 0 → Type 0
+DroppingHasItems T = (n : ℕ) (pages : List (Page T)) → HaveItems pages → HaveItems (dropped_front n pages)
+
+-- At most one page is made into touched ones.
+abbrev pub DroppingTouchesFew : Type 0 → Type 0
+DroppingTouchesFew T = (n : ℕ) (pages : List (Page T)) → TouchesFew n pages (dropped_front n pages)
