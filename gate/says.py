@@ -1,8 +1,8 @@
 """What the crates below say to a crate: of their texts the items that its own words lead to.
 
 The source texts of the crates below are taken without bodies, comments and tests, an item at a time: a function with its
-clauses, a type, an `impl` by the words of its head and without its private methods, an import by what it brings in. Of their specs a file is an item, by the name of
-its module. An item is said to a crate if one of the item's names is a word of the crate's own texts, or of another item that is
+clauses, a type, an `impl` by the words of its head, an import by what it brings in. A public method of a type's own `impl` is an item by itself,
+by its name, which who calls it has to write; no private one is said. Of their specs a file is an item, by the name of its module. An item is said to a crate if one of the item's names is a word of the crate's own texts, or of another item that is
 said to it; an import of a file also needs another item of that file that is said. So a change of an item that nothing of a crate
 leads to changes nothing that its proofs or edits rest on.
 """
@@ -69,11 +69,15 @@ def is_private(method):
 
 
 def shown(item):
-    """An item as the crates above see it: the `impl` of a type without its private methods."""
+    """The items that an item is to the crates above it, with their names: that of a type is one for each public method, and one for all else in it."""
     head = re.match(r"impl\b([^{]*)\{", source.blanked(item))
     if not head or re.search(r"\bfor\b", head[1]) or not item.endswith("}"):
-        return item
-    return " ".join([item[: head.end()], *(it for it in split(item[head.end() : -1]) if not is_private(it)), "}"])
+        return [(names_of(item), item)]
+    begins, parts = item[: head.end()], [*split(item[head.end() : -1])]
+    methods = [it for it in parts if re.search(r"\bfn\b", source.blanked(it))]
+    others = [it for it in parts if it not in methods]
+    told = [(names_of(item), " ".join([begins, *others, "}"]))] if others else []
+    return told + [(names_of(it), f"{begins} {it} }}") for it in methods if not is_private(it)]
 
 
 def is_import(item):
@@ -86,7 +90,7 @@ def items_in(file, label):
     """The items of a text of a crate."""
     text = file.read_text()
     if file.suffix == ".rt":
-        return [Item(label, names_of(it), shown(it), is_import(it)) for it in split(source.outline(text))]
+        return [Item(label, names, said, is_import(it)) for it in split(source.outline(text)) for names, said in shown(it)]
     if file.name == "Lib.antt":
         return [Item(label, frozenset(WORD.findall(it)) - {"pub", "mod"}, it) for it in text.splitlines() if it.strip()]
     return [Item(label, frozenset({file.stem}), text)]

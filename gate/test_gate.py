@@ -227,6 +227,13 @@ class Reading(unittest.TestCase):
         wanted = [(["a"], False), (["Kind", "turn"], False), (["io"], True), (["IsTurned"], True), (["Kind"], False), (["Kind"], False)]
         self.assertEqual(found, [*wanted, (["Box", "T", "Turns"], False), (["turn"], False), (["MOST"], False)])
 
+    def test_a_public_method_is_an_item_by_itself(self):
+        text = "impl Kind { ghost use Low.{Is}; pub fn at(&self) -> u8 ensures { Is result } ; fn own(&self); pub(crate) fn len(&self); }"
+        found = [(sorted(names), said) for names, said in says.shown(text)]
+        methods = [(["at"], "impl Kind { pub fn at(&self) -> u8 ensures { Is result } ; }")]
+        self.assertEqual(found, [(["Kind"], "impl Kind { ghost use Low.{Is}; }"), *methods])
+        self.assertEqual([sorted(names) for names, _ in says.shown("impl Kind { pub fn at(&self); }")], [["at"]])
+
     def test_symbols(self):
         text = "impl<T: Disk> Disk for Box<T> {\n    fn read(&self) {}\n}\nimpl Used {\n    fn take(&self) {}\n}\nfn take() {}\n"
         symbols = ["a::m::BoxTDisk::read", "a::m::n::Used::take", "a::m::take", "a::take"]

@@ -1,6 +1,5 @@
 //! A list without its first items.
 ghost use Rattle.std.specs.Prelude.{◌≡◌, ◌++◌, ◌<◌, ◌≤◌, length, drop, IfOk, OnOk};
-ghost use Rattle.rs_page.specs.Pages.{items_of};
 ghost use Rattle.rs_pages.specs.Rule.{items_at};
 ghost use Rattle.rs_pages.specs.Dropped.{full_pages, dropped_front};
 
@@ -11,7 +10,7 @@ use rs_record::{Duplicate, duplicate_all};
 use std::alloc::{AllocError, Global};
 
 impl<T: PageItem + Duplicate> Pages<T> {
-    /// The list without its first `count` items. This list stays.
+    /// The list without its first `count` items; with none, where it has no more than these. This list stays.
     ///
     /// Pages that lie whole among them go. The page in which the cut falls is touched: what is left of
     /// it is cut into pages of 64 items, of which the last has the rest. All other pages stay the same
@@ -21,7 +20,6 @@ impl<T: PageItem + Duplicate> Pages<T> {
     ///
     /// [`AllocError`] where the memory is refused.
     pub fn without_front(&self, alloc: Global, count: usize) -> Result<Pages<T>, AllocError>
-        requires { count ≤ length (items_of self.now) }
         ensures { IfOk result (λ next. next ≡ dropped_front count self.now) }
     {
         let (gone, more) = whole_among(&self.pages, count);
