@@ -8,12 +8,12 @@ directory, and the making of the directory. The rest is copying, spelling, placi
 """
 import hashlib
 import pathlib
-import shutil
 import struct
 import subprocess
 import tempfile
 
-ROOT = pathlib.Path(__file__).resolve().parent.parent
+import small
+
 BASE = b"http://127.0.0.1:8080"
 KIND = b"text/plain"
 PROGRAM = """//! Opens the disk on standard input, and times puts of 4 KiB on it.
@@ -119,7 +119,7 @@ fn main(rt: HostRuntime) -> anyhow::Result<()> {
         return Err(anyhow::anyhow!("no room for the slots"));
     }
     let (_, root) = open_slots(&mut disk)?;
-    let contents = load(alloc, &mut disk, &root)?;
+    let contents = load(alloc, &mut disk, &root)?.contents;
     time_hashing(&rt, &root, &contents)?;
     time_directory(&rt, &contents)?;
     time_used(&rt, &Rooted::new(disk.size(), root, &contents))?;
@@ -166,20 +166,14 @@ def disk(count):
     return bytes(whole)
 
 
-# The crates that stand on the source.
-ABOVE = ("rs_script", "rs_http", "rs_source")
-
-
 def build(root):
     """The program, proved and built, by its path."""
-    shutil.copytree(ROOT / "crates", root / "crates", ignore=shutil.ignore_patterns(*ABOVE))
+    lines = small.standing_on(root, "rs_store")
     crate = root / "crates" / "puts"
     (crate / "src").mkdir(parents=True)
     (crate / "src" / "main.rt").write_text(PROGRAM)
-    lines = [line for line in (ROOT / "crates.txt").read_text().split("\n") if not line.startswith(ABOVE)]
-    below = [line.split(":")[0] for line in lines if line.startswith("rs_")]
-    lines.append(f"puts: {' '.join(below)} anyhow")
-    (root / "crates.txt").write_text("\n".join(lines) + "\n")
+    below = [line.split(":")[0] for line in lines]
+    (root / "crates.txt").write_text("\n".join([*lines, f"puts: {' '.join(below)} anyhow"]) + "\n")
     done = subprocess.run(["rt", "run"], cwd=crate, capture_output=True, text=True, input="")
     program = crate / "out" / "puts"
     if not program.exists():

@@ -5,11 +5,11 @@
 Writes a small program in a folder of its own, proves and builds it with `rt run`, and lets it time itself.
 """
 import pathlib
-import shutil
 import subprocess
 import tempfile
 
-ROOT = pathlib.Path(__file__).resolve().parent.parent
+import small
+
 PROGRAM = """//! Writes lists to a counting writer, and says how long it took.
 #![tactic(auto)]
 
@@ -106,16 +106,17 @@ fn main(rt: HostRuntime) -> anyhow::Result<()> {
 """
 
 
+USES = "rs_caps rs_io rs_lists rs_model rs_record rs_time"
+
+
 def main():
     with tempfile.TemporaryDirectory() as folder:
         root = pathlib.Path(folder)
-        shutil.copytree(ROOT / "crates", root / "crates", ignore=shutil.ignore_patterns("rs_source", "rs_disk"))
+        lines = small.standing_on(root, *USES.split())
         crate = root / "crates" / "writing"
         (crate / "src").mkdir(parents=True)
         (crate / "src" / "main.rt").write_text(PROGRAM)
-        lines = [l for l in (ROOT / "crates.txt").read_text().split("\n") if not l.startswith(("rs_source", "rs_disk"))]
-        lines.append("writing: rs_caps rs_io rs_lists rs_model rs_record rs_time anyhow")
-        (root / "crates.txt").write_text("\n".join(lines) + "\n")
+        (root / "crates.txt").write_text("\n".join([*lines, f"writing: {USES} anyhow"]) + "\n")
         done = subprocess.run(["rt", "run"], cwd=crate, capture_output=True, text=True)
         for line in done.stdout.split("\n"):
             words = line.split(" ")
