@@ -1,6 +1,6 @@
 //! Reading a body.
 ghost use Rattle.std.specs.Prelude.{◌≡◌, ◌+◌, ◌*◌, ◌≤◌, ◌<◌, [], ◌++◌, length, vec_len, vec_capacity, OnOk, OnErr, IsErrOf, IsTrue};
-ghost use Rattle.rs_disk.specs.Leaves.{Rests, Runs, HasFailed};
+ghost use Rattle.rs_disk.specs.Leaves.{Rests, Runs, TellsFaults};
 ghost use Rattle.rs_fixity.specs.Digests.{digests};
 ghost use Rattle.rs_extent.specs.Blocks.{block_size};
 ghost use Rattle.rs_extent.specs.Extents.{IsOnDisk};
@@ -69,8 +69,8 @@ pub fn read_body<D: Disk>(
     ensures empty { OnErr result (into.new.items ≡ []) }
     ensures damaged { IsErrOf result BodyFault.Damaged → IsTrue (D.state disk.new).honest
         → (digests (part extent length (D.state disk.old).now.seen)).sha256 ≡ sha256.now → ⊥ }
-    ensures device { IsErrOf result BodyFault.Device
-        → HasFailed (D.state disk.old) (D.state disk.new) }
+    ensures device { TellsFaults (IsErrOf result BodyFault.Device)
+        (D.state disk.old) (D.state disk.new) }
     ensures no_memory { IsErrOf result BodyFault.NoMemory → (vec_capacity into.old < length)
         × (D.state disk.new ≡ D.state disk.old) }
 

@@ -1,5 +1,5 @@
 //! How the slots are made.
-ghost use Rattle.std.specs.Prelude.{◌≡◌, ◌≤◌, ◌++◌, length, IfOk, OnOk};
+ghost use Rattle.std.specs.Prelude.{◌≡◌, ◌+◌, ◌≤◌, ◌++◌, length, IfOk, OnOk};
 ghost use Rattle.rs_disk.specs.Medium.{resting};
 ghost use Rattle.rs_disk.specs.Leaves.{Leaves, Runs};
 ghost use Rattle.rs_commit.specs.Commit.{SameBehind, OutsideOf, IsReady, behind_slots};
@@ -16,7 +16,7 @@ use rs_extent::BLOCK_SIZE;
 /// as they stand then.
 ///
 /// It is called after the directory was written, and its first sync settles both. The disk has
-/// blocks 0 and 1. It makes five device calls where none fails.
+/// blocks 0 and 1. It makes five device calls at most.
 ///
 /// # Errors
 /// [`Fault`] where a device call failed. Nothing is promised of blocks 0 and 1 then; behind them a
@@ -24,6 +24,7 @@ use rs_extent::BLOCK_SIZE;
 pub fn format_slots<D: Disk>(disk: &mut D, root: &Root) -> Result<Slots, Fault>
     requires { 1024 ≤ (D.state disk.old).size }
     ensures runs { Runs (D.state disk.old) (D.state disk.new) result }
+    ensures calls { (D.state disk.new).calls ≤ (D.state disk.old).calls + 5 }
     ensures slots { IfOk result (λ slots. slots ≡ fresh root.now) }
 
     // Behind the slots a read gives what it gave, and at each moment each image is one at entry.
@@ -44,6 +45,7 @@ pub fn format_slots<D: Disk>(disk: &mut D, root: &Root) -> Result<Slots, Fault>
 fn write_slots<D: Disk>(disk: &mut D, root: &Root) -> Result<(), Fault>
     requires { 1024 ≤ (D.state disk.old).size }
     ensures runs { Runs (D.state disk.old) (D.state disk.new) result }
+    ensures calls { (D.state disk.new).calls ≤ (D.state disk.old).calls + 5 }
     ensures outside { SameBehind (D.state disk.new).now.seen (D.state disk.old).now.seen }
     ensures any_moment { Leaves (D.state disk.old) (D.state disk.new)
         (λ _. OutsideOf (D.state disk.old).now) }

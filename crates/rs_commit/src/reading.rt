@@ -1,5 +1,5 @@
 //! How the slots are read.
-ghost use Rattle.std.specs.Prelude.{◌≡◌, ◌≤◌, List, ℕ, length, take, None, Some, IfOk, IsErrOf, IsTrue};
+ghost use Rattle.std.specs.Prelude.{◌≡◌, ◌+◌, ◌≤◌, List, ℕ, length, take, None, Some, IfOk, IsErrOf, IsTrue};
 ghost use Rattle.rs_disk.specs.Leaves.{Runs, Rests};
 ghost use Rattle.rs_extent.specs.Blocks.{block_size};
 ghost use Rattle.rs_commit.specs.Slots.{block, content as content_of, current, pick, OpensTo};
@@ -22,6 +22,7 @@ use rs_extent::BLOCK_SIZE;
 pub fn open_slots<D: Disk>(disk: &mut D) -> Result<(Slots, Root), SlotFault>
     ensures runs { Runs (D.state disk.old) (D.state disk.new) (device_in_open result) }
     ensures rests { Rests (D.state disk.old) (D.state disk.new) }
+    ensures calls { (D.state disk.new).calls ≤ (D.state disk.old).calls + 2 }
     ensures root { IfOk result (λ opened. opened.0.root ≡ opened.1) }
 
     // Of a device that has followed the model so far:
@@ -50,6 +51,7 @@ pub fn open_slots<D: Disk>(disk: &mut D) -> Result<(Slots, Root), SlotFault>
 fn read_slot<D: Disk>(disk: &mut D, slot: Slot) -> Result<Content, Fault>
     ensures runs { Runs (D.state disk.old) (D.state disk.new) result }
     ensures rests { Rests (D.state disk.old) (D.state disk.new) }
+    ensures one_call { (D.state disk.new).calls ≤ (D.state disk.old).calls + 1 }
     ensures content { IfOk result (λ content. IsTrue (D.state disk.new).honest
         → content ≡ content_of (block (D.state disk.old).now.seen slot)) }
 {

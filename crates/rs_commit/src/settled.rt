@@ -10,6 +10,7 @@ pub(crate) fn write_settled<D: Disk>(disk: &mut D, at: u64, bytes: &[u8]) -> Res
     requires { at + length bytes.now ≤ (D.state disk.old).size }
     ensures runs { Runs (D.state disk.old) (D.state disk.new) result }
     ensures keeps { (D.state disk.new).honest ≡ (D.state disk.old).honest }
+    ensures calls { (D.state disk.new).calls ≤ (D.state disk.old).calls + 2 }
     ensures any_moment { Leaves (D.state disk.old) (D.state disk.new)
         (λ _. TornFrom (D.state disk.old).now at (length bytes.now)) }
     ensures torn { Torn at (length bytes.now) (D.state disk.old).now.seen

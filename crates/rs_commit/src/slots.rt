@@ -113,6 +113,7 @@ impl Slots {
         // What holds of every device, whatever the slots are.
         ensures runs { Runs (D.state disk.old) (D.state disk.new) (device_in_commit result) }
         ensures keeps { (D.state disk.new).honest ≡ (D.state disk.old).honest }
+        ensures calls { (D.state disk.new).calls ≤ (D.state disk.old).calls + 6 }
         ensures outside { SameBehind (D.state disk.new).now.seen (D.state disk.old).now.seen }
 
         // Stopped at any moment, the disk opens to the old root or to the new one.
@@ -161,6 +162,7 @@ impl Slots {
         requires { 1024 ≤ (D.state disk.old).size }
         ensures runs { Runs (D.state disk.old) (D.state disk.new) result }
         ensures keeps { (D.state disk.new).honest ≡ (D.state disk.old).honest }
+        ensures calls { (D.state disk.new).calls ≤ (D.state disk.old).calls + 6 }
         ensures outside { SameBehind (D.state disk.new).now.seen (D.state disk.old).now.seen }
         ensures any_moment { self.now.root.generation < root.generation
             → IsReady self.now (D.state disk.old).now
@@ -183,6 +185,7 @@ fn close_gate<D: Disk>(disk: &mut D, slot: Slot, is_open: bool) -> Result<(), Fa
     requires { 1024 ≤ (D.state disk.old).size }
     ensures runs { Runs (D.state disk.old) (D.state disk.new) result }
     ensures keeps { (D.state disk.new).honest ≡ (D.state disk.old).honest }
+    ensures calls { (D.state disk.new).calls ≤ (D.state disk.old).calls + 2 }
     ensures torn { Torn (offset slot) 1 (D.state disk.old).now.seen (D.state disk.new).now.seen }
     ensures any_moment { OnTrue is_open (Leaves (D.state disk.old) (D.state disk.new)
         (λ _. TornFrom (D.state disk.old).now (offset slot) 1)) }
@@ -201,6 +204,7 @@ fn write_behind<D: Disk>(disk: &mut D, slot: Slot, root: Root) -> Result<(), Fau
     requires { 1024 ≤ (D.state disk.old).size }
     ensures runs { Runs (D.state disk.old) (D.state disk.new) result }
     ensures keeps { (D.state disk.new).honest ≡ (D.state disk.old).honest }
+    ensures calls { (D.state disk.new).calls ≤ (D.state disk.old).calls + 2 }
     ensures torn { Torn (offset slot + 1) 53 (D.state disk.old).now.seen
         (D.state disk.new).now.seen }
     ensures any_moment { Leaves (D.state disk.old) (D.state disk.new)
@@ -217,6 +221,7 @@ fn open_gate<D: Disk>(disk: &mut D, slot: Slot) -> Result<(), Fault>
     requires { 1024 ≤ (D.state disk.old).size }
     ensures runs { Runs (D.state disk.old) (D.state disk.new) result }
     ensures keeps { (D.state disk.new).honest ≡ (D.state disk.old).honest }
+    ensures calls { (D.state disk.new).calls ≤ (D.state disk.old).calls + 2 }
     ensures torn { Torn (offset slot) 1 (D.state disk.old).now.seen (D.state disk.new).now.seen }
     ensures any_moment { Leaves (D.state disk.old) (D.state disk.new)
         (λ _. TornFrom (D.state disk.old).now (offset slot) 1) }

@@ -110,20 +110,20 @@ exit_images old new P so_far image is =
 
 -- Of every device: a run of no call, and one of one call.
 pub runs_started : {T E : Type 0} (disk : DiskState) (x : T) → Runs {T = T} {E = E} disk disk (Ok x)
-runs_started disk x = record { size = refl; lasts = λ h. h; calls = omega arith; faults = omega arith; cause = tt }
+runs_started disk x = record { size = refl; lasts = λ h. h; calls = omega arith; faults = omega arith; ok = refl; cause = tt }
 
 pub runs_one : {T E : Type 0} (old new : DiskState) (result : Result T E) → CountsCall old new result → Runs old new result
 runs_one old new (Ok x) counts =
-    record { size = counts.size; lasts = counts.lasts; calls = (counts_calls old new (Ok x) counts).0; faults = let same : new.faults ≡ old.faults = counts.ok in omega arith; cause = tt }
+    record { size = counts.size; lasts = counts.lasts; calls = (counts_calls old new (Ok x) counts).0; faults = let same : new.faults ≡ old.faults = counts.ok in omega arith; ok = counts.ok; cause = tt }
 runs_one old new (Err e) counts = elim (cases_lt (old.calls + 1) (2 ^ 64)) [
   | inl more ↦
       let one : new.calls ≡ old.calls + 1 = counts.calls more in
       let fault : new.faults ≡ old.faults + 1 = counts.fault more in
-      record { size = counts.size; lasts = counts.lasts; calls = omega arith; faults = omega arith; cause = inl (omega arith) }
+      record { size = counts.size; lasts = counts.lasts; calls = omega arith; faults = omega arith; ok = tt; cause = inl (omega arith) }
   | inr last ↦
       let calls : new.calls ≡ old.calls = ap (λ (d : DiskState). d.calls) (counts.spent last).0 in
       let faults : new.faults ≡ old.faults = ap (λ (d : DiskState). d.faults) (counts.spent last).0 in
-      record { size = counts.size; lasts = counts.lasts; calls = omega arith; faults = omega arith; cause = inr (omega arith) }
+      record { size = counts.size; lasts = counts.lasts; calls = omega arith; faults = omega arith; ok = tt; cause = inr (omega arith) }
 ]
 
 -- calls that change nothing
@@ -169,18 +169,23 @@ past_images old new held passes later m image lt = (
 )
 
 -- Of every device: a run and then another, and one that ends where a run of it failed.
-pub runs_on : {T E U F : Type 0} (old mid new : DiskState) (first : Result T E) (result : Result U F) → Runs old mid first → Runs mid new result → Runs old new result
-runs_on old mid new first (Ok x) one two =
-    record { size = two.size ∙ one.size; lasts = λ h. one.lasts (two.lasts h); calls = omega (arith, one.calls, two.calls); faults = omega (arith, one.faults, two.faults); cause = tt }
-runs_on old mid new first (Err e) one two = record {
+pub runs_on : {T E U F : Type 0} (old mid new : DiskState) (first : Result T E) (result : Result U F) → (IsErr first → IsErr result)
+    → Runs old mid first → Runs mid new result → Runs old new result
+runs_on old mid new (Ok y) (Ok x) fails one two =
+    let unmet : mid.faults ≡ old.faults = one.ok in
+    record { size = two.size ∙ one.size; lasts = λ h. one.lasts (two.lasts h); calls = omega (arith, one.calls, two.calls); faults = omega (arith, one.faults, two.faults); ok = two.ok ∙ unmet; cause = tt }
+runs_on old mid new (Err f) (Ok x) fails one two = absurd (true≢false (sym (fails refl)))
+runs_on old mid new first (Err e) fails one two = record {
   size = two.size ∙ one.size;
   lasts = λ h. one.lasts (two.lasts h);
   calls = omega (arith, one.calls, two.calls);
   faults = omega (arith, one.faults, two.faults);
+  ok = tt;
   cause = ⊎_elim (λ rose. inl (omega (arith, one.faults, rose))) (λ last. inr last) two.cause;
 }
 
-pub runs_failed : {T E U F : Type 0} (old new : DiskState) (first : Result T E) (result : Result U F) → IsErr first → Runs old new first → Runs old new result
-runs_failed old new (Err e) (Ok x) failed one = record { size = one.size; lasts = one.lasts; calls = one.calls; faults = one.faults; cause = tt }
-runs_failed old new (Err e) (Err f) failed one = record { size = one.size; lasts = one.lasts; calls = one.calls; faults = one.faults; cause = one.cause }
-runs_failed old new (Ok y) result failed one = absurd (true≢false (sym failed))
+pub runs_failed : {T E U F : Type 0} (old new : DiskState) (first : Result T E) (result : Result U F) → IsErr first → IsErr result
+    → Runs old new first → Runs old new result
+runs_failed old new (Err e) (Err f) failed fails one = record { size = one.size; lasts = one.lasts; calls = one.calls; faults = one.faults; ok = tt; cause = one.cause }
+runs_failed old new (Err e) (Ok x) failed fails one = absurd (true≢false (sym fails))
+runs_failed old new (Ok y) result failed fails one = absurd (true≢false (sym failed))

@@ -72,13 +72,15 @@ WeakerIsLeft P Q = (old new : DiskState) → ((m : ℕ) (image : List ℕ) → P
 abbrev pub OneCallRuns : Type 0 → Type 0 → Type 0
 OneCallRuns T E = (old new : DiskState) (result : Result T E) → CountsCall old new result → Runs old new result
 
--- A run, whatever it answers, and then another are a run with the second's answer.
+-- A run and then another are a run with the second's answer, where that is an error if the first one's is.
 abbrev pub CountsGoOn : Type 0 → Type 0 → Type 0 → Type 0 → Type 0
-CountsGoOn T E U F = (old mid new : DiskState) (first : Result T E) (result : Result U F) → Runs old mid first → Runs mid new result → Runs old new result
+CountsGoOn T E U F = (old mid new : DiskState) (first : Result T E) (result : Result U F) → (IsErr first → IsErr result)
+    → Runs old mid first → Runs mid new result → Runs old new result
 
--- A run that failed may end a run that answers anything.
+-- A run that failed may end a run that answers any error.
 abbrev pub FailedRunEnds : Type 0 → Type 0 → Type 0 → Type 0 → Type 0
-FailedRunEnds T E U F = (old new : DiskState) (first : Result T E) (result : Result U F) → IsErr first → Runs old new first → Runs old new result
+FailedRunEnds T E U F = (old new : DiskState) (first : Result T E) (result : Result U F) → IsErr first → IsErr result
+    → Runs old new first → Runs old new result
 
 -- eight zero bytes, settled
 abbrev pub zeros : Medium

@@ -17,6 +17,7 @@ invariant-loop-at g l =
       calls : 16384 * now.calls ≤ 16384 * old.calls + l.at + 16383;
       none : l.at ≡ 0 → now ≡ old;
       ran : old.calls ≤ now.calls;
+      sound : now.faults ≡ old.faults;
     }
 
 abbrev pub decreases-loop-at : goal.decreases-loop-at
