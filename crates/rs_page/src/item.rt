@@ -52,5 +52,6 @@ pub trait PageItem: Drop {
             ↔ ((item : Self) → format.IsLawful item → ¬ BeginsWith bytes.now (format.bytes item)) };
 
     // No format begins another, so a list of formats one after the other is read in one way.
-    ghost apart: { (a b : Self) (x y : List ℕ) → format.IsLawful a → format.IsLawful b → format.bytes a ++ x ≡ format.bytes b ++ y → (a ≡ b) × (x ≡ y) };
+    ghost apart: { (a b : Self) (x y : List ℕ) → format.IsLawful a → format.IsLawful b
+        → format.bytes a ++ x ≡ format.bytes b ++ y → (a ≡ b) × (x ≡ y) };
 }

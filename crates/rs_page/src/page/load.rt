@@ -1,5 +1,5 @@
 //! Reading a page.
-ghost use Rattle.rs_disk.specs.Leaves.{HasFailed};
+ghost use Rattle.rs_disk.specs.Leaves.{TellsFaults};
 ghost use Rattle.std.specs.Prelude.{◌≡◌, ◌<◌, ◌≤◌, ◌+◌, List, IfOk, IsErrOf, IsTrue};
 ghost use Rattle.rs_disk.specs.Leaves.{Rests};
 ghost use Rattle.rs_page.specs.Format.{ArePageItems};
@@ -81,8 +81,8 @@ impl<T: PageItem> Page<T> {
             → ¬ IsPage T.format page.now (D.state disk.new).now.seen items }
         ensures no_memory { IsErrOf result LoadFault.NoMemory
             → HasItsBlocks (D.state disk.old).size page.now }
-        ensures device { IsErrOf result LoadFault.Device
-            → HasFailed (D.state disk.old) (D.state disk.new) }
+        ensures device { TellsFaults (IsErrOf result LoadFault.Device)
+            (D.state disk.old) (D.state disk.new) }
 
         ensures rests { Rests (D.state disk.old) (D.state disk.new) }
         ensures one_call { (D.state disk.new).calls ≤ (D.state disk.old).calls + 1 }

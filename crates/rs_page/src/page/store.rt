@@ -1,5 +1,5 @@
 //! Writing a page.
-ghost use Rattle.rs_disk.specs.Leaves.{Advances, HasFailed};
+ghost use Rattle.rs_disk.specs.Leaves.{Advances, TellsFaults};
 ghost use Rattle.std.specs.Prelude.{ℕ, ◌≡◌, ◌<◌, ◌≤◌, ◌+◌, Bool, IfSome, IsSome, OnOk, OnErr, IsErrOf};
 ghost use Rattle.rs_extent.specs.Extents.{IsOnDisk, IsBeside};
 ghost use Rattle.rs_body.specs.Outside.{WritesOutside};
@@ -67,8 +67,8 @@ impl<T: PageItem> Page<T> {
         ensures ok { OnOk result (self.new ≡ page_stored T.format self.old) }
         ensures reads { OnOk result (IsWritten T.format (D.state disk.new).now.seen self.old) }
         ensures err { OnErr result (self.new ≡ self.old) }
-        ensures device { IsErrOf result StoreFault.Device
-            → HasFailed (D.state disk.old) (D.state disk.new) }
+        ensures device { TellsFaults (IsErrOf result StoreFault.Device)
+            (D.state disk.old) (D.state disk.new) }
         ensures no_memory { IsErrOf result StoreFault.NoMemory
             → D.state disk.new ≡ D.state disk.old }
         ensures stored { IsSome (stored_ref self.old.place)
