@@ -1,12 +1,12 @@
 -- The page where a name goes, as it is found among pages in order and put back changed.
 use Rattle.std.proofs.Common.{◌≡◌, ℕ, zero, suc, ◌+◌, ◌-◌, ◌<◌, ◌≤◌, List, [], ◌∷◌, ◌++◌, length, get_or, take, drop, Bool, true, false, cond, refl, sym, ap, ◌∙◌, subst, arith, Option, Some, None, Result, Ok, Err, add-one}
 use Rattle.std.specs.Prelude.{IsTrue, ◌||◌, not, is_some, slice_get, slice_set, insert, remove, map}
-use Rattle.std.specs.List.{AllWithin, AllByRecursion}
+use Rattle.std.specs.List.{AllWithin}
 use Rattle.std.specs.List.Sorted.{IsPartitionedBy, IsSearchInRange, IsBinarySearchResult, IsNonDecreasingBy}
 use Rattle.std.specs.Ordering.{is_lt, ordering_index}
 use Rattle.std.specs.declared.cmp.Ordering.TheVariants.{Less, Equal, Greater}
 use Rattle.std.proofs.lemmas.List.{append-nil, get_or-map, map-append, map-set, length-map, take-map, drop-map, get_or_default}
-use Rattle.std.proofs.lemmas.List.Elements.{All-cons, All-append, All-take, All-drop, All-head, All-tail}
+use Rattle.std.proofs.lemmas.List.Elements.{All-append, All-take, All-drop, All-head, All-tail}
 use Rattle.std.proofs.lemmas.Option.{get_or_from_slice_get}
 use Rattle.rs_model.specs.Names.{by_bytes, value_of, is_above, is_ordered, IsFoundAt, IsMissingAt, IsPlaceOf}
 use Rattle.std.specs.Cmp.{first_so, second_so}
@@ -17,7 +17,7 @@ use Rattle.rs_pages.specs.Items.{keyed, put_in, taken_out}
 use Rattle.rs_pages.specs.Rule.{HaveItems, touched_pages, items_at, with_page, begins_by, some_begins_by, home, bound_in, unbound_in}
 use Rattle.rs_pages.proofs.InOrder.{is_past, keyed-put_in, keyed-taken_out}
 use Rattle.rs_pages.proofs.Home.{ordered_rest, past_items}
-use Rattle.rs_pages.proofs.Cut.{IsFitting, touched_fit}
+use Rattle.rs_pages.proofs.Cut.{fresh_cut, have_items}
 
 or_right : (a b : Bool) → b ≡ true → (a || b) ≡ true
 or_right true b h = refl
@@ -40,12 +40,8 @@ module _ {T : Type 0} where
   items_at_none zero (first ∷ pages) h = cc
   items_at_none (suc i) (first ∷ pages) h = items_at_none i pages h
 
-  some_of : (pages : List (Page T)) → AllByRecursion IsFitting pages → HaveItems pages
-  some_of [] h = λ k d inside. absurd (omega arith)
-  some_of (page ∷ pages) h = All-cons (λ (it : Page T). 1 ≤ length it.items) page pages h.0.0 (some_of pages h.1)
-
   pub touched_have : (items : List T) → HaveItems (touched_pages items)
-  touched_have items = some_of (touched_pages items) (touched_fit items)
+  touched_have items = have_items (touched_pages items) (fresh_cut 32 (omega arith) (omega arith) items)
 
   pub have_both : (pages others : List (Page T)) → HaveItems pages → HaveItems others → HaveItems (pages ++ others)
   have_both pages others h k = All-append (λ (it : Page T). 1 ≤ length it.items) pages others h k

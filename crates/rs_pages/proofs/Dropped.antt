@@ -1,20 +1,17 @@
 -- A list of pages without its first items.
-use Rattle.std.proofs.Common.{◌≡◌, ℕ, zero, suc, ◌-◌, ◌<◌, ◌≤◌, List, [], ◌∷◌, ◌++◌, length, get_or, take, drop, map, Bool, true, false, cond, refl, sym, ap, ◌∙◌, subst, inl, inr, arith}
+use Rattle.std.proofs.Common.{◌≡◌, ℕ, zero, suc, ◌-◌, ◌<◌, ◌≤◌, List, [], ◌∷◌, ◌++◌, length, get_or, take, drop, Bool, true, false, cond, refl, sym, ap, ◌∙◌, subst, arith}
 use Rattle.std.specs.Prelude.{nat_le, is_some, All}
-use Rattle.std.specs.List.{AllByRecursion}
 use Rattle.std.proofs.lemmas.List.{append-nil, length-append, take_rest, drop-append-le}
-use Rattle.std.proofs.lemmas.List.Concat.{flat_map-append}
-use Rattle.std.proofs.lemmas.List.Elements.{All-cons, All-tail}
+use Rattle.std.proofs.lemmas.List.Elements.{All-nil, All-tail}
 use Rattle.std.proofs.lemmas.Bool.Decides.{nat_tests}
 use Rattle.rs_page.specs.Pages.{Page, items_of, placed_extent, placed_extents, stored_ref}
 use Rattle.rs_page.specs.SharedPages.{IsSublist, stored_pages}
-use Rattle.rs_pages.specs.Rule.{touched, HaveItems, items_at}
+use Rattle.rs_pages.specs.Rule.{HaveItems, items_at}
 use Rattle.rs_pages.specs.Laws.{IsFreshPage}
-use Rattle.rs_pages.specs.Dropped.{cut_full, full_pages, dropped_front, TouchesFew, DropsAsOne, DroppingKeeps, DroppingHasItems, DroppingTouchesFew}
-use Rattle.rs_pages.proofs.Cut.{IsFitting}
-use Rattle.rs_pages.proofs.CutFull.{items_of-full, full_fit}
+use Rattle.rs_pages.specs.Dropped.{full_pages, dropped_front, TouchesFew, DropsAsOne, DroppingKeeps, DroppingHasItems, DroppingTouchesFew}
+use Rattle.rs_pages.proofs.Cut.{fresh_cut, have_items, items_of-cut, items_of-cut_first}
 use Rattle.rs_pages.proofs.AtHome.{have_both}
-use Rattle.rs_pages.proofs.Touched.{rest_none}
+use Rattle.rs_pages.proofs.Touched.{itself, drop_one, rest_none, stored_after, placed_made}
 
 -- what holds of each of two lists of pages holds of the one that is taken
 either : {A : Type 0} (P : A → Type 0) (b : Bool) (x y : A) → (b ≡ true → P x) → (b ≡ false → P y) → P (cond b x y)
@@ -35,54 +32,22 @@ drop_all n [] ys h = ap (λ (k : ℕ). drop k ys) (omega arith)
 drop_all zero (x ∷ xs) ys h = absurd (omega arith)
 drop_all (suc n) (x ∷ xs) ys h = drop_all n xs ys (omega arith) ∙ ap (λ (k : ℕ). drop k ys) (omega arith)
 
--- parts of a list
-itself : {A : Type 0} (xs : List A) → IsSublist xs xs
-itself [] = tt
-itself (x ∷ xs) = inl (refl, itself xs)
-
-skip : {A : Type 0} (xs : List A) (y : A) (ys : List A) → IsSublist xs ys → IsSublist xs (y ∷ ys)
-skip [] y ys h = tt
-skip (x ∷ xs) y ys h = inr h
-
-skip_if : {A : Type 0} (y : A) (b : Bool) (xs ys : List A) → IsSublist xs ys → IsSublist xs (cond b (y ∷ ys) ys)
-skip_if y true xs ys h = skip xs y ys h
-skip_if y false xs ys h = h
-
 module _ {T : Type 0} where
   abbrev Some : Page T → Type 0
   Some page = 1 ≤ length page.items
 
-  -- full pages before others: their items, none of them on the disk, none with blocks, none empty
+  -- full pages, and these before others: their items, none of them on the disk, none with blocks
   full_first : (items : List T) (pages : List (Page T)) → items_of (full_pages items ++ pages) ≡ items ++ items_of pages
-  full_first items pages = flat_map-append (λ page. page.items) (full_pages items) pages ∙ ap (λ xs. xs ++ items_of pages) (items_of-full items)
-
-  stored_behind : (cut : List (List T)) (pages : List (Page T)) → stored_pages (map touched cut ++ pages) ≡ stored_pages pages
-  stored_behind [] pages = refl
-  stored_behind (items ∷ cut) pages = stored_behind cut pages
-
-  stored_full : (items : List T) (pages : List (Page T)) → stored_pages (full_pages items ++ pages) ≡ stored_pages pages
-  stored_full [] pages = refl
-  stored_full (x ∷ xs) pages = stored_behind (cut_full (x ∷ xs)) pages
-
-  placed_behind : (cut : List (List T)) (pages : List (Page T)) → placed_extents (map touched cut ++ pages) ≡ placed_extents pages
-  placed_behind [] pages = refl
-  placed_behind (items ∷ cut) pages = placed_behind cut pages
-
-  placed_full : (items : List T) (pages : List (Page T)) → placed_extents (full_pages items ++ pages) ≡ placed_extents pages
-  placed_full [] pages = refl
-  placed_full (x ∷ xs) pages = placed_behind (cut_full (x ∷ xs)) pages
-
-  fresh_all : (cut : List (List T)) → AllByRecursion IsFitting (map touched cut) → All IsFreshPage (map touched cut)
-  fresh_all [] h = λ k d inside. absurd (omega arith)
-  fresh_all (items ∷ cut) h = All-cons IsFreshPage (touched items) (map touched cut) (tt, h.0.0, h.0.1) (fresh_all cut h.1)
+  full_first items pages = items_of-cut_first 64 items pages
 
   fresh_full : (items : List T) → All IsFreshPage (full_pages items)
-  fresh_full [] = λ k d inside. absurd (omega arith)
-  fresh_full (x ∷ xs) = fresh_all (cut_full (x ∷ xs)) (full_fit (x ∷ xs))
+  fresh_full items = fresh_cut 64 (omega arith) (omega arith) items
 
-  some_of : (pages : List (Page T)) → AllByRecursion IsFitting pages → HaveItems pages
-  some_of [] h = λ k d inside. absurd (omega arith)
-  some_of (page ∷ pages) h = All-cons Some page pages h.0.0 (some_of pages h.1)
+  stored_full : (items : List T) (pages : List (Page T)) → stored_pages (full_pages items ++ pages) ≡ stored_pages pages
+  stored_full items pages = stored_after (full_pages items) pages (fresh_full items)
+
+  placed_full : (items : List T) (pages : List (Page T)) → placed_extents (full_pages items ++ pages) ≡ placed_extents pages
+  placed_full items pages = placed_made (full_pages items) pages (fresh_full items)
 
   -- the laws
   pub drops_as_one : DropsAsOne T
@@ -99,7 +64,7 @@ module _ {T : Type 0} where
   kept n [] = tt
   kept zero (page ∷ pages) = itself (stored_pages (page ∷ pages))
   kept (suc n) (page ∷ pages) =
-      skip_if page (is_some (stored_ref page.place)) (stored_pages (dropped_front (suc n) (page ∷ pages))) (stored_pages pages)
+      drop_one page (is_some (stored_ref page.place)) (stored_pages (dropped_front (suc n) (page ∷ pages))) (stored_pages pages)
       (either (λ (new : List (Page T)). IsSublist (stored_pages new) (stored_pages pages)) (nat_le (length page.items) (suc n))
       (dropped_front (suc n - length page.items) pages) (full_pages (drop (suc n) page.items) ++ pages)
       (λ is. kept (suc n - length page.items) pages)
@@ -126,10 +91,7 @@ module _ {T : Type 0} where
       either HaveItems (nat_le (length page.items) (suc n))
       (dropped_front (suc n - length page.items) pages) (full_pages (drop (suc n) page.items) ++ pages)
       (λ is. dropping_has_items (suc n - length page.items) pages later)
-      (λ is. have_both (full_pages (drop (suc n) page.items)) pages (some_of (full_pages (drop (suc n) page.items)) (full_fit (drop (suc n) page.items))) later)
-
-  none_fresh : All (IsFreshPage {T = T}) []
-  none_fresh = λ k d inside. absurd (omega arith)
+      (λ is. have_both (full_pages (drop (suc n) page.items)) pages (have_items (full_pages (drop (suc n) page.items)) (fresh_full (drop (suc n) page.items))) later)
 
   drop_none : (n : ℕ) → [] ≡ drop n (items_of {T = T} [])
   drop_none zero = refl
@@ -137,7 +99,7 @@ module _ {T : Type 0} where
 
   all_stay : (n : ℕ) (pages : List (Page T)) → TouchesFew n pages pages
   all_stay n pages =
-      record { gone = []; cut = []; made = []; after = pages; was = refl; is = refl; whole = omega arith; one = omega arith; left = drop_none (n - 0); fresh = none_fresh }
+      record { gone = []; cut = []; made = []; after = pages; was = refl; is = refl; whole = omega arith; one = omega arith; left = drop_none (n - 0); fresh = All-nil IsFreshPage }
 
   first_goes : (n : ℕ) (page : Page T) (pages new : List (Page T)) → length page.items ≤ n → TouchesFew (n - length page.items) pages new → TouchesFew n (page ∷ pages) new
   first_goes n page pages new whole rest =
@@ -167,7 +129,7 @@ module _ {T : Type 0} where
         is = refl;
         whole = omega arith;
         one = omega arith;
-        left = items_of-full (drop n page.items) ∙ (ap (λ (k : ℕ). drop k page.items) (omega arith) ∙ ap (drop (n - 0)) (sym (append-nil page.items)));
+        left = items_of-cut 64 (drop n page.items) ∙ (ap (λ (k : ℕ). drop k page.items) (omega arith) ∙ ap (drop (n - 0)) (sym (append-nil page.items)));
         fresh = fresh_full (drop n page.items);
       }
 

@@ -1,18 +1,17 @@
 -- The page rule on the items of all pages.
 use Rattle.std.proofs.Common.{◌≡◌, ℕ, suc, List, [], ◌∷◌, ◌++◌, Bool, true, false, cond, refl, sym, ap, ◌∙◌, Option, Some, None}
 use Rattle.std.specs.Prelude.{IsTrue, is_some}
-use Rattle.std.proofs.lemmas.List.Concat.{flat_map-append}
 use Rattle.rs_model.specs.Names.{is_ordered, value_of}
 use Rattle.rs_page.specs.Pages.{Page, items_of}
 use Rattle.rs_pages.specs.Items.{keyed, put_in, taken_out}
 use Rattle.rs_pages.specs.Rule.{touched_pages, items_at, with_page, some_begins_by, home, bound_in, unbound_in}
 use Rattle.rs_pages.proofs.InOrder.{put_later, put_here, take_later, take_here, take_absent, find_later, find_here}
 use Rattle.rs_pages.proofs.Home.{ordered_rest, past_items, before_items}
-use Rattle.rs_pages.proofs.Cut.{items_of-touched}
+use Rattle.rs_pages.proofs.Cut.{items_of-cut_first}
 
 -- the items of the first page changed
 pub first_page : {T : Type 0} (items : List T) (pages : List (Page T)) → items_of (touched_pages items ++ pages) ≡ items ++ items_of pages
-first_page items pages = flat_map-append (λ page. page.items) (touched_pages items) pages ∙ ap (λ xs. xs ++ items_of pages) (items_of-touched items)
+first_page items pages = items_of-cut_first 32 items pages
 
 -- one page before pages of which one may be touched
 later_page : {T : Type 0} (b : Bool) (page : Page T) (new old : List (Page T)) → cond b (page ∷ new) (page ∷ old) ≡ page ∷ cond b new old

@@ -7,7 +7,7 @@ use Rattle.std.proofs.lemmas.List.Elements.{All-head, All-tail}
 use Rattle.rs_page.specs.Pages.{Page, items_of}
 use Rattle.rs_pages.specs.Filled.{end_filled, last_filled, EndsUnstored}
 use Rattle.rs_pages.specs.Rule.{HaveItems, touched, touched_pages, items_at, with_page, appended_to}
-use Rattle.rs_pages.proofs.Cut.{cut_few, touched_some}
+use Rattle.rs_pages.proofs.Cut.{cut_few}
 use Rattle.rs_pages.proofs.Standing.{ends_after, ends_items, ends_with}
 
 module _ {T : Type 0} (f : T → T) where
@@ -41,7 +41,7 @@ module _ {T : Type 0} (f : T → T) where
   one_page : (xs : List T) (t : T) → length xs < 64 → touched_pages (xs ++ t ∷ []) ≡ touched (xs ++ t ∷ []) ∷ []
   one_page xs t h =
       let len : length (xs ++ t ∷ []) ≡ suc (length xs) = rw length-append (omega arith) in
-      touched_some (xs ++ t ∷ []) (omega (arith, len)) ∙ ap (map touched) (cut_few (length (xs ++ t ∷ [])) (xs ++ t ∷ []) (omega (arith, len)))
+      ap (map touched) (cut_few 32 (xs ++ t ∷ []) (omega (arith, len)) (omega (arith, len)))
 
   filled_end : (xs : List T) (t : T) → length xs < 64 → last_filled f (touched_pages (xs ++ t ∷ [])) ≡ touched_pages (xs ++ f t ∷ [])
   filled_end xs t h = ap (last_filled f) (one_page xs t h) ∙ (ap (λ items. touched items ∷ []) (end_later xs t []) ∙ sym (one_page xs (f t) h))

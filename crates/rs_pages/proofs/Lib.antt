@@ -22,5 +22,4 @@ pub mod FilledAt
 pub mod FoundEntries
 pub mod ByEntry
 pub mod LoadedBeside
-pub mod CutFull
 pub mod Dropped

@@ -43,13 +43,13 @@ module _ {T : Type 0} (g : T → T) where
   cut_later true items front rest = refl
   cut_later false items front rest = refl
 
-  cut-map : (n : ℕ) (items : List T) → map (map g) (cut_up_to n items) ≡ cut_up_to n (map g items)
+  cut-map : (n : ℕ) (items : List T) → map (map g) (cut_up_to 32 n items) ≡ cut_up_to 32 n (map g items)
   cut-map zero items = refl
   cut-map (suc n) items =
-      cut_later (nat_le (length items) 64) items (take 32 items) (cut_up_to n (drop 32 items))
-      ∙ (ap (λ k. cond (nat_le k 64) (map g items ∷ []) (map g (take 32 items) ∷ map (map g) (cut_up_to n (drop 32 items)))) (sym (length-map items g))
+      cut_later (nat_le (length items) 64) items (take 32 items) (cut_up_to 32 n (drop 32 items))
+      ∙ (ap (λ k. cond (nat_le k 64) (map g items ∷ []) (map g (take 32 items) ∷ map (map g) (cut_up_to 32 n (drop 32 items)))) (sym (length-map items g))
       ∙ ap₂ (λ front rest. cond (nat_le (length (map g items)) 64) (map g items ∷ []) (front ∷ rest)) (sym (take-map g 32 items))
-      (cut-map n (drop 32 items) ∙ ap (cut_up_to n) (sym (drop-map g 32 items))))
+      (cut-map n (drop 32 items) ∙ ap (cut_up_to 32 n) (sym (drop-map g 32 items))))
 
   each_cut : (cut : List (List T)) → each_page (map touched cut) ≡ map touched (map (map g) cut)
   each_cut [] = refl
@@ -58,7 +58,7 @@ module _ {T : Type 0} (g : T → T) where
   each_touched : (items : List T) → each_page (touched_pages items) ≡ touched_pages (map g items)
   each_touched [] = refl
   each_touched (x ∷ xs) =
-      each_cut (cut_front (x ∷ xs)) ∙ ap (map touched) (cut-map (length (x ∷ xs)) (x ∷ xs) ∙ ap (λ k. cut_up_to k (map g (x ∷ xs))) (sym (length-map (x ∷ xs) g)))
+      each_cut (cut_front (x ∷ xs)) ∙ ap (map touched) (cut-map (length (x ∷ xs)) (x ∷ xs) ∙ ap (λ k. cut_up_to 32 k (map g (x ∷ xs))) (sym (length-map (x ∷ xs) g)))
 
 module _ {T : Type 0} (name : T → List ℕ) (f : T → T) where
   -- items of other names stay

@@ -11,7 +11,7 @@ use Rattle.rs_pages.specs.Items.{keyed, put_in}
 use Rattle.rs_pages.specs.Filled.{StandsUnstored, EndsUnstored}
 use Rattle.rs_pages.specs.Rule.{touched, touched_pages, cut_front, cut_up_to, items_at, with_page, home, bound_in, appended_to}
 use Rattle.rs_pages.proofs.InOrder.{keyed-put_in}
-use Rattle.rs_pages.proofs.Cut.{items_of-touched}
+use Rattle.rs_pages.proofs.Cut.{items_of-cut}
 
 module _ {T : Type 0} (name : T → List ℕ) where
   either_by : (n : List ℕ) (x : T) (xs ys : List T) (o : Ordering) → (IsSome (value_of n (keyed name (xs ++ ys))) → IsSome (value_of n (keyed name xs)) ⊎ IsSome (value_of n (keyed name ys)))
@@ -29,9 +29,7 @@ module _ {T : Type 0} (name : T → List ℕ) where
   in_some n (items ∷ cut) h = elim (either n items (items_of (map touched cut)) h) [ inl here ↦ inl (here, refl) | inr later ↦ inr (in_some n cut later) ]
 
   in_touched : (n : List ℕ) (items : List T) → IsSome (value_of n (keyed name items)) → StandsUnstored name n (touched_pages items)
-  in_touched n [] h = cc
-  in_touched n (x ∷ xs) h =
-      in_some n (cut_front (x ∷ xs)) (subst (λ (items : List T). IsSome (value_of n (keyed name items))) (sym (items_of-touched (x ∷ xs))) h)
+  in_touched n items h = in_some n (cut_front items) (subst (λ (items : List T). IsSome (value_of n (keyed name items))) (sym (items_of-cut 32 items)) h)
 
   in_front : (n : List ℕ) (pages others : List (Page T)) → StandsUnstored name n pages → StandsUnstored name n (pages ++ others)
   in_front n [] others h = absurd h
@@ -57,12 +55,12 @@ module _ {T : Type 0} where
   ends_after [] others h = h
   ends_after (page ∷ pages) others h = ends_later page (pages ++ others) (ends_after pages others h)
 
-  ends_cut : (n : ℕ) (items : List T) → EndsUnstored (map touched (cut_up_to n items))
+  ends_cut : (n : ℕ) (items : List T) → EndsUnstored (map touched (cut_up_to 32 n items))
   ends_cut zero items = refl
   ends_cut (suc n) items =
-      elim (nat_le (length items) 64) as (λ b. EndsUnstored (map touched (cond b (items ∷ []) (take 32 items ∷ cut_up_to n (drop 32 items))))) [
+      elim (nat_le (length items) 64) as (λ b. EndsUnstored (map touched (cond b (items ∷ []) (take 32 items ∷ cut_up_to 32 n (drop 32 items))))) [
         | true ↦ refl
-        | false ↦ ends_later (touched (take 32 items)) (map touched (cut_up_to n (drop 32 items))) (ends_cut n (drop 32 items))
+        | false ↦ ends_later (touched (take 32 items)) (map touched (cut_up_to 32 n (drop 32 items))) (ends_cut n (drop 32 items))
       ]
 
   pub ends_items : (items : List T) (t : T) → EndsUnstored (touched_pages (items ++ t ∷ []))

@@ -1,9 +1,9 @@
 -- What the page rule touches, and what it leaves.
-use Rattle.std.proofs.Common.{◌≡◌, ℕ, zero, suc, ◌-◌, List, [], ◌∷◌, ◌++◌, length, map, Bool, true, false, cond, refl, sym, ap, ◌∙◌, arith, inl, inr, subst, Option, Some, None}
+use Rattle.std.proofs.Common.{◌≡◌, ℕ, zero, suc, ◌-◌, List, [], ◌∷◌, ◌++◌, length, Bool, true, false, cond, refl, sym, ap, ◌∙◌, arith, inl, inr, subst, Option, Some, None}
 use Rattle.std.specs.Prelude.{is_some, All, nat_lt}
-use Rattle.std.specs.List.{AllByRecursion, cons_option}
+use Rattle.std.specs.List.{cons_option}
 use Rattle.std.proofs.lemmas.List.{append-nil, append_assoc}
-use Rattle.std.proofs.lemmas.List.Elements.{All-cons, All-head, All-tail}
+use Rattle.std.proofs.lemmas.List.Elements.{All-nil, All-head, All-tail}
 use Rattle.rs_model.specs.Names.{value_of}
 use Rattle.rs_model.proofs.OrderLemmas.{ordered-bind, ordered-unbind}
 use Rattle.rs_page.specs.declared.place.Place.{Place}
@@ -11,22 +11,14 @@ use Rattle.rs_page.specs.declared.place.Place.TheVariants.{Touched, Placed, Stor
 use Rattle.rs_page.specs.Pages.{Page, IsTouched, items_of, placed_extents, placed_extent, stored_ref}
 use Rattle.rs_page.specs.SharedPages.{IsSublist, KeepsPages, stored_pages}
 use Rattle.rs_pages.specs.Items.{keyed, put_in, taken_out}
-use Rattle.rs_pages.specs.Rule.{touched, touched_pages, cut_front, items_at, with_page, home, bound_in, unbound_in, appended_to}
+use Rattle.rs_pages.specs.Rule.{touched_pages, items_at, with_page, home, bound_in, unbound_in, appended_to}
 use Rattle.rs_pages.specs.Laws.{IsFreshPage, TouchesOne, BindsAsOne, UnbindsAsOne}
 use Rattle.rs_pages.proofs.InOrder.{keyed-put_in, keyed-taken_out}
 use Rattle.rs_pages.proofs.Flat.{first_page, items_of-bound, items_of-unbound}
-use Rattle.rs_pages.proofs.Cut.{IsFitting, touched_fit}
-
-fresh_all : {T : Type 0} (cut : List (List T)) → AllByRecursion IsFitting (map touched cut) → All IsFreshPage (map touched cut)
-fresh_all [] h = λ k d inside. absurd (omega arith)
-fresh_all (items ∷ cut) h = All-cons IsFreshPage (touched items) (map touched cut) (tt, h.0.0, h.0.1) (fresh_all cut h.1)
+use Rattle.rs_pages.proofs.Cut.{fresh_cut}
 
 fresh : {T : Type 0} (items : List T) → All IsFreshPage (touched_pages items)
-fresh [] = λ k d inside. absurd (omega arith)
-fresh (x ∷ xs) = fresh_all (cut_front (x ∷ xs)) (touched_fit (x ∷ xs))
-
-none_fresh : {T : Type 0} → All (IsFreshPage {T = T}) []
-none_fresh = λ k d inside. absurd (omega arith)
+fresh items = fresh_cut 32 (omega arith) (omega arith) items
 
 touch_page : {T : Type 0} (i : ℕ) (items : List T) (pages : List (Page T)) → TouchesOne pages (with_page i items pages)
 touch_page i items [] =
@@ -48,7 +40,7 @@ touch_page (suc i) items (page ∷ pages) =
 
 touch_none : {T : Type 0} (pages : List (Page T)) → TouchesOne pages pages
 touch_none pages =
-    record { before = pages; gone = []; made = []; after = []; was = sym (append-nil pages); is = sym (append-nil pages); one = omega arith; fresh = none_fresh }
+    record { before = pages; gone = []; made = []; after = []; was = sym (append-nil pages); is = sym (append-nil pages); one = omega arith; fresh = All-nil IsFreshPage }
 
 touch_end : {T : Type 0} (t : T) (pages : List (Page T)) → TouchesOne pages (pages ++ touched_pages (t ∷ []))
 touch_end t pages =
@@ -109,7 +101,7 @@ unbinds_as_one name n pages h =
     (is, rw is (ordered-unbind n (keyed name (items_of pages)) h))
 
 -- parts of a list
-itself : {A : Type 0} (xs : List A) → IsSublist xs xs
+pub itself : {A : Type 0} (xs : List A) → IsSublist xs xs
 itself [] = tt
 itself (x ∷ xs) = inl (refl, itself xs)
 
@@ -121,7 +113,7 @@ keep : {A : Type 0} (y : A) (b : Bool) (xs ys : List A) → IsSublist xs ys → 
 keep y true xs ys h = inl (refl, h)
 keep y false xs ys h = h
 
-drop_one : {A : Type 0} (y : A) (b : Bool) (xs ys : List A) → IsSublist xs ys → IsSublist xs (cond b (y ∷ ys) ys)
+pub drop_one : {A : Type 0} (y : A) (b : Bool) (xs ys : List A) → IsSublist xs ys → IsSublist xs (cond b (y ∷ ys) ys)
 drop_one y true xs ys h = skip xs y ys h
 drop_one y false xs ys h = h
 
@@ -141,7 +133,7 @@ rest_none None xs h = (refl, h)
 rest_none (Some x) xs h = cc
 
 module _ {T : Type 0} where
-  stored_after : (made after : List (Page T)) → All IsFreshPage made → stored_pages (made ++ after) ≡ stored_pages after
+  pub stored_after : (made after : List (Page T)) → All IsFreshPage made → stored_pages (made ++ after) ≡ stored_pages after
   stored_after [] after h = refl
   stored_after (page ∷ made) after h =
       ap (λ b. cond b (page ∷ stored_pages (made ++ after)) (stored_pages (made ++ after))) (not_stored page.place (All-head IsFreshPage page made h).0)
@@ -159,7 +151,7 @@ module _ {T : Type 0} where
   placed_after [] ys h = h
   placed_after (page ∷ xs) ys h = placed_after xs ys (rest_none (placed_extent page.place) (placed_extents (xs ++ ys)) h).1
 
-  placed_made : (made after : List (Page T)) → All IsFreshPage made → placed_extents (made ++ after) ≡ placed_extents after
+  pub placed_made : (made after : List (Page T)) → All IsFreshPage made → placed_extents (made ++ after) ≡ placed_extents after
   placed_made [] after h = refl
   placed_made (page ∷ made) after h =
       ap (λ o. cons_option o (placed_extents (made ++ after))) (not_placed page.place (All-head IsFreshPage page made h).0) ∙ placed_made made after (All-tail IsFreshPage page made h)

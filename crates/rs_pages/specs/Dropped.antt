@@ -1,23 +1,17 @@
 -- What is left of a list of pages without its first items.
-use Rattle.std.specs.Prelude.{◌≡◌, ◌≤◌, ◌-◌, ℕ, zero, suc, All, cond, nat_le, List, [], ◌∷◌, ◌++◌, length, map, take, drop}
+use Rattle.std.specs.Prelude.{◌≡◌, ◌≤◌, ◌-◌, ℕ, zero, suc, All, cond, nat_le, List, [], ◌∷◌, ◌++◌, length, map, drop}
 use Rattle.rs_page.specs.Pages.{Page, items_of, placed_extents}
 use Rattle.rs_page.specs.SharedPages.{KeepsPages}
-use Rattle.rs_pages.specs.Rule.{touched, HaveItems}
+use Rattle.rs_pages.specs.Rule.{cut_into_pieces_of, touched, HaveItems}
 use Rattle.rs_pages.specs.Laws.{IsFreshPage}
 
--- cut from the front into lists of 64, at most n times, until at most 64 are left
-abbrev pub cut_full_up_to : {T : Type 0} → ℕ → List T → List (List T)
-cut_full_up_to zero items = items ∷ []
-cut_full_up_to (suc n) items = cond (nat_le (length items) 64) (items ∷ []) (take 64 items ∷ cut_full_up_to n (drop 64 items))
-
--- cut from the front into lists of 64, until at most 64 are left
+-- cut from the front into pieces of 64, of which the last has the rest
 abbrev pub cut_full : {T : Type 0} → List T → List (List T)
-cut_full items = cut_full_up_to (length items) items
+cut_full items = cut_into_pieces_of 64 items
 
 -- the touched pages of 64 items that items are cut into, of which the last has the rest; there is no page of no items
 abbrev pub full_pages : {T : Type 0} → List T → List (Page T)
-full_pages [] = []
-full_pages (x ∷ xs) = map touched (cut_full (x ∷ xs))
+full_pages items = map touched (cut_full items)
 
 -- the pages without their first n items: a page whose items are all among them goes, what is left of the page in which the cut
 -- falls is cut into full pages, and all pages after it stay

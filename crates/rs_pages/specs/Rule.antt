@@ -6,14 +6,19 @@ use Rattle.rs_page.specs.declared.place.Place.TheVariants.{Touched}
 use Rattle.rs_page.specs.Pages.{Page}
 use Rattle.rs_pages.specs.Items.{keyed, put_in, taken_out}
 
--- cut from the front into lists of 32, at most n times, until at most 64 are left
-abbrev pub cut_up_to : {T : Type 0} → ℕ → List T → List (List T)
-cut_up_to zero items = items ∷ []
-cut_up_to (suc n) items = cond (nat_le (length items) 64) (items ∷ []) (take 32 items ∷ cut_up_to n (drop 32 items))
+-- cut from the front into pieces of one length, at most n times, until at most 64 items are left
+abbrev pub cut_up_to : {T : Type 0} → ℕ → ℕ → List T → List (List T)
+cut_up_to piece zero items = items ∷ []
+cut_up_to piece (suc n) items = cond (nat_le (length items) 64) (items ∷ []) (take piece items ∷ cut_up_to piece n (drop piece items))
 
--- cut from the front into lists of 32, until at most 64 are left
+-- cut from the front into pieces of one length, until at most 64 items are left, which are the last piece; of no items there is no piece
+abbrev pub cut_into_pieces_of : {T : Type 0} → ℕ → List T → List (List T)
+cut_into_pieces_of piece [] = []
+cut_into_pieces_of piece (x ∷ xs) = cut_up_to piece (length (x ∷ xs)) (x ∷ xs)
+
+-- cut from the front into pieces of 32, until at most 64 items are left
 abbrev pub cut_front : {T : Type 0} → List T → List (List T)
-cut_front items = cut_up_to (length items) items
+cut_front items = cut_into_pieces_of 32 items
 
 -- a page of these items that has no blocks yet
 abbrev pub touched : {T : Type 0} → List T → Page T
@@ -21,8 +26,7 @@ touched items = record { items = items; place = Touched }
 
 -- the touched pages that items are cut into; there is no page of no items
 abbrev pub touched_pages : {T : Type 0} → List T → List (Page T)
-touched_pages [] = []
-touched_pages (x ∷ xs) = map touched (cut_front (x ∷ xs))
+touched_pages items = map touched (cut_front items)
 
 -- the items of the page at i
 abbrev pub items_at : {T : Type 0} → ℕ → List (Page T) → List T

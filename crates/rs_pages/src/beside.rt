@@ -2,7 +2,7 @@
 ghost use Rattle.std.specs.Prelude.{◌≡◌, ◌≤◌, List, [], ◌∷◌, false, length, map, All, Some, IfOk, IfSome, IsNone, IsErrOf, IsTrue};
 ghost use Rattle.std.specs.List.{list_any, Contains};
 ghost use Rattle.std.specs.List.Sorted.{IsSortedByKey};
-ghost use Rattle.rs_disk.specs.Leaves.{HasFailed};
+ghost use Rattle.rs_disk.specs.Leaves.{TellsFaults};
 ghost use Rattle.rs_record.specs.Limits.{most_items};
 ghost use Rattle.rs_page.specs.DiskPages.{IsPage, Stands};
 ghost use Rattle.rs_page.specs.Pages.{IsStored, items_of, same_page, stored_ref, stored_refs};
@@ -97,8 +97,8 @@ pub(crate) fn load_all_beside<T: PageItem + Duplicate, D: Disk>(
         → All (Stands T.format (D.state disk.new).now.seen) beside.now
         → (held : List (List T))
         → ¬ HoldItems T.format pages.now (D.state disk.new).now.seen held }
-    ensures device { IsErrOf result LoadFault.Device
-        → HasFailed (D.state disk.old) (D.state disk.new) }
+    ensures device { TellsFaults (IsErrOf result LoadFault.Device)
+        (D.state disk.old) (D.state disk.new) }
     ensures reads { ReadsPages (unshared pages.now (stored_refs beside.now))
         (D.state disk.old) (D.state disk.new) }
 {
@@ -134,8 +134,8 @@ fn load_one_beside<T: PageItem + Duplicate, D: Disk>(
         → IsTrue (D.state disk.new).honest
         → (items : List T)
         → ¬ IsPage T.format page.now (D.state disk.new).now.seen items }
-    ensures device { IsErrOf result LoadFault.Device
-        → HasFailed (D.state disk.old) (D.state disk.new) }
+    ensures device { TellsFaults (IsErrOf result LoadFault.Device)
+        (D.state disk.old) (D.state disk.new) }
     ensures reads { ReadsPages (unshared (page.now ∷ []) (stored_refs beside.now))
         (D.state disk.old) (D.state disk.new) }
 {

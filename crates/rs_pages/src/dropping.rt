@@ -3,8 +3,8 @@ ghost use Rattle.std.specs.Prelude.{◌≡◌, ◌++◌, ◌<◌, ◌≤◌, len
 ghost use Rattle.rs_pages.specs.Rule.{items_at};
 ghost use Rattle.rs_pages.specs.Dropped.{full_pages, dropped_front};
 
-use crate::making::copy_into;
-use crate::pages::{MOST, Pages};
+use crate::Pages;
+use crate::making::{MOST, copy_into, cut_into_pieces};
 use rs_page::{Page, PageItem};
 use rs_record::{Duplicate, duplicate_all};
 use std::alloc::{AllocError, Global};
@@ -70,15 +70,5 @@ fn without_items<T: PageItem + Duplicate>(
 fn cut_full_into<T: PageItem>(pages: &mut Vec<Page<T>>, items: Vec<T>) -> Result<(), AllocError>
     ensures { OnOk result (pages.new.items ≡ pages.old.items ++ full_pages items.items) }
 {
-    if items.is_empty() {
-        return Ok(());
-    }
-    let mut rest = items;
-    while rest.len() > MOST {
-        let later = rest.split_off(MOST)?;
-        pages.push(Page::new(rest))?;
-        rest = later;
-    }
-    pages.push(Page::new(rest))?;
-    Ok(())
+    cut_into_pieces(pages, items, MOST)
 }

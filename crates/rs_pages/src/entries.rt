@@ -7,7 +7,7 @@ ghost use Rattle.rs_pages.specs.Items.{keyed};
 ghost use Rattle.rs_pages.specs.Rule.{home};
 ghost use Rattle.rs_pages.specs.Entries.{entry_at, is_entry, open_entry};
 
-use crate::pages::MOST;
+use crate::making::MOST;
 use crate::{Named, Pages};
 use rs_page::{Page, PageItem, PageRef, Place};
 use rs_record::Name;

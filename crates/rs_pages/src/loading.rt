@@ -1,6 +1,6 @@
 //! Pages that are read.
 ghost use Rattle.std.specs.Prelude.{◌≡◌, ◌≤◌, List, length, map, All, IfOk, IsErrOf, IsTrue};
-ghost use Rattle.rs_disk.specs.Leaves.{HasFailed};
+ghost use Rattle.rs_disk.specs.Leaves.{TellsFaults};
 ghost use Rattle.rs_record.specs.Limits.{most_items};
 ghost use Rattle.rs_page.specs.DiskPages.{Stands};
 ghost use Rattle.rs_page.specs.Pages.{IsStored, items_of, stored_refs};
@@ -43,8 +43,8 @@ impl<T: PageItem> Pages<T> {
         ensures damaged { IsErrOf result LoadFault.Damaged → IsTrue (D.state disk.new).honest
             → (held : List (List T))
             → ¬ HoldItems T.format pages.now (D.state disk.new).now.seen held }
-        ensures device { IsErrOf result LoadFault.Device
-            → HasFailed (D.state disk.old) (D.state disk.new) }
+        ensures device { TellsFaults (IsErrOf result LoadFault.Device)
+            (D.state disk.old) (D.state disk.new) }
         ensures reads { ReadsPages pages.now (D.state disk.old) (D.state disk.new) }
     {
         let loaded = load_all(alloc, disk, pages)?;
@@ -85,8 +85,8 @@ impl<T: PageItem + Duplicate> Pages<T> {
             → All (Stands T.format (D.state disk.new).now.seen) beside.now
             → (held : List (List T))
             → ¬ HoldItems T.format pages.now (D.state disk.new).now.seen held }
-        ensures device { IsErrOf result LoadFault.Device
-            → HasFailed (D.state disk.old) (D.state disk.new) }
+        ensures device { TellsFaults (IsErrOf result LoadFault.Device)
+            (D.state disk.old) (D.state disk.new) }
         ensures reads { ReadsPages (unshared pages.now (stored_refs beside.now))
             (D.state disk.old) (D.state disk.new) }
     {
@@ -111,8 +111,8 @@ fn load_all<T: PageItem, D: Disk>(
     ensures damaged { IsErrOf result LoadFault.Damaged → IsTrue (D.state disk.new).honest
         → (held : List (List T))
         → ¬ HoldItems T.format pages.now (D.state disk.new).now.seen held }
-    ensures device { IsErrOf result LoadFault.Device
-        → HasFailed (D.state disk.old) (D.state disk.new) }
+    ensures device { TellsFaults (IsErrOf result LoadFault.Device)
+        (D.state disk.old) (D.state disk.new) }
     ensures reads { ReadsPages pages.now (D.state disk.old) (D.state disk.new) }
 {
     let mut loaded = Vec::new(alloc);

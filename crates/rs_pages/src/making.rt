@@ -1,14 +1,15 @@
 //! Pages that are made and copied.
-ghost use Rattle.std.specs.Prelude.{◌≡◌, ◌++◌, IfOk, OnOk};
-ghost use Rattle.rs_pages.specs.Rule.{touched_pages};
+ghost use Rattle.std.specs.Prelude.{◌≡◌, ◌++◌, ◌≤◌, map, IfOk, OnOk};
+ghost use Rattle.rs_pages.specs.Rule.{cut_into_pieces_of, touched, touched_pages};
 
 use rs_page::{Page, PageItem};
 use rs_record::Duplicate;
 use std::alloc::{AllocError, Global};
 
-// The most items of a page that is touched, and how many each page has that is cut from it.
-const MOST: usize = 64;
+/// The most items of a page that is touched: a last page with fewer takes one more at its end.
+pub(crate) const MOST: usize = 64;
 
+// How many items each page has that is cut from the front of a touched page.
 const CUT: usize = 32;
 
 /// Appends the pages that these items are cut into.
@@ -18,12 +19,26 @@ pub(crate) fn cut_into<T: PageItem>(
 ) -> Result<(), AllocError>
     ensures { OnOk result (pages.new.items ≡ pages.old.items ++ touched_pages items.items) }
 {
+    cut_into_pieces(pages, items, CUT)
+}
+
+/// Appends pages of `piece` items of these each, until at most 64 are left, and a page of those.
+pub(crate) fn cut_into_pieces<T: PageItem>(
+    pages: &mut Vec<Page<T>>,
+    items: Vec<T>,
+    piece: usize,
+) -> Result<(), AllocError>
+    requires some { 1 ≤ piece }
+    requires within { piece ≤ 64 }
+    ensures { OnOk result
+        (pages.new.items ≡ pages.old.items ++ map touched (cut_into_pieces_of piece items.items)) }
+{
     if items.is_empty() {
         return Ok(());
     }
     let mut rest = items;
     while rest.len() > MOST {
-        let later = rest.split_off(CUT)?;
+        let later = rest.split_off(piece)?;
         pages.push(Page::new(rest))?;
         rest = later;
     }

@@ -7,15 +7,12 @@ ghost use Rattle.rs_pages.specs.Items.{keyed};
 ghost use Rattle.rs_pages.specs.Rule.{HaveItems, items_at, with_page, begins_by, home, bound_in, unbound_in, appended_to};
 
 use crate::Named;
-use crate::making::{copy_into, cut_into, spliced};
+use crate::making::{MOST, copy_into, cut_into, spliced};
 use crate::within::{place_of, with_item, without_place};
 use rs_page::{Page, PageItem};
 use rs_record::{Duplicate, Name, duplicate_all};
 use std::alloc::{AllocError, Global};
 use std::marker::Model;
-
-// The most items that the last page has where one more goes into it is one less than these.
-pub(crate) const MOST: usize = 64;
 
 /// A list in pages, none of which is empty. Contracts see the list of the pages.
 ///

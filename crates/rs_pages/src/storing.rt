@@ -1,7 +1,7 @@
 //! Pages on the disk.
 ghost use Rattle.std.specs.Prelude.{◌≡◌, ◌≤◌, ◌<◌, ◌+◌, ◌++◌, [], length, take, map, slice_get, vec_len, vec_capacity, All, IfOk, IfSome, OnOk, OnErr, IsErrOf};
 ghost use Rattle.std.specs.List.{AllZip, cons_option};
-ghost use Rattle.rs_disk.specs.Leaves.{HasFailed};
+ghost use Rattle.rs_disk.specs.Leaves.{TellsFaults};
 ghost use Rattle.rs_extent.specs.Extents.{AreApart, AreOnDisk, AreTaken};
 ghost use Rattle.rs_page.specs.DiskPages.{IsWritten};
 ghost use Rattle.rs_page.specs.Pages.{IsTouched, placed_extent, placed_extents, stored, stored_ref, stored_refs};
@@ -76,8 +76,8 @@ impl<T: PageItem> Pages<T> {
         ensures places { OnErr result
             (AllZip (StaysOrIsStored T.format (D.state disk.new).now.seen) self.old self.new) }
         ensures items { map (λ page. page.items) self.new ≡ map (λ page. page.items) self.old }
-        ensures device { IsErrOf result StoreFault.Device
-            → HasFailed (D.state disk.old) (D.state disk.new) }
+        ensures device { TellsFaults (IsErrOf result StoreFault.Device)
+            (D.state disk.old) (D.state disk.new) }
         ensures writes { WritesPages self.old (D.state disk.old) (D.state disk.new) }
     {
         store_all(&mut self.pages, alloc, disk)
@@ -170,8 +170,8 @@ fn store_all<T: PageItem, D: Disk>(
     ensures places { OnErr result
         (AllZip (StaysOrIsStored T.format (D.state disk.new).now.seen) pages.old pages.new) }
     ensures items { map (λ page. page.items) pages.new ≡ map (λ page. page.items) pages.old }
-    ensures device { IsErrOf result StoreFault.Device
-        → HasFailed (D.state disk.old) (D.state disk.new) }
+    ensures device { TellsFaults (IsErrOf result StoreFault.Device)
+        (D.state disk.old) (D.state disk.new) }
     ensures writes { WritesPages pages.old (D.state disk.old) (D.state disk.new) }
 {
     for page in pages.iter_mut() {
