@@ -2,7 +2,7 @@
 
 ghost use Rattle.std.specs.Prelude.{◌≡◌, ℕ, List, [], map, All, IfOk, OnOk, OnErr, IsErrOf, IsTrue, ◌≤◌, ◌+◌, ◌++◌, length, vec_len, vec_capacity};
 ghost use Rattle.std.specs.List.{AllZip};
-ghost use Rattle.rs_disk.specs.Leaves.{HasFailed};
+ghost use Rattle.rs_disk.specs.Leaves.{TellsFaults};
 ghost use Rattle.rs_extent.specs.Extents.{AreApart, AreOnDisk, AreTaken};
 ghost use Rattle.rs_record.specs.declared.record.Record.{Record};
 ghost use Rattle.rs_page.specs.Items.{record_format};
@@ -81,8 +81,8 @@ impl Catalogue {
         ensures records { OnErr result (records_of self.new ≡ records_of self.old) }
         ensures places { OnErr result
             (AllZip (StaysOrIsStored record_format (D.state disk.new).now.seen) self.old self.new) }
-        ensures device { IsErrOf result StoreFault.Device
-            → HasFailed (D.state disk.old) (D.state disk.new) }
+        ensures device { TellsFaults (IsErrOf result StoreFault.Device)
+            (D.state disk.old) (D.state disk.new) }
         ensures writes { WritesPages self.old (D.state disk.old) (D.state disk.new) }
     {
         self.pages.store_touched(alloc, disk)
@@ -116,8 +116,8 @@ impl Catalogue {
             → IsTrue (D.state disk.new).honest
             → (records : List (List Record))
             → ¬ HoldsCatalogue pages.now (D.state disk.new).now.seen records }
-        ensures device { IsErrOf result LoadFault.Device
-            → HasFailed (D.state disk.old) (D.state disk.new) }
+        ensures device { TellsFaults (IsErrOf result LoadFault.Device)
+            (D.state disk.old) (D.state disk.new) }
         ensures reads { ReadsPages pages.now (D.state disk.old) (D.state disk.new) }
     {
         pages_hold_once::<Record>();
@@ -159,8 +159,8 @@ impl Catalogue {
             → All (Stands record_format (D.state disk.new).now.seen) beside.now
             → (records : List (List Record))
             → ¬ HoldsCatalogue pages.now (D.state disk.new).now.seen records }
-        ensures device { IsErrOf result LoadFault.Device
-            → HasFailed (D.state disk.old) (D.state disk.new) }
+        ensures device { TellsFaults (IsErrOf result LoadFault.Device)
+            (D.state disk.old) (D.state disk.new) }
         ensures reads { ReadsPages (unshared pages.now (stored_refs beside.now))
             (D.state disk.old) (D.state disk.new) }
     {

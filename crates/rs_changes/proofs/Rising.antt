@@ -1,5 +1,5 @@
 -- Moments that strictly rise, by pairs of neighbours.
-use Rattle.std.proofs.Common.{◌≡◌, ℕ, zero, suc, ◌<◌, ◌≤◌, ◌+◌, ◌-◌, List, [], ◌∷◌, ◌++◌, length, get_or, true, refl, sym, ap, ◌∙◌, subst, arith, length-append}
+use Rattle.std.proofs.Common.{◌≡◌, ℕ, zero, suc, ◌<◌, ◌≤◌, ◌+◌, ◌-◌, List, [], ◌∷◌, ◌++◌, length, drop, get_or, true, refl, sym, ap, ◌∙◌, subst, arith, length-append, length-drop}
 use Rattle.std.specs.Prelude.{IsTrue, nat_lt, slice_get, IfSome}
 use Rattle.std.specs.Cmp.{first_so, second_so}
 use Rattle.std.proofs.lemmas.Bool.{and_from}
@@ -67,3 +67,15 @@ kept-append old new c kept rises room is =
       rising = rw is (rising-append old c kept.rising rises);
       room = omega (arith, sizes, room);
     }
+
+-- the later ones of rising changes rise
+pub rising_drop : (n : ℕ) (changes : List Change) → IsTrue (is_rising changes) → IsTrue (is_rising (drop n changes))
+rising_drop zero changes h = h
+rising_drop (suc n) [] h = h
+rising_drop (suc n) (x ∷ []) h = rising_drop n [] refl
+rising_drop (suc n) (x ∷ y ∷ changes) h = rising_drop n (y ∷ changes) (second_so (nat_lt x.moment y.moment) (rises_from y.moment changes) h)
+
+pub kept_drop : (n : ℕ) (old new : List Change) → AreKept old → new ≡ drop n old → AreKept new
+kept_drop n old new kept is =
+    let later : AreKept (drop n old) = record { rising = rising_drop n old kept.rising; room = omega (arith, length-drop n old, kept.room) } in
+    subst AreKept (sym is) later

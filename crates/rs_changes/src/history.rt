@@ -1,6 +1,6 @@
 //! A history in memory.
 
-ghost use Rattle.std.specs.Prelude.{◌≡◌, ◌<◌, ◌++◌, List, [], ◌∷◌, length, map, slice_get, Some, IfOk, IfSome};
+ghost use Rattle.std.specs.Prelude.{◌≡◌, ◌<◌, ◌≤◌, ◌*◌, ◌++◌, List, [], ◌∷◌, length, drop, map, slice_get, Some, IfOk, IfSome};
 ghost use Rattle.rs_record.specs.declared.change.Change.{Change};
 ghost use Rattle.rs_model.specs.State.{most_changes};
 ghost use Rattle.rs_page.specs.Items.{change_filled};
@@ -8,13 +8,14 @@ ghost use Rattle.rs_page.specs.Pages.{placed_extents, stored_refs};
 ghost use Rattle.rs_page.specs.SharedPages.{KeepsPages};
 ghost use Rattle.rs_pages.specs.Rule.{appended_to};
 ghost use Rattle.rs_pages.specs.Entries.{open_entry};
+ghost use Rattle.rs_pages.specs.Dropped.{dropped_front, TouchesFew};
 ghost use Rattle.rs_changes.specs.Filled.{history_filled};
 ghost use Rattle.rs_changes.specs.History.{changes_of, last_of, IsHistory, EndsUnstored, part_start, part_end};
 
 use rs_fixity::Digests;
 use rs_page::PageRef;
 use rs_pages::Pages;
-use rs_pages::laws::{last_items_are_filled, pages_are_one_list};
+use rs_pages::laws::{first_items_are_dropped_as_one, last_items_are_filled, pages_are_one_list};
 use rs_record::Change;
 use std::alloc::{AllocError, Global};
 use std::marker::Model;
@@ -121,6 +122,30 @@ impl History {
     {
         pages_are_one_list::<Change>();
         let pages = self.pages.append(alloc, change)?;
+        Ok(History { pages })
+    }
+
+    /// The history without its first `count` parts of `limit` changes each, all of which it has. This
+    /// history stays. The page in which the cut falls is touched: what is left of it is cut into
+    /// pages of 64 changes, of which the last has the rest. Pages before it go, and all after it
+    /// stay the same pages.
+    ///
+    /// # Errors
+    ///
+    /// [`AllocError`] where the memory is refused.
+    pub fn drop_parts(&self, alloc: Global, count: u64, limit: u16) -> Result<History, AllocError>
+        requires { count * limit ≤ length (changes_of self.now) }
+        ensures pages { IfOk result (λ left. left ≡ dropped_front (count * limit) self.now) }
+        ensures changes { IfOk result
+            (λ left. changes_of left ≡ drop (count * limit) (changes_of self.now)) }
+        ensures kept { IfOk result (KeepsPages self.now) }
+        ensures few { IfOk result (TouchesFew (count * limit) self.now) }
+        ensures unplaced { placed_extents self.now ≡ []
+            → IfOk result (λ left. placed_extents left ≡ []) }
+    {
+        first_items_are_dropped_as_one::<Change>();
+        let dropped = self.part(count, limit).start;
+        let pages = self.pages.without_front(alloc, dropped)?;
         Ok(History { pages })
     }
 

@@ -2,7 +2,7 @@
 
 ghost use Rattle.std.specs.Prelude.{◌≡◌, ◌↔◌, List, [], map, All, IfOk, OnOk, OnErr, IsErrOf, IsTrue, ◌≤◌, ◌+◌, ◌++◌, length, vec_len, vec_capacity};
 ghost use Rattle.std.specs.List.{AllZip};
-ghost use Rattle.rs_disk.specs.Leaves.{HasFailed};
+ghost use Rattle.rs_disk.specs.Leaves.{TellsFaults};
 ghost use Rattle.rs_extent.specs.Extents.{AreApart, AreOnDisk, AreTaken};
 ghost use Rattle.rs_record.specs.declared.change.Change.{Change};
 ghost use Rattle.rs_page.specs.Items.{change_format};
@@ -80,8 +80,8 @@ impl History {
         ensures changes { OnErr result (changes_of self.new ≡ changes_of self.old) }
         ensures places { OnErr result
             (AllZip (StaysOrIsStored change_format (D.state disk.new).now.seen) self.old self.new) }
-        ensures device { IsErrOf result StoreFault.Device
-            → HasFailed (D.state disk.old) (D.state disk.new) }
+        ensures device { TellsFaults (IsErrOf result StoreFault.Device)
+            (D.state disk.old) (D.state disk.new) }
         ensures writes { WritesPages self.old (D.state disk.old) (D.state disk.new) }
     {
         self.pages.store_touched(alloc, disk)
@@ -115,8 +115,8 @@ impl History {
             → IsTrue (D.state disk.new).honest
             → (changes : List (List Change))
             → ¬ HoldsHistory pages.now (D.state disk.new).now.seen changes }
-        ensures device { IsErrOf result LoadFault.Device
-            → HasFailed (D.state disk.old) (D.state disk.new) }
+        ensures device { TellsFaults (IsErrOf result LoadFault.Device)
+            (D.state disk.old) (D.state disk.new) }
         ensures reads { ReadsPages pages.now (D.state disk.old) (D.state disk.new) }
     {
         pages_hold_once::<Change>();

@@ -1,7 +1,10 @@
-//! Lists of pages without their first items: how many pages are left.
+//! Lists of pages without their first items, and histories without their first parts: how many
+//! pages are left.
 
+use crate::lists::with;
 use crate::pages::store;
 use crate::values::deletion;
+use rs_changes::History;
 use rs_disk::MemoryDisk;
 use rs_extent::Used;
 use rs_page::{Page, Place};
@@ -80,4 +83,40 @@ fn drop_each(
 fn first_changes_are_dropped(rt: HostRuntime) -> Result<(), Fail> {
     drop_each(&rt, &appended(&rt, 130)?, &APPENDED)?;
     drop_each(&rt, &older(&rt)?, &OLDER)
+}
+
+// A history of 130 changes, each at the moment of its place.
+fn history(rt: &(impl Abort + AllocGlobal)) -> Result<History, Fail> {
+    let mut history = History::empty(rt.alloc());
+    for ms in 0..130 {
+        history = with(rt, &history, ms)?;
+    }
+    Ok(history)
+}
+
+// How many parts of how many changes are dropped of 130 changes in pages of 64, 64 and 2, and how
+// many pages are left.
+const PARTS: [(u16, u16, usize); 6] = [
+    (0, 50, 3),
+    (1, 50, 3),
+    (2, 50, 2),
+    (1, 64, 2),
+    (2, 65, 0),
+    (65, 2, 0),
+];
+
+#[test]
+fn first_parts_are_dropped(rt: HostRuntime) -> Result<(), Fail> {
+    let whole = history(&rt)?;
+    for (count, limit, pages) in &PARTS {
+        let dropped = u64::from(*count) * u64::from(*limit);
+        assert!(rt; dropped <= whole.len() as u64);
+        let left = whole.drop_parts(rt.alloc(), u64::from(*count), *limit)?;
+        let rest = whole.len() as u64 - dropped;
+        assert_eq!(rt; (left.page_count(), left.len() as u64), (*pages, rest));
+        if left.len() > 0 {
+            assert_eq!(rt; left.at(0).moment.ms(), dropped);
+        }
+    }
+    Ok(())
 }
