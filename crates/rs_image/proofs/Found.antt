@@ -1,10 +1,10 @@
 -- What a loader of a root's lists finds.
-use Rattle.std.proofs.Common.{◌≡◌, ℕ, ◌+◌, ◌-◌, ◌<◌, ◌≤◌, true, List, [], ◌∷◌, length, map, refl, subst, arith, sym, ◌∙◌, ap, Result, Ok, Err}
+use Rattle.std.proofs.Common.{◌≡◌, inl, inr, ⊎_elim, ℕ, ◌+◌, ◌-◌, ◌<◌, ◌≤◌, true, List, [], ◌∷◌, length, map, refl, subst, arith, sym, ◌∙◌, ap, Result, Ok, Err}
 use Rattle.std.specs.Prelude.{IsErrOf, All, IsTrue}
 use Rattle.std.specs.Result.{IsErrAnd}
 use Rattle.std.proofs.lemmas.List.Elements.{All-nil, All-cons}
 use Rattle.rs_disk.specs.Medium.{Medium, DiskState, IsMedium}
-use Rattle.rs_disk.specs.Leaves.{Rests}
+use Rattle.rs_disk.specs.Leaves.{Rests, TellsFaults}
 use Rattle.rs_extent.specs.declared.Extent.{Extent}
 use Rattle.rs_extent.specs.Extents.{within}
 use Rattle.rs_body.specs.Blocks.{part, IsSized}
@@ -12,7 +12,7 @@ use Rattle.rs_extent.proofs.Sets.{within_true, within_is, some_first, some_rest}
 use Rattle.rs_record.specs.declared.fields.FieldFault.{FieldFault}
 use Rattle.rs_record.specs.declared.fields.FieldFault.TheVariants.{Malformed, NoMemory as NoFieldMemory}
 use Rattle.rs_page.specs.declared.page.load.LoadFault.{LoadFault}
-use Rattle.rs_page.specs.declared.page.load.LoadFault.TheVariants.{Damaged}
+use Rattle.rs_page.specs.declared.page.load.LoadFault.TheVariants.{Damaged, Device}
 use Rattle.rs_page.specs.Faults.{of_items}
 use Rattle.rs_page.specs.declared.place.PageRef.{PageRef}
 use Rattle.rs_directory.specs.declared.header.Header.{Header}
@@ -82,6 +82,18 @@ size_seen size m is = sym (is.image.size ∙ is.settled)
 pub handed_on : {T : Type 0} (fault : LoadFault) (made : Result T LoadFault) → IsErrAnd made (λ e. e ≡ fault) → IsErrOf made Damaged → fault ≡ Damaged
 handed_on fault (Ok x) is damaged = absurd is
 handed_on fault (Err made) is damaged = let same : made ≡ Damaged = cc in sym is ∙ same
+
+-- a fault is the same one, whatever might have been given in its place
+same_fault : {A B : Type 0} (fault asked : LoadFault) → IsErrOf {T = A} (Err fault) asked → IsErrOf {T = B} (Err fault) asked
+same_fault fault asked is = let same : fault ≡ asked = cc in ap Err same
+
+-- what a run tells of the device is told of it and of a run before it that met no fault
+pub tells_behind : {A B : Type 0} (old mid new : DiskState) (fault : LoadFault) → mid.faults ≡ old.faults
+    → TellsFaults (IsErrOf {T = A} (Err fault) Device) mid new → TellsFaults (IsErrOf {T = B} (Err fault) Device) old new
+tells_behind old mid new fault unmet told = record {
+  failed = λ is. ⊎_elim (λ rose. inl (omega (arith, rose, unmet))) (λ last. inr last) (told.failed (same_fault fault Device is));
+  sound = λ other. told.sound (λ is. other (same_fault fault Device is)) ∙ unmet;
+}
 
 -- the items of pages
 abbrev pub items_in : {T : Type 0} → List (Page T) → List (List T)

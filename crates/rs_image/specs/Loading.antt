@@ -1,5 +1,5 @@
 -- Words of the loader's contracts: where a directory and its pages may lie, a directory as it was read, and lists that stand where it says.
-use Rattle.std.specs.Prelude.{◌≡◌, ◌<◌, ◌≤◌, List, ℕ, true, All}
+use Rattle.std.specs.Prelude.{◌≡◌, ◌<◌, ◌≤◌, ◌+◌, List, length, ℕ, true, All}
 use Rattle.rs_extent.specs.Extents.{within}
 use Rattle.rs_extent.specs.declared.Extent.{Extent}
 use Rattle.rs_body.specs.Blocks.{IsSized, part}
@@ -8,6 +8,7 @@ use Rattle.rs_record.specs.declared.record.Record.{Record}
 use Rattle.rs_record.specs.declared.change.Change.{Change}
 use Rattle.rs_page.specs.declared.place.PageRef.{PageRef}
 use Rattle.rs_page.specs.Pages.{IsStored, stored_refs}
+use Rattle.rs_pages.specs.Storing.{unshared}
 use Rattle.rs_catalogue.specs.Catalogue.{HoldsCatalogue}
 use Rattle.rs_changes.specs.History.{HoldsHistory}
 use Rattle.rs_directory.specs.Directory.{directory_bytes, IsLawfulHeader, AreLawfulRefs}
@@ -58,6 +59,10 @@ pub record AreOf (d : Directory) (c : Contents) : Type 0 where
   pub catalogue_stored : All IsStored c.catalogue
   pub changes_stored : All IsStored c.history
   pub published_stored : All IsStored c.published
+
+-- how many pages are read where a directory is: each that it names, but for a published one that is a page of the catalogue too
+abbrev pub pages_read : Directory → ℕ
+pages_read d = length d.catalogue.items + (length d.changes.items + length (unshared d.published.items d.catalogue.items))
 
 -- What the pages of a directory hold in an image: these records, changes and published records, page for page.
 pub record Hold (d : Directory) (image : List ℕ) (records : List (List Record)) (moves : List (List Change)) (listed : List (List Record)) : Type 0 where

@@ -1,18 +1,19 @@
 //! Reading what stands behind a root.
 
 ghost use Rattle.std.specs.Prelude.{◌≡◌, ◌↔◌, ◌<◌, ◌≤◌, ◌+◌, ℕ, List, true, false, All, map, IfOk, OnOk, IsErrOf, IsTrue};
-ghost use Rattle.rs_disk.specs.Leaves.{Rests, HasFailed};
+ghost use Rattle.rs_disk.specs.Leaves.{Rests, TellsFaults};
 ghost use Rattle.rs_fixity.specs.Digests.{digests};
 ghost use Rattle.rs_extent.specs.Extents.{within};
 ghost use Rattle.rs_body.specs.Blocks.{part};
 ghost use Rattle.rs_record.specs.declared.record.Record.{Record};
 ghost use Rattle.rs_record.specs.declared.change.Change.{Change};
 ghost use Rattle.rs_model.specs.State.{Source};
+ghost use Rattle.rs_directory.specs.declared.directory.Directory.{Directory};
 ghost use Rattle.rs_image.specs.declared.contents.Contents.{Contents};
 ghost use Rattle.rs_image.specs.Reach.{blocks_of_disk};
 ghost use Rattle.rs_image.specs.StateOfImage.{Tells, state_in};
 ghost use Rattle.rs_image.specs.Rooted.{IsRooted, AreUsed, rooted};
-ghost use Rattle.rs_image.specs.Loading.{IsPlaced, IsDirectoryPlaced, IsPagePlaced, ArePlaced, NamesPlaced, spelled, IsLawfulDirectory, AreOf, Hold};
+ghost use Rattle.rs_image.specs.Loading.{IsPlaced, IsDirectoryPlaced, IsPagePlaced, ArePlaced, NamesPlaced, spelled, pages_read, IsLawfulDirectory, AreOf, Hold};
 
 use crate::used::block_count;
 use crate::whole::whole_set;
@@ -55,8 +56,8 @@ pub fn load<D: Disk>(alloc: Global, disk: &mut D, root: &Root) -> Result<Loaded,
         → IsTrue (D.state disk.new).honest
         → (c : Contents) (s : Source)
         → ¬ Tells root.now c (D.state disk.new).now.seen s }
-    ensures device { IsErrOf result LoadFault.Device
-        → HasFailed (D.state disk.old) (D.state disk.new) }
+    ensures device { TellsFaults (IsErrOf result LoadFault.Device)
+        (D.state disk.old) (D.state disk.new) }
     ensures no_memory { IsErrOf result LoadFault.NoMemory
         → IsDirectoryPlaced (D.state disk.new).size root.now }
 
@@ -64,6 +65,11 @@ pub fn load<D: Disk>(alloc: Global, disk: &mut D, root: &Root) -> Result<Loaded,
     ensures placed { (D.state disk.old).calls + 1 < (D.state disk.new).calls
         → IsTrue (D.state disk.new).honest
         → NamesPlaced (D.state disk.new).size root.now (D.state disk.new).now.seen }
+
+    // The directory is read by one call, and each page by one more.
+    ensures once { (D.state disk.old).calls + 1 < (D.state disk.new).calls → (d : Directory)
+        × ((digests (spelled d)).sha256 ≡ root.now.sha256)
+        × ((D.state disk.new).calls ≤ (D.state disk.old).calls + 1 + pages_read d) }
 
     ensures rests { Rests (D.state disk.old) (D.state disk.new) }
 {
@@ -88,8 +94,8 @@ fn load_directory<D: Disk>(alloc: Global, disk: &mut D, root: &Root) -> Result<D
         → IsTrue (D.state disk.new).honest
         → (c : Contents) (s : Source)
         → ¬ Tells root.now c (D.state disk.new).now.seen s }
-    ensures device { IsErrOf result LoadFault.Device
-        → HasFailed (D.state disk.old) (D.state disk.new) }
+    ensures device { TellsFaults (IsErrOf result LoadFault.Device)
+        (D.state disk.old) (D.state disk.new) }
     ensures no_memory { IsErrOf result LoadFault.NoMemory
         → IsDirectoryPlaced (D.state disk.new).size root.now }
     ensures rests { Rests (D.state disk.old) (D.state disk.new) }
@@ -153,14 +159,15 @@ fn load_lists<D: Disk>(
         (published : List (List Record))
         → ArePlaced (D.state disk.new).size directory
         → ¬ Hold directory (D.state disk.new).now.seen catalogue changes published }
-    ensures device { IsErrOf result LoadFault.Device
-        → HasFailed (D.state disk.old) (D.state disk.new) }
+    ensures device { TellsFaults (IsErrOf result LoadFault.Device)
+        (D.state disk.old) (D.state disk.new) }
     ensures no_memory { IsErrOf result LoadFault.NoMemory
         → ArePlaced (D.state disk.new).size directory }
     ensures read { (D.state disk.old).calls < (D.state disk.new).calls
         → ArePlaced (D.state disk.new).size directory }
     ensures unplaced { ¬ ArePlaced (D.state disk.new).size directory
         → IsErrOf result LoadFault.Damaged × (D.state disk.new ≡ D.state disk.old) }
+    ensures once { (D.state disk.new).calls ≤ (D.state disk.old).calls + pages_read directory }
     ensures rests { Rests (D.state disk.old) (D.state disk.new) }
 {
     let size = disk.size();

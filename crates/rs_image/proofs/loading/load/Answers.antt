@@ -1,7 +1,8 @@
-use Rattle.std.proofs.Common.{◌≡◌, length, ap, ◌∙◌, Err}
+use Rattle.std.proofs.Common.{true≢false, is_ok, ◌≡◌, ◌+◌, ◌≤◌, length, ap, ◌∙◌, arith, Err}
+use Rattle.std.proofs.lemmas.Result.{err_from_is_err_and}
 use Rattle.rs_disk.proofs.Steps.{rest_on}
 use Rattle.rs_image.specs.Loading.{spelled}
-use Rattle.rs_image.proofs.Found.{handed_on, still_read, size_seen, told_of, told_hold, told_placed, are_told, none_told, placed_before}
+use Rattle.rs_image.proofs.Found.{handed_on, still_read, size_seen, told_of, told_hold, told_placed, tells_behind, are_told, none_told, placed_before}
 use Rattle.rs_image.proofs.loading.load.Goals as goal
 
 pub returns-in_err-directory-clause-damaged : goal.returns-in_err-directory-clause-damaged
@@ -85,3 +86,28 @@ pub returns-in-Err-clause-rests : goal.returns-in-Err-clause-rests
 returns-in-Err-clause-rests g c =
     let state = g.D.Disk.state in
     rest_on (state c.args.disk.now) (state c.load_directory.new.disk) (state c.load_lists.new.disk) c.load_directory.ensures.rests c.load_lists.ensures.rests
+
+pub returns-in_err-contents-clause-device : goal.returns-in_err-contents-clause-device
+returns-in_err-contents-clause-device g c =
+    let state = g.D.Disk.state in
+    let given = err_from_is_err_and c.from_residual-in_err-contents.result c.from_residual-in_err-contents.ensures.1 in
+    rw (given.1, given.2)
+    (tells_behind (state c.args.disk.now) (state c.load_directory.new.disk) (state c.load_lists.new.disk) c.in_err-contents.field-0.0
+    (c.in_ok-directory.ensures.device.sound (λ is. true≢false (ap is_ok is))) c.in_err-contents.ensures.device)
+
+-- what was read after the directory is what it names
+pub returns-in_err-contents-clause-once : goal.returns-in_err-contents-clause-once
+returns-in_err-contents-clause-once g c past =
+    (c.in_ok-directory.directory, c.in_ok-directory.ensures.digest, omega (arith, c.load_directory.ensures.one_call, c.load_lists.ensures.once))
+
+pub returns-in-Ok-Some-clause-once : goal.returns-in-Ok-Some-clause-once
+returns-in-Ok-Some-clause-once g c past =
+    (c.in_ok-directory.directory, c.in_ok-directory.ensures.digest, omega (arith, c.load_directory.ensures.one_call, c.load_lists.ensures.once))
+
+pub returns-in-Ok-None-clause-once : goal.returns-in-Ok-None-clause-once
+returns-in-Ok-None-clause-once g c past =
+    (c.in_ok-directory.directory, c.in_ok-directory.ensures.digest, omega (arith, c.load_directory.ensures.one_call, c.load_lists.ensures.once))
+
+pub returns-in-Err-clause-once : goal.returns-in-Err-clause-once
+returns-in-Err-clause-once g c past =
+    (c.in_ok-directory.directory, c.in_ok-directory.ensures.digest, omega (arith, c.load_directory.ensures.one_call, c.load_lists.ensures.once))
