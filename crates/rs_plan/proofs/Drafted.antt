@@ -35,7 +35,7 @@ use Rattle.rs_image.specs.declared.contents.Contents.{Contents}
 use Rattle.rs_plan.specs.declared.plan.Plan.{Plan}
 use Rattle.rs_plan.specs.Room.{Takes, lists_needed}
 use Rattle.rs_plan.specs.Plans.{MayHavePlaces, change_put, IsNext, places}
-use Rattle.rs_plan.specs.Placed.{AreUnplaced, IsPlaced, directory_bytes_of, record_of_body, record_made, facts_of_body}
+use Rattle.rs_plan.specs.Placed.{AreUnplaced, HasItsPlaces, directory_bytes_of, record_of_body, record_made, facts_of_body}
 use Rattle.rs_plan.specs.Freed.{entry_of_name}
 use Rattle.rs_plan.proofs.FreedPages.{LosesOne, bind_takes, append_takes}
 use Rattle.rs_plan.proofs.FreedBodies.{body_bound}
@@ -184,7 +184,7 @@ module _ (law : IsPageRuleKept) (old c : Contents) (name kind bytes : List ℕ) 
   }
 
   -- so are those of a plan of the draft
-  placed_catalogue_is : (used : List Bool) (p : Plan) → IsPlaced used body c p
+  placed_catalogue_is : (used : List Bool) (p : Plan) → HasItsPlaces used body c p
       → AreRefilled record_format p.contents.catalogue (pages_filled name (digests bytes) p.contents.catalogue)
   placed_catalogue_is used p placed =
       let same_records : records_of p.contents.catalogue ≡ records_of c.catalogue =
@@ -192,7 +192,7 @@ module _ (law : IsPageRuleKept) (old c : Contents) (name kind bytes : List ℕ) 
       each_refilled record_format (filling name (digests bytes) (digests_long bytes)) p.contents.catalogue
       (subst (AllByRecursion (StaysAsLong name (digests bytes) (digests_long bytes))) (sym same_records) stay_long)
 
-  placed_history_is : (used : List Bool) (p : Plan) → IsPlaced used body c p
+  placed_history_is : (used : List Bool) (p : Plan) → HasItsPlaces used body c p
       → AreRefilled change_format p.contents.history (history_filled (digests bytes) p.contents.history)
   placed_history_is used p placed =
       let same_changes : changes_of p.contents.history ≡ changes_of c.history =
@@ -200,7 +200,7 @@ module _ (law : IsPageRuleKept) (old c : Contents) (name kind bytes : List ℕ) 
       last_refilled change_format (change_filled (digests bytes)) p.contents.history (subst LastStaysLong (sym same_changes) last_stays_long)
 
   -- and it has the same places
-  pub places_are : (used : List Bool) (p : Plan) → IsPlaced used body c p → places p ≡ places (plan_filled name (digests bytes) p)
+  pub places_are : (used : List Bool) (p : Plan) → HasItsPlaces used body c p → places p ≡ places (plan_filled name (digests bytes) p)
   places_are used p placed =
       ap₂ (λ (a b : List Extent). p.body ∷ a ++ b ++ p.directory ∷ [])
       (sym (same_extents record_format p.contents.catalogue (pages_filled name (digests bytes) p.contents.catalogue) (placed_catalogue_is used p placed)))
@@ -218,7 +218,7 @@ module _ (law : IsPageRuleKept) (old c : Contents) (name kind bytes : List ℕ) 
   }
 
   -- a plan of the draft, once it is filled, is a plan of the filled lists
-  pub placed_is : (used : List Bool) (p : Plan) → IsPlaced used body c p → IsPlaced used body filled (plan_filled name (digests bytes) p)
+  pub placed_is : (used : List Bool) (p : Plan) → HasItsPlaces used body c p → HasItsPlaces used body filled (plan_filled name (digests bytes) p)
   placed_is used p placed =
       let of_catalogue = placed_catalogue_is used p placed in
       let of_history = placed_history_is used p placed in

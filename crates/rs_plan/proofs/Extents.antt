@@ -1,26 +1,30 @@
 -- What takes the lowest run takes one extent, which was free.
 use Rattle.std.proofs.Common.{◌≡◌, ℕ, Bool, true, List, [], ◌∷◌, ◌++◌, Result, Ok, Err, is_ok, IsOk, if◌then◌else◌, refl, sym, ◌∙◌, ap, subst, arith}
 use Rattle.rs_extent.specs.declared.Extent.{Extent}
-use Rattle.rs_extent.specs.Blocks.{IsFree, Sets}
+use Rattle.rs_extent.specs.Blocks.{IsFree, IsFreeRun, Sets}
 use Rattle.rs_extent.specs.Extents.{AreTaken, AreGiven}
 use Rattle.rs_extent.proofs.Taken.{taken_free, taken_both}
 use Rattle.rs_extent.proofs.InTurn.{taken_is_given_back}
-use Rattle.rs_plan.specs.Room.{Takes, IsFound}
+use Rattle.rs_plan.specs.Room.{Takes, HasNoRun, IsFoundRun}
 
 pub taken_lowest : (old new : List Bool) (n : ℕ) (e : Extent) → Takes old n e new → AreTaken old new (e ∷ [])
 taken_lowest old new n e takes =
     taken_free old new e (λ b from until. (takes.lowest (omega (arith, from, until, takes.blocks))).is_free b from until) takes.sets
 
 -- what is found is free
-pub found_free : (used : List Bool) (n : ℕ) (e : Extent) → IsFound used n e → IsFree used e
+pub found_free : (used : List Bool) (n : ℕ) (e : Extent) → IsFoundRun used n e → IsFree used e
 found_free used n e found = λ b from until. (found.lowest (omega (arith, from, until, found.blocks))).is_free b from until
 
+-- so that there is a run
+pub found_somewhere : (used : List Bool) (n : ℕ) (e : Extent) → IsFoundRun used n e → HasNoRun used n → ⊥
+found_somewhere used n e found none = none.1 e.first (subst (λ (k : ℕ). IsFreeRun used e.first k) found.blocks (found_free used n e found))
+
 -- and is the lowest run once it is taken
-pub takes_found : (used used' : List Bool) (n : ℕ) (e : Extent) → IsFound used n e → Sets used used' e true → Takes used n e used'
+pub takes_found : (used used' : List Bool) (n : ℕ) (e : Extent) → IsFoundRun used n e → Sets used used' e true → Takes used n e used'
 takes_found used used' n e found sets = record { blocks = found.blocks; nowhere = found.nowhere; lowest = found.lowest; sets = sets }
 
 -- no block is found for no body
-pub found_none : (used : List Bool) → IsFound used 0 (record { first = 0; blocks = 0 })
+pub found_none : (used : List Bool) → IsFoundRun used 0 (record { first = 0; blocks = 0 })
 found_none used = record { blocks = refl; nowhere = λ none. refl; lowest = λ some. absurd (omega arith) }
 
 -- What was taken, and is given back, leaves the set as it was.

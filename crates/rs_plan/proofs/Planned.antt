@@ -29,7 +29,7 @@ use Rattle.rs_plan.specs.declared.plan.Plan.{Plan}
 use Rattle.rs_image.specs.Rooted.{rooted, AreUsed, IsRooted}
 use Rattle.rs_plan.specs.Room.{Takes, body_needed}
 use Rattle.rs_plan.specs.Plans.{body_of_command, ArePagesAfter, IsNext, places, planned_listing, planned_root, TakesInTurn, TakesAndGives, IsPlanned}
-use Rattle.rs_plan.specs.Placed.{AreUnplaced, IsPlaced, directory_bytes_of}
+use Rattle.rs_plan.specs.Placed.{AreUnplaced, HasItsPlaces, directory_bytes_of}
 use Rattle.rs_plan.specs.Freed.{freed_by}
 use Rattle.rs_extent.specs.Extents.{AreDisjoint, IsSubset}
 use Rattle.rs_extent.proofs.Sets.{not_true, not_both, turned, some_front, some_behind}
@@ -53,7 +53,7 @@ not_low b is = grind (arith, nat_tests)
 
 module _ (size : ℕ) (root : Root) (old : Contents) (sound : IsRooted (rooted size root old)) (command : Command) (moment : ℕ)
     (used used₁ : List Bool) (are_used : AreUsed (rooted size root old) used) (body : Extent) (takes : Takes used (body_needed command) body used₁)
-    (c : Contents) (next : IsNext old command moment body c) (rules : KeepsRules old body c) (unplaced : AreUnplaced c) (p : Plan) (placed : IsPlaced used₁ body c p)
+    (c : Contents) (next : IsNext old command moment body c) (rules : KeepsRules old body c) (unplaced : AreUnplaced c) (p : Plan) (placed : HasItsPlaces used₁ body c p)
     (reply : (image : List ℕ) → p.reply ≡ reply_to (state_in image old) command moment)
     (of_catalogue : IsCatalogue c.catalogue) (of_history : IsHistory c.history) (of_published : IsCatalogue c.published) (frees : Frees command old body c)
     (taken_is : p.taken.items ≡ places p) (freed_is : p.freed.items ≡ freed_by command (rooted size root old)) where
@@ -371,7 +371,7 @@ module _ (size : ℕ) (root : Root) (old : Contents) (sound : IsRooted (rooted s
     are_used = are_used;
     body = subst (λ (e : Extent). Takes used (body_needed command) e used₁) (sym placed.body_is) takes;
     unplaced = unplaced;
-    placed = subst (λ (e : Extent). IsPlaced used₁ e c p) (sym placed.body_is) placed;
+    placed = subst (λ (e : Extent). HasItsPlaces used₁ e c p) (sym placed.body_is) placed;
   }
 
   -- what it takes and gives back

@@ -40,7 +40,7 @@ directory_bytes_of c = directory_length c.header (length c.catalogue + length c.
 
 -- The pages of these lists, and then their directory, took blocks of a disk: first those of the catalogue, then those of
 -- the history. Nothing else of the lists changed.
-pub record IsPlaced (used : List Bool) (body : Extent) (c : Contents) (p : Plan) : Type 0 where
+pub record HasItsPlaces (used : List Bool) (body : Extent) (c : Contents) (p : Plan) : Type 0 where
   pub after_catalogue : List Bool
   pub after_history : List Bool
   pub after : List Bool
@@ -56,7 +56,7 @@ pub record IsPlaced (used : List Bool) (body : Extent) (c : Contents) (p : Plan)
   pub body_is : p.body ≡ body
 
 -- Touched pages of lists, and then a directory, took blocks of a disk, and nothing else of the lists changed.
-pub record ArePlaced (used : List Bool) (c placed : Contents) (found : Extent) (after : List Bool) : Type 0 where
+pub record HaveTheirPlaces (used : List Bool) (c placed : Contents) (found : Extent) (after : List Bool) : Type 0 where
   pub after_catalogue : List Bool
   pub after_history : List Bool
   pub catalogue : Places record_format used c.catalogue after_catalogue placed.catalogue
@@ -73,7 +73,7 @@ pub record ArePlaced (used : List Bool) (c placed : Contents) (found : Extent) (
 pub record IsPlacedFrom (used : List Bool) (body : Extent) (c : Contents) (p : Plan) : Type 0 where
   pub after_body : List Bool
   pub sets : Sets used after_body body true
-  pub placed : IsPlaced after_body body c p
+  pub placed : HasItsPlaces after_body body c p
 
 -- With a body taken that is free, there is no room for lists.
 pub record HasNoRoomFrom (used : List Bool) (body : Extent) (c : Contents) : Type 0 where

@@ -29,7 +29,7 @@ use Rattle.rs_image.specs.StateOfImage.{state_in, listing, AreListable}
 use Rattle.rs_image.specs.Rooted.{Rooted, AreUsed}
 use Rattle.rs_plan.specs.declared.plan.Plan.{Plan}
 use Rattle.rs_plan.specs.Room.{Takes, HasNoRun, HasNoRoom, lists_needed, body_needed}
-use Rattle.rs_plan.specs.Placed.{AreUnplaced, IsPlaced, record_made}
+use Rattle.rs_plan.specs.Placed.{AreUnplaced, HasItsPlaces, record_made}
 
 -- the body that a command writes
 abbrev pub body_of_command : Command → List ℕ
@@ -112,7 +112,7 @@ pub record TakesInTurn (old : Rooted) (command : Command) (p : Plan) : Type 0 wh
   pub are_used : AreUsed old used
   pub body : Takes used (body_needed command) p.body after_body
   pub unplaced : AreUnplaced lists
-  pub placed : IsPlaced after_body p.body lists p
+  pub placed : HasItsPlaces after_body p.body lists p
 
 -- What a plan takes and gives back: its places are listed; what it gives back is reached by the old root, no two things of it with a
 -- block in common; and the next root reaches what the old one reached, less what is given back, and the places.

@@ -19,7 +19,7 @@ pub record Takes (used : List Bool) (n : ℕ) (extent : Extent) (used' : List Bo
   pub sets : Sets used used' extent true
 
 -- n blocks, where there are some, are the lowest run of that many
-pub record IsFound (used : List Bool) (n : ℕ) (extent : Extent) : Type 0 where
+pub record IsFoundRun (used : List Bool) (n : ℕ) (extent : Extent) : Type 0 where
   pub blocks : extent.blocks ≡ n
   pub nowhere : n ≡ 0 → extent.first ≡ 0
   pub lowest : 1 ≤ n → IsLowest used n extent

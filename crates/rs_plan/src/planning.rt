@@ -6,6 +6,8 @@ ghost use Rattle.rs_model.specs.declared.command.Command.TheVariants.{Put, Delet
 ghost use Rattle.rs_fixity.specs.Digests.{digests};
 ghost use Rattle.rs_plan.specs.Allowed.{MayPut, MayDelete, MayPublish};
 ghost use Rattle.rs_image.specs.Rooted.{AreUsed};
+ghost use Rattle.rs_body.specs.Blocks.{blocks_of};
+ghost use Rattle.rs_plan.specs.Room.{HasNoRun};
 ghost use Rattle.rs_plan.specs.Plans.{IsPlanned, LacksRoom};
 ghost use Rattle.rs_plan.specs.Drafts.{AwaitsBody, IsPageRuleKept, plan_filled};
 
@@ -68,7 +70,8 @@ impl From<AllocError> for PlanFault {
 ///
 /// # Errors
 ///
-/// - [`PlanFault::Full`] where the body, a page or the directory has no run of free blocks.
+/// - [`PlanFault::Full`] where the body, a page or the directory has no run of free blocks; where
+///   the body has none, whatever memory there is.
 /// - [`PlanFault::NoMemory`] where a growth of memory is refused.
 pub fn draft_put(
     alloc: Global,
@@ -88,6 +91,7 @@ pub fn draft_put(
         (plan_filled name.now (digests bytes) plan)) }
     ensures full { IsErrOf result PlanFault.Full → (bytes : List ℕ) → length bytes ≡ body_length
         → LacksRoom old.now (Put name.now kind.now bytes) moment }
+    ensures no_body { HasNoRun used.old (blocks_of body_length) → IsErrOf result PlanFault.Full }
 {
     page_rule_is_kept();
     let contents = old.contents();
@@ -121,7 +125,8 @@ const UNKNOWN: Digests = Digests {
 ///
 /// # Errors
 ///
-/// - [`PlanFault::Full`] where the body, a page or the directory has no run of free blocks.
+/// - [`PlanFault::Full`] where the body, a page or the directory has no run of free blocks; where
+///   the body has none, whatever memory there is.
 /// - [`PlanFault::NoMemory`] where a growth of memory is refused.
 pub fn plan_put(
     alloc: Global,
@@ -138,6 +143,8 @@ pub fn plan_put(
     ensures planned { IfOk result (IsPlanned old.now (Put name.now kind.now bytes.now) moment) }
     ensures full { IsErrOf result PlanFault.Full
         → LacksRoom old.now (Put name.now kind.now bytes.now) moment }
+    ensures no_body { HasNoRun used.old (blocks_of (length bytes.now))
+        → IsErrOf result PlanFault.Full }
 {
     let body_length = bytes.len() as u32;
     let mut plan = draft_put(alloc, used, old, name, kind, body_length, moment)?;

@@ -9,9 +9,9 @@ ghost use Rattle.rs_page.specs.Pages.{placed_extents};
 ghost use Rattle.rs_catalogue.specs.Catalogue.{IsCatalogue};
 ghost use Rattle.rs_changes.specs.History.{IsHistory};
 ghost use Rattle.rs_plan.specs.declared.planning.PlanFault.{PlanFault};
-ghost use Rattle.rs_plan.specs.Room.{Takes, IsFound, HasNoRun, HasNoRoom, lists_needed};
+ghost use Rattle.rs_plan.specs.Room.{Takes, IsFoundRun, HasNoRun, HasNoRoom, lists_needed};
 ghost use Rattle.rs_plan.specs.Plans.{places};
-ghost use Rattle.rs_plan.specs.Placed.{AreUnplaced, ArePlaced, IsPlacedFrom, HasNoRoomFrom};
+ghost use Rattle.rs_plan.specs.Placed.{AreUnplaced, HaveTheirPlaces, IsPlacedFrom, HasNoRoomFrom};
 
 use super::PlanFault;
 use crate::plan::Plan;
@@ -27,7 +27,7 @@ use std::alloc::{AllocError, Global};
 /// is no such run.
 pub(crate) fn find_lowest(used: &Used, length: u32) -> Option<Extent>
     ensures { MatchOption result (HasNoRun used.now (blocks_of length))
-        (IsFound used.now (blocks_of length)) }
+        (IsFoundRun used.now (blocks_of length)) }
 {
     let blocks = blocks_for(length);
     if blocks == 0 {
@@ -111,7 +111,7 @@ fn take_places(
         ++ placed_extents lists.new.catalogue ++ placed_extents lists.new.history
         ++ directory ∷ []) }
     ensures placed { IfOk result
-        (λ directory. ArePlaced used.old lists.old lists.new directory used.new) }
+        (λ directory. HaveTheirPlaces used.old lists.old lists.new directory used.new) }
     ensures full { OnErr result (HasNoRoom used.old (lists_needed lists.old)) }
     ensures catalogue { IsCatalogue lists.old.catalogue }
     ensures history { IsHistory lists.old.history }

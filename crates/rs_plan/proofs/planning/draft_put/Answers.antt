@@ -15,7 +15,7 @@ use Rattle.rs_plan.specs.Placed.{AreUnplaced, facts_of_body}
 use Rattle.rs_plan.proofs.Drafted.{IsDraft, frees_is, places_are, next_is, needed_is, unplaced_is, placed_is, records_are, changes_are, lawful_catalogue, lawful_history}
 use Rattle.rs_plan.proofs.Following.{all_unplaced, lacking}
 use Rattle.rs_plan.proofs.Here.{sound_here, used_here, later_here, same_fault, freed_here, planned_there, lacking_there}
-use Rattle.rs_plan.proofs.Extents.{found_free, takes_found}
+use Rattle.rs_plan.proofs.Extents.{found_free, found_somewhere, takes_found}
 use Rattle.rs_plan.proofs.Rules.{put_rules}
 use Rattle.rs_plan.proofs.Parts.{sized_body}
 use Rattle.rs_plan.proofs.Planned.{planned}
@@ -53,6 +53,9 @@ returns-clause-awaits c =
           placed.catalogue unstored.0;
       history = placed_ends change_format placed.after_catalogue placed.after_history lists.history plan.contents.history placed.history unstored.1;
     }
+
+pub returns-clause-no_body : goal.returns-clause-no_body
+returns-clause-no_body c none = absurd (found_somewhere c.args.used.now (blocks_of c.args.body_length) c.in-Some.body c.in-Some.ensures none)
 
 pub returns-in_default-clause-full : goal.returns-in_default-clause-full
 returns-in_default-clause-full c full bytes is = record {
