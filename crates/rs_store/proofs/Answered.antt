@@ -134,8 +134,8 @@ module _ {D : Type 0} (device : D → DiskState) (medium : (disk : D) → IsMedi
       → ((q : Refusal) → decided old (state_of device old) command ≡ Some q → (r ≡ q) × (new ≡ old))
       → new.is_closed ≡ old.is_closed → IsUnchanged device old new
       → ((s : Source) → Holds device old s → Holds device new s × Leaves (device old.disk) (device new.disk) (λ _ image. StandsFor image s))
-      → Advances (device old.disk) (device new.disk) → Answers device old new command now (Err r)
-  kept_answers new r cause other given closed same leads goes =
+      → Advances (device old.disk) (device new.disk) → (device new.disk).faults ≡ (device old.disk).faults → Answers device old new command now (Err r)
+  kept_answers new r cause other given closed same leads goes unmet =
       record {
         decides = λ q is. ap refusing (given q is).0;
         untouched = λ q is. (given q is).1;
@@ -143,6 +143,7 @@ module _ {D : Type 0} (device : D → DiskState) (medium : (disk : D) → IsMedi
         accepted = tt;
         generation = tt;
         leads = λ s holds. kept_leads new s r other (leads s holds).0 (leads s holds).1;
+        told = record { failed = λ is. let here : r ≡ Device = cc in absurd (other here); sound = λ _. unmet };
         closes = λ is. let here : r ≡ Device = cc in absurd (other here);
         stays_open = λ _. closed;
         unchanged = λ q is not_it. same;
@@ -163,16 +164,16 @@ module _ {D : Type 0} (device : D → DiskState) (medium : (disk : D) → IsMedi
   pub at_once : (r : Refusal) → decided old (state_of device old) command ≡ Some r → Answers device old old command now (Err r)
   at_once r is =
       let of_early : IsEarly r = early old.is_closed (refusal_of (state_of device old) command) (is_spent old) r is in
-      kept_answers old r (early_cause old r of_early is) (not_device r of_early) (λ q other. let same : r ≡ q = cc in (same, refl)) refl nothing_done at_rest no_call
+      kept_answers old r (early_cause old r of_early is) (not_device r of_early) (λ q other. let same : r ≡ q = cc in (same, refl)) refl nothing_done at_rest no_call refl
 
   -- without a plan
   pub unplanned : (fault : PlanFault) → decided old (state_of device old) command ≡ None
       → (fault ≡ NoRoom → LacksRoom (rooted_in device old) command (moment_at (state_of device old) now))
       → Answers device old old command now (Err (of_plan fault))
   unplanned NoRoom is room =
-      kept_answers old Full (is, room refl) (λ (same : Full ≡ Device). absurd cc) (λ q other. absurd cc) refl nothing_done at_rest no_call
+      kept_answers old Full (is, room refl) (λ (same : Full ≡ Device). absurd cc) (λ q other. absurd cc) refl nothing_done at_rest no_call refl
   unplanned NoPlanMemory is room =
-      kept_answers old NoMemory is (λ (same : NoMemory ≡ Device). absurd cc) (λ q other. absurd cc) refl nothing_done at_rest no_call
+      kept_answers old NoMemory is (λ (same : NoMemory ≡ Device). absurd cc) (λ q other. absurd cc) refl nothing_done at_rest no_call refl
 
   -- with a plan
   module _ (p : Plan) (bytes : List ℕ) (whole : IsWhole (device old.disk).size old.slots.root old.contents)
@@ -185,9 +186,9 @@ module _ {D : Type 0} (device : D → DiskState) (medium : (disk : D) → IsMedi
         (reach_kept old.slots.root old.contents) run.seen
 
     -- memory was refused
-    pub stopped : Advances (device old.disk) (device mid)
+    pub stopped : Advances (device old.disk) (device mid) → (device mid).faults ≡ (device old.disk).faults
         → Answers device old (record { disk = mid; slots = old.slots; contents = old.contents; is_closed = old.is_closed }) command now (Err NoMemory)
-    stopped goes =
+    stopped goes unmet =
         kept_answers (record { disk = mid; slots = old.slots; contents = old.contents; is_closed = old.is_closed }) NoMemory free
         (λ (is : NoMemory ≡ Device). absurd (no_device is)) (λ q other. absurd (none_some (decided old (state_of device old) command) q free other)) refl
         (record { slots = refl; contents = refl; state = kept_state })
@@ -199,7 +200,7 @@ module _ {D : Type 0} (device : D → DiskState) (medium : (disk : D) → IsMedi
           },
           stands_meanwhile old.slots old.contents s (device old.disk) (medium old.disk) holds.ready holds.told (device mid) run,
         ))
-        goes
+        goes unmet
 
     next : Source → Source
     next s = next_state s command (moment_at s now)
@@ -225,6 +226,7 @@ module _ {D : Type 0} (device : D → DiskState) (medium : (disk : D) → IsMedi
           generation = tt;
           leads = λ s holds. subst (λ (t : Source). Leaves (device old.disk) (device new.disk) (λ _ image. StandsFor image s ⊎ StandsFor image t))
               (sym (after_step s holds)) (leaves s holds);
+          told = record { failed = λ _. failed; sound = λ is. absurd (is refl) };
           closes = λ _. closed;
           stays_open = λ is. absurd (is refl);
           unchanged = λ q is other. let here : q ≡ Device = cc in absurd (other here);
@@ -307,9 +309,9 @@ module _ {D : Type 0} (device : D → DiskState) (medium : (disk : D) → IsMedi
           → (IsReady old.slots (device mid).now → IsReady new.slots (device new.disk).now)
           → SameBehind (device new.disk).now.seen (device mid).now.seen → (device new.disk).now ≡ resting settled
           → reply ≡ reply_to (state_of device old) command (moment_at (state_of device old) now)
-          → Advances (device old.disk) (device new.disk) → Answers device old new command now (Ok reply)
+          → Advances (device old.disk) (device new.disk) → (device new.disk).faults ≡ (device old.disk).faults → Answers device old new command now (Ok reply)
       unfolding next
-      committed new reply settled any at contents closed ready same rests replied goes =
+      committed new reply settled any at contents closed ready same rests replied goes unmet =
           let moment = moment_at (state_of device old) now in
           let seen = (device mid).now.seen in
           let last = (device new.disk).now.seen in
@@ -347,6 +349,7 @@ module _ {D : Type 0} (device : D → DiskState) (medium : (disk : D) → IsMedi
                   },
                   subst (λ (x : Source). Leaves (device old.disk) (device new.disk) (λ _ image. StandsFor image s ⊎ StandsFor image x)) t (meanwhile new.disk any s holds),
                 );
+            told = record { failed = λ is. absurd cc; sound = λ _. unmet };
             closes = λ other. absurd cc;
             stays_open = λ _. closed;
             unchanged = λ q other. absurd cc;

@@ -29,6 +29,7 @@ begun_with_none {D} device start o p same =
       is_closed = refl;
       outside = outside_none (is_kept o.slots.root o.contents) (device o.disk);
       advances = record { size = refl; keeps = refl; calls = omega arith; faults = omega arith };
+      sound = refl;
       stands = refl;
     })
 
@@ -42,15 +43,19 @@ module _ {D : Type 0} (device : D → DiskState) (medium : (disk : D) → IsMedi
   went : Advances (device start.disk) (device mid)
   went = subst (λ (s : Stored D). Advances (device s.disk) (device mid)) same goes
 
+  unmet : (device mid).faults ≡ (device o.disk).faults → (device mid).faults ≡ (device start.disk).faults
+  unmet sound = subst (λ (s : Stored D). (device mid).faults ≡ (device s.disk).faults) same sound
+
   -- the body stands
-  pub begun : (bytes : List ℕ) → AreBeside (is_kept start.slots.root start.contents) (places p) → part p.body (length bytes) (device mid).now.seen ≡ bytes
+  pub begun : (device mid).faults ≡ (device o.disk).faults → (bytes : List ℕ) → AreBeside (is_kept start.slots.root start.contents) (places p) → part p.body (length bytes) (device mid).now.seen ≡ bytes
       → HasWrittenBody device start (record { disk = mid; slots = o.slots; contents = o.contents; is_closed = o.is_closed }) p bytes
-  begun bytes free stands = record {
+  begun sound bytes free stands = record {
     slots = ap (λ (s : Stored D). s.slots) same;
     contents = ap (λ (s : Stored D). s.contents) same;
     is_closed = ap (λ (s : Stored D). s.is_closed) same;
     outside = outside free;
     advances = went;
+    sound = unmet sound;
     stands = stands;
   }
 
@@ -69,8 +74,9 @@ module _ {D : Type 0} (device : D → DiskState) (medium : (disk : D) → IsMedi
         (subst (λ (s : Stored D). HasFailed (device s.disk) (device mid)) same failed) went
 
     -- it stopped for another cause, as where memory was refused
-    pub stopped_body : Answers device start (record { disk = mid; slots = o.slots; contents = o.contents; is_closed = o.is_closed }) command now (Err NoMemory)
-    stopped_body =
+    pub stopped_body : (device mid).faults ≡ (device o.disk).faults
+        → Answers device start (record { disk = mid; slots = o.slots; contents = o.contents; is_closed = o.is_closed }) command now (Err NoMemory)
+    stopped_body sound =
         let left : Stored D → Stored D = λ s. record { disk = mid; slots = s.slots; contents = s.contents; is_closed = s.is_closed } in
         subst (λ (s : Stored D). Answers device start s command now (Err NoMemory)) (ap left (sym same))
-        (stopped device medium start command now p (body_of_command command) was_whole free refl planned mid (outside planned.free) went)
+        (stopped device medium start command now p (body_of_command command) was_whole free refl planned mid (outside planned.free) went (unmet sound))

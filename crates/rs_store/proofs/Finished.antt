@@ -56,19 +56,23 @@ module _ {D : Type 0} (device : D → DiskState) (medium : (disk : D) → IsMedi
     all_goes : Advances (device start.disk) (device mid)
     all_goes = advances_on (device start.disk) (device now.disk) (device mid) begun.advances goes
 
+    all_unmet : (device mid).faults ≡ (device now.disk).faults → (device mid).faults ≡ (device start.disk).faults
+    all_unmet unmet = unmet ∙ begun.sound
+
     was_whole : IsWhole (device start.disk).size start.slots.root start.contents
     was_whole =
         subst (λ (n : ℕ). IsWhole n start.slots.root start.contents) begun.advances.size
         (subst (λ (s : Standing). IsWhole (device now.disk).size s.root start.contents) begun.slots
         (subst (λ (c : Contents). IsWhole (device now.disk).size now.slots.root c) begun.contents whole))
 
-    stopped_so : Answers device start (record { disk = mid; slots = now.slots; contents = now.contents; is_closed = now.is_closed }) command moment (Err NoMemory)
-    stopped_so =
+    stopped_so : (device mid).faults ≡ (device now.disk).faults
+        → Answers device start (record { disk = mid; slots = now.slots; contents = now.contents; is_closed = now.is_closed }) command moment (Err NoMemory)
+    stopped_so unmet =
         let left : Stored D = record { disk = mid; slots = now.slots; contents = now.contents; is_closed = now.is_closed } in
         let was : Stored D = record { disk = mid; slots = start.slots; contents = start.contents; is_closed = start.is_closed } in
         let same : was ≡ left = λ i. record { disk = mid; slots = sym begun.slots i; contents = sym begun.contents i; is_closed = sym begun.is_closed i } in
         subst (λ (new : Stored D). Answers device start new command moment (Err NoMemory)) same
-        (stopped device medium start command moment p (body_of_command command) was_whole free refl planned mid all_outside all_goes)
+        (stopped device medium start command moment p (body_of_command command) was_whole free refl planned mid all_outside all_goes (all_unmet unmet))
 
     broken_so : (new : Stored D) → new.disk ≡ mid → new.is_closed ≡ true → HasFailed (device now.disk) (device mid) → Answers device start new command moment (Err Device)
     broken_so new disk closed failed =
@@ -96,17 +100,20 @@ module _ {D : Type 0} (device : D → DiskState) (medium : (disk : D) → IsMedi
       committed_so : (reply : Reply) (settled : List ℕ) → new.slots.root ≡ root → new.contents ≡ once_stored p.contents → new.is_closed ≡ now.is_closed
           → (IsReady now.slots (device mid).now → IsReady new.slots (device new.disk).now)
           → SameBehind (device new.disk).now.seen (device mid).now.seen → (device new.disk).now ≡ resting settled → reply ≡ p.reply
+          → (device mid).faults ≡ (device now.disk).faults → (device new.disk).faults ≡ (device mid).faults
           → Answers device start new command moment (Ok reply)
-      committed_so reply settled at lists closed ready behind rests replied =
+      committed_so reply settled at lists closed ready behind rests replied unmet further_unmet =
           committed device medium start command moment p (body_of_command command) was_whole free refl planned mid all_outside
           (stored.reads (body_of_command command) planned.body begun.stands) stored.lists all_goes.size root was_next new reply settled was_any at lists
           (closed ∙ begun.is_closed) (subst (λ (s : Standing). IsReady s (device mid).now → IsReady new.slots (device new.disk).now) begun.slots ready)
           behind rests (replied ∙ planned.reply (device start.disk).now.seen)
           (advances_on (device start.disk) (device mid) (device new.disk) all_goes further)
+          (further_unmet ∙ all_unmet unmet)
 
   -- memory was refused
-  pub stopped_behind : Promised device p (record { disk = mid; slots = now.slots; contents = now.contents; is_closed = now.is_closed }) (Err NoMemory) now
-  stopped_behind start command moment begun free planned = stopped_so start command moment begun free planned
+  pub stopped_behind : (device mid).faults ≡ (device now.disk).faults
+      → Promised device p (record { disk = mid; slots = now.slots; contents = now.contents; is_closed = now.is_closed }) (Err NoMemory) now
+  stopped_behind unmet start command moment begun free planned = stopped_so start command moment begun free planned unmet
 
   -- the device failed
   pub broken_behind : (new : Stored D) → new.disk ≡ mid → new.is_closed ≡ true → HasFailed (device now.disk) (device mid) → Promised device p new (Err Device) now
@@ -123,6 +130,7 @@ module _ {D : Type 0} (device : D → DiskState) (medium : (disk : D) → IsMedi
     pub committed_behind : (reply : Reply) (settled : List ℕ) → new.slots.root ≡ root → new.contents ≡ once_stored p.contents → new.is_closed ≡ now.is_closed
         → (IsReady now.slots (device mid).now → IsReady new.slots (device new.disk).now)
         → SameBehind (device new.disk).now.seen (device mid).now.seen → (device new.disk).now ≡ resting settled → reply ≡ p.reply
+        → (device mid).faults ≡ (device now.disk).faults → (device new.disk).faults ≡ (device mid).faults
         → Promised device p new (Ok reply) now
-    committed_behind reply settled at lists closed ready behind rests replied start command moment begun free planned =
-        committed_so start command moment begun free planned p' stored root root_is new any further reply settled at lists closed ready behind rests replied
+    committed_behind reply settled at lists closed ready behind rests replied unmet further_unmet start command moment begun free planned =
+        committed_so start command moment begun free planned p' stored root root_is new any further reply settled at lists closed ready behind rests replied unmet further_unmet

@@ -12,7 +12,7 @@ use Rattle.rs_image.specs.Whole.{IsWhole}
 use Rattle.rs_image.specs.Rooted.{rooted, AreUsed}
 use Rattle.rs_plan.specs.declared.plan.Plan.{Plan}
 use Rattle.rs_plan.specs.Plans.{places, once_stored, planned_root, IsPlanned}
-use Rattle.rs_store.specs.Source.{IsSound}
+use Rattle.rs_store.specs.Source.{MemoryIsSound}
 use Rattle.rs_store.proofs.Stays.{reach_kept}
 
 -- whether a block is used then, by whether it was (k), was given back (f) and was taken (t)
@@ -71,9 +71,9 @@ module _ (size : ℕ) (root : Root) (old : Contents) (command : Command) (moment
 -- What is in memory after a commit is sound.
 pub sound_next : (size size' : ℕ) (root root' : Root) (old c : Contents) (command : Command) (moment : ℕ) (p : Plan) (then : List Bool)
     → size' ≡ size → root' ≡ planned_root root p → c ≡ once_stored p.contents → 1024 ≤ size → IsPlanned (rooted size root old) command moment p
-    → AreUsed (rooted size (planned_root root p) (once_stored p.contents)) then → IsSound (rooted size' root' c) then
+    → AreUsed (rooted size (planned_root root p) (once_stored p.contents)) then → MemoryIsSound (rooted size' root' c) then
 sound_next size size' root root' old c command moment p then same at lists room planned used =
-    let next : IsSound (rooted size (planned_root root p) (once_stored p.contents)) then =
+    let next : MemoryIsSound (rooted size (planned_root root p) (once_stored p.contents)) then =
     record { rooted = record { room = room; whole = planned.whole; listable = planned.listable }; used = used } in
-    subst (λ (n : ℕ). IsSound (rooted n root' c) then) (sym same)
-    (subst (λ (r : Root). IsSound (rooted size r c) then) (sym at) (subst (λ (l : Contents). IsSound (rooted size (planned_root root p) l) then) (sym lists) next))
+    subst (λ (n : ℕ). MemoryIsSound (rooted n root' c) then) (sym same)
+    (subst (λ (r : Root). MemoryIsSound (rooted size r c) then) (sym at) (subst (λ (l : Contents). MemoryIsSound (rooted size (planned_root root p) l) then) (sym lists) next))

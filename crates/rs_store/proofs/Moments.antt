@@ -165,7 +165,7 @@ module _ {D : Type 0} (device : D → DiskState) (sound : (disk : D) → IsMediu
       refused s old mid new c cs acks n at turn answers.goes_on.calls refusal other lead.1 (rest s lead.0))
       (is_device_or_not refusal)
 
-  -- at each moment of a run each image stands for a prefix of the counted_commands commands
+  -- at each moment of a run each image stands for a prefix of the counted commands
   pub each_moment : (s : Source) (old : Stored D) (cs : Commands) (acks : Acks) (new : Stored D) → Holds device old s → InTurn device old cs acks new
       → Leaves (device old.disk) (device new.disk) (StandsForPrefix s cs acks)
   each_moment s old [] [] new holds turn =
@@ -181,7 +181,7 @@ module _ {D : Type 0} (device : D → DiskState) (sound : (disk : D) → IsMediu
   each_moment s old [] (a ∷ acks) new holds turn = absurd turn
   each_moment s old (c ∷ cs) [] new holds turn = absurd turn
 
-  -- at the end a source that is open holds what the counted_commands commands make
+  -- at the end a source that is open holds what the counted commands make
   pub holds_all : (s : Source) (old : Stored D) (cs : Commands) (acks : Acks) (new : Stored D) → Holds device old s → InTurn device old cs acks new → new.is_closed ≡ false
       → Holds device new (fold_of s (counted_commands cs acks))
   holds_all s old [] [] new holds turn open_then = (turn.holds s holds).0

@@ -91,6 +91,7 @@ left_by device old new name kind body now a = record {
   unchanged = a.unchanged NoMemory refl (λ (is : NoMemory ≡ Device). absurd cc);
   is_closed = a.stays_open (λ is. absurd cc);
   holds = λ s holds. a.leads s holds;
+  sound = a.told.sound (λ is. absurd cc);
   goes_on = a.goes_on;
 }
 

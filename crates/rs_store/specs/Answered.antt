@@ -1,6 +1,6 @@
 -- What a source answers to a command.
 use Rattle.std.specs.Prelude.{◌≡◌, ◌+◌, ℕ, true, Option, Some, None, Result, Ok, Err, IfOk, IsErrOf}
-use Rattle.rs_disk.specs.Leaves.{Advances}
+use Rattle.rs_disk.specs.Leaves.{Advances, TellsFaults}
 use Rattle.rs_disk.specs.Medium.{DiskState}
 use Rattle.rs_model.specs.State.{Source}
 use Rattle.rs_model.specs.Step.{step}
@@ -29,7 +29,8 @@ pub record IsUnchanged {D : Type 0} (device : D → DiskState) (old new : Stored
 -- `accepted`: what is accepted is the step of the state that the lists tell, and its reply.
 -- `generation`: each accepted command takes one generation of the root.
 -- `leads`: of a source that holds a state, what is held then, and what each image of a crash meanwhile stands for.
--- `closes`, `stays_open`: it is closed where the device failed, and there alone.
+-- `told`: it answers Device only where a device call failed, and where it answers anything else none did.
+-- `closes`, `stays_open`: Device closes it, and nothing else does.
 -- `unchanged`: any other refusal leaves what was in memory.
 -- `goes_on`: whatever the answer, the disk has its size, and its counts do not fall.
 pub record Answers {D : Type 0} (device : D → DiskState) (old new : Stored D) (command : Command) (now : ℕ) (result : Result Reply Refusal) : Type 0 where
@@ -39,6 +40,7 @@ pub record Answers {D : Type 0} (device : D → DiskState) (old new : Stored D) 
   pub accepted : IfOk result (λ reply. step (state_of device old) command now ≡ Ok (state_of device new, reply))
   pub generation : IfOk result (λ _. new.slots.root.generation ≡ old.slots.root.generation + 1)
   pub leads : (s : Source) → Holds device old s → Leads device old new s command now result
+  pub told : TellsFaults (IsErrOf result Device) (device old.disk) (device new.disk)
   pub closes : IsErrOf result Device → new.is_closed ≡ true
   pub stays_open : (IsErrOf result Device → ⊥) → new.is_closed ≡ old.is_closed
   pub unchanged : (r : Refusal) → IsErrOf result r → (r ≡ Device → ⊥) → IsUnchanged device old new

@@ -24,16 +24,16 @@ answered test [] acks = []
 answered test (c ∷ commands) [] = []
 answered test (c ∷ commands) (a ∷ acks) = if test a then c ∷ answered test commands acks else answered test commands acks
 
--- the counted_commands commands: those answered Ok, followed by the one answered Device, if there is one
+-- the counted commands: those answered Ok, followed by the one answered Device, if there is one
 abbrev pub counted_commands : List (Command × ℕ) → List Ack → List (Command × ℕ)
 counted_commands commands acks = answered is_accepted commands acks ++ answered is_in_doubt commands acks
 
--- how many commands had been answered Ok when m calls were counted_commands
+-- how many commands had been answered Ok when m calls were counted
 abbrev pub acknowledged : ℕ → List Ack → ℕ
 acknowledged m [] = 0
 acknowledged m (a ∷ acks) = (if is_accepted a && nat_le a.at_call m then 1 else 0) + acknowledged m acks
 
--- how many of the counted_commands commands had begun then: those before which every command of the run had been answered
+-- how many of the counted commands had begun then: those before which every command of the run had been answered
 abbrev pub begun : ℕ → List Ack → ℕ
 begun m [] = 0
 begun m (a ∷ acks) = (if is_accepted a || is_in_doubt a then 1 else 0) + (if nat_le a.at_call m then begun m acks else 0)

@@ -64,12 +64,12 @@ RefusedIsNotDone {D} device = (old new : Stored D) (s : Source) (command : Comma
     → is_device (Err refusal) ≡ false → Leads device old new s command now (Err refusal)
     → Holds device new s × Leaves (device old.disk) (device new.disk) (λ _ image. StandsFor image s)
 
--- At each moment of a run of a source that holds a state, each image stands for what a prefix of the counted_commands commands makes of it.
+-- At each moment of a run of a source that holds a state, each image stands for what a prefix of the counted commands makes of it.
 abbrev pub RunsLeavePrefixes : {D : Type 0} → (D → DiskState) → Type 0
 RunsLeavePrefixes {D} device = (s : Source) (old : Stored D) (commands : List (Command × ℕ)) (acks : List Ack) (new : Stored D)
     → Holds device old s → InTurn device old commands acks new → Leaves (device old.disk) (device new.disk) (StandsForPrefix s commands acks)
 
--- A source that is open at the end of a run holds what all counted_commands commands make.
+-- A source that is open at the end of a run holds what all counted commands make.
 abbrev pub OpenHoldsAll : {D : Type 0} → (D → DiskState) → Type 0
 OpenHoldsAll {D} device = (s : Source) (old : Stored D) (commands : List (Command × ℕ)) (acks : List Ack) (new : Stored D)
     → Holds device old s → InTurn device old commands acks new → new.is_closed ≡ false → Holds device new (fold_of s (counted_commands commands acks))

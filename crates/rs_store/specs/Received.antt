@@ -22,11 +22,12 @@ pub record IsBodyOf (n : ℕ) (came body : List ℕ) : Type 0 where
   pub front : take (length came) body ≡ came
 
 -- A command was not done: what was in memory is as it was, a state that was held is still held, and each image of a crash
--- meanwhile stands for it.
+-- meanwhile stands for it. No device call failed.
 pub record IsLeft {D : Type 0} (device : D → DiskState) (old new : Stored D) : Type 0 where
   pub unchanged : IsUnchanged device old new
   pub is_closed : new.is_closed ≡ old.is_closed
   pub holds : (s : Source) → Holds device old s → Holds device new s × Leaves (device old.disk) (device new.disk) (λ _ image. StandsFor image s)
+  pub sound : (device new.disk).faults ≡ (device old.disk).faults
   pub goes_on : Advances (device old.disk) (device new.disk)
 
 -- The body of a put did not come whole: fewer bytes came, and the put is not done. No refusal before this one is met: none is

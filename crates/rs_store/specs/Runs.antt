@@ -26,7 +26,7 @@ pub record IsIdle {D : Type 0} (device : D → DiskState) (old new : Stored D) :
   pub rests : old.is_closed ≡ true → Rests (device old.disk) (device new.disk)
   pub calls : (device old.disk).calls ≤ (device new.disk).calls
 
--- Commands are answered in their order, each as a source answers it, and `at_call` tells the calls that were counted_commands then.
+-- Commands are answered in their order, each as a source answers it, and `at_call` tells the calls that were counted then.
 -- Before each, and after the last, the source may have idled.
 abbrev pub InTurn : {D : Type 0} → (D → DiskState) → Stored D → List (Command × ℕ) → List Ack → Stored D → Type 0
 InTurn {D} device old [] [] new = IsIdle device old new
@@ -36,8 +36,8 @@ InTurn {D} device old (c ∷ commands) (a ∷ acks) new =
 InTurn {D} device old [] (a ∷ acks) new = ⊥
 InTurn {D} device old (c ∷ commands) [] new = ⊥
 
--- An image stands for the state after the first j counted_commands commands, for some j: no command that was acknowledged when m calls
--- were counted_commands is left out, and none is in that had not begun.
+-- An image stands for the state after the first j counted commands, for some j: no command that was acknowledged when m calls
+-- were counted is left out, and none is in that had not begun.
 pub record StandsForPrefix (s : Source) (commands : List (Command × ℕ)) (acks : List Ack) (m : ℕ) (image : List ℕ) : Type 0 where
   pub j : ℕ
   pub least : acknowledged m acks ≤ j

@@ -18,7 +18,7 @@ pub record Stored (D : Type 0) : Type 0 where
 
 -- What a source keeps in memory beside its disk is sound: the root with its lists keeps all rules, and of the blocks of the disk
 -- those are used that the root reaches, and no others.
-pub record IsSound (r : Rooted) (set : List Bool) : Type 0 where
+pub record MemoryIsSound (r : Rooted) (set : List Bool) : Type 0 where
   pub rooted : IsRooted r
   pub used : AreUsed r set
 

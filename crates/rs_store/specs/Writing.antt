@@ -80,11 +80,12 @@ pub record StaysBesideLists (p p' : Plan) : Type 0 where
   pub freed : p'.freed ≡ p.freed
 
 -- A source wrote these bytes as the body of a plan, and nothing else: what is in memory is as it was, all writes were outside what
--- its root reaches, and the body stands in its extent.
+-- its root reaches, no device call failed, and the body stands in its extent.
 pub record HasWrittenBody {D : Type 0} (device : D → DiskState) (start now : Stored D) (p : Plan) (bytes : List ℕ) : Type 0 where
   pub slots : now.slots ≡ start.slots
   pub contents : now.contents ≡ start.contents
   pub is_closed : now.is_closed ≡ start.is_closed
   pub outside : WritesOutside (is_kept start.slots.root start.contents) (device start.disk) (device now.disk)
   pub advances : Advances (device start.disk) (device now.disk)
+  pub sound : (device now.disk).faults ≡ (device start.disk).faults
   pub stands : part p.body (length bytes) (device now.disk).now.seen ≡ bytes

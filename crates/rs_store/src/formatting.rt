@@ -2,7 +2,7 @@
 
 ghost use Rattle.std.specs.Prelude.{◌≡◌, ◌↔◌, ◌*◌, ◌<◌, ◌≤◌, false, length, IfOk, OnOk, IfErr, IsErrAnd, IsErrOf, IsTrue};
 ghost use Rattle.rs_disk.specs.Medium.{resting};
-ghost use Rattle.rs_disk.specs.Leaves.{Runs, HasFailed};
+ghost use Rattle.rs_disk.specs.Leaves.{Runs, TellsFaults};
 ghost use Rattle.rs_extent.specs.Extents.{IsOnDisk};
 ghost use Rattle.rs_body.specs.Blocks.{part};
 ghost use Rattle.rs_record.specs.Base.{is_base};
@@ -12,7 +12,7 @@ ghost use Rattle.rs_directory.specs.Limit.{IsLimit};
 ghost use Rattle.rs_model.specs.State.{start_of};
 ghost use Rattle.rs_image.specs.Reach.{blocks_of_disk};
 ghost use Rattle.rs_image.specs.Rooted.{rooted};
-ghost use Rattle.rs_store.specs.Source.{Holds, IsSound};
+ghost use Rattle.rs_store.specs.Source.{Holds, MemoryIsSound};
 ghost use Rattle.rs_store.specs.Opening.{disk_of};
 ghost use Rattle.rs_store.specs.Formatting.{first_header as header_of, IsBlank};
 
@@ -110,8 +110,8 @@ impl<D: Disk> Source<D> {
             ↔ (IsTrue (is_base base.now)
             × IsLimit limit
             × (blocks_of_disk (D.state disk).size < 16)) }
-        ensures device { IfErr result (λ e. e.1 ≡ FormatFault.Device
-            → HasFailed (D.state disk) (D.state e.0)) }
+        ensures device { TellsFaults (IsErrAnd result (λ e. e.1 ≡ FormatFault.Device))
+            (D.state disk) (D.state (disk_of result)) }
         ensures untouched { IfErr result (λ e. ¬ (e.1 ≡ FormatFault.Device) → e.0 ≡ disk) }
 
         // Whatever it answers.
@@ -149,7 +149,7 @@ fn lay_out(
 ) -> Result<Blank, FormatFault>
     ensures blank { IfOk result (IsBlank base.now limit now) }
     ensures sound { IfOk result
-        (λ blank. IsSound (rooted size blank.root blank.contents) blank.used) }
+        (λ blank. MemoryIsSound (rooted size blank.root blank.contents) blank.used) }
     ensures room { OnOk result (16 ≤ blocks_of_disk size) }
     ensures limit { OnOk result (IsLimit limit) }
     ensures base { OnOk result (IsTrue (is_base base.now)) }

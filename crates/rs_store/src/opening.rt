@@ -1,11 +1,11 @@
 //! How a source is opened.
 
-ghost use Rattle.std.specs.Prelude.{◌≡◌, IfOk, IfErr, OnOk, IsTrue};
+ghost use Rattle.std.specs.Prelude.{◌≡◌, IfOk, IfErr, OnOk, IsErrOf, IsErrAnd, IsTrue};
 ghost use Rattle.rs_disk.specs.Medium.{resting};
-ghost use Rattle.rs_disk.specs.Leaves.{Rests, WritesNothing};
+ghost use Rattle.rs_disk.specs.Leaves.{Rests, WritesNothing, TellsFaults};
 ghost use Rattle.rs_commit.specs.Commit.{AreSettled};
 ghost use Rattle.rs_image.specs.Rooted.{rooted};
-ghost use Rattle.rs_store.specs.Source.{IsSound};
+ghost use Rattle.rs_store.specs.Source.{MemoryIsSound};
 ghost use Rattle.rs_store.specs.Opening.{disk_of, IsFound, IsOpened, IsNotOpened};
 
 use crate::Source;
@@ -88,13 +88,15 @@ impl<D: Disk> Source<D> {
     ///
     /// - [`OpenFault::NotASource`] exactly where the slots tell no root.
     /// - [`OpenFault::Damaged`] where the root tells no state: a rule of the format is broken.
-    /// - [`OpenFault::Device`] where a device call failed.
+    /// - [`OpenFault::Device`] where a device call failed; no other answer comes where one did.
     /// - [`OpenFault::NoMemory`] where a growth of memory was refused.
     ///
     /// One of the first two comes only where the device and the memory allowed to find out.
     pub fn open(alloc: Global, disk: D) -> Result<Source<D>, (D, OpenFault)>
         ensures opened { IfOk result (IsOpened D.state (D.state disk)) }
         ensures refused { IfErr result (λ e. IsNotOpened (D.state disk) (D.state e.0) e.1) }
+        ensures told { TellsFaults (IsErrAnd result (λ e. e.1 ≡ OpenFault.Device))
+            (D.state disk) (D.state (disk_of result)) }
 
         // Whatever it answers, a crash within it leaves an image of its entry, and a read gives what
         // it gave.
@@ -118,11 +120,13 @@ impl<D: Disk> Source<D> {
 // Settles what a disk holds, and reads the source that it holds.
 fn recover<D: Disk>(alloc: Global, disk: &mut D) -> Result<(Slots, Loaded), OpenFault>
     ensures sound { IfOk result (λ x.
-        IsSound (rooted (D.state disk.new).size x.0.root x.1.contents) x.1.used) }
+        MemoryIsSound (rooted (D.state disk.new).size x.0.root x.1.contents) x.1.used) }
     ensures resting { OnOk result ((D.state disk.new).now ≡ resting (D.state disk.old).now.seen) }
     ensures found { IfOk result (λ x. IsTrue (D.state disk.new).honest
         → IsFound (D.state disk.old).now.seen (D.state disk.new).now x.0 x.1.contents) }
     ensures refused { IfErr result (IsNotOpened (D.state disk.old) (D.state disk.new)) }
+    ensures told { TellsFaults (IsErrOf result OpenFault.Device)
+        (D.state disk.old) (D.state disk.new) }
     ensures writes_nothing { WritesNothing (D.state disk.old) (D.state disk.new) }
 {
     disk.sync()?;
@@ -132,11 +136,13 @@ fn recover<D: Disk>(alloc: Global, disk: &mut D) -> Result<(Slots, Loaded), Open
 // Reads the source that a disk holds.
 fn read_source<D: Disk>(alloc: Global, disk: &mut D) -> Result<(Slots, Loaded), OpenFault>
     ensures sound { IfOk result (λ x.
-        IsSound (rooted (D.state disk.new).size x.0.root x.1.contents) x.1.used) }
+        MemoryIsSound (rooted (D.state disk.new).size x.0.root x.1.contents) x.1.used) }
     ensures found { IfOk result (λ x. IsTrue (D.state disk.new).honest
         → AreSettled (D.state disk.old).now
         → IsFound (D.state disk.old).now.seen (D.state disk.new).now x.0 x.1.contents) }
     ensures refused { IfErr result (IsNotOpened (D.state disk.old) (D.state disk.new)) }
+    ensures told { TellsFaults (IsErrOf result OpenFault.Device)
+        (D.state disk.old) (D.state disk.new) }
     ensures rests { Rests (D.state disk.old) (D.state disk.new) }
 {
     let (slots, root) = open_slots(disk)?;

@@ -1,7 +1,7 @@
 //! What a source shows.
 
 ghost use Rattle.std.specs.Prelude.{◌≡◌, ◌↔◌, false, map, IfOk, IfErr, IfSome, IsErrOf, IsOkUnless, Some, IsTrue};
-ghost use Rattle.rs_disk.specs.Leaves.{HasFailed};
+ghost use Rattle.rs_disk.specs.Leaves.{TellsFaults};
 ghost use Rattle.rs_model.specs.Names.{value_of, is_ordered};
 ghost use Rattle.rs_model.specs.State.{body_of, entries};
 ghost use Rattle.rs_model.specs.Step.{is_held};
@@ -100,8 +100,8 @@ impl<D: Disk> Source<D> {
             → IsTrue (D.state self.new.disk).honest
             → IfSome (value_of name.now (state_of D.state self.old).held)
             (λ held. ¬ HasItsDigest held) }
-        ensures device { IsErrOf result Refusal.Device
-            → HasFailed (D.state self.old.disk) (D.state self.new.disk) }
+        ensures device { TellsFaults (IsErrOf result Refusal.Device)
+            (D.state self.old.disk) (D.state self.new.disk) }
         ensures others { IfErr result IsOfBody }
 
         ensures reads_only { OnlyReads D.state self.old self.new }

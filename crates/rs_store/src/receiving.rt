@@ -3,7 +3,7 @@
 ghost use Rattle.std.specs.Prelude.{◌≡◌, ◌<◌, ◌≤◌, ◌+◌, ◌*◌, ◌++◌, ℕ, Bool, List, length, take, drop, IfOk, IfErr, OnOk, OnErr, IsErrOf};
 ghost use Rattle.std.specs.Io.KnownBytes.{Consumes, Keeps, IsAtEnd};
 ghost use Rattle.rs_io.specs.Watch.{watched, failures, EndFailed, Took};
-ghost use Rattle.rs_disk.specs.Leaves.{Advances, HasFailed};
+ghost use Rattle.rs_disk.specs.Leaves.{Advances, TellsFaults};
 ghost use Rattle.rs_extent.specs.Blocks.{block_size};
 ghost use Rattle.rs_extent.specs.Extents.{IsOnDisk, IsBeside};
 ghost use Rattle.rs_fixity.specs.Digests.{digests};
@@ -109,8 +109,8 @@ fn receive<R: Read, D: Disk>(
         × IsStopped body_length (R.remaining (watched reader.new)) came refusal) }
     ensures failed { IsErrOf result Refusal.ReadFault → EndFailed reader.old reader.new }
     ensures sound { ¬ IsErrOf result Refusal.ReadFault → failures reader.new ≡ failures reader.old }
-    ensures device { IsErrOf result Refusal.Device
-        → HasFailed (D.state disk.old) (D.state disk.new) }
+    ensures device { TellsFaults (IsErrOf result Refusal.Device)
+        (D.state disk.old) (D.state disk.new) }
 
     // Whatever it answers.
     ensures outside { (kept : ℕ → Bool) → IsBeside kept extent
@@ -148,8 +148,8 @@ fn receive_piece<R: Read, D: Disk>(
         × IsStopped (length piece.old) (R.remaining (watched reader.new)) came refusal) }
     ensures failed { IsErrOf result Refusal.ReadFault → EndFailed reader.old reader.new }
     ensures sound { ¬ IsErrOf result Refusal.ReadFault → failures reader.new ≡ failures reader.old }
-    ensures device { IsErrOf result Refusal.Device
-        → HasFailed (D.state disk.old) (D.state disk.new) }
+    ensures device { TellsFaults (IsErrOf result Refusal.Device)
+        (D.state disk.old) (D.state disk.new) }
 
     // Whatever it answers.
     ensures outside { (kept : ℕ → Bool) → IsBeside kept extent

@@ -26,7 +26,7 @@ pub struct Source<D: Disk> {
 }
 
 impl<D: Disk> Model for Source<D> {
-    ghost use Rattle.rs_store.specs.Source.{Stored, IsSound};
+    ghost use Rattle.rs_store.specs.Source.{Stored, MemoryIsSound};
     ghost use Rattle.rs_image.specs.Rooted.{rooted};
 
     ghost Value = { Stored D };
@@ -34,7 +34,8 @@ impl<D: Disk> Model for Source<D> {
     ghost view = { λ s. record
         { disk = s.disk; slots = s.slots; contents = s.contents; is_closed = s.is_closed } };
 
-    ghost invariant = { λ s. IsSound (rooted (D.state s.disk).size s.slots.root s.contents) s.used };
+    ghost invariant = { λ s. MemoryIsSound
+        (rooted (D.state s.disk).size s.slots.root s.contents) s.used };
 }
 
 /// The root of the slots of a disk with the lists behind it, as planners take them. It borrows

@@ -1,7 +1,7 @@
 //! Which bodies are damaged.
 
 ghost use Rattle.std.specs.Prelude.{◌≡◌, ◌∷◌, ◌++◌, [], ◌≤◌, ◌+◌, length, map, All, IfErr, IfOk, OnOk, IsErrOf, IsTrue};
-ghost use Rattle.rs_disk.specs.Leaves.{Rests, HasFailed};
+ghost use Rattle.rs_disk.specs.Leaves.{Rests, TellsFaults};
 ghost use Rattle.rs_catalogue.specs.Catalogue.{records_of};
 ghost use Rattle.rs_image.specs.StateOfImage.{held_in};
 ghost use Rattle.rs_store.specs.Verified.{AnswersVerify, HasItsPlace, IsOfLook, damaged_among};
@@ -43,8 +43,8 @@ fn damaged_in<D: Disk>(
     ensures names { IfOk result (λ names. IsTrue (D.state disk.new).honest → names.items
         ≡ damaged_among (map (held_in (D.state disk.old).now.seen) (records_of catalogue.now))) }
     ensures few { IfOk result (λ names. length names.items ≤ length (records_of catalogue.now)) }
-    ensures failed { IsErrOf result Refusal.Device
-        → HasFailed (D.state disk.old) (D.state disk.new) }
+    ensures failed { TellsFaults (IsErrOf result Refusal.Device)
+        (D.state disk.old) (D.state disk.new) }
     ensures others { IfErr result IsOfLook }
     ensures rests { Rests (D.state disk.old) (D.state disk.new) }
 {
@@ -66,8 +66,8 @@ fn note_damage<D: Disk>(
     ensures names { OnOk result (IsTrue (D.state disk.new).honest → names.new.items
         ≡ names.old.items ++ damaged_among (held_in (D.state disk.old).now.seen held.now ∷ [])) }
     ensures few { OnOk result (length names.new.items ≤ length names.old.items + 1) }
-    ensures failed { IsErrOf result Refusal.Device
-        → HasFailed (D.state disk.old) (D.state disk.new) }
+    ensures failed { TellsFaults (IsErrOf result Refusal.Device)
+        (D.state disk.old) (D.state disk.new) }
     ensures others { IfErr result IsOfLook }
     ensures rests { Rests (D.state disk.old) (D.state disk.new) }
 {

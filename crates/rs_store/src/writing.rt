@@ -9,7 +9,7 @@ ghost use Rattle.rs_page.specs.Pages.{IsTouched, placed_extents};
 ghost use Rattle.rs_page.specs.DiskPages.{IsWritten};
 ghost use Rattle.rs_image.specs.Reach.{AreInside};
 ghost use Rattle.rs_image.specs.StateOfImage.{listing, AreListable};
-ghost use Rattle.rs_disk.specs.Leaves.{Advances, HasFailed};
+ghost use Rattle.rs_disk.specs.Leaves.{Advances, TellsFaults};
 ghost use Rattle.rs_plan.specs.Plans.{once_stored, places};
 ghost use Rattle.rs_store.specs.Writing.{of_store, IsDigestOf, AreStoredLists, IsWritable, StaysBesideLists, AreLists};
 
@@ -95,8 +95,8 @@ pub(crate) fn write_lists<D: Disk>(
     ensures written { IfOk result (IsDigestOf (once_stored plan.old.contents)) }
     ensures stored { OnOk result (AreStoredLists plan.old plan.new (D.state disk.old).now.seen
         (D.state disk.new).now.seen) }
-    ensures device { IsErrOf result WriteFault.Device
-        → HasFailed (D.state disk.old) (D.state disk.new) }
+    ensures device { TellsFaults (IsErrOf result WriteFault.Device)
+        (D.state disk.old) (D.state disk.new) }
 
     // Whatever it answers.
     ensures stays { StaysBesideLists plan.old plan.new }
@@ -126,8 +126,8 @@ fn write_pages<D: Disk>(
         (All (IsWritten record_format (D.state disk.new).now.seen) contents.old.catalogue) }
     ensures history { OnOk result
         (All (IsWritten change_format (D.state disk.new).now.seen) contents.old.history) }
-    ensures device { IsErrOf result WriteFault.Device
-        → HasFailed (D.state disk.old) (D.state disk.new) }
+    ensures device { TellsFaults (IsErrOf result WriteFault.Device)
+        (D.state disk.old) (D.state disk.new) }
     ensures outside { (kept : ℕ → Bool)
         → AreBeside kept
         (placed_extents contents.old.catalogue ++ placed_extents contents.old.history)
@@ -153,8 +153,8 @@ fn write_directory<D: Disk>(
     ensures reads { OnOk result
         (part extent (length (listing contents.now)) (D.state disk.new).now.seen
         ≡ listing contents.now) }
-    ensures device { IsErrOf result WriteFault.Device
-        → HasFailed (D.state disk.old) (D.state disk.new) }
+    ensures device { TellsFaults (IsErrOf result WriteFault.Device)
+        (D.state disk.old) (D.state disk.new) }
     ensures outside { (kept : ℕ → Bool) → IsBeside kept extent
         → WritesOutside kept (D.state disk.old) (D.state disk.new) }
     ensures advances { Advances (D.state disk.old) (D.state disk.new) }

@@ -33,7 +33,7 @@ returns-in_err-found-clause-refused g c =
       λ s stands. untold_stands_for_nothing old.now.seen slots root (found honest) c.in_ok-slots.ensures.root
           (λ l s told. c.in_err-found.ensures.damaged (cc) honest l s (subst (λ (image : List ℕ). Tells root l image s) (sym seen) told)) s stands,
     ))
-    (λ is. failed_behind old mid new c.open_slots.ensures.rests.faults (c.in_err-found.ensures.device (cc))))
+    (λ is. failed_behind old mid new c.open_slots.ensures.rests.faults (c.in_err-found.ensures.device.failed (cc))))
 
 pub returns-clause-rests : goal.returns-clause-rests
 returns-clause-rests g c =

@@ -57,6 +57,7 @@ loop-at-preserved g c =
       whole = ap length joined ∙ omega (arith, length-append front piece, same, inv.whole);
       hashed = subst (λ (came : List ℕ). HasTaken c.add.new.self came) (sym joined) (c.add.ensures front inv.hashed);
       outside = λ kept beside. outside_on kept old mid new (inv.outside kept beside) (c.receive_piece.ensures.outside kept beside);
+      sound = e.device.sound (λ is. absurd cc) ∙ inv.sound;
       advances = record {
         size = e.advances.size ∙ inv.advances.size;
         keeps = e.advances.keeps ∙ inv.advances.keeps;

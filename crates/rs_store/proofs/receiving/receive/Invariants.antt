@@ -17,6 +17,7 @@ invariant-loop-at g l =
       whole : length came ≡ l.at;
       hashed : HasTaken l.hashing came;
       outside : (kept : ℕ → Bool) → IsBeside kept l.fn.extent → WritesOutside kept (g.D.Disk.state l.fn.disk) (g.D.Disk.state l.disk);
+      sound : (g.D.Disk.state l.disk).faults ≡ (g.D.Disk.state l.fn.disk).faults;
       advances : Advances (g.D.Disk.state l.fn.disk) (g.D.Disk.state l.disk);
     }
 

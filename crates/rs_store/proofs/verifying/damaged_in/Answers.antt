@@ -31,5 +31,6 @@ loop-i-preserved g c =
           ∙ sym (damaged_more seen (take i all) r)
           ∙ ap (λ (l : List Record). damaged_among (map (held_in seen) l)) (sym first);
       few = omega (arith, e.few, inv.few);
+      sound = e.failed.sound (λ is. absurd cc) ∙ inv.sound;
       rests = rest_on old mid new inv.rests e.rests;
     }

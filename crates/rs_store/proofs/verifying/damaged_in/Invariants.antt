@@ -13,5 +13,6 @@ invariant-loop-i g l =
     record {
       names : IsTrue now.honest → l.names.items ≡ damaged_among (map (held_in old.now.seen) (take l.i (records_of l.catalogue)));
       few : length l.names.items ≤ l.i;
+      sound : now.faults ≡ old.faults;
       rests : Rests old now;
     }

@@ -12,6 +12,7 @@ use Rattle.rs_commit.specs.Slots.{other}
 use Rattle.rs_commit.specs.Commit.{next, with_root, device_in_commit}
 use Rattle.rs_store.specs.declared.refusal.Refusal.TheVariants.{Device, NoMemory}
 use Rattle.rs_store.specs.declared.writing.WriteFault.{WriteFault}
+use Rattle.rs_store.specs.declared.writing.WriteFault.TheVariants.{Device as NotWritten, NoMemory as NotGiven}
 use Rattle.rs_store.specs.declared.writing.Written.{Written}
 use Rattle.rs_store.specs.Source.{Stored, rooted_in}
 use Rattle.rs_plan.specs.Plans.{places, once_stored, planned_root, planned_listing, IsPlanned}
@@ -32,6 +33,9 @@ commit_failed : (mid new : DiskState) (result : Result (Unit {0}) CommitFault) (
 commit_failed mid new (Ok x) fault is spare runs = absurd cc
 commit_failed mid new (Err Spent) fault is spare runs = absurd (spare refl)
 commit_failed mid new (Err Failed) fault is spare runs = runs.cause
+
+not_both : {T : Type 0} (result : Result T WriteFault) → result ≡ Err NotGiven → IsErrOf result NotWritten → ⊥
+not_both result refused failed = absurd cc
 
 commit_goes : {E : Type 0} (mid new : DiskState) (result : Result (Unit {0}) E) → Runs mid new result → new.honest ≡ mid.honest → Advances mid new
 commit_goes mid new result runs keeps = record { size = runs.size; keeps = keeps; calls = runs.calls; faults = runs.faults }
@@ -108,7 +112,9 @@ returns-in-Err-NoMemory-clause-answers g c =
     let o : Stored g.row.D.Denot = record { disk = c.self.inside.disk; slots = c.self.inside.slots; contents = c.self.inside.contents; is_closed = c.self.inside.is_closed } in
     let new : Stored g.row.D.Denot = record { disk = c.write_lists.new.disk; slots = c.self.inside.slots; contents = c.self.inside.contents; is_closed = c.self.inside.is_closed } in
     subst (Promised device c.args.plan new (Err NoMemory)) c.self.view_is
-    (stopped_behind device g.met.D.Disk.holds o c.args.plan c.self.invariant.rooted.whole c.write_lists.new.disk c.write_lists.ensures.outside c.write_lists.ensures.advances)
+    (stopped_behind device g.met.D.Disk.holds o c.args.plan c.self.invariant.rooted.whole c.write_lists.new.disk c.write_lists.ensures.outside c.write_lists.ensures.advances
+    (c.write_lists.ensures.device.sound
+    (not_both c.write_lists.result (subst (λ (x : WriteFault). c.write_lists.result ≡ Err x) c.in-Err-NoMemory.field-0-is c.in-Err-NoMemory.is))))
 
 pub returns-in-Err-Device-clause-answers : goal.returns-in-Err-Device-clause-answers
 returns-in-Err-Device-clause-answers g c =
@@ -118,7 +124,7 @@ returns-in-Err-Device-clause-answers g c =
     subst (Promised device c.args.plan new (Err Device)) c.self.view_is
     (broken_behind device g.met.D.Disk.holds o c.args.plan c.self.invariant.rooted.whole c.write_lists.new.disk c.write_lists.ensures.outside c.write_lists.ensures.advances
     new refl refl
-    (c.write_lists.ensures.device (subst (λ (x : WriteFault). c.write_lists.result ≡ Err x) c.in-Err-Device.field-0-is c.in-Err-Device.is)))
+    (c.write_lists.ensures.device.failed (subst (λ (x : WriteFault). c.write_lists.result ≡ Err x) c.in-Err-Device.field-0-is c.in-Err-Device.is)))
 
 pub returns-in-Err-clause-answers : goal.returns-in-Err-clause-answers
 returns-in-Err-clause-answers g c =
@@ -155,4 +161,5 @@ returns-clause-answers g c =
     new c.commit-committed.ensures.any_moment (commit_goes mid (device new.disk) (device_in_commit c.commit-committed.result) c.commit-committed.ensures.runs c.commit-committed.ensures.keeps)
     c.write_lists.new.plan.reply (with_root mid.now.seen (other c.self.inside.slots.slot) c.commit-committed.new.self.root)
     c.in-Ok-committed.ensures.root c.in-Ok.ensures.stored.contents refl c.in-Ok-committed.ensures.ready c.commit-committed.ensures.outside
-    c.in-Ok-committed.ensures.written c.write_lists.ensures.stays.reply)
+    c.in-Ok-committed.ensures.written c.write_lists.ensures.stays.reply
+    (c.in-Ok.ensures.device.sound (λ is. absurd cc)) c.in-Ok-committed.ensures.runs.ok)

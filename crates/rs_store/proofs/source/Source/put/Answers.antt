@@ -1,6 +1,6 @@
 use Rattle.std.proofs.lemmas.Bool.{false≢true}
-use Rattle.std.specs.Prelude.{is_err, OnErr}
-use Rattle.std.proofs.Common.{◌≡◌, ℕ, true, Result, Ok, length, refl, sym, ◌∙◌, ap, subst, Err, rules}
+use Rattle.std.specs.Prelude.{is_err, OnOk, OnErr}
+use Rattle.std.proofs.Common.{◌≡◌, ℕ, true, false, Result, Ok, length, refl, sym, ◌∙◌, ap, subst, Err, rules}
 use Rattle.rs_disk.specs.Leaves.{Advances, HasFailed}
 use Rattle.rs_body.specs.Blocks.{part}
 use Rattle.std.proofs.lemmas.Result.{err_from_is_err_and}
@@ -48,6 +48,11 @@ on_err : {T E P : Type 0} (r : Result T E) → is_err r ≡ true → OnErr r P �
 on_err (Ok x) bad given = absurd (false≢true bad)
 on_err (Err e) bad given = given
 
+-- and of one that is none
+on_ok : {T E P : Type 0} (r : Result T E) → is_err r ≡ false → OnOk r P → P
+on_ok (Ok x) fine given = given
+on_ok (Err e) fine given = absurd (false≢true (sym fine))
+
 pub returns-then-is_err : goal.returns-then-is_err
 returns-then-is_err g c =
     let device = g.D.Disk.state in
@@ -81,6 +86,7 @@ returns g c =
     let mid = c.write_body.new.disk in
     let runs = c.write_body.ensures.runs in
     let goes : Advances (device o.disk) (device mid) = record { size = runs.size; keeps = c.write_body.ensures.keeps; calls = runs.calls; faults = runs.faults } in
+    let unmet : (device mid).faults ≡ (device o.disk).faults = on_ok c.write_body.result (sym c.is_err.ensures.value ∙ c.if-is_err.false) runs.ok in
     let stands : part p.body (length c.args.bytes.now) (device mid).now.seen ≡ c.args.bytes.now = search rules in
     c.finish.ensures.answers old command c.args.now
-    (begun device g.met.D.Disk.holds old o c.self.view_is p mid c.write_body.ensures.outside goes c.args.bytes.now planned.free stands) is.0 planned
+    (begun device g.met.D.Disk.holds old o c.self.view_is p mid c.write_body.ensures.outside goes unmet c.args.bytes.now planned.free stands) is.0 planned

@@ -128,7 +128,7 @@ returns-in-Device-clause-came g c =
     rooted (free body is).1 (c.in_ok-plan.ensures.planned body is) in
     let stop = c.in-Err.ensures.stopped in
     let rest = g.R.Read.remaining (watched c.receive.new.reader) in
-    let failed : HasFailed (device o.disk) (device mid) = c.in-Err.ensures.device (ap (λ (x : Refusal). Err x) c.in-Device.is) in (
+    let failed : HasFailed (device o.disk) (device mid) = c.in-Err.ensures.device.failed (ap (λ (x : Refusal). Err x) c.in-Device.is) in (
       stop.0,
       stop.1,
       (
@@ -166,7 +166,8 @@ returns-in_default-clause-came g c =
       plan = λ body is. (plan_filled name (digests body) plan, planned body is);
       left = left_by device old new name kind body c.args.now
           (stopped_body device g.met.D.Disk.holds old o c.self.view_is (plan_filled name (digests body) plan) mid c.receive.ensures.outside c.receive.ensures.advances
-          c.self.invariant.rooted.whole (Put name kind body) c.args.now (free body is).0 (planned body is));
+          c.self.invariant.rooted.whole (Put name kind body) c.args.now (free body is).0 (planned body is)
+          (c.in-Err.ensures.device.sound (λ is. absurd (c.in_default.not-Device cc))));
     } in (
       stop.0,
       stop.1,
@@ -211,7 +212,8 @@ returns-clause-came g c =
     c.fill.ensures ∙ ap (λ (d : Digests). plan_filled name d plan) c.in-Ok.ensures.digests in
     let left : Stored g.row.D.Denot = record { disk = mid; slots = o.slots; contents = o.contents; is_closed = o.is_closed } in
     let stands : HasWrittenBody device old left (plan_filled name (digests bytes) plan) bytes =
-    begun device g.met.D.Disk.holds old o c.self.view_is (plan_filled name (digests bytes) plan) mid c.receive.ensures.outside c.receive.ensures.advances bytes
+    begun device g.met.D.Disk.holds old o c.self.view_is (plan_filled name (digests bytes) plan) mid c.receive.ensures.outside c.receive.ensures.advances
+    (c.in-Ok.ensures.device.sound (λ is. absurd cc)) bytes
     (planned bytes whole).free (ap (λ (k : ℕ). part plan.body k (device mid).now.seen) whole) in
     let said : Answers device old c.finish.new.self command c.args.now c.finish.result =
     c.finish.ensures.answers old command c.args.now
