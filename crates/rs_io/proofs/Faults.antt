@@ -9,7 +9,7 @@ use Rattle.std.proofs.KnownBytes.{Appends-nil, Appends-trans, Appends-kept}
 use Rattle.std.proofs.lemmas.Grind.{flat_map-append}
 use Rattle.std.proofs.lemmas.Result.{IfOk-from_err}
 use Rattle.rs_io.specs.declared.watch.Watched.{Watched}
-use Rattle.rs_io.specs.Watch.{watched, failures, EndFailed, FailedWithin, FailedAfter, Wrote, Writes}
+use Rattle.rs_io.specs.Watch.{watched, failures, EndFailed, FailedWithin, FailedAfter, Wrote, WritesOut}
 use Rattle.rs_io.proofs.Growth.{appends_same, wrote_then, flat_map-next}
 
 -- a fault after calls that did not fail is a fault of the whole run
@@ -82,18 +82,18 @@ module _ {W : Type 0} (contents : W → Option (List ℕ)) where
 
   -- of a call that may fail: it took the whole text, or failed within it
   pub writes_either : {X E : Type 0} (r : Result X E) (a b : Watched W) (text : List ℕ) → OnOk r (Wrote contents a b text) → OnErr r (FailedWithin contents a b text)
-      → Writes contents a b r text
+      → WritesOut contents a b r text
   writes_either (Ok v) a b text whole fault = whole
   writes_either (Err e) a b text whole fault = fault
 
   -- the last piece of several
-  pub writes_then : {X E : Type 0} (r : Result X E) (a b c : Watched W) (x y t : List ℕ) → Wrote contents a b x → Writes contents b c r y → x ++ y ≡ t → Writes contents a c r t
+  pub writes_then : {X E : Type 0} (r : Result X E) (a b c : Watched W) (x y t : List ℕ) → Wrote contents a b x → WritesOut contents b c r y → x ++ y ≡ t → WritesOut contents a c r t
   writes_then (Ok v) a b c x y t whole next e = (appends_same _ _ (x ++ y) t (wrote_then contents a b c x y whole next).0 e, (wrote_then contents a b c x y whole next).1)
   writes_then (Err v) a b c x y t whole next e = failed_last a b c x y t whole next e
 
   -- the same text, written another way
-  pub writes_same : {X E : Type 0} (r : Result X E) (a b : Watched W) (x y : List ℕ) → Writes contents a b r x → x ≡ y → Writes contents a b r y
-  writes_same r a b x y h e = let P : List ℕ → Type 0 = λ l. Writes contents a b r l in subst P e h
+  pub writes_same : {X E : Type 0} (r : Result X E) (a b : Watched W) (x y : List ℕ) → WritesOut contents a b r x → x ≡ y → WritesOut contents a b r y
+  writes_same r a b x y h e = let P : List ℕ → Type 0 = λ l. WritesOut contents a b r l in subst P e h
 
   -- a fault within a text, after what went whole
   pub failed_after : (a b c : Watched W) (first text : List ℕ) → Wrote contents a b first → FailedWithin contents b c text → FailedAfter contents a c first text
@@ -116,16 +116,16 @@ module _ {W : Type 0} (contents : W → Option (List ℕ)) where
       failed_last a b c text [] text whole (failed_at_once b c [] kept fault) (append-nil text)
 
   -- the first piece of several failed, and so the whole call
-  pub stops_first : {X E : Type 0} (r : Result X E) (a b : Watched W) (x rest t : List ℕ) → IsErr r → FailedWithin contents a b x → x ++ rest ≡ t → Writes contents a b r t
+  pub stops_first : {X E : Type 0} (r : Result X E) (a b : Watched W) (x rest t : List ℕ) → IsErr r → FailedWithin contents a b x → x ++ rest ≡ t → WritesOut contents a b r t
   stops_first {X = X} {E = E} (Ok v) a b x rest t is h e = absurd (IfOk-from_err {E = E} (Ok v) (λ _. ⊥) is)
   stops_first (Err v) a b x rest t is h e = failed_first a b x rest t h e
 
   -- a piece between others failed
-  pub stops_then : {X E : Type 0} (r : Result X E) (a b c : Watched W) (x y rest t : List ℕ) → IsErr r → Wrote contents a b x → FailedWithin contents b c y → x ++ (y ++ rest) ≡ t → Writes contents a c r t
+  pub stops_then : {X E : Type 0} (r : Result X E) (a b c : Watched W) (x y rest t : List ℕ) → IsErr r → Wrote contents a b x → FailedWithin contents b c y → x ++ (y ++ rest) ≡ t → WritesOut contents a c r t
   stops_then {X = X} {E = E} (Ok v) a b c x y rest t is whole h e = absurd (IfOk-from_err {E = E} (Ok v) (λ _. ⊥) is)
   stops_then (Err v) a b c x y rest t is whole h e = failed_then a b c x y rest t whole h e
 
   -- the last piece of several, where what it took is told by one clause for each outcome
   pub writes_last : {X E : Type 0} (r : Result X E) (a b c : Watched W) (x y t : List ℕ) → Wrote contents a b x → OnOk r (Wrote contents b c y) → OnErr r (FailedWithin contents b c y) → x ++ y ≡ t
-      → Writes contents a c r t
+      → WritesOut contents a c r t
   writes_last r a b c x y t whole ok fault e = writes_then r a b c x y t whole (writes_either r b c y ok fault) e

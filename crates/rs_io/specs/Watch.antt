@@ -45,8 +45,8 @@ pub record FailedAfter {W : Type 0} (contents : W → Option (List ℕ)) (old ne
   pub took : Appends (contents (watched old)) (contents (watched new)) (first ++ part)
 
 -- a writer took this whole text, or failed within it
-abbrev pub Writes : {W X E : Type 0} → (W → Option (List ℕ)) → Watched W → Watched W → Result X E → List ℕ → Type 0
-Writes contents old new result text = MatchResult result (λ _. Wrote contents old new text) (λ _. FailedWithin contents old new text)
+abbrev pub WritesOut : {W X E : Type 0} → (W → Option (List ℕ)) → Watched W → Watched W → Result X E → List ℕ → Type 0
+WritesOut contents old new result text = MatchResult result (λ _. Wrote contents old new text) (λ _. FailedWithin contents old new text)
 
 -- a reader gave these bytes, and no call of it failed in between
 abbrev pub Took : {R : Type 0} → (R → Option (List ℕ)) → Watched R → Watched R → List ℕ → Type 0

@@ -127,7 +127,7 @@ impl<R: Read> Watched<R> {
 }
 
 impl<W: Write> Watched<W> {
-    ghost use Rattle.rs_io.specs.Watch.{watched, failures, is_flushed, EndFailed, FailedWithin, Wrote, Writes};
+    ghost use Rattle.rs_io.specs.Watch.{watched, failures, is_flushed, EndFailed, FailedWithin, Wrote, WritesOut};
 
     /// Writes all of `bytes`.
     ///
