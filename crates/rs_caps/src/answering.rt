@@ -47,7 +47,8 @@ fn document(alloc: Global, state: &State, doc: Doc) -> Result<Option<Vec<u8>>, A
 
 // The bytes of the resource that has this path, where it is held.
 fn resource(alloc: Global, state: &State, path: &[u8]) -> Result<Option<Vec<u8>>, AllocError>
-    ensures { IfOk result (λ body. option_map (λ bytes. bytes.items) body ≡ body_at state.now path.now) }
+    ensures { IfOk result
+        (λ body. option_map (λ bytes. bytes.items) body ≡ body_at state.now path.now) }
 {
     match strip(b"/resource/", path) {
         Some(name) => body(alloc, state, name),
@@ -57,7 +58,8 @@ fn resource(alloc: Global, state: &State, path: &[u8]) -> Result<Option<Vec<u8>>
 
 // The bytes of the resource of this name, where it is held. Bytes that are no lawful name are held by no state.
 fn body(alloc: Global, state: &State, name: &[u8]) -> Result<Option<Vec<u8>>, AllocError>
-    ensures { IfOk result (λ body. option_map (λ bytes. bytes.items) body ≡ body_of name.now state.now) }
+    ensures { IfOk result
+        (λ body. option_map (λ bytes. bytes.items) body ≡ body_of name.now state.now) }
 {
     // Reading it shows what the type of a state keeps.
     let _limit = state.limit();
@@ -70,7 +72,8 @@ fn body(alloc: Global, state: &State, name: &[u8]) -> Result<Option<Vec<u8>>, Al
 
 // The bytes once more.
 fn copied(alloc: Global, bytes: Option<&[u8]>) -> Result<Option<Vec<u8>>, AllocError>
-    ensures { IfOk result (λ copied. option_map (λ copy. copy.items) copied ≡ option_copied bytes.entry) }
+    ensures { IfOk result
+        (λ copied. option_map (λ copy. copy.items) copied ≡ option_copied bytes.entry) }
 {
     match bytes {
         Some(bytes) => Ok(Some(Vec::from_slice(alloc, bytes)?)),

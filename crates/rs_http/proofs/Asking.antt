@@ -12,11 +12,11 @@ use Rattle.rs_store.specs.Source.{Stored, state_of}
 use Rattle.rs_store.specs.Views as views
 use Rattle.rs_store.specs.declared.refusal.Refusal as stored
 use Rattle.rs_store.specs.declared.refusal.Refusal.TheVariants.{Closed, NotHeld, Device, Damaged, NoMemory}
+use Rattle.rs_recovery.specs.Documents.{DocumentsAreOfTheState}
 use Rattle.rs_http.specs.declared.response.Framing.{Framing}
 use Rattle.httpdate.specs.Date.{date_text}
 use Rattle.rs_http.specs.Responses.{RequestOutcome, shown, refused, status_code, response_text, first_lines, content_lines, sent_body, framed}
 use Rattle.rs_http.specs.Outcomes.{ReadComesTo, document_or_none, document_shown, Responds}
-use Rattle.rs_http.proofs.Documents.{one_text}
 
 -- an outcome is answered
 pub answered : {E : Type 0} (framing : Framing) (Written : List ℕ → Type 0) (comes : RequestOutcome → Type 0) (result : Result ℕ E) (outcome : RequestOutcome)
@@ -74,7 +74,7 @@ module _ {D : Type 0} (device : D → DiskState) (old new : Stored D) (name : Li
           (subst (λ b. IsErrOf {T = List ℕ} (Err refusal) NotHeld ↔ ((b ≡ false) × (is_held (state_of device old) name ≡ false))) a.reads_only.is_closed
           (subst (λ s. IsErrOf {T = List ℕ} (Err refusal) NotHeld ↔ ((new.is_closed ≡ false) × (is_held s name ≡ false))) same_state not_held));
       damaged = λ e. let no : refusal ≡ Damaged = cc in absurd (subst IsOfKind no is);
-      failed = λ e. let no : refusal ≡ Device = cc in absurd (subst IsOfKind no is);
+      told = record { failed = λ e. let no : refusal ≡ Device = cc in absurd (subst IsOfKind no is); sound = λ _. a.told.sound (λ e. absurd cc) };
       others = of_kind refusal is;
       reads_only = a.reads_only;
     };
@@ -110,9 +110,9 @@ when_open : (closed : Bool) (outcome : RequestOutcome) → closed ≡ false → 
 when_open closed outcome is = sym (ap (λ b. if b then refused Closed else outcome) is)
 
 -- what a view of an open source shows is what its state shows
-pub document_is : {D : Type 0} (device : D → DiskState) (s : Stored D) (doc : Doc) (view : Shown) (outcome : RequestOutcome) {T : Type 0} (given : T)
+pub document_is : DocumentsAreOfTheState → {D : Type 0} (device : D → DiskState) (s : Stored D) (doc : Doc) (view : Shown) (outcome : RequestOutcome) {T : Type 0} (given : T)
     → IsErrOf {E = stored.Refusal} (Ok given) Closed ↔ IsTrue s.is_closed → view ≡ views.shown_in s.contents
     → document_or_none (document_text view doc) ≡ outcome → outcome ≡ document_shown device s doc
-document_is device s doc view outcome given closed is e =
+document_is one_text device s doc view outcome given closed is e =
     let text = ap (λ v. document_text v doc) is ∙ one_text (device s.disk).now.seen s.contents doc in
     sym e ∙ ap document_or_none text ∙ when_open s.is_closed (document_or_none (document_text (shown_of (state_of device s)) doc)) (opened given s.is_closed closed)

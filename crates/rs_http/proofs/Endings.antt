@@ -8,7 +8,7 @@ use Rattle.httpdate.specs.declared.date.HttpDate.{HttpDate}
 use Rattle.rs_disk.specs.Medium.{DiskState}
 use Rattle.rs_io.specs.declared.fault.WriteFault.{WriteFault}
 use Rattle.rs_io.specs.declared.watch.Watched.{Watched}
-use Rattle.rs_io.specs.Watch.{watched, Writes, FailedWithin}
+use Rattle.rs_io.specs.Watch.{watched, WritesOut, FailedWithin}
 use Rattle.rs_store.specs.Source.{Stored}
 use Rattle.rs_http.specs.declared.fault.FrontFault.{FrontFault}
 use Rattle.rs_http.specs.declared.fault.FrontFault.TheVariants.{Read, Write}
@@ -31,7 +31,7 @@ use Rattle.rs_http.specs.Serving.{PlanEnds, RequestEnds, TakesPart, IsBroken, pr
 -- an answer that was sent ends a plan, for which these bytes were read
 pub sent_ends : {D W : Type 0} (device : D → DiskState) (old new : Stored D) (now : ℕ) (plan asked : Result Plan NoPlan) (framing : Framing)
     (left rest : Option (List ℕ)) (contents : W → Option (List ℕ)) (before after : Watched W) (more : List ℕ) (comes : RequestOutcome → Type 0) (result : Result ℕ WriteFault) (out : Result ℕ FrontFault)
-    → Consumes left rest more → plan ≡ asked → MatchResult result (λ status. out ≡ Ok status) (λ _. out ≡ Err Write) → Responds framing (Writes contents before after result) comes result
+    → Consumes left rest more → plan ≡ asked → MatchResult result (λ status. out ≡ Ok status) (λ _. out ≡ Err Write) → Responds framing (WritesOut contents before after result) comes result
     → ((outcome : RequestOutcome) → comes outcome → RequestGives device old now asked more rest outcome new) → PlanEnds device old now plan framing left rest (contents (watched before)) (contents (watched after)) new out
 sent_ends device old new now plan asked framing left rest contents before after more comes (Ok status) out came same e r gives =
     subst (λ o. PlanEnds device old now plan framing left rest (contents (watched before)) (contents (watched after)) new o) (sym e) (

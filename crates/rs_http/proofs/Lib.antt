@@ -1,6 +1,5 @@
 pub mod Asking
 pub mod Chains
-pub mod Documents
 pub mod Endings
 pub mod Ends
 pub mod Going

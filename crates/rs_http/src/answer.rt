@@ -3,7 +3,7 @@
 ghost use Rattle.std.specs.Prelude.{◌≡◌, ◌/◌, Bool, true, Ok, Err, IfOk, OnOk, OnErr, IsErrOf, MatchResult};
 ghost use Rattle.std.specs.Io.KnownBytes.{Keeps};
 ghost use Rattle.httpdate.specs.Date.{unix_secs};
-ghost use Rattle.rs_io.specs.Watch.{watched, failures, is_flushed, StaysFlushed, EndFailed, FailedWithin, Wrote, Writes};
+ghost use Rattle.rs_io.specs.Watch.{watched, failures, is_flushed, StaysFlushed, EndFailed, FailedWithin, Wrote, WritesOut};
 ghost use Rattle.rs_http.specs.Serving.{PlanEnds, RequestEnds, preface_of, NoneFailed, FailedAlone};
 ghost use Rattle.rs_http.specs.Responses.{go_on, response_text, status_code};
 ghost use Rattle.rs_http.specs.Outcomes.{unplanned};
@@ -39,7 +39,7 @@ fn write_unplanned<W: Write>(
     reason: NoPlan,
 ) -> Result<u16, WriteFault>
     ensures status { IfOk result (λ status. status ≡ status_code (unplanned reason)) }
-    ensures written { Writes W.contents writer.old writer.new result
+    ensures written { WritesOut W.contents writer.old writer.new result
         (response_text framing (unplanned reason)) }
     ensures failed { OnErr result (EndFailed writer.old writer.new) }
 {

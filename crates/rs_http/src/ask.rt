@@ -1,7 +1,7 @@
 //! Asking the source, and writing its answer.
 
 ghost use Rattle.std.specs.Prelude.{◌≡◌, Some, IfOk, OnErr, option_map, length, ℕ, List, codes};
-ghost use Rattle.rs_io.specs.Watch.{EndFailed, Writes};
+ghost use Rattle.rs_io.specs.Watch.{EndFailed, WritesOut};
 ghost use Rattle.rs_model.specs.declared.command.Command.TheVariants.{Delete, Publish};
 ghost use Rattle.rs_caps.specs.DocumentTexts.{document_text};
 ghost use Rattle.rs_http.specs.Responses.{shown, response_text};
@@ -15,6 +15,7 @@ use rs_disk::Disk;
 use rs_io::{Watched, WriteFault};
 use rs_lists::{Doc, ListError, View};
 use rs_record::Name;
+use rs_recovery::laws::documents_are_of_the_state;
 use rs_store::Source;
 use rs_time::Moment;
 use std::io::Write;
@@ -27,7 +28,7 @@ pub(crate) fn delete<D: Disk, W: Write>(
     writer: &mut Watched<W>,
     framing: Framing,
 ) -> Result<u16, WriteFault>
-    ensures answered { Responds framing (Writes W.contents writer.old writer.new result)
+    ensures answered { Responds framing (WritesOut W.contents writer.old writer.new result)
         (RunComesTo D.state source.old source.new (Delete name.now) now) result }
     ensures failed { OnErr result (EndFailed writer.old writer.new) }
 {
@@ -44,7 +45,7 @@ pub(crate) fn publish<D: Disk, W: Write>(
     writer: &mut Watched<W>,
     framing: Framing,
 ) -> Result<u16, WriteFault>
-    ensures answered { Responds framing (Writes W.contents writer.old writer.new result)
+    ensures answered { Responds framing (WritesOut W.contents writer.old writer.new result)
         (RunComesTo D.state source.old source.new Publish now) result }
     ensures failed { OnErr result (EndFailed writer.old writer.new) }
 {
@@ -61,7 +62,7 @@ pub(crate) fn show_body<D: Disk, W: Write>(
     writer: &mut Watched<W>,
     framing: Framing,
 ) -> Result<u16, WriteFault>
-    ensures answered { Responds framing (Writes W.contents writer.old writer.new result)
+    ensures answered { Responds framing (WritesOut W.contents writer.old writer.new result)
         (ReadComesTo D.state source.old source.new name.now) result }
     ensures failed { OnErr result (EndFailed writer.old writer.new) }
 {
@@ -86,7 +87,7 @@ fn write_shown_document<V: View, W: Write>(
     requires { option_map length (document_text (V.shown view.now) doc) ≡ Some count }
     ensures status { IfOk result (λ status. status ≡ 200) }
     ensures written { (text : List ℕ) × (document_text (V.shown view.now) doc ≡ Some text)
-        × Writes W.contents writer.old writer.new result
+        × WritesOut W.contents writer.old writer.new result
         (response_text framing (shown (codes "application/xml") text)) }
     ensures failed { OnErr result (EndFailed writer.old writer.new) }
 {
@@ -108,10 +109,11 @@ pub(crate) fn show_document<D: Disk, W: Write>(
     writer: &mut Watched<W>,
     framing: Framing,
 ) -> Result<u16, WriteFault>
-    ensures answered { Responds framing (Writes W.contents writer.old writer.new result)
+    ensures answered { Responds framing (WritesOut W.contents writer.old writer.new result)
         (λ outcome. outcome ≡ document_shown D.state source.now doc) result }
     ensures failed { OnErr result (EndFailed writer.old writer.new) }
 {
+    documents_are_of_the_state();
     let view = match source.view() {
         Ok(view) => view,
         Err(refusal) => return write_refusal(writer, framing, refusal),

@@ -1,7 +1,7 @@
 //! The responses to what came of requests.
 
 ghost use Rattle.std.specs.Prelude.{◌≡◌, length, IfOk, OnErr};
-ghost use Rattle.rs_io.specs.Watch.{EndFailed, Writes};
+ghost use Rattle.rs_io.specs.Watch.{EndFailed, WritesOut};
 ghost use Rattle.rs_http.specs.Responses.{fault_status as status_of_fault, fault_word as word_of_fault, refusal_status as status_of_refusal, allow_of, published_text, content_lines, framed, response_text, status_code, plain};
 ghost use Rattle.rs_http.specs.Responses.{faulted, replied, shown, refused};
 
@@ -94,7 +94,7 @@ pub(crate) fn write_fault<W: Write>(
     fault: RequestFault,
 ) -> Result<u16, WriteFault>
     ensures status { IfOk result (λ status. status ≡ status_code (faulted fault)) }
-    ensures written { Writes W.contents writer.old writer.new result
+    ensures written { WritesOut W.contents writer.old writer.new result
         (response_text framing (faulted fault)) }
     ensures failed { OnErr result (EndFailed writer.old writer.new) }
 {
@@ -112,7 +112,7 @@ pub(crate) fn write_refusal<W: Write>(
     refusal: Refusal,
 ) -> Result<u16, WriteFault>
     ensures status { IfOk result (λ status. status ≡ status_code (refused refusal)) }
-    ensures written { Writes W.contents writer.old writer.new result
+    ensures written { WritesOut W.contents writer.old writer.new result
         (response_text framing (refused refusal)) }
     ensures failed { OnErr result (EndFailed writer.old writer.new) }
 {
@@ -130,7 +130,7 @@ pub(crate) fn write_shown<W: Write>(
     bytes: &[u8],
 ) -> Result<u16, WriteFault>
     ensures status { IfOk result (λ status. status ≡ status_code (shown kind.now bytes.now)) }
-    ensures written { Writes W.contents writer.old writer.new result
+    ensures written { WritesOut W.contents writer.old writer.new result
         (response_text framing (shown kind.now bytes.now)) }
     ensures failed { OnErr result (EndFailed writer.old writer.new) }
 {
@@ -146,7 +146,7 @@ fn write_published<W: Write>(
     number: u64,
     moment: Moment,
 ) -> Result<(), WriteFault>
-    ensures written { Writes W.contents writer.old writer.new result (framed framing 200
+    ensures written { WritesOut W.contents writer.old writer.new result (framed framing 200
         (content_lines plain (length (published_text number moment))) (published_text number moment)) }
     ensures failed { OnErr result (EndFailed writer.old writer.new) }
 {
@@ -168,7 +168,7 @@ pub(crate) fn write_reply<W: Write>(
     reply: Reply,
 ) -> Result<u16, WriteFault>
     ensures status { IfOk result (λ status. status ≡ status_code (replied reply)) }
-    ensures written { Writes W.contents writer.old writer.new result
+    ensures written { WritesOut W.contents writer.old writer.new result
         (response_text framing (replied reply)) }
     ensures failed { OnErr result (EndFailed writer.old writer.new) }
 {

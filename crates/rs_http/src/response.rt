@@ -3,7 +3,7 @@
 ghost use Rattle.std.specs.Prelude.{◌≡◌, ◌++◌, [], length, codes, OnErr};
 ghost use Rattle.std.specs.List.{flat_map};
 ghost use Rattle.httpdate.specs.Date.{date_text};
-ghost use Rattle.rs_io.specs.Watch.{EndFailed, Writes};
+ghost use Rattle.rs_io.specs.Watch.{EndFailed, WritesOut};
 ghost use Rattle.rs_http.specs.Responses.{reason_of as reason_text, content_lines, first_lines, framed, plain, refusal_line};
 
 use httpdate::HttpDate;
@@ -48,7 +48,7 @@ fn write_first<W: Write>(
     status: u16,
     date: &HttpDate,
 ) -> Result<(), WriteFault>
-    ensures written { Writes W.contents writer.old writer.new result
+    ensures written { WritesOut W.contents writer.old writer.new result
         (first_lines status (date_text date.now)) }
     ensures failed { OnErr result (EndFailed writer.old writer.new) }
 {
@@ -73,7 +73,7 @@ pub(crate) fn write_response<W: Write>(
     lines: &[&[u8]],
     body: &[&[u8]],
 ) -> Result<(), WriteFault>
-    ensures written { Writes W.contents writer.old writer.new result (framed framing status
+    ensures written { WritesOut W.contents writer.old writer.new result (framed framing status
         (flat_map (λ piece. piece.now) lines.now) (flat_map (λ piece. piece.now) body.now)) }
     ensures failed { OnErr result (EndFailed writer.old writer.new) }
 {
@@ -95,7 +95,7 @@ pub(crate) fn write_text<W: Write>(
     kind: &[u8],
     body: &[u8],
 ) -> Result<(), WriteFault>
-    ensures written { Writes W.contents writer.old writer.new result
+    ensures written { WritesOut W.contents writer.old writer.new result
         (framed framing status (allow.now ++ content_lines kind.now (length body.now)) body.now) }
     ensures failed { OnErr result (EndFailed writer.old writer.new) }
 {
@@ -120,7 +120,7 @@ pub(crate) fn write_word<W: Write>(
     allow: &str,
     word: &str,
 ) -> Result<(), WriteFault>
-    ensures written { Writes W.contents writer.old writer.new result
+    ensures written { WritesOut W.contents writer.old writer.new result
         (framed framing status (allow.now ++ content_lines plain (length (refusal_line word.now)))
         (refusal_line word.now)) }
     ensures failed { OnErr result (EndFailed writer.old writer.new) }
@@ -142,7 +142,7 @@ pub(crate) fn write_bare<W: Write>(
     status: u16,
     lines: &[u8],
 ) -> Result<(), WriteFault>
-    ensures written { Writes W.contents writer.old writer.new result
+    ensures written { WritesOut W.contents writer.old writer.new result
         (framed framing status lines.now []) }
     ensures failed { OnErr result (EndFailed writer.old writer.new) }
 {
@@ -156,7 +156,7 @@ pub(crate) fn write_document_head<W: Write>(
     framing: Framing,
     length: u64,
 ) -> Result<(), WriteFault>
-    ensures written { Writes W.contents writer.old writer.new result
+    ensures written { WritesOut W.contents writer.old writer.new result
         (framed framing 200 (content_lines (codes "application/xml") length) []) }
     ensures failed { OnErr result (EndFailed writer.old writer.new) }
 {

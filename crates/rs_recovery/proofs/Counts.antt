@@ -96,7 +96,7 @@ module _ {D : Type 0} (device : D → DiskState) (sound : (disk : D) → IsMediu
       sym (ap (λ (b : Bool). cond b (Some Closed) (or_spent (refusal_of (state_of device old) command) (is_spent old))) holds.is_open) ∙ none in
       undecided (refusal_of s command) (is_spent old) (subst (λ (t : Source). or_spent (refusal_of t command) (is_spent old) ≡ None) same here)
 
-  -- each counted_commands command is one more behind the state
+  -- each counted command is one more behind the state
   pub each_behind : (s : Source) (old : Stored D) (cs : Commands) (acks : Acks) (new : Stored D) → Holds device old s → InTurn device old cs acks new
       → (j : ℕ) → j ≤ length (counted_commands cs acks) → commands_behind (fold_of s (take j (counted_commands cs acks))) ≡ commands_behind s + j
   each_behind s old [] [] new holds turn zero le = omega arith
@@ -153,7 +153,7 @@ module _ {D : Type 0} (device : D → DiskState) (sound : (disk : D) → IsMediu
   each_behind s old [] (a ∷ acks) new holds turn j le = absurd turn
   each_behind s old (c ∷ cs) [] new holds turn j le = absurd turn
 
-  -- an image stands for one number of a run's counted_commands commands
+  -- an image stands for one number of a run's counted commands
   pub one_number : (s : Source) (old : Stored D) (cs : Commands) (acks : Acks) (new : Stored D) → Holds device old s → InTurn device old cs acks new → (m : ℕ) (image : List ℕ) (j k : ℕ)
       → j ≤ begun m acks → k ≤ begun m acks → StandsFor image (fold_of s (take j (counted_commands cs acks))) → StandsFor image (fold_of s (take k (counted_commands cs acks))) → k ≡ j
   one_number s old cs acks new holds turn m image j k most_j most_k stands also =

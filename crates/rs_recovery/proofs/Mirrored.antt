@@ -17,7 +17,7 @@ use Rattle.rs_caps.specs.Gather.{gather_resources, gather_changes}
 use Rattle.rs_store.specs.Counted.{is_accepted, is_in_doubt, answered, counted_commands}
 use Rattle.rs_store.specs.declared.running.Ack.{Ack}
 use Rattle.rs_recovery.specs.Sessions.{Session, commands_standing}
-use Rattle.rs_recovery.specs.Served.{IsNoLater, IsPrefixOf, Stand, SessionsStand}
+use Rattle.rs_recovery.specs.Served.{IsNoLater, IsPrefixOf, CommandsStand, SessionsStand}
 use Rattle.rs_recovery.specs.Mirrored.{AreLawfulSessions, list_head, changes_head, Asked, answered_by, IsAskedPart, AsksBoth, IsMirrored, SessionsAreMirrored}
 use Rattle.rs_recovery.proofs.Below.{Commands, Acks}
 use Rattle.rs_recovery.proofs.Walked.{told}
@@ -87,7 +87,7 @@ first_of_first n m whole le =
 
 module _ {D : Type 0} (device : D → DiskState) (sound : (disk : D) → IsMedium (device disk).size (device disk).now)
     (mirrors : DestinationMirrors) (was_held : MirrorWasHeld) (base : List ℕ) (limit moment : ℕ) (sessions : List (Session D)) (standing : List ℕ)
-    (lawful : IsLawful (start_of base limit moment)) (all : AreLawfulSessions sessions) (stand : Stand device (start_of base limit moment) sessions standing)
+    (lawful : IsLawful (start_of base limit moment)) (all : AreLawfulSessions sessions) (stand : CommandsStand device (start_of base limit moment) sessions standing)
     (asked : Asked device sessions standing) (asks : AsksBoth device asked.asking asked.last) where
   abbrev start : Source
   start = start_of base limit moment

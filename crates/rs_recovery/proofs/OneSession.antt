@@ -14,7 +14,7 @@ use Rattle.rs_store.specs.Source.{Stored, Holds}
 use Rattle.rs_recovery.specs.declared.surviving.Halt.TheVariants.{Opening}
 use Rattle.rs_store.specs.Counted.{is_accepted, answered, counted_commands, acknowledged}
 use Rattle.rs_store.specs.Runs.{InTurn}
-use Rattle.rs_recovery.specs.Sessions.{Session, IsStopped, AreStanding, commands_standing}
+use Rattle.rs_recovery.specs.Sessions.{Session, IsStoppedSession, AreStanding, commands_standing}
 use Rattle.rs_recovery.specs.Recovered.{IsExcuse, YieldsHeld, Headline}
 use Rattle.rs_recovery.specs.Surviving.{Survives, IsLost}
 use Rattle.rs_store.specs.Laws.{CallsRise}
@@ -28,7 +28,7 @@ module _ (rise : CallsRise memory_state) (base : List ℕ) (limit moment : ℕ) 
   abbrev session : Session MemoryDisk
   session = record { first = first; commands = cs; acks = acks; last = last; stop = (memory_state last.disk).calls; image = image }
 
-  stopped : IsStopped memory_state session
+  stopped : IsStoppedSession memory_state session
   stopped = record {
     turn = turn;
     from = rise first cs acks last turn;

@@ -11,14 +11,14 @@ use Rattle.rs_store.specs.declared.opening.OpenFault.TheVariants.{NotASource, Da
 use Rattle.rs_store.specs.Source.{Stored, Holds, state_of}
 use Rattle.rs_store.specs.Opening.{IsOpened, IsNotOpened, disk_of}
 use Rattle.rs_recovery.specs.Sessions.{IsOpenedOn}
-use Rattle.rs_recovery.specs.Recovered.{GivesBack}
+use Rattle.rs_recovery.specs.Recovered.{HandsBack}
 
 no_slots : (image : List ℕ) (slots : Standing) → current image ≡ Some slots → current image ≡ None → ⊥
 no_slots image slots is none = let clash : Some slots ≡ None = sym is ∙ none in cc
 
 pub gives_back : StandsOnce → {D : Type 0} (device : D → DiskState) (disk : D) (result : Result (Stored D) (D × OpenFault))
     → IfOk result (IsOpened device (device disk)) → IfErr result (λ e. IsNotOpened (device disk) (device e.0) e.1)
-    → IsTrue (device (disk_of result)).honest → (s : Source) → StandsFor (device disk).now.seen s → GivesBack device disk result s
+    → IsTrue (device (disk_of result)).honest → (s : Source) → StandsFor (device disk).now.seen s → HandsBack device disk result s
 gives_back stands_once device disk (Ok source) opened refused honest s stands =
     let found = opened.holds honest in
     subst (Holds device source) (stands_once (device disk).now.seen (state_of device source) s found.1 stands) found.0

@@ -16,8 +16,8 @@ use Rattle.rs_store.specs.Answered.{Answers}
 use Rattle.rs_store.specs.declared.running.Ack.{Ack}
 use Rattle.rs_store.specs.Counted.{is_accepted, is_in_doubt, is_device, answered, counted_commands, acknowledged}
 use Rattle.rs_store.specs.Runs.{InTurn, StandsForPrefix}
-use Rattle.rs_recovery.specs.Sessions.{Session, IsStopped, IsOpenedOn, AreSessions, last_image, commands_standing, AreStanding, OneStanding, OpeningsStopToo}
-use Rattle.rs_recovery.specs.Served.{Asking, CouldServe, HasServed, IsNoLater, IsPrefixOf, Stand, SessionsStand}
+use Rattle.rs_recovery.specs.Sessions.{Session, IsStoppedSession, IsOpenedOn, AreSessions, last_image, commands_standing, AreStanding, OneStanding, OpeningsStopToo}
+use Rattle.rs_recovery.specs.Served.{Asking, CouldServe, HasServed, IsNoLater, IsPrefixOf, CommandsStand, SessionsStand}
 use Rattle.rs_recovery.specs.Recovered.{YieldsHeld}
 use Rattle.rs_recovery.proofs.Counts.{one_number}
 use Rattle.rs_recovery.specs.Below.{Below}
@@ -72,7 +72,7 @@ few_answered m (suc n) (c ∷ cs) (a ∷ acks) all =
       | false ↦ λ e. omega (arith, e, more)
     ] here
 
--- what stands commands_standing a prefix of a front stands commands_standing a prefix of the whole
+-- what stands behind a prefix of a front stands behind a prefix of the whole
 prefix_on : (front whole more : Commands) → IsPrefixOf front whole → IsPrefixOf front (whole ++ more)
 prefix_on front whole more (rest, is) = (rest ++ more, sym (append_assoc front rest more) ∙ ap (λ (l : Commands). l ++ more) is)
 
@@ -99,7 +99,7 @@ module _ {D : Type 0} (device : D → DiskState) (sound : (disk : D) → IsMediu
   none_in_doubt old (c ∷ cs) [] new turn open_then = absurd turn
 
   -- what a stop of a session leaves, where its source held a state
-  stopped_at : (s : Source) (x : Session D) → Holds device x.first s → IsStopped device x → StandsForPrefix s x.commands x.acks x.stop x.image
+  stopped_at : (s : Source) (x : Session D) → Holds device x.first s → IsStoppedSession device x → StandsForPrefix s x.commands x.acks x.stop x.image
   stopped_at s x holds stopped = (below.moments s x.first x.commands x.acks x.last holds stopped.turn).each x.stop x.image stopped.from stopped.to stopped.image
 
   -- what a session could serve
@@ -174,9 +174,9 @@ module _ {D : Type 0} (device : D → DiskState) (sound : (disk : D) → IsMediu
   order_on start x past j standing served ordered asking later commands more no_later (inr older) (inr then) = ordered asking later commands more no_later older then
 
   -- one session more
-  one_more : (start : Source) (x : Session D) (past : List (Session D)) (standing : List ℕ) → IsStopped device x → Holds device x.first (fold_of start (commands_standing past standing))
+  one_more : (start : Source) (x : Session D) (past : List (Session D)) (standing : List ℕ) → IsStoppedSession device x → Holds device x.first (fold_of start (commands_standing past standing))
       → AreStanding start past standing → AreServed start past standing → AreOrdered past standing
-      → (more : List ℕ) × Stand device start (x ∷ past) more
+      → (more : List ℕ) × CommandsStand device start (x ∷ past) more
   one_more start x past standing stopped holds held served ordered =
       let before = commands_standing past standing in
       let p = stopped_at (fold_of start before) x holds stopped in
@@ -214,7 +214,7 @@ module _ {D : Type 0} (device : D → DiskState) (sound : (disk : D) → IsMediu
       one_more start x (y ∷ past) past_stand.0 are.0 (opened_holds start y past past_stand.0 x.first stand.holds are.1) stand.holds stand.served stand.ordered
 
   -- two numbers of standing commands of the latest session, where those of the sessions before are the same
-  same_latest : (start : Source) (x : Session D) (past : List (Session D)) (standing : List ℕ) (j k : ℕ) → IsStopped device x → Holds device x.first (fold_of start (commands_standing past standing))
+  same_latest : (start : Source) (x : Session D) (past : List (Session D)) (standing : List ℕ) (j k : ℕ) → IsStoppedSession device x → Holds device x.first (fold_of start (commands_standing past standing))
       → AreStanding start (x ∷ past) (j ∷ standing) → AreStanding start (x ∷ past) (k ∷ standing) → k ≡ j
   same_latest start x past standing j k stopped holds stands also =
       let before = commands_standing past standing in

@@ -6,4 +6,5 @@ pub mod Served
 pub mod Recovered
 pub mod Surviving
 pub mod Walked
+pub mod Documents
 pub mod Mirrored

@@ -14,7 +14,7 @@ use Rattle.rs_caps.specs.Readings.{Listed, Document}
 use Rattle.rs_caps.specs.Reads.{reads}
 use Rattle.rs_store.specs.Source.{state_of}
 use Rattle.rs_recovery.specs.Sessions.{Session, AreSessions, commands_standing}
-use Rattle.rs_recovery.specs.Served.{Asking, HasServed, IsNoLater, IsPrefixOf, Stand}
+use Rattle.rs_recovery.specs.Served.{Asking, HasServed, IsNoLater, IsPrefixOf, CommandsStand}
 
 -- each command of these sessions has a lawful name, a lawful type and a moment
 abbrev pub AreLawfulSessions : {D : Type 0} → List (Session D) → Type 0
@@ -82,5 +82,5 @@ SessionsAreMirrored {D} device =
     (base : List ℕ) (limit moment : ℕ) (sessions : List (Session D))
     → let start = start_of base limit moment in
     IsLawful start → AreLawfulSessions sessions → AreSessions device start sessions
-    → (standing : List ℕ) × Stand device start sessions standing
+    → (standing : List ℕ) × CommandsStand device start sessions standing
     × ((asked : Asked device sessions standing) → AsksBoth device asked.asking asked.last → IsMirrored device start sessions standing asked)

@@ -14,7 +14,7 @@ use Rattle.rs_disk.specs.Leaves.{HasFailed}
 use Rattle.rs_store.specs.Opening.{disk_of}
 use Rattle.rs_store.specs.Counted.{counted_commands, acknowledged, begun}
 use Rattle.rs_recovery.specs.Sessions.{Session, AreSessions, last_image, commands_standing}
-use Rattle.rs_recovery.specs.Served.{Stand}
+use Rattle.rs_recovery.specs.Served.{CommandsStand}
 
 -- Why a source is not opened where there is one: a call of the device failed, or memory was refused.
 abbrev pub IsExcuse : DiskState → DiskState → OpenFault → Type 0
@@ -24,18 +24,18 @@ IsExcuse before after Device = HasFailed before after
 IsExcuse before after NoMemory = Unit {0}
 
 -- An opening gives back a state: the source that is opened holds it.
-abbrev pub GivesBack : {D : Type 0} → (D → DiskState) → D → Result (Stored D) (D × OpenFault) → Source → Type 0
-GivesBack device disk (Ok source) s = Holds device source s
-GivesBack device disk (Err refused) s = IsExcuse (device disk) (device refused.0) refused.1
+abbrev pub HandsBack : {D : Type 0} → (D → DiskState) → D → Result (Stored D) (D × OpenFault) → Source → Type 0
+HandsBack device disk (Ok source) s = Holds device source s
+HandsBack device disk (Err refused) s = IsExcuse (device disk) (device refused.0) refused.1
 
--- After a stop of one run, when m calls were counted_commands, an opening gives back the state after the first j counted_commands commands, for
+-- After a stop of one run, when m calls were counted, an opening gives back the state after the first j counted commands, for
 -- some j: no command that was acknowledged by then is left out, and none is in that had not begun.
-pub record GivesBackPrefix {D : Type 0} (device : D → DiskState) (disk : D) (result : Result (Stored D) (D × OpenFault))
+pub record HandsBackPrefix {D : Type 0} (device : D → DiskState) (disk : D) (result : Result (Stored D) (D × OpenFault))
     (s : Source) (commands : List (Command × ℕ)) (acks : List Ack) (m : ℕ) : Type 0 where
   pub j : ℕ
   pub least : acknowledged m acks ≤ j
   pub most : j ≤ begun m acks
-  pub state : GivesBack device disk result (fold_of s (take j (counted_commands commands acks)))
+  pub state : HandsBack device disk result (fold_of s (take j (counted_commands commands acks)))
 
 -- The latest Resource List, followed by the changes recorded after its at-moment in their order, yields exactly the resources
 -- held; and the length, the hashes and the type of each are those of its bytes.
@@ -47,8 +47,8 @@ pub record YieldsHeld (s : Source) : Type 0 where
 pub record IsRecovered {D : Type 0} (device : D → DiskState) (disk : D) (result : Result (Stored D) (D × OpenFault))
     (start : Source) (sessions : List (Session D)) : Type 0 where
   pub standing : List ℕ
-  pub stand : Stand device start sessions standing
-  pub state : GivesBack device disk result (fold_of start (commands_standing sessions standing))
+  pub stand : CommandsStand device start sessions standing
+  pub state : HandsBack device disk result (fold_of start (commands_standing sessions standing))
   pub regular : IsRegular (fold_of start (commands_standing sessions standing))
   pub timely : IsTimely (fold_of start (commands_standing sessions standing))
   pub yields : YieldsHeld (fold_of start (commands_standing sessions standing))

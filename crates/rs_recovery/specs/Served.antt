@@ -1,4 +1,4 @@
--- What was served in a session is commands_standing every later state.
+-- What was served in a session is behind every later state.
 use Rattle.std.specs.Prelude.{◌≡◌, ◌⊎◌, ℕ, ◌<◌, ◌≤◌, false, List, [], ◌∷◌, ◌++◌, length, take}
 use Rattle.std.specs.List.{AllByRecursion}
 use Rattle.rs_disk.specs.Medium.{DiskState}
@@ -22,7 +22,7 @@ pub record CouldServe {D : Type 0} (device : D → DiskState) (x : Session D) (n
   pub is_open : source.is_closed ≡ false
   pub before : AllByRecursion (λ a. a.at_call ≤ x.stop) (take n x.acks)
 
--- It could be asked then, and these are the commands commands_standing it: those that stand of the sessions before, and then those of its
+-- It could be asked then, and these are the commands behind it: those that stand of the sessions before, and then those of its
 -- own session that count.
 abbrev pub HasServed : {D : Type 0} → (D → DiskState) → List (Session D) → List ℕ → Asking D → List (Command × ℕ) → Type 0
 HasServed device [] standing asking commands = ⊥
@@ -40,11 +40,11 @@ abbrev pub IsPrefixOf : List (Command × ℕ) → List (Command × ℕ) → Type
 IsPrefixOf front whole = (rest : List (Command × ℕ)) × (front ++ rest ≡ whole)
 
 -- Some commands of these sessions stand, in their order.
--- `holds`: of each session its first counted_commands ones, each acknowledged one among them.
--- `served`: a source that could be asked, in whatever session, held the state that the commands commands_standing it make, and they are the
+-- `holds`: of each session its first counted ones, each acknowledged one among them.
+-- `served`: a source that could be asked, in whatever session, held the state that the commands behind it make, and they are the
 -- first of those that stand.
--- `ordered`: the commands commands_standing a source that could be asked are the first of those commands_standing every later one.
-pub record Stand {D : Type 0} (device : D → DiskState) (start : Source) (sessions : List (Session D)) (standing : List ℕ) : Type 0 where
+-- `ordered`: the commands behind a source that could be asked are the first of those behind every later one.
+pub record CommandsStand {D : Type 0} (device : D → DiskState) (start : Source) (sessions : List (Session D)) (standing : List ℕ) : Type 0 where
   pub holds : AreStanding start sessions standing
   pub served : (asking : Asking D) (commands : List (Command × ℕ)) → HasServed device sessions standing asking commands
       → Holds device asking.source (fold_of start commands) × IsPrefixOf commands (commands_standing sessions standing)
@@ -54,4 +54,4 @@ pub record Stand {D : Type 0} (device : D → DiskState) (start : Source) (sessi
 -- Over any number of sessions, whatever the stops, commands stand so.
 abbrev pub SessionsStand : {D : Type 0} → (D → DiskState) → Type 0
 SessionsStand {D} device = (start : Source) (sessions : List (Session D)) → AreSessions device start sessions
-    → (standing : List ℕ) × Stand device start sessions standing
+    → (standing : List ℕ) × CommandsStand device start sessions standing

@@ -12,7 +12,7 @@ use Rattle.rs_store.specs.Counted.{counted_commands, acknowledged, begun}
 use Rattle.rs_store.specs.Runs.{InTurn}
 
 -- A session: the source as it was made or opened, the commands that it was given with their answers, and the source after
--- them; and its stop: after how many counted_commands calls it came, and which image of the disk it left.
+-- them; and its stop: after how many counted calls it came, and which image of the disk it left.
 pub record Session (D : Type 0) : Type 0 where
   pub first : Stored D
   pub commands : List (Command × ℕ)
@@ -23,7 +23,7 @@ pub record Session (D : Type 0) : Type 0 where
 
 -- The commands were answered in their turn; and the stop came before or within any disk call, during a command or between two:
 -- after any number of calls from the first moment of the session to the last, with any image of that moment.
-pub record IsStopped {D : Type 0} (device : D → DiskState) (x : Session D) : Type 0 where
+pub record IsStoppedSession {D : Type 0} (device : D → DiskState) (x : Session D) : Type 0 where
   pub turn : InTurn device x.first x.commands x.acks x.last
   pub from : (device x.first.disk).calls ≤ x.stop
   pub to : x.stop ≤ (device x.last.disk).calls
@@ -37,21 +37,21 @@ IsOpenedOn device bytes source = (s : Source) × StandsFor bytes s × Holds devi
 -- began with an opening on what the stop before it had left.
 abbrev pub AreSessions : {D : Type 0} → (D → DiskState) → Source → List (Session D) → Type 0
 AreSessions device start [] = ⊥
-AreSessions device start (x ∷ []) = IsStopped device x × Holds device x.first start
-AreSessions device start (x ∷ y ∷ past) = IsStopped device x × IsOpenedOn device y.image x.first × AreSessions device start (y ∷ past)
+AreSessions device start (x ∷ []) = IsStoppedSession device x × Holds device x.first start
+AreSessions device start (x ∷ y ∷ past) = IsStoppedSession device x × IsOpenedOn device y.image x.first × AreSessions device start (y ∷ past)
 
 -- the image that the latest stop left
 abbrev pub last_image : {D : Type 0} → List (Session D) → List ℕ
 last_image [] = []
 last_image (x ∷ past) = x.image
 
--- the commands commands_standing what the latest stop left, where of each session this many of its counted_commands commands stand
+-- the commands behind what the latest stop left, where of each session this many of its counted commands stand
 abbrev pub commands_standing : {D : Type 0} → List (Session D) → List ℕ → List (Command × ℕ)
 commands_standing [] standing = []
 commands_standing (x ∷ past) [] = []
 commands_standing (x ∷ past) (j ∷ standing) = commands_standing past standing ++ take j (counted_commands x.commands x.acks)
 
--- Of each session this many of its counted_commands commands stand: no command that was acknowledged by the stop is left out, none is in
+-- Of each session this many of its counted commands stand: no command that was acknowledged by the stop is left out, none is in
 -- that had not begun, and what the stop left stands for the state that they make, after those of the sessions before.
 abbrev pub AreStanding : {D : Type 0} → Source → List (Session D) → List ℕ → Type 0
 AreStanding start [] [] = Unit {0}

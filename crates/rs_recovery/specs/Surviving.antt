@@ -17,7 +17,7 @@ use Rattle.rs_recovery.specs.declared.surviving.Halt.TheVariants.{Formatting, Ru
 use Rattle.rs_recovery.specs.Recovered.{YieldsHeld}
 
 -- The commands were answered in their turn, from the start on, and the run left this disk. Its image of this choice stands for the
--- state after the first j counted_commands commands, for some j: the source holds it, and each accepted command is among them.
+-- state after the first j counted commands, for some j: the source holds it, and each accepted command is among them.
 pub record Survives (start : Source) (commands : List (Command × ℕ)) (acks : List Ack) (left : MemoryDisk) (choice : List ℕ) (source : Stored MemoryDisk) : Type 0 where
   pub first : Stored MemoryDisk
   pub last : Stored MemoryDisk

@@ -16,7 +16,9 @@ ghost use Rattle.rs_recovery.specs.Prefixes.{RunsRecover, IdleIsRun, CommandIsRu
 ghost use Rattle.rs_recovery.specs.Sessions.{OneStanding, OpeningsStopToo};
 ghost use Rattle.rs_recovery.specs.Served.{SessionsStand};
 ghost use Rattle.rs_recovery.specs.Recovered.{YieldsHeld};
+ghost use Rattle.rs_recovery.specs.Documents.{DocumentsAreOfTheState};
 
+use rs_caps::laws::served::blocks_are_not_shown;
 use rs_disk::Disk;
 use rs_image::laws::stands_once;
 use rs_model::fold_is_regular;
@@ -80,6 +82,13 @@ pub fn one_standing<D: Disk>()
 pub fn openings_stop_too<D: Disk>()
     ensures { OpeningsStopToo D.state }
 {}
+
+/// A document of a source, as its lists show it, is the document of the state that they tell.
+pub fn documents_are_of_the_state()
+    ensures { DocumentsAreOfTheState }
+{
+    blocks_are_not_shown();
+}
 
 /// Each state that a stop within a run of a regular source may leave is regular: what was published,
 /// followed by the changes after its moment, is what is held.

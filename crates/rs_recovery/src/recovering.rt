@@ -9,7 +9,7 @@ ghost use Rattle.rs_store.specs.Opening.{disk_of, IsOpened};
 ghost use Rattle.rs_store.specs.declared.running.Ack.{Ack};
 ghost use Rattle.rs_store.specs.Runs.{StandsForPrefix};
 ghost use Rattle.rs_recovery.specs.Sessions.{IsOpenedOn};
-ghost use Rattle.rs_recovery.specs.Recovered.{GivesBack, GivesBackPrefix, Headline};
+ghost use Rattle.rs_recovery.specs.Recovered.{HandsBack, HandsBackPrefix, Headline};
 
 use crate::laws::sessions_stand;
 use rs_disk::Disk;
@@ -37,7 +37,7 @@ use std::alloc::Global;
 pub fn recover<D: Disk>(alloc: Global, disk: D) -> Result<Source<D>, (D, OpenFault)>
     // Where the disk's bytes stand for a state, it is given back; and a source that is opened may begin a session more.
     ensures recovers { IsTrue (D.state (disk_of result)).honest
-        → (s : State) → StandsFor (D.state disk).now.seen s → GivesBack D.state disk result s }
+        → (s : State) → StandsFor (D.state disk).now.seen s → HandsBack D.state disk result s }
     ensures found { IfOk result (IsOpened D.state (D.state disk)) }
     ensures opened { IfOk result (λ source. IsTrue (D.state source.disk).honest
         → IsOpenedOn D.state (D.state disk).now.seen source) }
@@ -46,7 +46,7 @@ pub fn recover<D: Disk>(alloc: Global, disk: D) -> Result<Source<D>, (D, OpenFau
     ensures after_a_run { IsTrue (D.state (disk_of result)).honest
         → (s : State) (commands : List (Command × ℕ)) (acks : List Ack) (m : ℕ)
         → StandsForPrefix s commands acks m (D.state disk).now.seen
-        → GivesBackPrefix D.state disk result s commands acks m }
+        → HandsBackPrefix D.state disk result s commands acks m }
     ensures headline { Headline D.state disk result }
 
     // What a read gives is as it was; a stop within it leaves an image of its entry; and a device that has followed the model

@@ -16,6 +16,7 @@ use Rattle.rs_store.specs.declared.reading.Status as counts
 use Rattle.rs_store.specs.declared.refusal.Refusal as denials
 use Rattle.rs_store.specs.declared.refusal.Refusal.TheVariants.{Closed}
 use Rattle.rs_recovery.specs.Prefixes.{counted_as}
+use Rattle.rs_recovery.specs.Documents.{DocumentsAreOfTheState}
 use Rattle.rs_script.specs.declared.refusal.Refusal.{Refusal}
 use Rattle.rs_script.specs.declared.refusal.Refusal.TheVariants.{BadLine, LongLine, NoSuchDocument, NoMemory, Source}
 use Rattle.rs_script.specs.declared.request.Request.{Request}
@@ -29,7 +30,6 @@ use Rattle.rs_script.specs.Model.{shown_or}
 use Rattle.rs_script.specs.Progress.{RequestAnswers, LineAnswers}
 use Rattle.rs_script.specs.Requests.{request_of}
 use Rattle.rs_script.specs.Session.{ScriptState, script_state, LineOutcome, moment_set, counted, refused, unchanged}
-use Rattle.rs_script.proofs.Documents.{one_text}
 
 -- a command was asked of the source
 pub ran : {D : Type 0} (device : D → DiskState) (old new : Stored D) (command : Command) (now : ℕ) (result : Result Reply denials.Refusal) (P : List ℕ → Type 0)
@@ -68,10 +68,10 @@ when_open : (closed : Bool) (outcome : LineOutcome) → closed ≡ false → (if
 when_open closed outcome opened = ap (λ b. if b then refused (Source Closed) else outcome) opened
 
 -- a document is shown, or there is none
-pub document_answered : {D : Type 0} (device : D → DiskState) (s : Stored D) (now : ℕ) (doc : Doc) (view : Shown) (outcome : LineOutcome) (P : List ℕ → Type 0)
+pub document_answered : DocumentsAreOfTheState → {D : Type 0} (device : D → DiskState) (s : Stored D) (now : ℕ) (doc : Doc) (view : Shown) (outcome : LineOutcome) (P : List ℕ → Type 0)
     → s.is_closed ≡ false → view ≡ views.shown_in s.contents → shown_or NoSuchDocument (document_text view doc) ≡ outcome
     → P (outcome_text outcome) → RequestAnswers device (script_state s now) (Ok (Document doc)) (script_state s now) P
-document_answered device s now doc view outcome P opened is e w =
+document_answered one_text device s now doc view outcome P opened is e w =
     let text = ap (λ v. document_text v doc) is ∙ one_text (device s.disk).now.seen s.contents doc in
     let found = sym e ∙ ap (shown_or NoSuchDocument) text in
     record {
@@ -143,7 +143,7 @@ verified_closed device s now refusal P same closed w =
       names = tt;
       few = tt;
       closed = (λ _. closed, λ _. refl);
-      failed = λ e. absurd cc;
+      told = record { failed = λ e. absurd cc; sound = λ _. refl };
       others = tt;
       reads_only = record { slots = refl; contents = refl; is_closed = refl; rests = rests (device s.disk) };
     }) (subst (λ r. P (outcome_text (refused (Source r)))) same w)

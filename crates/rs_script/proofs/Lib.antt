@@ -7,7 +7,6 @@ pub mod Steps
 pub mod Models
 pub mod Chains
 pub mod Transcripts
-pub mod Documents
 pub mod Known
 pub mod Runs
 pub mod NamedDocuments

@@ -9,7 +9,7 @@ use Rattle.std.specs.Io.KnownBytes.{Consumes, Keeps as KnownKeeps}
 use Rattle.std.proofs.KnownBytes.{Appends-kept, Consumes-trans}
 use Rattle.rs_disk.specs.Medium.{DiskState}
 use Rattle.rs_io.specs.declared.watch.Watched.{Watched}
-use Rattle.rs_io.specs.Watch.{watched, failures, EndFailed, Wrote, FailedWithin, FailedAfter, Writes}
+use Rattle.rs_io.specs.Watch.{watched, failures, EndFailed, Wrote, FailedWithin, FailedAfter, WritesOut}
 use Rattle.rs_io.proofs.Growth.{wrote_nothing, wrote_then}
 use Rattle.rs_io.proofs.Faults.{failed_after, failed_flush}
 use Rattle.rs_model.specs.declared.command.Command.{Command}
@@ -102,7 +102,7 @@ whole_more {D = D} device start raws raw outcomes commands now answer new e t g 
 -- a line feed has come, and the answer is written
 pub take_ok : {T E D W : Type 0} (device : D → DiskState) (contents : W → Option (List ℕ)) (r : Result T E) (line mid next : Line) (now new : ScriptState (Stored D)) (c d : Watched W) (run : List ℕ)
     → ((raw : List ℕ) → KeepsLine line raw → KeepsLine mid (raw ++ run))
-    → ((raw : List ℕ) → KeepsLine mid raw → LineAnswers device now (cut_return raw) new (λ text. Writes contents c d r text))
+    → ((raw : List ℕ) → KeepsLine mid raw → LineAnswers device now (cut_return raw) new (λ text. WritesOut contents c d r text))
     → KeepsLine next []
     → OnOk r (HasNoBreak run → ComesTo device contents (record { line = line; writer = c; session = now })
     (record { line = next; writer = d; session = new }) (with_break run))
@@ -149,7 +149,7 @@ broke_after contents a b c outcomes wrote kept failed = record {
 -- and the answer is not written
 pub take_err : {T E D W : Type 0} (device : D → DiskState) (contents : W → Option (List ℕ)) (r : Result T E) (line mid : Line) (now new : ScriptState (Stored D)) (c d : Watched W) (run : List ℕ)
     → ((raw : List ℕ) → KeepsLine line raw → KeepsLine mid (raw ++ run))
-    → ((raw : List ℕ) → KeepsLine mid raw → LineAnswers device now (cut_return raw) new (λ text. Writes contents c d r text))
+    → ((raw : List ℕ) → KeepsLine mid raw → LineAnswers device now (cut_return raw) new (λ text. WritesOut contents c d r text))
     → OnErr r (HasNoBreak run → StopsBy device contents (record { line = line; writer = c; session = now }) (with_break run) d new)
 take_err device contents (Ok x) line mid now new c d run k given = tt
 take_err device contents (Err e) line mid now new c d run k given = λ h start before input p.
@@ -187,7 +187,7 @@ last_more {D = D} device start raws rest outcomes commands now answer new e some
 
 pub end_ok : {T E D W : Type 0} (device : D → DiskState) (contents : W → Option (List ℕ)) (r : Result T E) (line : Line) (now new : ScriptState (Stored D)) (c d : Watched W)
     → ((raw : List ℕ) → KeepsLine line raw → 0 < length raw)
-    → ((raw : List ℕ) → KeepsLine line raw → LineAnswers device now raw new (λ text. Writes contents c d r text))
+    → ((raw : List ℕ) → KeepsLine line raw → LineAnswers device now raw new (λ text. WritesOut contents c d r text))
     → OnOk r ((start : ScriptState (Stored D)) (before : Watched W) (input : List ℕ) → Progress device contents start before input line c now
     → (outcomes : List LineOutcome) × (commands : List (Command × ℕ)) × ScriptGives device start input outcomes commands new × Wrote contents before d (output_of outcomes))
 end_ok device contents (Err e) line now new c d some given = tt
@@ -203,7 +203,7 @@ end_ok device contents (Ok x) line now new c d some given = λ start before inpu
 
 pub end_err : {T E D W : Type 0} (device : D → DiskState) (contents : W → Option (List ℕ)) (r : Result T E) (line : Line) (now new : ScriptState (Stored D)) (c d : Watched W)
     → ((raw : List ℕ) → KeepsLine line raw → 0 < length raw)
-    → ((raw : List ℕ) → KeepsLine line raw → LineAnswers device now raw new (λ text. Writes contents c d r text))
+    → ((raw : List ℕ) → KeepsLine line raw → LineAnswers device now raw new (λ text. WritesOut contents c d r text))
     → OnErr r ((start : ScriptState (Stored D)) (before : Watched W) (input : List ℕ) → Progress device contents start before input line c now
     → Answered device contents start before input d new)
 end_err device contents (Ok x) line now new c d some given = tt

@@ -3,7 +3,7 @@
 ghost use Rattle.std.specs.Prelude.{◌≡◌, ◌++◌, codes, OnOk, OnErr};
 ghost use Rattle.std.specs.Fmt.{decimal};
 ghost use Rattle.std.specs.List.{flat_map};
-ghost use Rattle.rs_io.specs.Watch.{EndFailed, FailedWithin, Wrote, Writes};
+ghost use Rattle.rs_io.specs.Watch.{EndFailed, FailedWithin, Wrote, WritesOut};
 ghost use Rattle.rs_script.specs.Answers.{moment_end, reply_text, status_text, damaged_line, verified_text, outcome_text, word_of};
 ghost use Rattle.rs_script.specs.Session.{refused};
 
@@ -35,7 +35,7 @@ fn name_of(refusal: Refusal) -> &'static str
 
 /// Writes the answer `refused NAME`.
 pub fn write_refusal<W: Write>(refusal: Refusal, writer: &mut Watched<W>) -> Result<(), WriteFault>
-    ensures written { Writes W.contents writer.old writer.new result
+    ensures written { WritesOut W.contents writer.old writer.new result
         (outcome_text (refused refusal)) }
     ensures failed { OnErr result (EndFailed writer.old writer.new) }
 {
@@ -49,7 +49,7 @@ fn write_word<W: Write>(
     moment: Moment,
     writer: &mut Watched<W>,
 ) -> Result<(), WriteFault>
-    ensures written { Writes W.contents writer.old writer.new result
+    ensures written { WritesOut W.contents writer.old writer.new result
         (word.now ++ moment_end moment) }
     ensures failed { OnErr result (EndFailed writer.old writer.new) }
 {
@@ -62,7 +62,7 @@ fn write_published<W: Write>(
     moment: Moment,
     writer: &mut Watched<W>,
 ) -> Result<(), WriteFault>
-    ensures written { Writes W.contents writer.old writer.new result
+    ensures written { WritesOut W.contents writer.old writer.new result
         (reply_text (Reply.Published number moment)) }
     ensures failed { OnErr result (EndFailed writer.old writer.new) }
 {
@@ -73,7 +73,7 @@ fn write_published<W: Write>(
 
 /// Writes the answer of an accepted command.
 pub fn write_reply<W: Write>(reply: Reply, writer: &mut Watched<W>) -> Result<(), WriteFault>
-    ensures written { Writes W.contents writer.old writer.new result (reply_text reply) }
+    ensures written { WritesOut W.contents writer.old writer.new result (reply_text reply) }
     ensures failed { OnErr result (EndFailed writer.old writer.new) }
 {
     match reply {
@@ -86,7 +86,7 @@ pub fn write_reply<W: Write>(reply: Reply, writer: &mut Watched<W>) -> Result<()
 
 /// Writes the answer of `status`.
 pub fn write_status<W: Write>(status: Status, writer: &mut Watched<W>) -> Result<(), WriteFault>
-    ensures written { Writes W.contents writer.old writer.new result (status_text status) }
+    ensures written { WritesOut W.contents writer.old writer.new result (status_text status) }
     ensures failed { OnErr result (EndFailed writer.old writer.new) }
 {
     let (mut held, mut kept, mut published) = (Buffer::new(), Buffer::new(), Buffer::new());
@@ -105,7 +105,7 @@ pub fn write_status<W: Write>(status: Status, writer: &mut Watched<W>) -> Result
 
 /// Writes `damaged NAME` and the end of the line.
 fn write_damaged_name<W: Write>(name: &Name, writer: &mut Watched<W>) -> Result<(), WriteFault>
-    ensures written { Writes W.contents writer.old writer.new result (damaged_line name.now) }
+    ensures written { WritesOut W.contents writer.old writer.new result (damaged_line name.now) }
     ensures failed { OnErr result (EndFailed writer.old writer.new) }
 {
     writer.put_all(&[b"damaged ", name.bytes(), b"\n"])
@@ -128,7 +128,7 @@ fn write_damaged<W: Write>(names: &[Name], writer: &mut Watched<W>) -> Result<()
 
 /// Writes how many bodies are sound.
 fn write_sound<W: Write>(sound: usize, writer: &mut Watched<W>) -> Result<(), WriteFault>
-    ensures written { Writes W.contents writer.old writer.new result
+    ensures written { WritesOut W.contents writer.old writer.new result
         (codes "verified " ++ (decimal sound ++ codes "\n")) }
     ensures failed { OnErr result (EndFailed writer.old writer.new) }
 {
@@ -142,7 +142,7 @@ pub fn write_verified<W: Write>(
     sound: usize,
     writer: &mut Watched<W>,
 ) -> Result<(), WriteFault>
-    ensures written { Writes W.contents writer.old writer.new result
+    ensures written { WritesOut W.contents writer.old writer.new result
         (verified_text names.now sound) }
     ensures failed { OnErr result (EndFailed writer.old writer.new) }
 {

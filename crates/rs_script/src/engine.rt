@@ -2,7 +2,7 @@
 
 ghost use Rattle.std.specs.Prelude.{◌≡◌, ◌++◌, ◌≤◌, ◌^◌, ◌*◌, true, length, ℕ, List, OnOk, OnErr, IsErrOf};
 ghost use Rattle.std.specs.Io.KnownBytes.{Consumes};
-ghost use Rattle.rs_io.specs.Watch.{watched, failures, is_flushed, EndFailed, Wrote, Writes};
+ghost use Rattle.rs_io.specs.Watch.{watched, failures, is_flushed, EndFailed, Wrote, WritesOut};
 ghost use Rattle.rs_script.specs.Answers.{output_of};
 ghost use Rattle.rs_script.specs.Broken.{BreaksOff};
 ghost use Rattle.rs_script.specs.PartialLine.{KeepsLine};
@@ -48,7 +48,7 @@ fn answer_kept<D: Disk, W: Write>(
     ensures answered { (raw : List ℕ) → KeepsLine line.now raw
         → LineAnswers D.state
         (script_state source.old now.old) (line_of has_break raw) (script_state source.new now.new)
-        (Writes W.contents writer.old writer.new result) }
+        (WritesOut W.contents writer.old writer.new result) }
     ensures sound { OnOk result (failures writer.new ≡ failures writer.old) }
     ensures failed { OnErr result (EndFailed writer.old writer.new) }
 {

@@ -1,7 +1,7 @@
 //! One line: what it asks for is asked of the source, and its answer is written.
 
 ghost use Rattle.std.specs.Prelude.{Ok, OnOk, OnErr};
-ghost use Rattle.rs_io.specs.Watch.{EndFailed, Writes};
+ghost use Rattle.rs_io.specs.Watch.{EndFailed, WritesOut};
 ghost use Rattle.rs_store.specs.Answered.{Answers};
 ghost use Rattle.rs_script.specs.Progress.{RequestAnswers};
 ghost use Rattle.rs_script.specs.Requests.{request_of};
@@ -18,6 +18,7 @@ use rs_io::{Watched, WriteFault};
 use rs_lists::Doc;
 use rs_model::{Command, Reply};
 use rs_record::Name;
+use rs_recovery::laws::documents_are_of_the_state;
 use rs_store::Source;
 use rs_time::Moment;
 use std::alloc::Global;
@@ -47,7 +48,7 @@ fn run_command<D: Disk, W: Write>(
 ) -> Result<(), WriteFault>
     ensures answered { RequestAnswers D.state
         (script_state source.old now) (Ok (Run command.now)) (script_state source.new now)
-        (Writes W.contents writer.old writer.new result) }
+        (WritesOut W.contents writer.old writer.new result) }
     ensures failed { OnErr result (EndFailed writer.old writer.new) }
 {
     match ask(source, command, now) {
@@ -65,9 +66,10 @@ fn show_document<D: Disk, W: Write>(
 ) -> Result<(), WriteFault>
     ensures answered { RequestAnswers D.state
         (script_state source.now now) (Ok (Document doc)) (script_state source.now now)
-        (Writes W.contents writer.old writer.new result) }
+        (WritesOut W.contents writer.old writer.new result) }
     ensures failed { OnErr result (EndFailed writer.old writer.new) }
 {
+    documents_are_of_the_state();
     let view = match source.view() {
         Ok(view) => view,
         Err(refusal) => return write_refusal(Refusal::Source(refusal), writer),
@@ -87,7 +89,7 @@ fn show_body<D: Disk, W: Write>(
 ) -> Result<(), WriteFault>
     ensures answered { RequestAnswers D.state
         (script_state source.old now) (Ok (Shown name.now)) (script_state source.new now)
-        (Writes W.contents writer.old writer.new result) }
+        (WritesOut W.contents writer.old writer.new result) }
     ensures failed { OnErr result (EndFailed writer.old writer.new) }
 {
     match source.body(name) {
@@ -104,7 +106,7 @@ fn show_status<D: Disk, W: Write>(
 ) -> Result<(), WriteFault>
     ensures answered { RequestAnswers D.state
         (script_state source.now now) (Ok Counted) (script_state source.now now)
-        (Writes W.contents writer.old writer.new result) }
+        (WritesOut W.contents writer.old writer.new result) }
     ensures failed { OnErr result (EndFailed writer.old writer.new) }
 {
     match source.status() {
@@ -121,7 +123,7 @@ fn show_verified<D: Disk, W: Write>(
 ) -> Result<(), WriteFault>
     ensures answered { RequestAnswers D.state
         (script_state source.old now) (Ok Verified) (script_state source.new now)
-        (Writes W.contents writer.old writer.new result) }
+        (WritesOut W.contents writer.old writer.new result) }
     ensures failed { OnErr result (EndFailed writer.old writer.new) }
 {
     let held = match source.status() {
@@ -143,7 +145,7 @@ fn answer_request<D: Disk, W: Write>(
 ) -> Result<(), WriteFault>
     ensures answered { RequestAnswers D.state
         (script_state source.old now.old) (Ok request) (script_state source.new now.new)
-        (Writes W.contents writer.old writer.new result) }
+        (WritesOut W.contents writer.old writer.new result) }
     ensures failed { OnErr result (EndFailed writer.old writer.new) }
 {
     match request {
@@ -174,7 +176,7 @@ pub fn answer_line<D: Disk, W: Write>(
 ) -> Result<(), WriteFault>
     ensures answered { RequestAnswers D.state
         (script_state source.old now.old) (request_of line.now) (script_state source.new now.new)
-        (Writes W.contents writer.old writer.new result) }
+        (WritesOut W.contents writer.old writer.new result) }
     ensures failed { OnErr result (EndFailed writer.old writer.new) }
 {
     match parse_request(alloc, line) {

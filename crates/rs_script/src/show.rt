@@ -3,7 +3,7 @@
 ghost use Rattle.std.specs.Prelude.{◌≡◌, ◌++◌, Some, ℕ, List, OnErr, codes, length, option_map};
 ghost use Rattle.std.specs.Fmt.{decimal};
 ghost use Rattle.rs_caps.specs.DocumentTexts.{document_text};
-ghost use Rattle.rs_io.specs.Watch.{EndFailed, Writes};
+ghost use Rattle.rs_io.specs.Watch.{EndFailed, WritesOut};
 ghost use Rattle.rs_script.specs.Answers.{shown_text};
 
 use itoa::Buffer;
@@ -18,7 +18,7 @@ use std::io::Write;
 ///
 /// [`WriteFault`] where the writer failed. It took a beginning of the text.
 pub fn write_shown<W: Write>(bytes: &[u8], writer: &mut Watched<W>) -> Result<(), WriteFault>
-    ensures written { Writes W.contents writer.old writer.new result (shown_text bytes.now) }
+    ensures written { WritesOut W.contents writer.old writer.new result (shown_text bytes.now) }
     ensures failed { OnErr result (EndFailed writer.old writer.new) }
 {
     let mut digits = Buffer::new();
@@ -33,7 +33,7 @@ pub fn write_shown<W: Write>(bytes: &[u8], writer: &mut Watched<W>) -> Result<()
 
 /// Writes `bytes N` and a line feed.
 fn write_count<W: Write>(count: u64, writer: &mut Watched<W>) -> Result<(), WriteFault>
-    ensures written { Writes W.contents writer.old writer.new result
+    ensures written { WritesOut W.contents writer.old writer.new result
         (codes "bytes " ++ (decimal count ++ codes "\n")) }
     ensures failed { OnErr result (EndFailed writer.old writer.new) }
 {
@@ -54,7 +54,7 @@ pub fn write_shown_document<V: View, W: Write>(
 ) -> Result<(), WriteFault>
     requires { option_map length (document_text (V.shown view.now) doc) ≡ Some count }
     ensures written { (text : List ℕ) × (document_text (V.shown view.now) doc ≡ Some text)
-        × Writes W.contents writer.old writer.new result (shown_text text) }
+        × WritesOut W.contents writer.old writer.new result (shown_text text) }
     ensures failed { OnErr result (EndFailed writer.old writer.new) }
 {
     write_count(count, writer)?;

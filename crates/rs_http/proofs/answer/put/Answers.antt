@@ -1,6 +1,6 @@
 -- What the source answers to the put, unless the reader failed.
 use Rattle.std.proofs.Common.{◌≡◌, Result, Ok, ap, refl, sym}
-use Rattle.rs_io.specs.Watch.{watched, Writes}
+use Rattle.rs_io.specs.Watch.{watched, WritesOut}
 use Rattle.rs_store.specs.declared.refusal.Refusal.TheVariants.{ReadFault}
 use Rattle.rs_http.specs.declared.request.NoPlan.{NoPlan}
 use Rattle.rs_http.specs.declared.request.Plan.{Plan}
@@ -29,7 +29,7 @@ returns-in-Ok-clause-ends g c = λ waits.
     } in
     sent_ends g.D.Disk.state c.args.source.now c.put_from.new.self c.args.now asked asked c.args.framing left rest g.W.Write.contents before after came.0
     comes c.write_reply.result c.sent.result came.1 refl c.sent.ensures
-    (answered c.args.framing (Writes g.W.Write.contents before after c.write_reply.result) comes c.write_reply.result (replied c.in-Ok.reply) is c.write_reply.ensures.status c.write_reply.ensures.written) (λ o h. h)
+    (answered c.args.framing (WritesOut g.W.Write.contents before after c.write_reply.result) comes c.write_reply.result (replied c.in-Ok.reply) is c.write_reply.ensures.status c.write_reply.ensures.written) (λ o h. h)
 
 pub returns-in_default-clause-ends : goal.returns-in_default-clause-ends
 returns-in_default-clause-ends g c = λ waits.
@@ -49,4 +49,4 @@ returns-in_default-clause-ends g c = λ waits.
     } in
     sent_ends g.D.Disk.state c.args.source.now c.put_from.new.self c.args.now asked asked c.args.framing left rest g.W.Write.contents before after came.0
     comes c.write_refusal.result c.sent-in_default.result came.1 refl c.sent-in_default.ensures
-    (answered c.args.framing (Writes g.W.Write.contents before after c.write_refusal.result) comes c.write_refusal.result (refused c.in-Err.refusal) is c.write_refusal.ensures.status c.write_refusal.ensures.written) (λ o h. h)
+    (answered c.args.framing (WritesOut g.W.Write.contents before after c.write_refusal.result) comes c.write_refusal.result (refused c.in-Err.refusal) is c.write_refusal.ensures.status c.write_refusal.ensures.written) (λ o h. h)

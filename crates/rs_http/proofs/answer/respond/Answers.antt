@@ -1,7 +1,7 @@
 -- Each plan, as its own function answers it.
 use Rattle.std.proofs.Common.{◌≡◌, ◌∙◌, [], Ok, Err, ap, refl}
 use Rattle.std.proofs.KnownBytes.{Consumes-nil}
-use Rattle.rs_io.specs.Watch.{watched, Writes}
+use Rattle.rs_io.specs.Watch.{watched, WritesOut}
 use Rattle.rs_model.specs.declared.command.Command.TheVariants as commands
 use Rattle.rs_http.specs.declared.request.Plan.TheVariants.{ShowBody, ShowDocument, Delete, Publish}
 use Rattle.rs_http.specs.Outcomes.{ReadComesTo, RunComesTo, document_shown, unplanned}
@@ -17,7 +17,7 @@ returns-in-Err-clause-ends g c =
     left left g.W.Write.contents c.args.writer.now c.write_unplanned.new.writer []
     (λ o. o ≡ outcome) c.write_unplanned.result c.sent.result
     (Consumes-nil left) c.in-Err.is c.sent.ensures
-    (answered c.args.framing (Writes g.W.Write.contents c.args.writer.now c.write_unplanned.new.writer c.write_unplanned.result) (λ o. o ≡ outcome) c.write_unplanned.result outcome refl
+    (answered c.args.framing (WritesOut g.W.Write.contents c.args.writer.now c.write_unplanned.new.writer c.write_unplanned.result) (λ o. o ≡ outcome) c.write_unplanned.result outcome refl
     c.write_unplanned.ensures.status c.write_unplanned.ensures.written)
     (λ o e. (refl, e, refl))
 

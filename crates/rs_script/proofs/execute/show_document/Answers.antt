@@ -17,7 +17,7 @@ pub returns-in-Some-clause-answered : goal.returns-in-Some-clause-answered
 returns-in-Some-clause-answered g c =
     let view = shown_by_source c.in-Ok.view in
     let whole = c.write_shown_document.ensures.written in
-    document_answered g.D.Disk.state c.args.source.now c.args.now c.args.doc view (shown whole.0) _
+    document_answered c.documents_are_of_the_state.ensures g.D.Disk.state c.args.source.now c.args.now c.args.doc view (shown whole.0) _
     (is_open c.view.result c.in-Ok.view c.args.source.now.is_closed c.in-Ok.is c.view.ensures.closed) c.in-Ok.ensures.shows
     (ap (shown_or NoSuchDocument) whole.1) whole.2
 
@@ -25,6 +25,6 @@ pub returns-in-None-clause-answered : goal.returns-in-None-clause-answered
 returns-in-None-clause-answered g c =
     let view = shown_by_source c.in-Ok.view in
     let none = shown_none (document_text view c.args.doc) (sym c.document_length.ensures ∙ c.in-None.is) in
-    document_answered g.D.Disk.state c.args.source.now c.args.now c.args.doc view (refused NoSuchDocument) _
+    document_answered c.documents_are_of_the_state.ensures g.D.Disk.state c.args.source.now c.args.now c.args.doc view (refused NoSuchDocument) _
     (is_open c.view.result c.in-Ok.view c.args.source.now.is_closed c.in-Ok.is c.view.ensures.closed) c.in-Ok.ensures.shows
     (ap (shown_or NoSuchDocument) none) c.write_refusal-in-None.ensures.written

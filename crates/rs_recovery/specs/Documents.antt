@@ -1,0 +1,12 @@
+-- The documents of a source.
+use Rattle.std.specs.Prelude.{◌≡◌, ℕ, List}
+use Rattle.rs_image.specs.declared.contents.Contents.{Contents}
+use Rattle.rs_image.specs.StateOfImage.{state_in}
+use Rattle.rs_lists.specs.declared.doc.Doc.{Doc}
+use Rattle.rs_store.specs.Views.{shown_in}
+use Rattle.rs_caps.specs.DocumentTexts.{document_text}
+use Rattle.rs_caps.specs.Shows.{shown_of}
+
+-- Each document that the lists of a source show is the document of the state that they tell, whatever the disk holds.
+abbrev pub DocumentsAreOfTheState : Type 0
+DocumentsAreOfTheState = (image : List ℕ) (c : Contents) (doc : Doc) → document_text (shown_in c) doc ≡ document_text (shown_of (state_in image c)) doc
