@@ -31,15 +31,15 @@ pub record Served : Type 0 where
   pub count : ℕ
 
 -- what the program is asked to do
-pub data Asked : Type 0 where
+pub data Task : Type 0 where
   -- run a script on a new source in memory
-  mem : Made → Asked
+  mem : Made → Task
   -- make a source on a new file of this name
-  format : List ℕ → Made → Asked
+  format : List ℕ → Made → Task
   -- run a script on the source on the file of this name
-  run : List ℕ → Asked
+  run : List ℕ → Task
   -- serve connections to the source on the file of this name
-  serve : List ℕ → Served → Asked
+  serve : List ℕ → Served → Task
 
 -- where both numbers are there: a greater limit than 65,535 is taken as that
 abbrev pub with_numbers : Option ℕ → List ℕ → Option ℕ → Option Made
@@ -52,19 +52,19 @@ abbrev pub made_of : List ℕ → List ℕ → List ℕ → Option Made
 made_of size base limit = with_numbers (number_in 18 size) base (number_in 18 limit)
 
 -- `mem SIZE BASE LIMIT`, after the program's name
-abbrev pub mem_of : List (List ℕ) → Option Asked
+abbrev pub mem_of : List (List ℕ) → Option Task
 mem_of (program ∷ command ∷ size ∷ base ∷ limit ∷ []) =
     if bytes_eq command (codes "mem") then option_map mem (made_of size base limit) else None
 mem_of _ = None
 
 -- `format FILE SIZE BASE LIMIT`
-abbrev pub format_of : List (List ℕ) → Option Asked
+abbrev pub format_of : List (List ℕ) → Option Task
 format_of (program ∷ command ∷ file ∷ size ∷ base ∷ limit ∷ []) =
     if bytes_eq command (codes "format") then option_map (format file) (made_of size base limit) else None
 format_of _ = None
 
 -- `run FILE`
-abbrev pub run_of : List (List ℕ) → Option Asked
+abbrev pub run_of : List (List ℕ) → Option Task
 run_of (program ∷ command ∷ file ∷ []) = if bytes_eq command (codes "run") then Some (run file) else None
 run_of _ = None
 
@@ -79,13 +79,13 @@ abbrev pub served_of : List ℕ → List ℕ → Option Served
 served_of port count = served_if (number_in 18 port) (number_in 18 count)
 
 -- `serve FILE PORT COUNT`
-abbrev pub serve_of : List (List ℕ) → Option Asked
+abbrev pub serve_of : List (List ℕ) → Option Task
 serve_of (program ∷ command ∷ file ∷ port ∷ count ∷ []) =
     if bytes_eq command (codes "serve") then option_map (serve file) (served_of port count) else None
 serve_of _ = None
 
 -- what the words ask for that the program is started with, its name first
-abbrev pub asked_of : List (List ℕ) → Option Asked
+abbrev pub asked_of : List (List ℕ) → Option Task
 asked_of words = option_or (option_or (option_or (mem_of words) (format_of words)) (run_of words)) (serve_of words)
 
 -- what the program found that it is asked to do
@@ -95,7 +95,7 @@ made_by made = record { size = made.size; base = made.base.now; limit = made.lim
 abbrev pub served_by : ServingArguments → Served
 served_by serving = record { port = serving.port; count = serving.count }
 
-abbrev pub asked_by : Invocation → Asked
+abbrev pub asked_by : Invocation → Task
 asked_by (Mem made) = mem (made_by made)
 asked_by (Format file made) = format file.now (made_by made)
 asked_by (Run file) = run file.now
