@@ -5,6 +5,7 @@ use Rattle.std.specs.Result.{IsErrAnd}
 use Rattle.std.proofs.lemmas.List.Elements.{All-nil, All-cons}
 use Rattle.rs_disk.specs.Medium.{Medium, DiskState, IsMedium}
 use Rattle.rs_disk.specs.Leaves.{Rests, TellsFaults}
+use Rattle.rs_disk.proofs.Steps.{rest_on}
 use Rattle.rs_extent.specs.declared.Extent.{Extent}
 use Rattle.rs_extent.specs.Extents.{within}
 use Rattle.rs_body.specs.Blocks.{part, IsSized}
@@ -31,7 +32,7 @@ use Rattle.rs_image.specs.declared.contents.Contents.{Contents}
 use Rattle.rs_image.specs.Reach.{blocks_of_disk, reach, AreInside}
 use Rattle.rs_image.specs.Whole.{IsWhole}
 use Rattle.rs_image.specs.StateOfImage.{Tells, state_in, listing}
-use Rattle.rs_image.specs.Loading.{IsPagePlaced, ArePlaced, NamesPlaced, spelled, IsLawfulDirectory, AreOf, Hold}
+use Rattle.rs_image.specs.Loading.{IsPagePlaced, ArePlaced, NamesPlaced, ReadsBehind, pages_read, spelled, IsLawfulDirectory, AreOf, Hold}
 use Rattle.rs_image.proofs.Reaching.{reaches_catalogue, reaches_history, reaches_published}
 use Rattle.rs_image.proofs.Once.{pages_once, catalogue_held_once, history_held_once}
 use Rattle.rs_directory.proofs.OneDirectory.{one_directory}
@@ -212,8 +213,19 @@ names_placed size root image d lawful found placed other lawful_too reads =
     }
 
 -- After the directory nothing is read unless all pages that it names are placed.
-pub placed_before : (old mid new : DiskState) (root : Root) (d : Directory) → IsLawfulDirectory d → (IsTrue mid.honest → part root.directory root.length mid.now.seen ≡ spelled d)
+placed_before : (old mid new : DiskState) (root : Root) (d : Directory) → IsLawfulDirectory d → (IsTrue mid.honest → part root.directory root.length mid.now.seen ≡ spelled d)
     → mid.calls ≤ old.calls + 1 → Rests mid new → (mid.calls < new.calls → ArePlaced new.size d)
     → old.calls + 1 < new.calls → IsTrue new.honest → NamesPlaced new.size root new.now.seen
 placed_before old mid new root d lawful found one rests placed more honest =
     names_placed new.size root new.now.seen d lawful (still_read root (spelled d) mid new rests (found (rests.lasts honest))) (placed (omega arith))
+
+-- and so it is of the reading of a root
+pub reads_behind : (old mid new : DiskState) (root : Root) (d : Directory) → IsLawfulDirectory d → (digests (spelled d)).sha256 ≡ root.sha256
+    → (IsTrue mid.honest → part root.directory root.length mid.now.seen ≡ spelled d)
+    → Rests old mid → mid.calls ≤ old.calls + 1 → Rests mid new → new.calls ≤ mid.calls + pages_read d → (mid.calls < new.calls → ArePlaced new.size d)
+    → ReadsBehind root old new
+reads_behind old mid new root d lawful digest found first one rests few placed = record {
+  rests = rest_on old mid new first rests;
+  once = λ past. (d, digest, omega (arith, one, few));
+  placed = placed_before old mid new root d lawful found one rests placed;
+}

@@ -1,5 +1,8 @@
 -- Words of the loader's contracts: where a directory and its pages may lie, a directory as it was read, and lists that stand where it says.
-use Rattle.std.specs.Prelude.{◌≡◌, ◌<◌, ◌≤◌, ◌+◌, List, length, ℕ, true, All}
+use Rattle.std.specs.Prelude.{◌≡◌, ◌<◌, ◌≤◌, ◌+◌, List, length, ℕ, true, All, IsTrue}
+use Rattle.rs_disk.specs.Medium.{DiskState}
+use Rattle.rs_disk.specs.Leaves.{Rests}
+use Rattle.rs_fixity.specs.Digests.{digests}
 use Rattle.rs_extent.specs.Extents.{within}
 use Rattle.rs_extent.specs.declared.Extent.{Extent}
 use Rattle.rs_body.specs.Blocks.{IsSized, part}
@@ -63,6 +66,15 @@ pub record AreOf (d : Directory) (c : Contents) : Type 0 where
 -- how many pages are read where a directory is: each that it names, but for a published one that is a page of the catalogue too
 abbrev pub pages_read : Directory → ℕ
 pages_read d = length d.catalogue.items + (length d.changes.items + length (unshared d.published.items d.catalogue.items))
+
+-- What reading what stands behind a root leaves, whatever it answers.
+-- `rests`: nothing changes but what the disk counts.
+-- `once`: the directory costs one call at most, and each page that it names one more.
+-- `placed`: of a device that has followed the model, none of these pages is read unless all of them are placed.
+pub record ReadsBehind (root : Root) (old new : DiskState) : Type 0 where
+  pub rests : Rests old new
+  pub once : old.calls + 1 < new.calls → (d : Directory) × ((digests (spelled d)).sha256 ≡ root.sha256) × (new.calls ≤ old.calls + 1 + pages_read d)
+  pub placed : old.calls + 1 < new.calls → IsTrue new.honest → NamesPlaced new.size root new.now.seen
 
 -- What the pages of a directory hold in an image: these records, changes and published records, page for page.
 pub record Hold (d : Directory) (image : List ℕ) (records : List (List Record)) (moves : List (List Change)) (listed : List (List Record)) : Type 0 where

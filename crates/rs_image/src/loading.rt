@@ -8,12 +8,11 @@ ghost use Rattle.rs_body.specs.Blocks.{part};
 ghost use Rattle.rs_record.specs.declared.record.Record.{Record};
 ghost use Rattle.rs_record.specs.declared.change.Change.{Change};
 ghost use Rattle.rs_model.specs.State.{Source};
-ghost use Rattle.rs_directory.specs.declared.directory.Directory.{Directory};
 ghost use Rattle.rs_image.specs.declared.contents.Contents.{Contents};
 ghost use Rattle.rs_image.specs.Reach.{blocks_of_disk};
 ghost use Rattle.rs_image.specs.StateOfImage.{Tells, state_in};
-ghost use Rattle.rs_image.specs.Rooted.{IsRooted, AreUsed, rooted};
-ghost use Rattle.rs_image.specs.Loading.{IsPlaced, IsDirectoryPlaced, IsPagePlaced, ArePlaced, NamesPlaced, spelled, pages_read, IsLawfulDirectory, AreOf, Hold};
+ghost use Rattle.rs_image.specs.Rooted.{MemoryIsSound, rooted};
+ghost use Rattle.rs_image.specs.Loading.{IsPlaced, IsDirectoryPlaced, IsPagePlaced, ArePlaced, ReadsBehind, spelled, pages_read, IsLawfulDirectory, AreOf, Hold};
 
 use crate::used::block_count;
 use crate::whole::whole_set;
@@ -43,10 +42,8 @@ use std::alloc::Global;
 ///   is broken.
 /// - [`LoadFault::NoMemory`] where the memory is refused.
 pub fn load<D: Disk>(alloc: Global, disk: &mut D, root: &Root) -> Result<Loaded, LoadFault>
-    ensures rooted { IfOk result
-        (λ found. IsRooted (rooted (D.state disk.new).size root.now found.contents)) }
-    ensures used { IfOk result
-        (λ found. AreUsed (rooted (D.state disk.new).size root.now found.contents) found.used) }
+    ensures sound { IfOk result
+        (λ found. MemoryIsSound (rooted (D.state disk.new).size root.now found.contents) found.used) }
 
     // What the disk holds is said of a device that has followed the model.
     ensures told { IfOk result (λ found. IsTrue (D.state disk.new).honest
@@ -61,17 +58,7 @@ pub fn load<D: Disk>(alloc: Global, disk: &mut D, root: &Root) -> Result<Loaded,
     ensures no_memory { IsErrOf result LoadFault.NoMemory
         → IsDirectoryPlaced (D.state disk.new).size root.now }
 
-    // After the directory nothing is read unless all pages that it names are placed.
-    ensures placed { (D.state disk.old).calls + 1 < (D.state disk.new).calls
-        → IsTrue (D.state disk.new).honest
-        → NamesPlaced (D.state disk.new).size root.now (D.state disk.new).now.seen }
-
-    // The directory is read by one call, and each page by one more.
-    ensures once { (D.state disk.old).calls + 1 < (D.state disk.new).calls → (d : Directory)
-        × ((digests (spelled d)).sha256 ≡ root.now.sha256)
-        × ((D.state disk.new).calls ≤ (D.state disk.old).calls + 1 + pages_read d) }
-
-    ensures rests { Rests (D.state disk.old) (D.state disk.new) }
+    ensures reads { ReadsBehind root.now (D.state disk.old) (D.state disk.new) }
 {
     let directory = load_directory(alloc, disk, root)?;
     let contents = load_lists(alloc, disk, directory)?;

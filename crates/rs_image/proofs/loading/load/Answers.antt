@@ -1,8 +1,7 @@
 use Rattle.std.proofs.Common.{true≢false, is_ok, ◌≡◌, ◌+◌, ◌≤◌, length, ap, ◌∙◌, arith, Err}
 use Rattle.std.proofs.lemmas.Result.{err_from_is_err_and}
-use Rattle.rs_disk.proofs.Steps.{rest_on}
 use Rattle.rs_image.specs.Loading.{spelled}
-use Rattle.rs_image.proofs.Found.{handed_on, still_read, size_seen, told_of, told_hold, told_placed, tells_behind, are_told, none_told, placed_before}
+use Rattle.rs_image.proofs.Found.{handed_on, still_read, size_seen, told_of, told_hold, told_placed, tells_behind, are_told, none_told, reads_behind}
 use Rattle.rs_image.proofs.loading.load.Goals as goal
 
 pub returns-in_err-directory-clause-damaged : goal.returns-in_err-directory-clause-damaged
@@ -46,47 +45,6 @@ returns-in-Ok-None-clause-damaged g c is honest lists s tells =
     none_told root d c.in_ok-contents.contents new.now.seen c.size.result c.in_ok-directory.ensures.lawful found
     c.in_ok-contents.ensures.lists (c.in_ok-contents.ensures.found honest) long broken lists s tells
 
--- the pages are placed before any is read, whatever comes after
-pub returns-in_err-contents-clause-placed : goal.returns-in_err-contents-clause-placed
-returns-in_err-contents-clause-placed g c =
-    let state = g.D.Disk.state in
-    placed_before (state c.args.disk.now) (state c.load_directory.new.disk) (state c.load_lists.new.disk) c.args.root.now c.in_ok-directory.directory
-    c.in_ok-directory.ensures.lawful c.in_ok-directory.ensures.found c.load_directory.ensures.one_call c.load_lists.ensures.rests c.load_lists.ensures.read
-
-pub returns-in-Ok-Some-clause-placed : goal.returns-in-Ok-Some-clause-placed
-returns-in-Ok-Some-clause-placed g c =
-    let state = g.D.Disk.state in
-    placed_before (state c.args.disk.now) (state c.load_directory.new.disk) (state c.load_lists.new.disk) c.args.root.now c.in_ok-directory.directory
-    c.in_ok-directory.ensures.lawful c.in_ok-directory.ensures.found c.load_directory.ensures.one_call c.load_lists.ensures.rests c.load_lists.ensures.read
-
-pub returns-in-Ok-None-clause-placed : goal.returns-in-Ok-None-clause-placed
-returns-in-Ok-None-clause-placed g c =
-    let state = g.D.Disk.state in
-    placed_before (state c.args.disk.now) (state c.load_directory.new.disk) (state c.load_lists.new.disk) c.args.root.now c.in_ok-directory.directory
-    c.in_ok-directory.ensures.lawful c.in_ok-directory.ensures.found c.load_directory.ensures.one_call c.load_lists.ensures.rests c.load_lists.ensures.read
-
-pub returns-in-Err-clause-placed : goal.returns-in-Err-clause-placed
-returns-in-Err-clause-placed g c =
-    let state = g.D.Disk.state in
-    placed_before (state c.args.disk.now) (state c.load_directory.new.disk) (state c.load_lists.new.disk) c.args.root.now c.in_ok-directory.directory
-    c.in_ok-directory.ensures.lawful c.in_ok-directory.ensures.found c.load_directory.ensures.one_call c.load_lists.ensures.rests c.load_lists.ensures.read
-
--- the disk rests through both reads, whatever comes after them
-pub returns-in-Ok-Some-clause-rests : goal.returns-in-Ok-Some-clause-rests
-returns-in-Ok-Some-clause-rests g c =
-    let state = g.D.Disk.state in
-    rest_on (state c.args.disk.now) (state c.load_directory.new.disk) (state c.load_lists.new.disk) c.load_directory.ensures.rests c.load_lists.ensures.rests
-
-pub returns-in-Ok-None-clause-rests : goal.returns-in-Ok-None-clause-rests
-returns-in-Ok-None-clause-rests g c =
-    let state = g.D.Disk.state in
-    rest_on (state c.args.disk.now) (state c.load_directory.new.disk) (state c.load_lists.new.disk) c.load_directory.ensures.rests c.load_lists.ensures.rests
-
-pub returns-in-Err-clause-rests : goal.returns-in-Err-clause-rests
-returns-in-Err-clause-rests g c =
-    let state = g.D.Disk.state in
-    rest_on (state c.args.disk.now) (state c.load_directory.new.disk) (state c.load_lists.new.disk) c.load_directory.ensures.rests c.load_lists.ensures.rests
-
 pub returns-in_err-contents-clause-device : goal.returns-in_err-contents-clause-device
 returns-in_err-contents-clause-device g c =
     let state = g.D.Disk.state in
@@ -95,19 +53,38 @@ returns-in_err-contents-clause-device g c =
     (tells_behind (state c.args.disk.now) (state c.load_directory.new.disk) (state c.load_lists.new.disk) c.in_err-contents.field-0.0
     (c.in_ok-directory.ensures.device.sound (λ is. true≢false (ap is_ok is))) c.in_err-contents.ensures.device)
 
--- what was read after the directory is what it names
-pub returns-in_err-contents-clause-once : goal.returns-in_err-contents-clause-once
-returns-in_err-contents-clause-once g c past =
-    (c.in_ok-directory.directory, c.in_ok-directory.ensures.digest, omega (arith, c.load_directory.ensures.one_call, c.load_lists.ensures.once))
+-- the disk rests through both reads; the directory comes first, and then the pages that it names, which are placed
+pub returns-in_err-directory-clause-reads : goal.returns-in_err-directory-clause-reads
+returns-in_err-directory-clause-reads g c = record {
+  rests = c.load_directory.ensures.rests;
+  once = λ past. absurd (omega (arith, past, c.load_directory.ensures.one_call));
+  placed = λ past honest. absurd (omega (arith, past, c.load_directory.ensures.one_call));
+}
 
-pub returns-in-Ok-Some-clause-once : goal.returns-in-Ok-Some-clause-once
-returns-in-Ok-Some-clause-once g c past =
-    (c.in_ok-directory.directory, c.in_ok-directory.ensures.digest, omega (arith, c.load_directory.ensures.one_call, c.load_lists.ensures.once))
+pub returns-in_err-contents-clause-reads : goal.returns-in_err-contents-clause-reads
+returns-in_err-contents-clause-reads g c =
+    let state = g.D.Disk.state in
+    reads_behind (state c.args.disk.now) (state c.load_directory.new.disk) (state c.load_lists.new.disk) c.args.root.now c.in_ok-directory.directory
+    c.in_ok-directory.ensures.lawful c.in_ok-directory.ensures.digest c.in_ok-directory.ensures.found c.load_directory.ensures.rests c.load_directory.ensures.one_call
+    c.load_lists.ensures.rests c.load_lists.ensures.once c.load_lists.ensures.read
 
-pub returns-in-Ok-None-clause-once : goal.returns-in-Ok-None-clause-once
-returns-in-Ok-None-clause-once g c past =
-    (c.in_ok-directory.directory, c.in_ok-directory.ensures.digest, omega (arith, c.load_directory.ensures.one_call, c.load_lists.ensures.once))
+pub returns-in-Ok-Some-clause-reads : goal.returns-in-Ok-Some-clause-reads
+returns-in-Ok-Some-clause-reads g c =
+    let state = g.D.Disk.state in
+    reads_behind (state c.args.disk.now) (state c.load_directory.new.disk) (state c.load_lists.new.disk) c.args.root.now c.in_ok-directory.directory
+    c.in_ok-directory.ensures.lawful c.in_ok-directory.ensures.digest c.in_ok-directory.ensures.found c.load_directory.ensures.rests c.load_directory.ensures.one_call
+    c.load_lists.ensures.rests c.load_lists.ensures.once c.load_lists.ensures.read
 
-pub returns-in-Err-clause-once : goal.returns-in-Err-clause-once
-returns-in-Err-clause-once g c past =
-    (c.in_ok-directory.directory, c.in_ok-directory.ensures.digest, omega (arith, c.load_directory.ensures.one_call, c.load_lists.ensures.once))
+pub returns-in-Ok-None-clause-reads : goal.returns-in-Ok-None-clause-reads
+returns-in-Ok-None-clause-reads g c =
+    let state = g.D.Disk.state in
+    reads_behind (state c.args.disk.now) (state c.load_directory.new.disk) (state c.load_lists.new.disk) c.args.root.now c.in_ok-directory.directory
+    c.in_ok-directory.ensures.lawful c.in_ok-directory.ensures.digest c.in_ok-directory.ensures.found c.load_directory.ensures.rests c.load_directory.ensures.one_call
+    c.load_lists.ensures.rests c.load_lists.ensures.once c.load_lists.ensures.read
+
+pub returns-in-Err-clause-reads : goal.returns-in-Err-clause-reads
+returns-in-Err-clause-reads g c =
+    let state = g.D.Disk.state in
+    reads_behind (state c.args.disk.now) (state c.load_directory.new.disk) (state c.load_lists.new.disk) c.args.root.now c.in_ok-directory.directory
+    c.in_ok-directory.ensures.lawful c.in_ok-directory.ensures.digest c.in_ok-directory.ensures.found c.load_directory.ensures.rests c.load_directory.ensures.one_call
+    c.load_lists.ensures.rests c.load_lists.ensures.once c.load_lists.ensures.read
