@@ -9,10 +9,9 @@ use Rattle.rs_model.specs.declared.command.Command.{Command}
 use Rattle.rs_image.specs.declared.contents.Contents.{Contents}
 use Rattle.rs_image.specs.Reach.{is_kept}
 use Rattle.rs_image.specs.Whole.{IsWhole}
-use Rattle.rs_image.specs.Rooted.{rooted, AreUsed}
+use Rattle.rs_image.specs.Rooted.{rooted, AreUsed, MemoryIsSound}
 use Rattle.rs_plan.specs.declared.plan.Plan.{Plan}
 use Rattle.rs_plan.specs.Plans.{places, once_stored, planned_root, IsPlanned}
-use Rattle.rs_store.specs.Source.{MemoryIsSound}
 use Rattle.rs_store.proofs.Stays.{reach_kept}
 
 -- whether a block is used then, by whether it was (k), was given back (f) and was taken (t)

@@ -5,7 +5,7 @@ use Rattle.rs_commit.specs.Slots.{Standing}
 use Rattle.rs_commit.specs.Commit.{IsReady}
 use Rattle.rs_model.specs.State.{Source}
 use Rattle.rs_image.specs.declared.contents.Contents.{Contents}
-use Rattle.rs_image.specs.Rooted.{Rooted, rooted, IsRooted, AreUsed}
+use Rattle.rs_image.specs.Rooted.{Rooted, rooted}
 use Rattle.rs_image.specs.StateOfImage.{Tells, state_in}
 
 -- A stored source: its disk, how the slots stand, what stands behind the root, and whether it is closed, which it is once
@@ -15,12 +15,6 @@ pub record Stored (D : Type 0) : Type 0 where
   pub slots : Standing
   pub contents : Contents
   pub is_closed : Bool
-
--- What a source keeps in memory beside its disk is sound: the root with its lists keeps all rules, and of the blocks of the disk
--- those are used that the root reaches, and no others.
-pub record MemoryIsSound (r : Rooted) (set : List Bool) : Type 0 where
-  pub rooted : IsRooted r
-  pub used : AreUsed r set
 
 -- its root with what stands behind it, on its disk
 abbrev pub rooted_in : {D : Type 0} → (D → DiskState) → Stored D → Rooted

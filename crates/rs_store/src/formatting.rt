@@ -11,8 +11,8 @@ ghost use Rattle.rs_commit.specs.Format.{fresh};
 ghost use Rattle.rs_directory.specs.Limit.{IsLimit};
 ghost use Rattle.rs_model.specs.State.{start_of};
 ghost use Rattle.rs_image.specs.Reach.{blocks_of_disk};
-ghost use Rattle.rs_image.specs.Rooted.{rooted};
-ghost use Rattle.rs_store.specs.Source.{Holds, MemoryIsSound};
+ghost use Rattle.rs_image.specs.Rooted.{rooted, MemoryIsSound};
+ghost use Rattle.rs_store.specs.Source.{Holds};
 ghost use Rattle.rs_store.specs.Opening.{disk_of};
 ghost use Rattle.rs_store.specs.Formatting.{first_header as header_of, IsBlank};
 

@@ -4,8 +4,7 @@ ghost use Rattle.std.specs.Prelude.{◌≡◌, IfOk, IfErr, OnOk, IsErrOf, IsErr
 ghost use Rattle.rs_disk.specs.Medium.{resting};
 ghost use Rattle.rs_disk.specs.Leaves.{Rests, WritesNothing, TellsFaults};
 ghost use Rattle.rs_commit.specs.Commit.{AreSettled};
-ghost use Rattle.rs_image.specs.Rooted.{rooted};
-ghost use Rattle.rs_store.specs.Source.{MemoryIsSound};
+ghost use Rattle.rs_image.specs.Rooted.{rooted, MemoryIsSound};
 ghost use Rattle.rs_store.specs.Opening.{disk_of, IsFound, IsOpened, IsNotOpened};
 
 use crate::Source;

@@ -26,8 +26,8 @@ pub struct Source<D: Disk> {
 }
 
 impl<D: Disk> Model for Source<D> {
-    ghost use Rattle.rs_store.specs.Source.{Stored, MemoryIsSound};
-    ghost use Rattle.rs_image.specs.Rooted.{rooted};
+    ghost use Rattle.rs_store.specs.Source.{Stored};
+    ghost use Rattle.rs_image.specs.Rooted.{rooted, MemoryIsSound};
 
     ghost Value = { Stored D };
 

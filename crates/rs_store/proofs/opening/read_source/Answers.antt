@@ -24,8 +24,8 @@ returns-in_err-found-clause-refused g c =
     let slots = c.in_ok-slots.slots in
     let root = c.in_ok-slots.root in
     let fault = c.in_err-found.field-0.0 in
-    let seen : new.now.seen ≡ old.now.seen = ap (λ (m : Medium). m.seen) (c.load.ensures.rests.now ∙ c.open_slots.ensures.rests.now) in
-    let found : IsTrue new.honest → current old.now.seen ≡ Some slots = λ honest. c.in_ok-slots.ensures.found (c.load.ensures.rests.lasts honest) in
+    let seen : new.now.seen ≡ old.now.seen = ap (λ (m : Medium). m.seen) (c.load.ensures.reads.rests.now ∙ c.open_slots.ensures.rests.now) in
+    let found : IsTrue new.honest → current old.now.seen ≡ Some slots = λ honest. c.in_ok-slots.ensures.found (c.load.ensures.reads.rests.lasts honest) in
     let given = err_from_is_err_and c.from_residual-in_err-found.result c.from_residual-in_err-found.ensures.1 in
     rw (given.1, given.2) (lists_not_opened old new fault
     (λ is honest. (
@@ -37,4 +37,4 @@ returns-in_err-found-clause-refused g c =
 
 pub returns-clause-rests : goal.returns-clause-rests
 returns-clause-rests g c =
-    rest_on (g.D.Disk.state c.args.disk.now) (g.D.Disk.state c.open_slots.new.disk) (g.D.Disk.state c.load.new.disk) c.open_slots.ensures.rests c.load.ensures.rests
+    rest_on (g.D.Disk.state c.args.disk.now) (g.D.Disk.state c.open_slots.new.disk) (g.D.Disk.state c.load.new.disk) c.open_slots.ensures.rests c.load.ensures.reads.rests
