@@ -12,7 +12,7 @@
 #   make pictures draws the pictures of docs/ anew, from runs of the proved program
 #   make install  puts the built program, its page of the manual, its unit and its site in their places (PREFIX, DESTDIR; docs/OPERATING.md)
 #   make uninstall  takes them away again, and leaves every source as it is
-#   make crash    stops the program at each of its calls on a file, thousands of images over ten sessions ('make test' has a short form)
+#   make crash    stops the program at each of its calls on a file, thousands of images over eleven sessions ('make test' has a short form)
 #   make hostile  gives the program DISKS=100000 disks with bits turned, fields at their edges, cut, spliced, then LINES=100000 lines of
 #                 scripts and REQUESTS=100000 requests of that kind ('make test' has short forms)
 

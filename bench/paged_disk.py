@@ -31,7 +31,8 @@ def name(i):
 def spelled(held, changes, shared=True):
     """The bytes of a disk after so many resources of three bytes were put in the order of their names, and published.
 
-    So many of the last changes are kept. The published pages are those of the catalogue, or the same again in other blocks.
+    So many of the last changes are kept, as if none was dropped. The published pages are those of the catalogue, or the same again in
+    other blocks.
     """
     records = [parts_of.record(name(i), BODY, i + 1, 2 + i) for i in range(held)]
     created = [parts_of.change(1, name(i), i + 1, BODY) for i in range(held - changes, held)]
@@ -47,4 +48,4 @@ def spelled(held, changes, shared=True):
     slot = parts_of.slot(1, last, starts[-1], directory)
     bodies = BODY.ljust(BLOCK, b"\0") * held
     end = starts[-1] + blocks(directory) + ROOM
-    return laid_out(end, [(0, slot), (1, b"\0\1"), (2, bodies), *zip(starts, pages), (starts[-1], directory)])
+    return laid_out(end, [(0, slot), (1, b"\0\2"), (2, bodies), *zip(starts, pages), (starts[-1], directory)])

@@ -154,12 +154,12 @@ def disk(count):
         entries += struct.pack(">III", first, blocks(len(page)), len(page)) + hashlib.sha256(page).digest()
         parts.append((first, page))
         first += blocks(len(page))
-    header = struct.pack(">H", 4000) + text(BASE) + struct.pack(">QQQQ", 0, count, 0, 0)
+    header = struct.pack(">H", 4000) + text(BASE) + struct.pack(">QQQQQQ", 0, count, 0, 0, 0, 0)
     directory = header + struct.pack(">III", 1, 1, 0) + entries
-    payload = b"\x01" + struct.pack(">QIII", count + 1, 2, 1, len(directory)) + hashlib.sha256(directory).digest()
+    payload = b"\x02" + struct.pack(">QIII", count + 1, 2, 1, len(directory)) + hashlib.sha256(directory).digest()
     whole = bytearray(512 * (first + 3 * sum(blocks(len(page)) for page in pages) + 100))
     whole[0:len(payload) + 1] = b"\x01" + payload
-    whole[513] = 1
+    whole[513] = 2
     parts += [(2, directory)] + [(bodies + i, body) for i in range(count)]
     for block, content in parts:
         whole[512 * block:512 * block + len(content)] = content

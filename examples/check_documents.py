@@ -5,7 +5,8 @@ Runs a script of a few hundred commands through the proved program (`make build`
   - xmllint --noout, where it is installed, and Python's xml.etree read it without complaint;
   - a destination written here in Python gathers the Resource List (through its index, where there is one) and the
     Change List, applies the changes after the list's `at`, and has then exactly the resources that a model written
-    here in Python holds, with their lengths, digests (by hashlib) and types.
+    here in Python holds, with their lengths, digests (by hashlib) and types;
+  - a part of the Change List that was closed when it was seen stays as it is, until it is dropped for good.
 Says what it did and what it could not do; exit status 1 where anything differs.
 """
 import hashlib
@@ -135,7 +136,9 @@ def mirror(documents):
     for url in urls:
         mine[name_of(url)] = facts_of(url)
     listed = dict(mine)
-    _, changes = gather(documents["/changelist.xml"], documents)
+    bounds, changes = gather(documents["/changelist.xml"], documents)
+    if bounds["from"] > attributes["at"]:
+        sys.exit(f"the Change List begins at {bounds['from']}, after the Resource List of {attributes['at']}")
     for url in changes:
         md = url.find(RS + "md").attrib
         if md["datetime"] <= attributes["at"]:
@@ -145,6 +148,22 @@ def mirror(documents):
         else:
             mine[name_of(url)] = facts_of(url)
     return listed, mine
+
+
+class ClosedParts:
+    """The closed parts of the Change List that were seen."""
+
+    def __init__(self):
+        self.seen, self.dropped = {}, set()
+
+    def look(self, path, text):
+        """Looks at what is answered at a part's path: a part, or none."""
+        if text is None:
+            self.dropped |= {path} & self.seen.keys()
+        elif path in self.dropped or self.seen.get(path, text) != text:
+            sys.exit(f"{path} was dropped or closed, and is another part now")
+        elif ElementTree.fromstring(text).find(RS + "md").get("until"):
+            self.seen[path] = text
 
 
 def lint(documents):
@@ -168,7 +187,7 @@ HEADS = ["/.well-known/resourcesync", "/capabilitylist.xml", "/resourcelist.xml"
 
 
 def visit(commands):
-    """The commands with, after every 100th, a visit: the lines, and at each line whether it is a visit's."""
+    """The commands with, after every 40th, a visit: the lines, and at each line whether it is a visit's."""
     lines, plan, publications = [], [], 0
     changes = 0
     for number, words in enumerate(commands):
@@ -176,7 +195,7 @@ def visit(commands):
         plan.append(("command", words))
         publications += words[0] == "publish"
         changes += words[0] != "publish"
-        if number % 100 == 99 or number == len(commands) - 1:
+        if number % 40 == 39 or number == len(commands) - 1:
             paths = list(HEADS)
             paths += [f"/resourcelist/{publications}/{k}.xml" for k in range(len(NAMES) * 5 // LIMIT + 2)]
             paths += [f"/changelist/{k}.xml" for k in range(changes // LIMIT + 2)]
@@ -191,6 +210,7 @@ def main():
     commands = list(script(20261122, 400))
     lines, plan = visit(commands)
     answers, model, documents, all_documents, visits = Answers(run(lines)), Model(), {}, [], 0
+    closed = ClosedParts()
     for kind, what in plan:
         if kind == "command":
             answer = answers.line()
@@ -199,6 +219,8 @@ def main():
             model.apply(what)
         elif kind == "show":
             text = answers.document()
+            if what.startswith("/changelist/"):
+                closed.look(what, text)
             if text is not None:
                 documents[what] = text
                 ElementTree.fromstring(text)
@@ -208,9 +230,12 @@ def main():
             if listed != model.listed or mine != model.held:
                 sys.exit(f"visit {visits}: the mirror differs from what is held")
             visits, documents = visits + 1, {}
+    if not closed.dropped:
+        sys.exit("no part of the Change List was dropped, and this test shows too little")
     linted = lint(all_documents)
     print(f"documents: {len(commands)} commands, {visits} visits, {len(all_documents)} documents read by xml.etree"
-          f"{' and xmllint' if linted else ''}; each mirror is what is held")
+          f"{' and xmllint' if linted else ''}; each mirror is what is held; "
+          f"{len(closed.seen)} closed parts, {len(closed.dropped)} of them dropped")
     if not linted:
         print("documents: xmllint is not installed here, so it did not look at them")
 

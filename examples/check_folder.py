@@ -190,7 +190,8 @@ def a_stopped_run_is_begun_again(program, room):
             status, told, _ = publish(room, url)
             wanted = (0, f"{put} put", f"0 deleted, {same} the same, 0 left out", word)
             compare_runs("a run more", wanted, (status, told.split(" (")[0], told[told.index("), ") + 3:told.index(";")], told.split("; ")[1][:len(word)]))
-    compare("status", b"resources 21 changes 21 publication 2 ", answers(program, room, ["status"])[:38])
+    # (the second publication has dropped the changes that the first one lists)
+    compare("status", b"resources 21 changes 1 publication 2 ", answers(program, room, ["status"])[:37])
 
 
 def refusals_end_a_run_with_their_word(program, room):

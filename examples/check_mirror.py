@@ -10,10 +10,12 @@ Of a command that a kill left without an answer the source tells afterwards (`st
     changes up to the moment that the run told. All changes that stood when it began are among these, and none
     that had not been made when it ended. The last run of a round has all of them.
   - A run that is killed has to leave whole files alone: each has bytes that its name once had.
-  - The Change List has to tell the changes that were made, in their order.
+  - The Change List has to tell the changes that were made, in their order; what a publication drops is noted
+    before it.
 
 Each round also stops a folder at each call by which it changes (mirror_stops.py), and makes up folders that
-are wrong, which have to be found wrong.
+are wrong, which have to be found wrong. At the end a source of plain Python drops what a run is about to read,
+before each of its requests (mirror_drops.py).
 
 usage: check_mirror.py [PROGRAM] [ROUNDS] [--seed N]     the built program and 3 rounds, where none are given
 Three rounds by themselves have a seed of their own, else one is drawn. What meets in time no seed decides, so
@@ -38,6 +40,7 @@ import time
 import xml.etree.ElementTree as ElementTree
 
 import destination
+import mirror_drops
 import mirror_stops
 from check_rows import PROGRAM, Differs
 from crash import room
@@ -107,9 +110,11 @@ class Server:
                 return None
 
     def shown(self, path):
-        """A document of the source, while nobody serves it."""
-        length, _, rest = self.run("run", self.file, given=f"show {path}".encode()).partition("\n")
-        return ElementTree.fromstring(rest[: int(length.removeprefix("bytes "))].encode())
+        """A document of the served source."""
+        connection = http.client.HTTPConnection("127.0.0.1", self.port, timeout=SECONDS)
+        with contextlib.closing(connection):
+            connection.request("GET", path)
+            return ElementTree.fromstring(connection.getresponse().read())
 
     def counts(self):
         """How many changes and publications the source tells of, while nobody serves it."""
@@ -117,7 +122,7 @@ class Server:
         return tuple(map(int, re.search(r"changes (\d+) publication (\d+)", told).groups()))
 
     def changes(self):
-        """The moment, the name and the digests of each change that is listed, while nobody serves it."""
+        """The moment, the name and the digests of each change that is listed."""
         head = self.shown("/changelist.xml")
         paths = [it.text.removeprefix(self.base) for it in head.iterfind(f"{SITEMAP}sitemap/{SITEMAP}loc")]
         urls = [url for it in [head, *map(self.shown, paths)] for url in it.iterfind(SITEMAP + "url")]
@@ -134,6 +139,8 @@ class Round:
         self.server = Server(program, disk / "source.disk", rng.choice([2, 3]))
         # What each change that stands made of its name, how many publications stand, and the runs that ended.
         self.changes, self.publications, self.ended = [], 0, []
+        # What the source told of each change before it could drop it.
+        self.told, self.dropped = [], 0
         # How many seconds the last run took that ended.
         self.usual = 0.3
 
@@ -148,12 +155,21 @@ class Round:
         body = self.rng.randbytes(self.rng.choice(LENGTHS)) if method == "PUT" else None
         is_killed = self.rng.random() < 0.08
         path, delay = f"/resource/{name}" if name else "/publish", self.delay() if is_killed else None
+        if method == "POST" or is_killed:
+            self.note_history()
         status = self.server.asked(method, path, body, delay)
         self.counts["commands"] += 1
         self.counts["kills"] += is_killed
         self.note(method, name, body, status)
         if is_killed:
             self.server.start()
+
+    def note_history(self):
+        """Notes what the source tells of the changes that are not noted yet, and how many of all it has dropped."""
+        listed = self.server.changes()
+        self.told += [it for it in listed if not self.told or it[0] > self.told[-1][0]]
+        self.counts["dropped"] += len(self.told) - len(listed) - self.dropped
+        self.dropped = len(self.told) - len(listed)
 
     def delay(self):
         """How many seconds after a command was sent the server is killed."""
@@ -173,13 +189,15 @@ class Round:
 
     def stands(self, made, status):
         """Whether a command stands after a kill, as the source tells it; one that was answered has to."""
-        before, found = (len(self.changes), self.publications), self.server.counts()
+        before, found = (len(self.changes) - self.dropped, self.publications), self.server.counts()
         after = (before[0] + made[0], before[1] + made[1])
-        if found != after and (status or found != before):
+        # A publication that stands may have dropped changes.
+        is_after = found[1] == after[1] and (found[0] <= after[0] if made[1] else found[0] == after[0])
+        if not is_after and (status or found != before):
             raise Differs(f"of {before} changes and publications a command, answered {status}, made {found}")
         self.counts["unanswered"] += status is None
-        self.counts["standing"] += status is None and made != (0, 0) and found == after
-        return found == after
+        self.counts["standing"] += status is None and made != (0, 0) and is_after
+        return is_after
 
     def mirror(self):
         """A run of the destination in a process of its own, with commands beside it, and a kill by chance."""
@@ -237,11 +255,11 @@ class Round:
 
     def judge(self):
         """Holds each folder against the history that the source tells at the end."""
-        told = self.server.changes()
+        self.note_history()
         made = [(name, digests(body)) for name, body in self.changes]
-        if [it[1:] for it in told] != made:
-            raise Differs(f"the Change List has {len(told)} changes, and not the {len(made)} that were made")
-        moments = [it[0] for it in told]
+        if [it[1:] for it in self.told] != made:
+            raise Differs(f"the Change List had {len(self.told)} changes, and not the {len(made)} that were made")
+        moments = [it[0] for it in self.told]
         for number, it in enumerate(self.ended, 1):
             if why := self.fault(it, moments):
                 raise Differs(f"run {number} of {len(self.ended)} that ended, as of {it.until}: {why}")
@@ -268,7 +286,6 @@ class Round:
                 for _ in range(self.rng.randrange(6)):
                     self.command()
             self.mirror_at_last()
-            self.server.kill()
             self.judge()
         finally:
             self.server.kill()
@@ -317,9 +334,10 @@ def laid_out(held):
 
 # What is told at the end. A run ended within if it met commands before its point, and commands after it.
 TOLD = """mirror: seed {seed}, {rounds} rounds, {seconds:.1f} seconds
-mirror: {commands} commands, {kills} kills of the server; {unanswered} unanswered, of which {standing} stand
+mirror: {commands} commands, {kills} kills of the server; {unanswered} unanswered, of which {standing} stand; {dropped} changes dropped
 mirror: {runs} runs, {killed} killed, {baselines} baselines ended, {within} ended within, {anew} fetches anew
-mirror: {stops} stops at a call; each folder is what its source held at the moment that was told"""
+mirror: {stops} stops at a call, {moves} moves of a source between requests, {begun} increments begun anew by them
+mirror: each folder is what its source held at the moment that was told"""
 
 
 def look(program, rounds, rng, counts):
@@ -332,6 +350,11 @@ def look(program, rounds, rng, counts):
                 counts["stops"] += mirror_stops.look(rng, pathlib.Path(memory), 5, files_of, laid_out)
             except (Differs, OSError, ValueError, LookupError, subprocess.SubprocessError) as fault:
                 return f"round {number}: {type(fault).__name__} {fault}"
+    with room() as memory:
+        try:
+            counts["moves"], counts["begun"] = mirror_drops.look(pathlib.Path(memory), files_of, laid_out)
+        except (Differs, destination.Fault) as fault:
+            return f"a source that drops what is read: {type(fault).__name__} {fault}"
     return ""
 
 

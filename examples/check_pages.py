@@ -4,9 +4,9 @@
 `make build` makes the program. Each run of it does some hundred commands on one file; after it the pages are read off the file
 (disk_reader.py), and have to have the items that the slow rule gives them, in the same pages. A page that no command has
 touched has to keep its entry: its blocks, its length, and its SHA-256. Nothing may lie in blocks of something else. Done so:
-  - the worked row: 130 names in ascending order, one of them again, a publication, and the first name again;
-  - a disk that an earlier program left, with one page a list: it serves all that it held, and takes commands by the rule;
-  - random puts, deletes and publications, in which pages are cut and pages are left empty.
+  - the worked row: 130 names in ascending order, one of them again, a publication, the first name again, and a publication more;
+  - a disk that an earlier program left, of version 1 and with one page a list: it serves all that it held, and takes commands by the rule;
+  - random puts, deletes and publications, in which pages are cut, pages are left empty, and changes are dropped.
 
 usage: check_pages.py [PROGRAM] [COMMANDS] [--seed N]     the built program, and 2,000 random commands, where none are given
 Exit status 1 where anything differs.
@@ -30,7 +30,7 @@ HERE = pathlib.Path(__file__).resolve().parent
 PROGRAM = HERE.parent / "crates/rs_source/out/rs_source"
 OLD = HERE / "rows/old_disks/one_page_a_list"
 SEED = 20261124
-BASE = "http://127.0.0.1:8080"
+BASE, LIMIT = "http://127.0.0.1:8080", 40
 # The bytes of a file, of which 20,000 changes take a quarter.
 SIZE = 8_388_608
 SECONDS = 600
@@ -90,10 +90,10 @@ class Run:
 
     def __init__(self, program, room, name):
         self.program, self.file = program, pathlib.Path(room, name)
-        self.lists, self.seen, self.looks = Lists(), {}, 0
+        self.lists, self.seen, self.looks = Lists(LIMIT), {}, 0
 
     def format(self):
-        words = [self.program, "format", self.file, str(SIZE), BASE, "1000"]
+        words = [self.program, "format", self.file, str(SIZE), BASE, str(LIMIT)]
         subprocess.run(words, check=True, capture_output=True, timeout=SECONDS)
         return self
 
@@ -106,7 +106,8 @@ class Run:
     def opened(self):
         """Takes the lists as they are on the file."""
         source = disk_reader.source_of(self.file.read_bytes())
-        self.lists = Lists(*(pages_of(source, it) for it in NAMES_OF), last=source.last)
+        moments = {"last": source.last, "at": source.at, "first": source.first, "begin": source.begin}
+        self.lists = Lists(source.limit, *(pages_of(source, it) for it in NAMES_OF), **moments)
         return self.look()
 
     def does(self, lines):
@@ -128,8 +129,10 @@ class Run:
             self.compare_entries(name, source)
         if why := disk_reader.fault(disk, source):
             raise Differs(why)
-        if source.last != self.lists.last:
-            raise Differs(f"the last moment is {source.last}, and not {self.lists.last}")
+        for name in ("last", "at", "first", "begin"):
+            wanted, found = getattr(self.lists, name), getattr(source, name)
+            if wanted != found:
+                raise Differs(f"{name} is {found}, and not {wanted}")
         return source
 
     def compare_entries(self, name, source):
@@ -174,6 +177,10 @@ def check_worked(program, room):
     shared = set(entries(last.published)) & set(entries(last.catalogue))
     if len(last.published) != 4 or shared != set(entries(last.published[1:])):
         raise Differs(f"after a put of n000 {len(shared)} published pages are pages of the catalogue")
+    # Of the 131 changes before the first publication three parts of 40 are dropped: the first page, and 56 of the second.
+    after = run.does(["publish"])
+    if [len(it.items) for it in after.changes] != [8, 4] or entries(after.changes)[1] != entries(last.changes)[2]:
+        raise Differs(f"after a second publication the changes are in pages of {sizes([it.items for it in after.changes])}")
     return f"the worked row: {run.looks} looks"
 
 
@@ -193,13 +200,16 @@ def check_old(program, room):
     source = run.opened()
     if any(len(getattr(source, it)) != 1 or len(getattr(source, it)[0].items) <= 64 for it in NAMES_OF):
         raise Differs("the old disk has other than one page of more than 64 items a list")
+    if source.version != 1:
+        raise Differs(f"the old disk is of version {source.version}")
     state = crash_model.run(crash_model.State(BASE, source.limit), lines)[1][-1]
     check_served(run, state)
     for more in OLD_LINES:
         state = crash_model.run(state, more)[1][-1]
-        run.does(more)
+        if (version := run.does(more).version) != 2:
+            raise Differs(f"after a command the old disk is of version {version}")
         check_served(run, state)
-    return f"a disk of one page a list: {run.looks} looks"
+    return f"a disk of version 1 with one page a list: {run.looks} looks, {run.lists.first} parts dropped"
 
 
 def line_at_random(rng, names, share):
@@ -227,12 +237,12 @@ def lines_at_random(rng, count):
 
 
 def steps(lines):
-    """How many pages of the catalogue each line adds, by the rule."""
-    lists, found = Lists(), []
+    """How many pages of the catalogue each line adds, and how many pages of changes, by the rule."""
+    lists, found = Lists(LIMIT), []
     for line in lines:
-        before = len(lists.catalogue)
+        before = len(lists.catalogue), len(lists.changes)
         done(lists, line)
-        found.append(len(lists.catalogue) - before)
+        found.append((len(lists.catalogue) - before[0], len(lists.changes) - before[1]))
     return found
 
 
@@ -245,12 +255,14 @@ def check_random(program, room, rng, count):
             run.does(lines[at : at + PIECE])
         except Differs as fault:
             raise Differs(f"after random commands {at + 1} to {min(at + PIECE, count)}: {fault}") from fault
-    added = steps(lines)
+    added, changed = zip(*steps(lines))
     cut = sum(it > 0 for it in added)
-    left, most = added.count(-1), max(itertools.accumulate(added))
-    if count >= 2000 and (cut < 5 or left < 1 or most < 5):
-        raise Differs(f"the random commands show too little: {cut} cuts, {left} pages left empty, {most} pages at most")
-    return f"{count} random commands, {run.looks} looks, {most} pages of the catalogue at most, {cut} made, {left} left empty"
+    left, most, gone = added.count(-1), max(itertools.accumulate(added)), -sum(it for it in changed if it < 0)
+    if count >= 2000 and (cut < 5 or left < 1 or most < 5 or gone < 5 or run.lists.first < 10):
+        told = f"{cut} cuts, {left} pages left empty, {most} pages at most, {gone} pages of changes dropped"
+        raise Differs(f"the random commands show too little: {told}")
+    counts = f"{most} pages of the catalogue at most, {cut} made, {left} left empty; {run.lists.first} parts of changes dropped"
+    return f"{count} random commands, {run.looks} looks, {counts}"
 
 
 def room():

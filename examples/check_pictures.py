@@ -65,7 +65,7 @@ def look_at_pages(name):
 
 def the_directory_again(disk, calls):
     """A command that first writes the directory in front once more, with the same bytes: into a used block."""
-    at = disk_reader.root(disk).first * BLOCK
+    at = disk_reader.root(disk).directory.first * BLOCK
     return [Call(WRITE, at, disk[at : at + BLOCK]), *calls]
 
 

@@ -42,7 +42,7 @@ def wanted_blocks(resources, size, changes):
     texts = NAME + len(TYPE)
     pages = 2 * -(-resources // 32), -(-changes // 64)
     lists = pages[0] * blocks(5 + 32 * (70 + texts)) + pages[1] * blocks(5 + 64 * (63 + texts))
-    directories = 2 * blocks(47 + len(BASE) + 44 * sum(pages))
+    directories = 2 * blocks(63 + len(BASE) + 44 * sum(pages))
     return resources * blocks(size) + lists + directories + blocks(size) + 64
 
 

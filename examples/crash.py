@@ -8,8 +8,8 @@ its documents and all bodies. What is served has to be exactly what a model in p
 (crash_model.py) has after a number of commands: no fewer than were answered when the crash came,
 and no more than had begun. A destination (crash_lists.py) reads the Resource List and the changes
 after it, and has to get the resources held, with their lengths, digests and types. Some of the
-images are continued: further commands are recorded on them, and stopped again. The last session is
-one over a disk whose lists have several pages.
+images are continued: further commands are recorded on them, and stopped again. The last sessions
+are one over a disk whose lists have several pages, and one over a disk of version 1.
 
 At the end recordings of three wrong programs are made up (crash_wrong.py). Each has to give a wrong
 image, which shows that this test can fail.
@@ -83,6 +83,7 @@ def look(crashes, plan, rng):
         made = [lines_at_random(rng, plan.commands) for _ in chosen]
         sessions = [crashes.session(*it, lines) for it, lines in zip(chosen, made)]
     crashes.look(crashes.paged(BASE), plan, 0)
+    crashes.look(crashes.of_version_1(), plan, 0)
     return [it for it in crash_wrong.WRONG if crashes.passes(first, it)]
 
 

@@ -30,7 +30,10 @@ def mirrored(served):
     base = above.removesuffix("/capabilitylist.xml")
     head, resources = gathered("/resourcelist.xml", served, base)
     mine = {place(it, base): facts(it) for it in resources}
-    for it in gathered("/changelist.xml", served, base)[1]:
+    bounds, changes = gathered("/changelist.xml", served, base)
+    if bounds["from"] > head["at"]:
+        raise ValueError(f"the Change List begins at {bounds['from']}, after the Resource List of {head['at']}")
+    for it in changes:
         change = it.find(RS + "md").attrib
         if change["datetime"] <= head["at"]:
             continue

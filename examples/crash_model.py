@@ -57,7 +57,11 @@ class Change:
 
 @dataclasses.dataclass(frozen=True)
 class State:
-    """A source: what it holds, what has changed, and what it listed last. It stays as it is."""
+    """A source: what it holds, what has changed, and what it listed last. It stays as it is.
+
+    `first` is the number of the first part of the changes that are kept, and `begin` the moment of the last change before
+    them, or of formatting.
+    """
 
     base: str
     limit: int
@@ -67,7 +71,8 @@ class State:
     number: int = 0
     at: int = 0
     listed: dict = dataclasses.field(default_factory=dict)
-    start: int = 0
+    first: int = 0
+    begin: int = 0
 
     def after(self, line, now):
         """The answer to a line, and the next state, or None where the line is refused."""
@@ -78,9 +83,7 @@ class State:
             return self.after_put(words[1], body, words[3], moment)
         if words[0] == "delete":
             return self.after_delete(words[1], moment)
-        facts = {"last": moment, "number": self.number + 1, "at": moment}
-        then = dataclasses.replace(self, **facts, listed=self.entries())
-        return f"published {then.number} {moment_text(moment)}", then
+        return self.after_publish(moment)
 
     def entries(self):
         """What is known of each resource held."""
@@ -101,6 +104,18 @@ class State:
         changes = self.changes + (Change("deleted", name, moment, None),)
         then = dataclasses.replace(self, last=moment, held=held, changes=changes)
         return f"deleted {moment_text(moment)}", then
+
+    def dropped_parts(self):
+        """How many parts the next publication drops: the full ones that end with a change not after the one before it."""
+        return sum(it.moment <= self.at for it in self.changes) // self.limit
+
+    def after_publish(self, moment):
+        count = self.dropped_parts()
+        gone, kept = self.changes[: count * self.limit], self.changes[count * self.limit :]
+        begin = gone[-1].moment if gone else self.begin
+        facts = {"last": moment, "number": self.number + 1, "at": moment, "listed": self.entries()}
+        then = dataclasses.replace(self, **facts, changes=kept, first=self.first + count, begin=begin)
+        return f"published {then.number} {moment_text(moment)}", then
 
     def status(self):
         counts = f"resources {len(self.held)} changes {len(self.changes)} publication {self.number}"
@@ -169,20 +184,20 @@ def resource_documents(state):
 def change_documents(state):
     """The Change List, or its index and its parts."""
     base, up = state.base, ("up", state.base + "/capabilitylist.xml")
-    start = f'from="{moment_text(state.start)}"'
+    begin = f'from="{moment_text(state.begin)}"'
     parts = chunks(state.changes, state.limit)
     if len(parts) <= 1:
         children = [changed(base, it) for it in state.changes]
-        return {"/changelist.xml": document("urlset", [up], CHANGES + start, children)}
-    links, found, index, bound = [up, ("index", base + "/changelist.xml")], {}, [], start
-    for k, part in enumerate(parts):
+        return {"/changelist.xml": document("urlset", [up], CHANGES + begin, children)}
+    links, found, index, bound = [up, ("index", base + "/changelist.xml")], {}, [], begin
+    for k, part in enumerate(parts, state.first):
         end = moment_text(part[-1].moment)
         facts = bound + (f' until="{end}"' if len(part) == state.limit else "")
         path, bound = f"/changelist/{k}.xml", f'from="{end}"'
         children = [changed(base, it) for it in part]
         found[path] = document("urlset", links, CHANGES + facts, children)
         index.append(pointed(base, path, facts))
-    return {"/changelist.xml": document("sitemapindex", [up], CHANGES + start, index), **found}
+    return {"/changelist.xml": document("sitemapindex", [up], CHANGES + begin, index), **found}
 
 
 def documents(state):

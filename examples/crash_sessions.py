@@ -8,6 +8,8 @@ import subprocess
 import crash_images
 import crash_lists
 import crash_model
+import damaged_disks
+import disk_judge
 import disk_reader
 from recorded_calls import ANSWER, SYNC, WRITE, Recorder, Unrecorded, replayed
 
@@ -17,9 +19,11 @@ SECONDS = 120
 TOLD = 10
 # 128 names in ascending order fill pages of 32, 32 and 64 records, and their changes two pages of 64.
 FILLING = [f"put n{i:03d} - text/plain" for i in range(128)]
-# A put that cuts a page and begins a new one of changes, a publication of four pages, a put into one of those, and a
-# delete in another.
-PAGED = ["put n128 6e6577 text/plain", "publish", "put n040 61 text/plain", "delete n000"]
+# A put that cuts a page and begins a new one of changes, a publication of four pages, a put into one of those, a delete in
+# another, and a publication that drops three parts of 40 changes: a page of them goes, and one is cut.
+PAGED = ["put n128 6e6577 text/plain", "publish", "put n040 61 text/plain", "delete n000", "publish"]
+# What is done on a disk of version 1: its first command drops parts.
+ON_VERSION_1 = ["publish", "put a 61 text/plain", "publish"]
 # A session over a disk of these bytes: the record of its calls and answers, the states that its
 # commands make, how many of them each number of lines makes, and what is asked of an image.
 Session = collections.namedtuple("Session", "before calls states made questions")
@@ -55,7 +59,7 @@ class Crashes:
 
     def paged(self, base):
         """A session over a disk whose lists have several pages, and are left with several."""
-        state = crash_model.State(base, 1000)
+        state = crash_model.State(base, 40)
         filling = self.session(self.formatted(131_072, state), state, FILLING)
         session = self.session(replayed(filling.before, filling.calls), filling.states[-1], PAGED)
         source = disk_reader.source_of(replayed(session.before, session.calls))
@@ -64,6 +68,12 @@ class Crashes:
         if min(counts) < 2:
             raise Unrecorded("a list of the session over several pages has only one")
         return session
+
+    def of_version_1(self):
+        """A session over a disk that an earlier program left, which never dropped a change."""
+        before = damaged_disks.DISKS["five_of_version_1"]()
+        state = disk_judge.state_of(before, disk_judge.told(before)[1])
+        return self.session(before, state, ON_VERSION_1)
 
     def served(self, image, questions):
         """What the program answers on this image, or None and why."""

@@ -7,8 +7,8 @@ A change is made before what points to it is spelled, so lengths and SHA-256 agr
   PART.front=N        the part ends after so many bytes
 A VALUE is a number of the field's width, bytes in hexadecimal behind an `x`, or a text. The field `end` is what follows a part.
 """
-from disk_formats import CHANGES, CREATED, DELETED, RECORDS, change_fields, entry_fields, header_fields, laid_out
-from disk_formats import number, page_fields, record_fields, slot_fields, spelled
+from disk_formats import CHANGES, CREATED, DELETED, OLD_VERSION, RECORDS, VERSION, change_fields, entry_fields, header_fields
+from disk_formats import laid_out, number, page_fields, record_fields, slot_fields, spelled
 
 # The pages of each list of a directory, and the block in which each lies.
 LISTS = {
@@ -64,11 +64,12 @@ def directory_fields(header, entries):
 
 
 def spell(left, pages, bodies, blocks, header):
-    """The bytes of a disk with the changes that are left, which are taken from them."""
+    """The bytes of a disk with the changes that are left, which are taken from them. The header may have the version of the disk."""
+    version = header.get("version", VERSION)
     parts, entries = pages_of(pages, left)
     directory = left.part("directory", directory_fields(header_fields(**header), entries), 2)
-    slot = left.part("slot", slot_fields(1, 1, *directory), 0)
-    spare = left.part("spare", slot_fields(0, 0, *directory), 1)
+    slot = left.part("slot", slot_fields(1, 1, *directory, version), 0)
+    spare = left.part("spare", slot_fields(0, 0, *directory, version), 1)
     return laid_out(blocks, [*bodies, slot, spare, directory, *parts])
 
 
@@ -131,6 +132,15 @@ ALL_CHANGES = page_fields(CHANGES, {**CREATED_FIRST, **DELETED_BOTH, **CREATED_L
 
 SOUND = {"held": HELD, "changes": ALL_CHANGES, "listed": LISTED}
 BODIES = [(8, HELLO), (9, LONG)]
+# Then that was published at 1008, and the part of the first two changes was dropped; later all parts.
+CHANGES_LEFT = page_fields(CHANGES, {**DELETED_BOTH, **CREATED_LAST})
+PART_DROPPED = {"start": 1000, "last": 1008, "publication": 2, "at": 1008, "first": 1, "begin": 1002}
+ALL_DROPPED = {"start": 1000, "last": 1009, "publication": 3, "at": 1009, "first": 3, "begin": 1007}
+# Five resources of no bytes, put between publications at 3, 5 and 7. Version 1 kept all their changes.
+FIVE = {name: record_fields(name.encode(), b"", moment, 0) for name, moment in zip("abcde", (1, 2, 4, 6, 8))}
+FIVE_CHANGES = {name: change_fields(CREATED, name.encode(), moment) for name, moment in zip("abcde", (1, 2, 4, 6, 8))}
+FOUR = {it: FIVE[it] for it in "abcd"}
+FIVE_HELD = {"held": page_fields(RECORDS, FIVE), "changes": page_fields(CHANGES, FIVE_CHANGES), "listed": page_fields(RECORDS, FOUR)}
 # One more page of each list.
 MORE_HELD = page_fields(RECORDS, {"d": record_fields(b"d", b"", 1006, 0)})
 MORE_CHANGES = page_fields(CHANGES, {"7": change_fields(DELETED, b"b", 1008)})
@@ -155,6 +165,13 @@ DISKS = {
     "unchanged": source({"held": LISTED, "listed": LISTED}, OLD_BODIES, **PUBLISHED_LAST),
     # just formatted
     "empty": source({}, start=1000, last=1000, at=1000),
+    # the first part of the changes was dropped, and all of them
+    "part_dropped": source({"held": HELD, "changes": CHANGES_LEFT, "listed": "held"}, BODIES, **PART_DROPPED),
+    "all_dropped": source({"held": HELD, "listed": "held"}, BODIES, **ALL_DROPPED),
+    # of version 1
+    "sound_of_version_1": source(SOUND, BODIES, version=OLD_VERSION, **AFTER_ALL),
+    "empty_of_version_1": source({}, version=OLD_VERSION, start=1000, last=1000, at=1000),
+    "five_of_version_1": source(FIVE_HELD, version=OLD_VERSION, start=0, last=8, publication=3, at=7),
     "two_held_pages": source({**SOUND, "more_held": MORE_HELD}, BODIES, **AFTER_ALL),
     "two_change_pages": source({**SOUND, "more_changes": MORE_CHANGES}, BODIES, **{**AFTER_ALL, "last": 1008}),
     "two_listed_pages": source({**SOUND, "more_listed": MORE_LISTED}, BODIES, **AFTER_ALL),

@@ -8,7 +8,8 @@ next run goes on. docs/DESTINATIONS.md tells how it keeps in step.
 
 The first run is a baseline: it takes the Resource List and the changes after it. Later runs are
 incremental: they take the changes since the last one. A run is a baseline again where the Change
-List begins after what the folder has, or no longer has changes that were read from it.
+List begins after what the folder has, or no longer has changes that were read from it; also where
+changes that it needs are dropped while it is at work.
 
 A resource NAME lies in FOLDER/NAME, byte for byte, with folders for its `/` and each `%` as it
 stands; while another name lies below it, in FOLDER/NAME#. Media types are not kept. A baseline
@@ -20,7 +21,7 @@ import sys
 import time
 
 from destination_folder import Fault, Folder
-from destination_source import Source, Unheld
+from destination_source import Dropped, Source, Unheld
 
 STATUSES = """exit status:
   0    the folder is what the source held at the moment that is told
@@ -29,8 +30,8 @@ STATUSES = """exit status:
   3    the folder can't be used: another run has it, it is no mirror of this source, a disk is full
   130  stopped by a key; the next run goes on
 """
-# How often a run reads the changes that came while it fetched.
-PASSES = 50
+# How often a run reads the changes that came while it fetched, and how often it begins anew.
+PASSES, RUNS = 50, 10
 
 
 class Progress:
@@ -64,19 +65,25 @@ class Run:
         """Which way the run goes, what is wanted of each name, since when, and the changes."""
         if not is_baseline:
             changes = self.source.changes(self.folder.until)
-            if changes.start <= self.folder.until and self.folder.newest <= changes.newest:
+            if self.folder.newest <= changes.newest:
                 return "incremental", facts_of(changes.entries), self.folder.until, changes
         # A stop from here on leaves a folder that has a baseline before it.
         self.folder.remember(None, None)
-        at, listed = self.source.resource_list()
-        changes = self.source.changes(at)
-        if changes.start > at:
-            raise Fault("the Change List begins after the Resource List")
+        at, listed, changes = self.source.lists_that_meet()
         unlisted = dict.fromkeys(self.folder.names())
         return "baseline", unlisted | facts_of(listed + changes.entries), at, changes
 
     def go(self, is_baseline):
-        """Does the run, and tells it in one line."""
+        """Does the run, anew where changes were dropped that it needs, and tells it in one line."""
+        for _ in range(RUNS):
+            try:
+                return self.once(is_baseline)
+            except Dropped as fault:
+                is_baseline, why = True, fault
+        raise Fault(f"the source drops changes faster than they can be read: {why}")
+
+    def once(self, is_baseline):
+        """Does the run as far as the Change List has what it needs."""
         way, wanted, until, changes = self.begin(is_baseline)
         until, wrong = last_of(changes, until), {}
         for _ in range(PASSES):

@@ -19,17 +19,21 @@ RS = "{http://www.openarchives.org/rs/terms/}"
 MOMENT = re.compile(r"\d{4}-\d\d-\d\dT\d\d:\d\d:\d\d\.\d{3}Z")
 # The longest document, in bytes (Sitemap 0.9), and for how long an answer may stand still.
 LONGEST, SECONDS = 10_485_760, 30
-# How often the Resource List is read anew, if it is published meanwhile.
+# How often a list is read anew, if a publication comes meanwhile.
 READINGS = 50
 # What a list says of a name; `facts` is None where it is deleted.
 Entry = collections.namedtuple("Entry", "name moment facts")
 Facts = collections.namedtuple("Facts", "length hashes")
-# What a Change List tells: where it begins, its newest moment, and the entries that were asked for.
-Changes = collections.namedtuple("Changes", "start newest entries")
+# What a Change List tells: the moment of the newest change, and the entries that were asked for.
+Changes = collections.namedtuple("Changes", "newest entries")
 
 
 class Unheld(Fault):
     """An address has nothing, or other bytes than listed: a later change may tell why."""
+
+
+class Dropped(Fault):
+    """The Change List begins after the moment that was asked for: no list tells what came between."""
 
 
 class Source:
@@ -109,17 +113,41 @@ class Source:
 
     def changes(self, after):
         """What the Change List tells, with the entries after a moment; earlier parts are not read."""
-        head = self.document(named(self.lists, "changelist"))
+        for _ in range(READINGS):
+            head = self.document(named(self.lists, "changelist"))
+            start = moment_of(described_by(head).get("from"))
+            if start > after:
+                raise Dropped(f"the Change List begins at {start}, and not at {after} or before")
+            try:
+                return self.changes_within(head, start, after)
+            except Unheld as fault:
+                # A publication has dropped this part. The head tells by now where the changes begin.
+                why = fault
+        raise Fault(f"the Change List was read {READINGS} times, and each time lost a part: {why}")
+
+    def changes_within(self, head, start, after):
+        """What this head tells, and the parts that it names."""
         untils = [described_by(it).get("until") for it in pointers(head)]
         open_ones = [it for it, until in zip(pointers(head), untils) if not until or until > after]
         parts = [self.document(text_of(it, "loc")) for it in open_ones]
         entries = self.entries(parts if pointers(head) else [head])
         moments = [it.moment for it in entries]
-        if any(first >= then for first, then in zip(moments, moments[1:])):
+        if any(first >= then for first, then in zip([start, *moments], moments)):
             raise Fault("the Change List is not in the order of its moments")
-        newest = max(["", *filter(None, untils), *moments])
-        start = moment_of(described_by(head).get("from"))
-        return Changes(start, newest, [it for it in entries if it.moment > after])
+        # The last change that was dropped has the moment at which the list begins.
+        newest = max([start, *filter(None, untils), *moments])
+        return Changes(newest, [it for it in entries if it.moment > after])
+
+    def lists_that_meet(self):
+        """The moment of a publication, its entries, and what the Change List tells after it."""
+        for _ in range(READINGS):
+            at, listed = self.resource_list()
+            try:
+                return at, listed, self.changes(at)
+            except Dropped as fault:
+                # Two publications came since the Resource List was read, and there is a later one.
+                why = fault
+        raise Fault(f"the Resource List was read {READINGS} times, and each time too early: {why}")
 
 
 def asked(address, most):

@@ -2,6 +2,8 @@
 import hashlib
 
 BLOCK = 512
+# The version that is written, and the one before it, whose directories say nothing of dropped changes.
+VERSION, OLD_VERSION = 2, 1
 BASE = b"http://127.0.0.1:8080"
 RECORDS, CHANGES = 1, 2
 CREATED, UPDATED, DELETED = 1, 2, 3
@@ -64,12 +66,15 @@ def entry_fields(first, data):
     return {**extent_fields(first, len(data)), "length": number(len(data)), "sha256": sha256(data)}
 
 
-def header_fields(last, publication=0, at=0, limit=2, base=BASE, start=0):
+def header_fields(last, publication=0, at=0, limit=2, base=BASE, start=0, first=0, begin=None, version=VERSION):
+    """The kept changes begin at the start where nothing else is said."""
     head = {"limit": number(limit, 2), **short_fields("base", base), "start": number(start, 8)}
-    return {**head, "last": number(last, 8), "publication": number(publication, 8), "at": number(at, 8)}
+    head |= {"last": number(last, 8), "publication": number(publication, 8), "at": number(at, 8)}
+    kept = {"first": number(first, 8), "begin": number(start if begin is None else begin, 8)}
+    return head if version == OLD_VERSION else {**head, **kept}
 
 
-def slot_fields(gate, generation, first, data, version=1):
+def slot_fields(gate, generation, first, data, version=VERSION):
     """A slot that points to a directory."""
     head = {"gate": number(gate, 1), "version": number(version, 1), "generation": number(generation, 8)}
     return {**head, **entry_fields(first, data)}

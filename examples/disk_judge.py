@@ -78,11 +78,18 @@ def look_at_changes(source):
     for it in changes:
         hold("a change creates, updates or deletes", it.what in WHAT)
         hold("the name of a change is lawful", is_lawful(NAME, 1, 240, it.name))
-        hold("the moment of a change is in its bounds", source.start < it.moment <= source.last)
+        hold("the moment of a change is in its bounds", source.begin < it.moment <= source.last)
         if it.what != DELETED:
             look_at_facts(it)
     newest = max([source.at, *(it.moment for it in changes)])
     hold("last is the greater of at and the last change's moment", source.last == newest)
+
+
+def look_at_begin(source):
+    """The rules of the first part that is kept, and of the moment at which the kept changes begin."""
+    hold("the kept changes begin at the start or later, and no later than the publication", source.start <= source.begin <= source.at)
+    hold("no more parts were dropped than there are moments from start to begin", source.first <= source.begin - source.start)
+    hold("where no part was dropped begin is the start", source.first > 0 or source.begin == source.start)
 
 
 def look(disk, source):
@@ -90,6 +97,7 @@ def look(disk, source):
     hold("the item limit is 2 to 4,000", source.limit in LIMITS)
     hold("the base is lawful", is_lawful(BASE, 8, 128, source.base))
     hold("start <= at <= last, and last is a moment", source.start <= source.at <= source.last <= LAST_MOMENT)
+    look_at_begin(source)
     pages = [*source.catalogue, *source.changes, *source.published]
     hold("a page has an item", all(it.items for it in pages))
     look_at_records(source, source.catalogue, source.last)
@@ -138,11 +146,12 @@ def state_of(disk, source):
     return crash_model.State(
         base=source.base.decode(),
         limit=source.limit,
-        start=source.start,
         last=source.last,
         held={it.name.decode(): (body_of(disk, it), entry_of(it)) for it in items_of(source.catalogue)},
         changes=tuple(change_of(it) for it in items_of(source.changes)),
         number=source.number,
         at=source.at,
         listed={it.name.decode(): entry_of(it) for it in items_of(source.published)},
+        first=source.first,
+        begin=source.begin,
     )

@@ -1,7 +1,7 @@
 """The parts of a disk as bytes, spelled from the tables of docs/DISK.md, apart from the program."""
 import struct
 
-from disk_formats import BASE, change_fields, entry_fields, record_fields, slot_fields, spelled
+from disk_formats import BASE, OLD_VERSION, VERSION, change_fields, entry_fields, record_fields, slot_fields, spelled
 
 
 def record(*given, **named):
@@ -24,9 +24,11 @@ def entry(first, data):
     return spelled(entry_fields(first, data))
 
 
-def directory(last, number=0, at=0, lists=((), (), ()), limit=2, base=BASE, start=0):
+def directory(last, number=0, at=0, lists=((), (), ()), limit=2, base=BASE, start=0, first=0, begin=None, version=VERSION):
     """A directory. `lists` has the entries of the catalogue's, the changes' and the published pages."""
     head = struct.pack(">HB", limit, len(base)) + base + struct.pack(">QQQQ", start, last, number, at)
+    if version != OLD_VERSION:
+        head += struct.pack(">QQ", first, start if begin is None else begin)
     counts = struct.pack(">III", *map(len, lists))
     return head + counts + b"".join(b"".join(it) for it in lists)
 

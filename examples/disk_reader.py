@@ -13,8 +13,12 @@ Record = collections.namedtuple("Record", "name kind length md5 sha256 moment fi
 # Of a deletion nothing is known of a body.
 Change = collections.namedtuple("Change", "what name moment kind length md5 sha256", defaults=[None] * 4)
 Page = collections.namedtuple("Page", "entry items")
-# `directory` is its entry in the slot.
-Source = collections.namedtuple("Source", "directory limit base start last number at catalogue changes published")
+# `directory` is its entry in the slot, and `version` what the slot says of its format.
+Source = collections.namedtuple("Source", "directory version limit base start last number at first begin catalogue changes published")
+# The root that a slot says.
+Root = collections.namedtuple("Root", "generation version directory")
+# The versions that there are. A directory of the first has no first part and no begin: it keeps all changes.
+VERSIONS = (1, 2)
 # No more blocks are used of any disk.
 MOST_BLOCKS = 8_388_608
 
@@ -86,31 +90,33 @@ def page_of(disk, entry, kind):
 
 
 def root(disk):
-    """The entry of the directory in the open slot of the greater generation. A slot is a whole block."""
+    """What the open slot of the greater generation says. A slot is a whole block."""
     opened = []
     for slot in (disk[:BLOCK], disk[BLOCK : 2 * BLOCK]):
         fields = Fields(slot)
         if len(slot) == BLOCK and fields.number(1) == 1:
-            if fields.number(1) != 1:
-                raise NoRoot("an open slot has another version than 1")
-            opened.append((fields.number(8), fields.entry()))
-    if len({generation for generation, _ in opened}) != len(opened) or not opened:
+            version = fields.number(1)
+            if version not in VERSIONS:
+                raise NoRoot(f"an open slot has the version {version}")
+            opened.append(Root(fields.number(8), version, fields.entry()))
+    if len({it.generation for it in opened}) != len(opened) or not opened:
         raise NoRoot("there is no open slot of the greater generation")
-    return max(opened)[1]
+    return max(opened)
 
 
 def source_of(disk):
     """The source on a disk of these bytes."""
-    entry = root(disk)
+    _, version, entry = root(disk)
     fields = Fields(bytes_of(disk, entry, "the directory"))
     limit, base, start = fields.number(2), fields.short(), fields.number(8)
     last, number, at = (fields.number(8) for _ in range(3))
+    first, begin = (0, start) if version == 1 else (fields.number(8), fields.number(8))
     counts = [fields.number() for _ in range(3)]
     entries = [[fields.entry() for _ in range(count)] for count in counts]
     fields.ended("the directory")
     kinds = (RECORDS, CHANGES, RECORDS)
     lists = [[page_of(disk, it, kind) for it in each] for each, kind in zip(entries, kinds)]
-    return Source(entry, limit, base, start, last, number, at, *lists)
+    return Source(entry, version, limit, base, start, last, number, at, first, begin, *lists)
 
 
 def extents(source):

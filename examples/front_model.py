@@ -10,7 +10,8 @@ import crash_model
 from disk_formats import BLOCK
 from disk_judge import LAST_MOMENT, LONGEST_BODY, MOST_ITEMS, NAME, TYPE, is_lawful
 
-LAST_NUMBER = 2**64 - 1
+# The last number of a publication, and the last one that the first kept part of the changes may have.
+LAST_NUMBER, LAST_PART = 2**64 - 1, LAST_MOMENT
 RESOURCE = b"/resource/"
 NUMBER = rb"(0|[1-9][0-9]*)"
 HEADS = rb"/(?:\.well-known/resourcesync|capabilitylist\.xml|resourcelist\.xml|changelist\.xml)"
@@ -88,7 +89,7 @@ class Source:
 
     def publish(self, now):
         moment = self.moment(now)
-        if self.state.number >= LAST_NUMBER:
+        if self.state.number >= LAST_NUMBER or self.state.first + self.state.dropped_parts() > LAST_PART:
             raise Refused("Exhausted")
         answer, state = self.state.after("publish", moment)
         self.become(state)

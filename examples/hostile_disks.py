@@ -11,8 +11,8 @@ import random
 import hostile_sources
 import made_disks
 from damaged_disks import directory_fields
-from disk_formats import BLOCK, CHANGES, RECORDS, change_fields, entry_fields, header_fields, laid_out, number, record_fields, slot_fields
-from disk_formats import spelled
+from disk_formats import BLOCK, CHANGES, OLD_VERSION, RECORDS, VERSION, change_fields, entry_fields, header_fields, laid_out, number
+from disk_formats import record_fields, slot_fields, spelled
 from hostile_sources import BASES, NAMES, SPELLED, TYPES, any_source
 
 SMALL = made_disks.DISKS["two_puts_3584"]()
@@ -23,6 +23,10 @@ MOMENTS = (1, 999, 1000, 1001, 1003, 1004, 1007, 1008, 2**63, 253_402_300_799_99
 # Blocks of the spelled sources, lengths of bodies and of pages, and the bounds of items, blocks and bodies.
 NUMBERS = (*range(1, 17), 511, 512, 513, 1024, 49_999, 50_000, 50_001, 8_388_607, 8_388_608, 16_777_216, 16_777_217, 2**31)
 MARKS = {1: (1, 2, 3, 4, 47, 127, 128, 240, 241), 2: (1, 2, 3_999, 4_000, 4_001), 4: NUMBERS, 8: MOMENTS}
+# How many parts may have been dropped where some were, and one more.
+FIRSTS = (2, 3, 7, 8)
+# The fields of moments.
+WHENS = ("moment", "last", "at", "start", "begin")
 SIZES = (0, 1, 512, 513, 1_024, 7_168, 65_536, 16_777_216, 16_777_217, 2**32 - 1)
 BAD_NAMES = [b"", b"a//b", b"a/", b"/a", b"/", b".", b"..", b"a/..", b"./a", b"a/./b", b"%", b"%4", b"%4g"]
 BAD_NAMES += [b"a b", b"a\0", b"\xff", b"n" * 241, b"n" * 255]
@@ -31,9 +35,9 @@ BAD_BASES = [b"", b"http://", b"https://", b"http://a/", b"ftp://abc", b"HTTP://
 TEXTS = {"name": NAMES + BAD_NAMES, "type": TYPES + BAD_TYPES, "base": BASES + BAD_BASES}
 
 
-def numbers(width, value):
+def numbers(width, value, more=()):
     """The edges of a number of so many bytes that has this value."""
-    every = {0, *MARKS[width], value - 1, value + 1, 2 ** (8 * width) - 1}
+    every = {0, *more, *MARKS[width], value - 1, value + 1, 2 ** (8 * width) - 1}
     return [number(it, width) for it in sorted(every - {value}) if 0 <= it < 2 ** (8 * width)]
 
 
@@ -52,7 +56,8 @@ def edges(part, field, value):
         return [[set_to(where, it)] for it in (b"\0", b"\1" * 44, b"\xff" * 600)]
     if name in ("md5", "sha256"):
         return [[set_to(where, it)] for it in (bytes(len(value)), b"\xff" * len(value), bytes([value[0] ^ 1]) + value[1:])]
-    return [[set_to(where, it)] for it in numbers(len(value), int.from_bytes(value, "big"))]
+    more = FIRSTS if where == "directory.first" else ()
+    return [[set_to(where, it)] for it in numbers(len(value), int.from_bytes(value, "big"), more)]
 
 
 def lengths(part, of):
@@ -101,7 +106,7 @@ def a_cut_of(fields, rng):
 
 
 CUTS = [(name, it) for name in ("sound", "two_change_pages") for part in SPELLED[name].fields().items() for it in cuts(*part)]
-EDGES = [(name, it) for name in SPELLED for it in all_edges(SPELLED[name].fields())]
+EDGES = [(name, it) for name in hostile_sources.FIELDS for it in all_edges(SPELLED[name].fields())]
 BITS = [("sound", it) for it in all_bits(SPELLED["sound"].fields())]
 
 
@@ -157,7 +162,7 @@ def some_edges(index, rng):
         chosen |= {it.split("=")[0]: it for it in an_edge_of(fields, rng)}
     if rng.random() < 0.4:
         moment = rng.choice(MOMENTS)
-        wide = [f"{part}.{it}" for part, of in fields.items() for it in of if it.rsplit(".")[-1] in ("moment", "last", "at", "start")]
+        wide = [f"{part}.{it}" for part, of in fields.items() for it in of if it.rsplit(".")[-1] in WHENS]
         chosen |= {it: f"{it}={moment}" for it in rng.sample(wide, min(len(wide), rng.randrange(1, 4)))}
     return f"{name} {' '.join(chosen.values())}", SPELLED[name](*chosen.values())
 
@@ -254,7 +259,7 @@ def behind_a_right_root(index, rng):
         pages = [(3 + 2 * i, any_page(rng, kind)) for i, kind in enumerate(kinds.values())]
         entries = {name: entry_fields(*it) for name, it in zip(kinds, pages)}
         directory = spelled(directory_fields(header_fields(last=rng.choice((1004, 1004, 1004, 1005)), start=1000, at=1004), entries))
-    slot = spelled(slot_fields(1, 1, 2, directory))
+    slot = spelled(slot_fields(1, 1, 2, directory, rng.choice((OLD_VERSION, *7 * (VERSION,)))))
     return "random bytes behind a right root", laid_out(16, [(9, rng.randbytes(6 * BLOCK)), (0, slot), (2, directory), *pages])
 
 
@@ -280,12 +285,12 @@ def scribbled(index, rng):
 # So many of a hundred disks are of each kind.
 SHARES = {
     a_bit_turned: 29,
-    an_edge: 30,
+    an_edge: 33,
     a_bit_turned_and_righted: 8,
-    random_source: 6,
+    random_source: 5,
     some_edges: 5,
-    spliced: 5,
-    behind_a_right_root: 5,
+    spliced: 4,
+    behind_a_right_root: 4,
     scribbled: 4,
     a_part_cut: 3,
     truncated: 3,

@@ -42,13 +42,14 @@ def shown(path, served):
 
 
 def served_of(state, documents):
-    """All that is served, by its path, and what is not there: a part past the last, one of another publication, a name."""
+    """All that is served, by its path, and what is not there: a part past the last, one that was dropped, one of another publication, a name."""
     texts = {path: it.encode() for path, it in documents.items()}
     bodies = {f"/resource/{name}": () if body is None else body for name, (body, _) in state.held.items()}
     parts = [sum(it.startswith(front) for it in texts) for front in ("/resourcelist/", "/changelist/")]
     publications = (state.number, parts[0]), (state.number ^ 1, 0)
-    missing = [*(f"/resourcelist/{number}/{part}.xml" for number, part in publications), f"/changelist/{parts[1]}.xml", "/resource/none"]
-    return {**texts, **bodies, **{it: None for it in missing if it not in bodies}}
+    changes = [state.first + parts[1], *([0, state.first - 1] if state.first else [])]
+    missing = [f"/resourcelist/{number}/{part}.xml" for number, part in publications] + [f"/changelist/{it}.xml" for it in changes]
+    return {**texts, **bodies, **{it: None for it in [*missing, "/resource/none"] if it not in bodies}}
 
 
 def wanted_of(disk, verify=True):

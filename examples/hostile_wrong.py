@@ -110,6 +110,8 @@ WRONG_RULES = {
     "any name": mock.patch.object(disk_judge, "NAME", re.compile(rb".*", re.DOTALL)),
     "equal names and moments": mock.patch.object(disk_judge, "strictly_rise", lambda values: sorted(values) == list(values)),
     "any blocks": mock.patch.object(disk_reader, "fault", lambda disk, source: ""),
+    "any version": mock.patch.object(disk_reader, "VERSIONS", range(256)),
+    "any first part and begin": mock.patch.object(disk_judge, "look_at_begin", lambda source: None),
     "any digests": mock.patch.object(disk_reader, "sha256", lambda data: mock.ANY),
     "bodies of any length": mock.patch.object(disk_judge, "LONGEST_BODY", 2**32),
 }

@@ -12,6 +12,7 @@ from unittest import mock
 
 import crash_model
 import front_model
+from crash_model import State
 from front_model import Source
 
 LAWFUL, PUT, DELETE, DOCUMENTS = front_model.is_lawful, Source.put, Source.delete, crash_model.documents
@@ -67,6 +68,21 @@ def held_documents(state):
     return DOCUMENTS(dataclasses.replace(state, listed=state.entries()))
 
 
+def dropped_too_soon(state):
+    """The parts that end no later than the publication itself are dropped, and not those that end before the one before it."""
+    return len(state.changes) // state.limit
+
+
+def parts_numbered_anew(state):
+    """The first part that is kept has the number 0 again."""
+    return DOCUMENTS(dataclasses.replace(state, first=0))
+
+
+def begun_at_the_start(state):
+    """The Change List tells the start after parts were dropped, too."""
+    return DOCUMENTS(dataclasses.replace(state, begin=0))
+
+
 def last_changes(state):
     """Of two changes of a resource the later one alone is kept."""
     return DOCUMENTS(dataclasses.replace(state, changes=tuple({it.name: it for it in state.changes}.values())))
@@ -86,6 +102,10 @@ SHARED_RULES = {
     "parts of each publication stay": lambda: rule(Source, "document", by_any_number),
     "what is held is listed": lambda: rule(crash_model, "documents", held_documents),
     "the last change of each resource is kept": lambda: rule(crash_model, "documents", last_changes),
+    "no part is dropped": lambda: rule(State, "dropped_parts", lambda state: 0),
+    "parts are dropped too soon": lambda: rule(State, "dropped_parts", dropped_too_soon),
+    "parts are numbered anew": lambda: rule(crash_model, "documents", parts_numbered_anew),
+    "the Change List begins at the start for ever": lambda: rule(crash_model, "documents", begun_at_the_start),
     "an ampersand alone is escaped": lambda: rule(crash_model, "REFERENCES", {"&": "&amp;"}),
 }
 

@@ -4,7 +4,7 @@ take too long to reach.
 from itertools import accumulate
 
 import disk_parts as parts_of
-from disk_formats import BLOCK, laid_out
+from disk_formats import BLOCK, OLD_VERSION, VERSION, laid_out
 
 # The greatest number of resources that are held, and of changes that are kept.
 MOST = 50_000
@@ -14,9 +14,9 @@ LAST = 2**64 - 1
 LEAP_DAY = 951_782_400_000
 
 
-def source(parts, header, generation, blocks):
+def source(parts, header, generation, blocks, version=VERSION):
     """A disk whose first slot is open, whose second one is closed, and whose directory lies in block 2."""
-    return laid_out(blocks, [(0, parts_of.slot(1, generation, 2, header)), (2, header), *parts])
+    return laid_out(blocks, [(0, parts_of.slot(1, generation, 2, header, version)), (2, header), *parts])
 
 
 def empty(size):
@@ -46,7 +46,7 @@ def filled(names, changes, number=0, generation=1, blocks=128):
 
 
 def lists_of_one_page(blocks=128):
-    """70 resources, `r00` to `r69`, in one page, put at the moments 1 to 69 and, after a publication at 70, at 71."""
+    """Version 1: 70 resources, `r00` to `r69`, in one page, put at the moments 1 to 69 and, after a publication at 70, at 71."""
     names = [b"r%02d" % i for i in range(70)]
     records = [parts_of.record(name, b"", moment, 0) for moment, name in enumerate(names[:-1], 1)]
     created = [parts_of.change(1, name, moment, b"") for moment, name in enumerate(names[:-1], 1)]
@@ -54,8 +54,8 @@ def lists_of_one_page(blocks=128):
     pages = [parts_of.page(1, records), parts_of.page(2, created), parts_of.page(1, [*records, parts_of.record(b"r69", b"hello", 71, 3)])]
     listed, changes, held = laid_behind(4, pages)
     entries = [[parts_of.entry(*it)] for it in (held, changes, listed)]
-    header = parts_of.directory(71, number=1, at=70, lists=entries, limit=34)
-    return source([(3, b"hello"), held, changes, listed], header, 72, blocks)
+    header = parts_of.directory(71, number=1, at=70, lists=entries, limit=34, version=OLD_VERSION)
+    return source([(3, b"hello"), held, changes, listed], header, 72, blocks, OLD_VERSION)
 
 
 def laid_behind(first, pages):

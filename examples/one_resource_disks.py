@@ -15,7 +15,7 @@ def one_resource(records=page(1, [HELLO]), changes=page(2, [CREATED]), last=MOME
     """A source whose directory is in block 2, with a page of records in block 3, one of changes in block 4, and a body."""
     pages = [[entry(first, data)] if data else [] for first, data in [(3, records), (4, changes)]]
     data = directory(last, lists=(*pages, []))
-    return laid_out(16, [(0, slot(1, 1, 2, data)), (1, b"\0\1"), (2, data), (3, records), (4, changes), (5, b"hello")])
+    return laid_out(16, [(0, slot(1, 1, 2, data)), (1, b"\0\2"), (2, data), (3, records), (4, changes), (5, b"hello")])
 
 
 def other_byte(data, at, byte):

@@ -43,6 +43,16 @@ def unbound(pages, name):
     return [*pages[:place], *cut(others), *pages[place + 1 :]]
 
 
+def dropped(pages, count):
+    """A list of changes without its first ones. What is left of the page in which the cut falls is cut anew, the last page with the rest."""
+    while pages and len(pages[0]) <= count:
+        count, pages = count - len(pages[0]), pages[1:]
+    if not count:
+        return pages
+    left = pages[0][count:]
+    return [*(left[at : at + MOST] for at in range(0, len(left), MOST)), *pages[1:]]
+
+
 def appended(pages, change):
     """A list of changes with one more."""
     if pages and len(pages[-1]) < MOST:
@@ -51,11 +61,15 @@ def appended(pages, change):
 
 
 class Lists:
-    """The three lists of a source in pages. A record is its name and moment; a change is its name, what happened and its moment."""
+    """The three lists of a source in pages. A record is its name and moment; a change is its name, what happened and its moment.
 
-    def __init__(self, catalogue=(), changes=(), published=(), last=0):
+    Changes go in parts of `limit`, of which the first that is kept has the number `first`; they begin after `begin`, and `at` is the
+    moment of the latest publication.
+    """
+
+    def __init__(self, limit, catalogue=(), changes=(), published=(), last=0, at=0, first=0, begin=0):
         self.catalogue, self.changes, self.published = list(catalogue), list(changes), list(published)
-        self.last = last
+        self.limit, self.last, self.at, self.first, self.begin = limit, last, at, first, begin
 
     def put(self, name):
         """Puts a name, and tells what happened."""
@@ -75,6 +89,12 @@ class Lists:
         return "deleted"
 
     def publish(self):
+        """Publishes, and drops the full parts of the changes that end no later than the publication before this one."""
+        moments = [moment for page in self.changes for _, _, moment in page]
+        parts = sum(it <= self.at for it in moments) // self.limit
+        if parts:
+            self.changes = dropped(self.changes, parts * self.limit)
+            self.first, self.begin = self.first + parts, moments[parts * self.limit - 1]
         self.last += 1
-        self.published = self.catalogue
+        self.at, self.published = self.last, self.catalogue
         return "published"

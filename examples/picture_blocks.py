@@ -35,7 +35,7 @@ Strip = collections.namedtuple("Strip", "told parts written left root")
 
 def slots(disk):
     """The two slots, each with its generation, or `-` where it is closed; `*` stands with the root."""
-    found, root = [], disk_reader.root(disk)
+    found, root = [], disk_reader.root(disk).directory
     for first in (0, 1):
         slot = disk[first * BLOCK : (first + 1) * BLOCK]
         generation = str(int.from_bytes(slot[2:10], "big")) if slot[0] == 1 else "-"

@@ -19,7 +19,7 @@ class Ended(Exception):
 
 
 class Moved(Exception):
-    """A part of a list went while the list was read: another publication was made."""
+    """What went while the lists were read: another publication was made, which has other parts of one, and drops parts of the other."""
 
 
 class Source:
@@ -62,11 +62,11 @@ class Source:
     def document(self, path):
         status, text = self.asked("GET", path, (200, 404))
         if status == 404:
-            raise Moved(path)
+            raise Moved(f"there is no {path}")
         return ElementTree.fromstring(text)
 
     def gathered(self, path, after=""):
-        """The base, the moment and the entries of a list, through its index if it is one; parts that end by `after` are left out."""
+        """What a list says of itself, and its entries, through its index if it is one; parts that end by `after` are left out."""
         head = self.document(path)
         base = head.find(f"{RS}ln[@rel='up']").attrib["href"].removesuffix("/capabilitylist.xml")
         parts = [head]
@@ -75,13 +75,16 @@ class Source:
             parts = [self.document(it.find(f"{SITEMAP}loc").text.removeprefix(base)) for it in named]
         urls = [it for part in parts for it in part.findall(f"{SITEMAP}url")]
         entries = [(it.find(f"{SITEMAP}loc").text.removeprefix(f"{base}/resource/"), it.find(f"{RS}md").attrib) for it in urls]
-        return head.find(f"{RS}md").get("at"), entries
+        return head.find(f"{RS}md").attrib, entries
 
     def read_once(self):
-        at, entries = self.gathered("/resourcelist.xml")
-        listed = {name: facts_of(entry) for name, entry in entries}
+        said, entries = self.gathered("/resourcelist.xml")
+        at, listed = said["at"], {name: facts_of(entry) for name, entry in entries}
+        said, changes = self.gathered("/changelist.xml", at)
+        if said["from"] > at:
+            raise Moved(f"the Change List begins after {at}")
         held = dict(listed)
-        for name, entry in self.gathered("/changelist.xml", at)[1]:
+        for name, entry in changes:
             if entry["datetime"] > at:
                 held.pop(name, None)
                 held |= {name: facts_of(entry)} if entry["change"] != "deleted" else {}
@@ -92,11 +95,11 @@ class Source:
         for _ in range(3):
             try:
                 return self.read_once()
-            except Moved as part:
-                gone = part
+            except Moved as why:
+                gone = why
             except (ElementTree.ParseError, AttributeError, KeyError, StopIteration, ValueError) as fault:
                 raise Ended(f"the lists of the source cannot be read: {type(fault).__name__} {fault}") from None
-        raise Ended(f"there is no {gone}")
+        raise Ended(str(gone))
 
 
 def facts_of(entry):

@@ -82,6 +82,7 @@ same_bare s t h =
       published = map record_of (h.published i);
       changes = h.changes i;
       first = h.first i;
+      begin = h.begin i;
     }
 
 pub alike_views : (s t : Shown) (doc : Doc) → IsShownAlike s t → document_text s doc ≡ document_text t doc

@@ -17,8 +17,10 @@ pub mod Elements
 pub mod TextsRead
 pub mod Gathering
 pub mod ListsRead
+pub mod DroppedParts
 pub mod LaterStates
 pub mod PartsStay
+pub mod Walks
 pub mod TimesOfFetches
 pub mod Fetches
 pub mod Destinations

@@ -1,5 +1,5 @@
 -- The lists of one state are gathered whole, and the one mirrored with the other is what is held.
-use Rattle.std.proofs.Common.{◌≡◌, ℕ, ◌+◌, ◌-◌, ◌<◌, ◌≤◌, List, [], ◌∷◌, length, map, refl, sym, ap, subst, ◌∙◌, arith, Option, Some, None, Bool, true, false, cond, nat_le, nat_lt}
+use Rattle.std.proofs.Common.{◌≡◌, ℕ, ◌+◌, ◌-◌, ◌<◌, ◌≤◌, ◌^◌, List, [], ◌∷◌, length, map, refl, sym, ap, subst, ◌∙◌, arith, Option, Some, None, Bool, true, false, cond, nat_le, nat_lt}
 use Rattle.std.specs.Prelude.{codes, ◌==◌, ◌&&◌}
 use Rattle.std.specs.List.{AllByRecursion}
 use Rattle.std.proofs.lemmas.Bool.Decides.{nat_tests}
@@ -159,55 +159,56 @@ resources_gathered chunks s l =
     ∙ resources_from_parts chunks (shown_of s) (answer s) _ (shown_lawful s l) (λ e. own_resource_parts s e l)
 
 -- parts of the Change List
-changed_test : (p k : ℕ) → 1 < p → k < p → (nat_lt 1 p && nat_le 0 (0 + k) && nat_lt (0 + k) (0 + p)) ≡ true
-changed_test p k a b = grind (arith, nat_tests)
+changed_test : (p first k : ℕ) → 1 < p → k < p → (nat_lt 1 p && nat_le first (first + k) && nat_lt (first + k) (first + p)) ≡ true
+changed_test p first k a b = grind (arith, nat_tests)
 
 changed_text : (s : Source) (k : ℕ) → 1 < change_parts_of (shown_of s) → k < change_parts_of (shown_of s)
-    → list_text (shown_of s) (ChangePart (0 + k)) ≡ Some (change_part_text (shown_of s) (0 + k - 0))
+    → list_text (shown_of s) (ChangePart (s.first + k)) ≡ Some (change_part_text (shown_of s) (s.first + k - s.first))
 unfolding list_text
-changed_text s k a b = ap (λ c. cond c (Some (change_part_text (shown_of s) (0 + k - 0))) None)
-    (changed_test (change_parts_of (shown_of s)) k a b)
+changed_text s k a b = ap (λ c. cond c (Some (change_part_text (shown_of s) (s.first + k - s.first))) None)
+    (changed_test (change_parts_of (shown_of s)) s.first k a b)
 
 change_part : (s : Source) (k : ℕ) → IsLawful s → 1 < change_parts_of (shown_of s) → k < change_parts_of (shown_of s) → k < 60000
-    → IsPartAt changes_in (answer s) (change_part_path (0 + k)) (map (λ c. c) (part_at k s.limit s.changes))
+    → IsPartAt changes_in (answer s) (change_part_path (s.first + k)) (map (λ c. c) (part_at k s.limit s.changes))
 change_part s k l a b few =
     let v : Shown = shown_of s in
+    let n : ℕ = s.first + k in
     let shown_there = changed_text s k a b in
-    let number : 0 + k - 0 ≡ k = omega arith in
+    let number : n - s.first ≡ k = omega arith in
+    let small : n < 2 ^ 64 = omega (arith, l.first) in
     record {
-      text = change_part_text v (0 + k - 0);
-      document = change_part_of v (0 + k - 0);
-      there = answer_at s (change_part_path (0 + k)) (ChangePart (0 + k)) tt (doc_of-path_of (ChangePart (0 + k)) (omega arith))
-          ∙ shown_there;
-      read = text_reads v (ChangePart (0 + k)) _ (shown_lawful s l) shown_there;
-      gives = ap (λ n. Some (part_at n s.limit s.changes)) number ∙ ap Some (sym (map-id (part_at k s.limit s.changes)));
+      text = change_part_text v (n - s.first);
+      document = change_part_of v (n - s.first);
+      there = answer_at s (change_part_path n) (ChangePart n) tt (doc_of-path_of (ChangePart n) small) ∙ shown_there;
+      read = text_reads v (ChangePart n) _ (shown_lawful s l) shown_there;
+      gives = ap (λ m. Some (part_at m s.limit s.changes)) number ∙ ap Some (sym (map-id (part_at k s.limit s.changes)));
     }
 
 -- the changes of an index, from its parts as they were fetched
 pub changes_from_parts : PartsAreChunks Change → (v : Shown) (fetched : List ℕ → Option (List ℕ)) (items : List Change) (count : ℕ)
     → 2 ≤ v.limit → parts_of (length items) v.limit ≡ count
     → AllByRecursion (λ k. IsPartAt changes_in fetched (change_part_path (v.first + k)) (map (λ c. c) (part_at k v.limit items))) (numbers_from 0 count)
-    → gathered_changes fetched (ChangeListIndex v.start None (map (change_entry_of v) (numbers_from 0 count))) ≡ Some (v.start, items)
+    → gathered_changes fetched (ChangeListIndex v.begin None (map (change_entry_of v) (numbers_from 0 count))) ≡ Some (v.begin, items)
 changes_from_parts chunks v fetched items count low same each =
     let Part : ℕ → Type 0 = λ k. IsPartAt changes_in fetched (change_part_path (v.first + k)) (map (λ c. c) (part_at k v.limit items)) in
-    ap (λ n. gathered_changes fetched (ChangeListIndex v.start None (map (change_entry_of v) (numbers_from 0 n)))) (sym same)
-    ∙ ap (λ paths. parts_at changes_in fetched paths >>= λ children. Some (v.start, children))
+    ap (λ n. gathered_changes fetched (ChangeListIndex v.begin None (map (change_entry_of v) (numbers_from 0 n)))) (sym same)
+    ∙ ap (λ paths. parts_at changes_in fetched paths >>= λ children. Some (v.begin, children))
     (map-map (λ p. p.path) (change_entry_of v) (numbers_from 0 (parts_of (length items) v.limit)))
-    ∙ ap (λ (o : Option (List Change)). o >>= λ children. Some (v.start, children))
+    ∙ ap (λ (o : Option (List Change)). o >>= λ children. Some (v.begin, children))
     (all_gathered (λ c. c) changes_in fetched (λ k. change_part_path (v.first + k)) v.limit items (chunks v.limit items (omega arith))
     (subst (λ n. AllByRecursion Part (numbers_from 0 n)) (sym same) each))
-    ∙ ap (λ cs. Some (v.start, cs)) (map-id items)
+    ∙ ap (λ cs. Some (v.begin, cs)) (map-id items)
 
 changes_by : PartsAreChunks Change → (s : Source) (b : Bool) → nat_le (change_parts_of (shown_of s)) 1 ≡ b → IsLawful s
-    → gathered_changes (answer s) (cond b (ChangeList s.start None s.changes)
-    (ChangeListIndex s.start None (map (change_entry_of (shown_of s)) (numbers_from 0 (change_parts_of (shown_of s))))))
-    ≡ Some (s.start, s.changes)
+    → gathered_changes (answer s) (cond b (ChangeList s.begin None s.changes)
+    (ChangeListIndex s.begin None (map (change_entry_of (shown_of s)) (numbers_from 0 (change_parts_of (shown_of s))))))
+    ≡ Some (s.begin, s.changes)
 changes_by chunks s true e l = refl
 changes_by chunks s false e l =
     let v : Shown = shown_of s in
     let count : ℕ = change_parts_of v in
     let few : count < 60000 = parts_few (length v.changes) v.limit l.changes_room l.low l.high in
-    let Part : ℕ → Type 0 = λ k. IsPartAt changes_in (answer s) (change_part_path (0 + k)) (map (λ c. c) (part_at k v.limit v.changes)) in
+    let Part : ℕ → Type 0 = λ k. IsPartAt changes_in (answer s) (change_part_path (s.first + k)) (map (λ c. c) (part_at k v.limit v.changes)) in
     changes_from_parts chunks v (answer s) v.changes count l.low refl
     (all_so (λ k. k < count) Part (λ k h. change_part s k l (more_than_one count e) h (omega arith)) (numbers_from 0 count)
     (numbers_below 0 count count (omega arith)))
@@ -234,7 +235,7 @@ changes_from_head s fetched l same =
     then_some (fetched (codes "/changelist.xml")) _ head.0 _ (same ∙ head.1)
     (then_some (reads head.0) _ (change_head_of (shown_of s)) _ head.2 refl)
 
-pub changes_gathered : PartsAreChunks Change → (s : Source) → IsLawful s → gather_changes (answer s) ≡ Some (s.start, s.changes)
+pub changes_gathered : PartsAreChunks Change → (s : Source) → IsLawful s → gather_changes (answer s) ≡ Some (s.begin, s.changes)
 changes_gathered chunks s l = changes_from_head s (answer s) l refl ∙ changes_by chunks s _ refl l
 
 -- what is listed is what was published
@@ -250,6 +251,6 @@ pub lists_mirror : PartsAreChunks Record → PartsAreChunks Change → (s : Sour
     → mirror_of (map listed_entry listed) at changes ≡ entries s.held
 lists_mirror listed_chunks change_chunks s r l at start listed changes h g =
     let resources = same_pair (s.at, map listed_of (map record_of s.listed)) (at, listed) (sym (resources_gathered listed_chunks s l) ∙ h) in
-    let same_changes = same_pair (s.start, s.changes) (start, changes) (sym (changes_gathered change_chunks s l) ∙ g) in
+    let same_changes = same_pair (s.begin, s.changes) (start, changes) (sym (changes_gathered change_chunks s l) ∙ g) in
     (λ i. mirror_of (map listed_entry (sym resources.1 i)) (sym resources.0 i) (sym same_changes.1 i))
     ∙ ap (λ m. mirror_of m s.at s.changes) (same_entries s.listed) ∙ r.mirrored

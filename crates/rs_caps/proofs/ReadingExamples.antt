@@ -11,6 +11,7 @@ use Rattle.rs_time.specs.Moment.{moment_text}
 use Rattle.rs_time.specs.ReadMoment.{read_moment, moment_digits}
 use Rattle.rs_fixity.specs.ReadHash.{read_hash}
 use Rattle.rs_record.specs.Changes.{bound, deleted}
+use Rattle.rs_record.specs.declared.change.Change.{Change}
 use Rattle.rs_record.specs.declared.facts.Facts.{Facts}
 use Rattle.rs_model.specs.declared.command.Command.{Command}
 use Rattle.rs_model.specs.declared.command.Command.TheVariants.{Put, Publish}
@@ -56,6 +57,25 @@ in_turn n =
 abbrev no_bytes : Facts
 no_bytes = facts_of (codes "text/plain") []
 
+abbrev put_of : List ℕ → ℕ → Change
+put_of name t = bound name false t no_bytes
+
+-- one millisecond after another: `a`, `b` and `c`, a publication, `d` and `e`, and another publication
+abbrev two_at_once : ℕ → Source
+two_at_once n =
+    fold_of source (take n
+    (put_at 0 (codes "a") [] ∷ put_at 0 (codes "b") [] ∷ put_at 0 (codes "c") [] ∷ (Publish, 0) ∷ put_at 0 (codes "d") []
+    ∷ put_at 0 (codes "e") [] ∷ (Publish, 0) ∷ []))
+
+-- the commands in turn but the last publication, where no part was dropped
+abbrev undropped : Source
+undropped =
+    record (in_turn 8) {
+      first = 0;
+      begin = 0;
+      changes = put_of (codes "a") 1 ∷ put_of (codes "b") 2 ∷ put_of (codes "c") 4 ∷ put_of (codes "d") 6 ∷ put_of (codes "e") 8 ∷ [];
+    }
+
 abbrev at_moment : List ℕ → ℕ → Listed
 at_moment name t = record { name = name; facts = no_bytes; moment = t }
 
@@ -100,17 +120,51 @@ pub texts :
     ∷ of_moment (codes "/resourcelist/4/2.xml") 9 ∷ [])))
     × (reads_at (in_turn 9) (codes "/resourcelist/4/2.xml") ≡ Some (ResourceList 9 (at_moment (codes "e") 8 ∷ [])))
     × (answer (in_turn 2) (codes "/changelist/0.xml") ≡ None)
+unfolding digits encode_with decode_pairs block_words rounds compress hash_after digest_bytes md5 first_words schedule rounds_256 compress_256 hash_after_256 digest_bytes_256 sha256 date_of period_of days_of moment_text read_moment moment_digits read_hash list_text strip cut lines_of characters read_number doc_of read_count last_part resource_part change_part document_text read_facts read_resource read_bound read_deleted read_end read_resource_entry read_change_entry before_end read_up read_resource_md read_change_md reads read_list read_index read_children read_resource_list read_change_list read_resource_index read_change_index
+texts = (refl, refl, refl, refl, refl, refl, refl, refl, refl, refl, refl, refl, refl, refl)
+
+-- The Change List of these: each publication drops the full parts that end at the publication before it or earlier, and the
+-- others keep their numbers.
+pub kept_parts :
+    (reads_at (in_turn 2) (codes "/changelist.xml") ≡ Some
+    (ChangeList 0 None (put_of (codes "a") 1 ∷ put_of (codes "b") 2 ∷ [])))
     × (reads_at (in_turn 4) (codes "/changelist.xml") ≡ Some
     (ChangeListIndex 0 None (between (codes "/changelist/0.xml") 0 (Some 2) ∷ between (codes "/changelist/1.xml") 2 None ∷ [])))
+    × (reads_at (in_turn 5) (codes "/changelist.xml") ≡ Some (ChangeList 2 None (put_of (codes "c") 4 ∷ [])))
+    × (answer (in_turn 5) (codes "/changelist/0.xml") ≡ None)
     × (reads_at (in_turn 6) (codes "/changelist.xml") ≡ Some
-    (ChangeListIndex 0 None (between (codes "/changelist/0.xml") 0 (Some 2) ∷ between (codes "/changelist/1.xml") 2 (Some 6) ∷ [])))
-    × (reads_at (in_turn 8) (codes "/changelist.xml")
-    ≡ Some (ChangeListIndex 0 None
-    (between (codes "/changelist/0.xml") 0 (Some 2) ∷ between (codes "/changelist/1.xml") 2 (Some 6) ∷ between
-    (codes "/changelist/2.xml") 6 None ∷ [])))
-    × (answer (in_turn 8) (codes "/changelist/1.xml") ≡ answer (in_turn 6) (codes "/changelist/1.xml"))
+    (ChangeList 2 None (put_of (codes "c") 4 ∷ put_of (codes "d") 6 ∷ [])))
+    × (answer (in_turn 6) (codes "/changelist/1.xml") ≡ None)
+    × (reads_at (in_turn 8) (codes "/changelist.xml") ≡ Some
+    (ChangeListIndex 2 None (between (codes "/changelist/1.xml") 2 (Some 6) ∷ between (codes "/changelist/2.xml") 6 None ∷ [])))
+    × (reads_at (in_turn 8) (codes "/changelist/1.xml") ≡ Some
+    (ChangeList 2 (Some 6) (put_of (codes "c") 4 ∷ put_of (codes "d") 6 ∷ [])))
+    × (answer (in_turn 8) (codes "/changelist/0.xml") ≡ None)
+    × (reads_at (in_turn 9) (codes "/changelist.xml") ≡ Some (ChangeList 6 None (put_of (codes "e") 8 ∷ [])))
 unfolding digits encode_with decode_pairs block_words rounds compress hash_after digest_bytes md5 first_words schedule rounds_256 compress_256 hash_after_256 digest_bytes_256 sha256 date_of period_of days_of moment_text read_moment moment_digits read_hash list_text strip cut lines_of characters read_number doc_of read_count last_part resource_part change_part document_text read_facts read_resource read_bound read_deleted read_end read_resource_entry read_change_entry before_end read_up read_resource_md read_change_md reads read_list read_index read_children read_resource_list read_change_list read_resource_index read_change_index
-texts = (refl, refl, refl, refl, refl, refl, refl, refl, refl, refl, refl, refl, refl, refl, refl, refl, refl, refl)
+kept_parts = (refl, refl, refl, refl, refl, refl, refl, refl, refl, refl)
+
+-- A full part stays as it is where the one before it is dropped.
+pub part_stays_where_another_goes :
+    (reads_at (two_at_once 6) (codes "/changelist.xml") ≡ Some
+    (ChangeListIndex 0 None
+    (between (codes "/changelist/0.xml") 0 (Some 2) ∷ between (codes "/changelist/1.xml") 2 (Some 5) ∷ between
+    (codes "/changelist/2.xml") 5 None ∷ [])))
+    × (reads_at (two_at_once 7) (codes "/changelist.xml") ≡ Some
+    (ChangeListIndex 2 None (between (codes "/changelist/1.xml") 2 (Some 5) ∷ between (codes "/changelist/2.xml") 5 None ∷ [])))
+    × (reads_at (two_at_once 7) (codes "/changelist/1.xml") ≡ Some
+    (ChangeList 2 (Some 5) (put_of (codes "c") 3 ∷ put_of (codes "d") 5 ∷ [])))
+    × (answer (two_at_once 7) (codes "/changelist/1.xml") ≡ answer (two_at_once 6) (codes "/changelist/1.xml"))
+    × (answer (two_at_once 7) (codes "/changelist/0.xml") ≡ None)
+unfolding digits encode_with decode_pairs block_words rounds compress hash_after digest_bytes md5 first_words schedule rounds_256 compress_256 hash_after_256 digest_bytes_256 sha256 date_of period_of days_of moment_text read_moment moment_digits read_hash list_text strip cut lines_of characters read_number doc_of read_count last_part resource_part change_part document_text read_facts read_resource read_bound read_deleted read_end read_resource_entry read_change_entry before_end read_up read_resource_md read_change_md reads read_list read_index read_children read_resource_list read_change_list read_resource_index read_change_index
+part_stays_where_another_goes = (refl, refl, refl, refl, refl)
+
+-- A history of which nothing was dropped yet, as all five changes of these are kept: its next publication leaves the last.
+pub all_at_once :
+    ((fold_of undropped ((Publish, 0) ∷ [])).first ≡ 2) × ((fold_of undropped ((Publish, 0) ∷ [])).begin ≡ 6)
+    × ((fold_of undropped ((Publish, 0) ∷ [])).changes ≡ put_of (codes "e") 8 ∷ [])
+    × ((fold_of undropped ((Publish, 0) ∷ [])).at ≡ 9)
+all_at_once = (refl, refl, refl, refl)
 
 -- A number begins with no zero, sign or space; the five characters have one use each.
 pub refused_values :

@@ -7,6 +7,7 @@ use Rattle.std.specs.List.{AllByRecursion}
 use Rattle.rs_time.specs.Moment.{IsMoment}
 use Rattle.rs_record.specs.Base.{is_base}
 use Rattle.rs_record.specs.Name.{is_name}
+use Rattle.rs_record.specs.Changes.{last_moment}
 use Rattle.rs_record.specs.Format.{facts_in}
 use Rattle.rs_record.specs.declared.record.Record.{Record}
 use Rattle.rs_record.specs.declared.change.Change.{Change}
@@ -15,7 +16,7 @@ use Rattle.rs_lists.specs.declared.doc.Doc.{Doc}
 use Rattle.rs_lists.specs.declared.doc.Doc.TheVariants.{Description, Capabilities, ResourceHead, ResourcePart, ChangeHead, ChangePart}
 use Rattle.rs_lists.specs.Chunks.{parts_of, part_at}
 use Rattle.rs_lists.specs.Shown.{Shown, resource_parts_of, change_parts_of}
-use Rattle.rs_lists.specs.Text.{list_text, close_line, up_line, link_line, resource_line, change_line, resource_md, change_md, resource_entry, change_entry, numbers_from, last_moment, from_of, until_of, is_part, resource_list, resource_index, change_list, change_index, part_links, change_part_text}
+use Rattle.rs_lists.specs.Text.{list_text, close_line, up_line, link_line, resource_line, change_line, resource_md, change_md, resource_entry, change_entry, numbers_from, from_of, until_of, is_part, resource_list, resource_index, change_list, change_index, part_links, change_part_text}
 use Rattle.rs_caps.specs.Cut.{◌>>=◌, ◌or_else◌, strip}
 use Rattle.rs_model.specs.Listed.{record_of}
 use Rattle.rs_caps.specs.Shows.{shown_of}
@@ -41,7 +42,7 @@ pub record IsReadable (s : Shown) : Type 0 where
   pub base : IsTrue (is_base s.base)
   pub low : 2 ≤ s.limit
   pub high : s.limit ≤ 4000
-  pub start : IsMoment s.start
+  pub begin : IsMoment s.begin
   pub at : IsMoment s.at
   pub number : s.number < 2 ^ 64
   pub first : s.first + 60000 ≤ 2 ^ 64
@@ -56,10 +57,10 @@ shown_lawful s h =
       base = h.base;
       low = h.low;
       high = h.high;
-      start = h.start;
+      begin = h.begin;
       at = h.at;
       number = h.number;
-      first = omega arith;
+      first = omega (arith, h.first);
       published = all_mapped IsEntry IsRecord record_of
           (λ e k. record { name = k.name; facts = k.facts; moment = k.moment }) s.listed h.listed;
       changes = h.changes;
@@ -162,7 +163,7 @@ last_bound t [] h k = h
 last_bound t (c ∷ changes) h k = last_bound c.moment changes k.0.moment k.1
 
 from_bound : (s : Shown) (k : ℕ) → IsReadable s → IsMoment (from_of s k)
-from_bound s k l = last_bound s.start (take (k * s.limit) s.changes) l.start (all_taken IsChange (k * s.limit) s.changes l.changes)
+from_bound s k l = last_bound s.begin (take (k * s.limit) s.changes) l.begin (all_taken IsChange (k * s.limit) s.changes l.changes)
 
 end_if : (b : Bool) (t : ℕ) → IsMoment t → IsEnd (cond b (Some t) None)
 end_if true t h = h
@@ -185,14 +186,14 @@ resource_entries_read s numbers l h =
     (λ k few. resource_entry_read s k l.base l.number (omega arith) l.at) numbers h))
 
 change_entries_read : (s : Shown) (numbers : List ℕ) → IsReadable s → AllByRecursion (λ k. k < 60000) numbers
-    → read_change_index s.base (change_md s.start None ∷ map (change_entry s) numbers ++ close_line (codes "sitemapindex") ∷ [])
-    ≡ Some (ChangeListIndex s.start None (map (change_entry_of s) numbers))
+    → read_change_index s.base (change_md s.begin None ∷ map (change_entry s) numbers ++ close_line (codes "sitemapindex") ∷ [])
+    ≡ Some (ChangeListIndex s.begin None (map (change_entry_of s) numbers))
 unfolding read_change_index
 change_entries_read s numbers l h =
     ap (λ (o : Option (ℕ × Option ℕ)). paired (map (change_entry s) numbers ++ close_line (codes "sitemapindex") ∷ []) o
     >>= λ bounds. read_children (read_change_entry s.base) (codes "</sitemapindex>") bounds.1
-    >>= λ parts. Some (ChangeListIndex bounds.0.0 bounds.0.1 parts)) (change_md_read s.start None l.start tt)
-    ∙ ap (λ (o : Option (List ChangeEntry)). o >>= λ parts. Some (ChangeListIndex s.start None parts))
+    >>= λ parts. Some (ChangeListIndex bounds.0.0 bounds.0.1 parts)) (change_md_read s.begin None l.begin tt)
+    ∙ ap (λ (o : Option (List ChangeEntry)). o >>= λ parts. Some (ChangeListIndex s.begin None parts))
     (read_children-map (read_change_entry s.base) (change_entry s) (change_entry_of s) (codes "</sitemapindex>") numbers
     (all_so (λ k. k < 60000) (λ k. read_change_entry s.base (change_entry s k) ≡ Some (change_entry_of s k))
     (λ k few. let room : s.first + 60000 ≤ 2 ^ 64 = l.first in change_entry_read s k l.base (omega arith) (from_bound s k l)
@@ -216,19 +217,19 @@ unfolding read_resource_index read_resource_md strip
 not_resource_index base start lines = refl
 
 change_index_reads : (s : Shown) → IsReadable s
-    → reads (change_index s) ≡ Some (ChangeListIndex s.start None (map (change_entry_of s) (numbers_from 0 (change_parts_of s))))
+    → reads (change_index s) ≡ Some (ChangeListIndex s.begin None (map (change_entry_of s) (numbers_from 0 (change_parts_of s))))
 change_index_reads s l =
     let numbers : List ℕ = numbers_from 0 (change_parts_of s) in
     let few : change_parts_of s < 60000 = parts_few (length s.changes) s.limit l.changes_room l.low l.high in
     let each : AllByRecursion (λ k. k < 60000) numbers = numbers_below 0 (change_parts_of s) 60000 (omega arith) in
-    let rest : List (List ℕ) = change_md s.start None ∷ map (change_entry s) numbers ++ close_line (codes "sitemapindex") ∷ [] in
+    let rest : List (List ℕ) = change_md s.begin None ∷ map (change_entry s) numbers ++ close_line (codes "sitemapindex") ∷ [] in
     let room : s.first + 60000 ≤ 2 ^ 64 = l.first in
-    index_reads s.base rest (ChangeListIndex s.start None (map (change_entry_of s) numbers)) l.base
-    (onto (change_md s.start None) _ (change_md_is_line s.start None)
+    index_reads s.base rest (ChangeListIndex s.begin None (map (change_entry_of s) numbers)) l.base
+    (onto (change_md s.begin None) _ (change_md_is_line s.begin None)
     (children_lines (change_entry s) (close_line (codes "sitemapindex")) numbers
     (all_so (λ k. k < 60000) (λ k. IsLine (change_entry s k)) (λ k h. change_entry_is_line s k l.base (omega arith)) numbers each) refl))
     (ap (λ (o : Option Document). o or_else read_change_index s.base rest)
-    (not_resource_index s.base s.start (map (change_entry s) numbers ++ close_line (codes "sitemapindex") ∷ []))
+    (not_resource_index s.base s.begin (map (change_entry s) numbers ++ close_line (codes "sitemapindex") ∷ []))
     ∙ change_entries_read s numbers l each)
 
 -- each document
@@ -255,9 +256,9 @@ text_reads s (ResourcePart publication k) text l h =
     (resource_part_reads s (part_at k s.limit s.published) l
     (all_taken IsRecord s.limit (drop (k * s.limit) s.published) (all_dropped IsRecord (k * s.limit) s.published l.published))) h
 text_reads s ChangeHead text l h =
-    one_of_two (nat_le (change_parts_of s) 1) (change_list s (up_line s.base ∷ []) s.start None s.changes) (change_index s) text
-    (ChangeList s.start None s.changes) (ChangeListIndex s.start None (map (change_entry_of s) (numbers_from 0 (change_parts_of s))))
-    (change_list_reads s s.start None s.changes l l.start tt l.changes) (change_index_reads s l) h
+    one_of_two (nat_le (change_parts_of s) 1) (change_list s (up_line s.base ∷ []) s.begin None s.changes) (change_index s) text
+    (ChangeList s.begin None s.changes) (ChangeListIndex s.begin None (map (change_entry_of s) (numbers_from 0 (change_parts_of s))))
+    (change_list_reads s s.begin None s.changes l l.begin tt l.changes) (change_index_reads s l) h
 text_reads s (ChangePart number) text l h =
     let k : ℕ = number - s.first in
     where_there (is_part (change_parts_of s) s.first number) (change_part_text s k) text (change_part_of s k)

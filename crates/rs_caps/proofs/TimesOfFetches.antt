@@ -1,17 +1,15 @@
 -- The states at which documents are fetched, and the parts that are fetched there.
-use Rattle.std.proofs.Common.{◌≡◌, ℕ, ◌+◌, ◌-◌, ◌*◌, ◌<◌, ◌≤◌, ◌^◌, List, [], length, map, take, drop, refl, sym, ap, ◌∙◌, arith, Option, Some, None, Bool, true, false, nat_le, length-append, subst, min}
+use Rattle.std.proofs.Common.{◌≡◌, ℕ, ◌+◌, ◌-◌, ◌*◌, ◌<◌, ◌≤◌, ◌^◌, List, map, take, drop, refl, sym, ap, ◌∙◌, arith, Option, Some, None, Bool, true, false, nat_le, subst, min}
 use Rattle.std.specs.Prelude.{IsTrue, is_some, ◌==◌}
-use Rattle.std.specs.List.{AllByRecursion}
 use Rattle.std.proofs.lemmas.Bool.Decides.{nat_tests}
 use Rattle.std.proofs.lemmas.List.{drop-take, map-id, take-take}
-use Rattle.std.proofs.Math.Seq.{take-append_seam}
 use Rattle.rs_record.specs.declared.change.Change.{Change}
 use Rattle.rs_model.specs.declared.event.Event.{Event}
 use Rattle.rs_model.specs.Lawful.{IsLawful}
 use Rattle.rs_model.specs.Listed.{record_of}
 use Rattle.rs_model.specs.State.{Source}
-use Rattle.rs_model.specs.Walk.{walk_of, state_at, commands_of, IsLawfulEvent}
-use Rattle.rs_model.proofs.WalkLemmas.{walk-fold, walk_between, walk_onward, walk_lawful}
+use Rattle.rs_model.specs.Walk.{state_at, commands_of}
+use Rattle.rs_model.specs.WalkLaws.{WalksAreFolds}
 use Rattle.rs_lists.specs.declared.doc.Doc.TheVariants.{ResourcePart, ChangePart}
 use Rattle.rs_lists.specs.Chunks.{parts_of, part_at}
 use Rattle.rs_lists.specs.Text.{list_text, resource_part_path, change_part_path}
@@ -20,42 +18,19 @@ use Rattle.rs_caps.specs.Shows.{shown_of}
 use Rattle.rs_caps.specs.Readings.Document.{ResourceList}
 use Rattle.rs_caps.specs.Answer.{answer, listed_of, change_part_of}
 use Rattle.rs_caps.specs.Gather.{resources_in, changes_in}
-use Rattle.rs_caps.proofs.Elements.{all_taken}
+use Rattle.rs_caps.proofs.DroppedParts.{part_dropped}
 use Rattle.rs_caps.proofs.PathsRead.{doc_of-path_of}
 use Rattle.rs_caps.proofs.TextsRead.{shown_lawful, text_reads}
 use Rattle.rs_caps.proofs.Gathering.{IsPartAt}
 use Rattle.rs_caps.proofs.ListsRead.{answer_at}
 use Rattle.rs_caps.proofs.LaterStates.{IsLater, later}
-use Rattle.rs_caps.proofs.PartsStay.{listed_there}
+use Rattle.rs_caps.proofs.PartsStay.{listed_there, change_there}
+use Rattle.rs_caps.proofs.Walks.{folded, IsKept}
 
--- a walk goes on to later states
-walked : (s : Source) (events : List Event) → IsLater s (walk_of s events)
-walked s events =
-    let l = later s [] (commands_of events) in
-    subst (IsLater s) (sym (walk-fold s events ∙ l.1)) l.2
-
-pub later_between : (s : Source) (events : List Event) (i j : ℕ) → i ≤ j → IsLater (state_at s events i) (state_at s events j)
-later_between s events i j h =
+pub later_between : WalksAreFolds → (s : Source) (events : List Event) (i j : ℕ) → i ≤ j → IsLater (state_at s events i) (state_at s events j)
+later_between folds s events i j h =
     let t : Source = state_at s events i in
-    subst (IsLater t) (sym (walk_between s events i j h)) (walked t (drop i (take j events)))
-
-pub later_end : (s : Source) (events : List Event) (i : ℕ) → IsLater (state_at s events i) (walk_of s events)
-later_end s events i =
-    let t : Source = state_at s events i in
-    subst (IsLater t) (sym (walk_onward s events i)) (walked t (drop i events))
-
--- every state has the start of the first
-pub begun : (s : Source) (events : List Event) (i : ℕ) → (state_at s events i).start ≡ s.start
-begun s events i = (walked s (take i events)).start
-
-pub lawful_at : (s : Source) (events : List Event) (i : ℕ) → IsLawful s → AllByRecursion IsLawfulEvent events → IsLawful (state_at s events i)
-lawful_at s events i l h = walk_lawful s (take i events) l (all_taken IsLawfulEvent i events h)
-
-pub more_changes : (s t : Source) → IsLater s t → length s.changes ≤ length t.changes
-more_changes s t l = omega (arith, ap length l.changes, length-append s.changes l.more)
-
-pub changes_then : (s t : Source) → IsLater s t → s.changes ≡ take (length s.changes) t.changes
-changes_then s t l = sym (ap (take (length s.changes)) l.changes ∙ take-append_seam s.changes l.more)
+    subst (IsLater t) (sym (folded folds s events i j h)) (later t (commands_of (drop i (take j events))))
 
 -- a part of the Resource List, fetched later than its head
 some_text : {A : Type 0} (o : Option A) → IsTrue (is_some o) → (x : A) × (o ≡ Some x)
@@ -80,25 +55,25 @@ listed_part r t fetched k after l few small same there =
       gives = λ i. Some (map listed_of (part_at k (after.limit i) (map record_of (kept.1 i))));
     }
 
--- a part of the Change List, fetched later than its head, among all changes
-pub changed_part : (h t end : Source) (fetched : List ℕ → Option (List ℕ)) (items : List Change) (k : ℕ) → IsLater h t → IsLater t end → IsLawful t
-    → k < 60000 → fetched (change_part_path (0 + k)) ≡ answer t (change_part_path (0 + k))
-    → IsTrue (is_some (fetched (change_part_path (0 + k))))
-    → part_at k h.limit (take (length t.changes) end.changes) ≡ part_at k h.limit items
-    → IsPartAt changes_in fetched (change_part_path (0 + k)) (map (λ c. c) (part_at k h.limit items))
-changed_part h t end fetched items k after before l few same there part =
-    let path : List ℕ = change_part_path (0 + k) in
+-- a part of the Change List, fetched when n changes were recorded, among all
+pub changed_part : (t : Source) (fetched : List ℕ → Option (List ℕ)) (all : List Change) (limit n number : ℕ) (items : List Change)
+    → IsKept all limit n t → IsLawful t → number < 2 ^ 64 → fetched (change_part_path number) ≡ answer t (change_part_path number)
+    → IsTrue (is_some (fetched (change_part_path number))) → part_at number limit (take n all) ≡ items
+    → IsPartAt changes_in fetched (change_part_path number) (map (λ c. c) items)
+changed_part t fetched all limit n number items kept l small same there part =
+    let path : List ℕ = change_part_path number in
     let found = some_text (fetched path) there in
-    let at = answer_at t path (ChangePart (0 + k)) tt (doc_of-path_of (ChangePart (0 + k)) (omega arith)) in
-    let text : list_text (shown_of t) (ChangePart (0 + k)) ≡ Some found.0 = sym at ∙ sym same ∙ found.1 in
-    let number : 0 + k - 0 ≡ k = omega arith in
+    let at = answer_at t path (ChangePart number) tt (doc_of-path_of (ChangePart number) small) in
+    let text : list_text (shown_of t) (ChangePart number) ≡ Some found.0 = sym at ∙ sym same ∙ found.1 in
+    let k : ℕ = number - t.first in
+    let e : t.first + k ≡ number = omega (arith, (change_there t number found.0 text).0) in
     record {
       text = found.0;
-      document = change_part_of (shown_of t) (0 + k - 0);
+      document = change_part_of (shown_of t) k;
       there = found.1;
-      read = text_reads (shown_of t) (ChangePart (0 + k)) found.0 (shown_lawful t l) text;
-      gives = (λ i. Some (part_at (number i) (after.limit i) (changes_then t end before i)))
-          ∙ ap Some (part ∙ sym (map-id (part_at k h.limit items)));
+      read = text_reads (shown_of t) (ChangePart number) found.0 (shown_lawful t l) text;
+      gives = (λ i. Some (part_at k (kept.same_limit i) (kept.changes i)))
+          ∙ ap Some (part_dropped t.first k limit (take n all) ∙ ap (λ m. part_at m limit (take n all)) e ∙ part ∙ sym (map-id items));
     }
 
 -- a part of the first n items is a part of all, where n reaches its end

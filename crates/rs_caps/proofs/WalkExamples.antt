@@ -30,7 +30,8 @@ use Rattle.rs_caps.specs.Readings.Document.{ResourceList, ChangeList, ChangeList
 use Rattle.rs_caps.specs.ReadLines.{read_facts, read_resource, read_bound, read_deleted, read_end, read_resource_entry, read_change_entry, before_end, read_up, read_resource_md, read_change_md}
 use Rattle.rs_caps.specs.Reads.{reads, read_list, read_index, read_children, read_resource_list, read_change_list, read_resource_index, read_change_index}
 use Rattle.rs_caps.specs.Gather.{parts_at, gather_resources, gather_changes}
-use Rattle.rs_caps.specs.Destination.{part_paths, fetched_at, IsFetchedPart, IsFollowed}
+use Rattle.rs_caps.specs.Destination.{part_paths, fetched_at, IsFetchedPart, HaveNoGap, IsFollowed}
+use Rattle.rs_caps.proofs.ListsRead.{same_pair}
 
 -- a source of item limit 2, formatted at the first moment
 abbrev source : Source
@@ -74,8 +75,11 @@ entry_at name t = (name, record { facts = no_bytes; moment = t })
 abbrev between : List ℕ → ℕ → Option ℕ → ChangeEntry
 between path start until = record { path = path; start = start; until = until }
 
+abbrev read_by : List Event → (List ℕ → ℕ) → List ℕ → Option Document
+read_by events when path = fetched_at source events when path >>= reads
+
 abbrev read_at : List Event → List ℕ → Option Document
-read_at events path = fetched_at source events when path >>= reads
+read_at events path = read_by events when path
 
 -- Four changes are gathered of five, and mirrored they are `b` and `c`: the catalogue after 4 changes, and what was held
 -- after seven of the events.
@@ -108,10 +112,41 @@ pub walk_stopped :
 unfolding digits encode_with decode_pairs block_words rounds compress hash_after digest_bytes md5 first_words schedule rounds_256 compress_256 hash_after_256 digest_bytes_256 sha256 date_of period_of days_of moment_text read_moment moment_digits read_hash list_text strip cut lines_of characters read_number doc_of read_count last_part resource_part change_part document_text read_facts read_resource read_bound read_deleted read_end read_resource_entry read_change_entry before_end read_up read_resource_md read_change_md reads read_list read_index read_children read_resource_list read_change_list read_resource_index read_change_index parts_at
 walk_stopped = (refl, refl, refl, refl, refl, refl)
 
+-- `a` and `b` are put and published, and the Resource List fetched; `c` is put, and a publication drops part 0; then `d` is
+-- put, and of two publications the second drops part 1.
+abbrev with_drops : List Event
+with_drops =
+    Tried (put (codes "a")) 0 ∷ Tried (put (codes "b")) 0 ∷ Tried Publish 0 ∷ Fetch ∷ Tried (put (codes "c")) 0 ∷ Tried Publish 0
+    ∷ Fetch ∷ Tried (put (codes "d")) 0 ∷ Tried Publish 0 ∷ Tried Publish 0 ∷ Fetch ∷ []
+
+-- the Change List is fetched after this many events
+abbrev at_last : ℕ → List ℕ → ℕ
+at_last n path = if same_bytes path (codes "/resourcelist.xml") then 3 else n
+
+-- Between the drops the Change List begins at a moment that the Resource List has, and the two make what is held. After both
+-- there is a gap: `c` and `d` are missing.
+pub walk_with_drops :
+    (gather_resources (fetched_at source with_drops (at_last 6)) ≡ Some
+    (3, record { name = codes "a"; facts = no_bytes; moment = 1 } ∷ record { name = codes "b"; facts = no_bytes; moment = 2 } ∷ []))
+    × (gather_changes (fetched_at source with_drops (at_last 6)) ≡ Some (2, put_at (codes "c") 4 ∷ []))
+    × (mirror_of (entry_at (codes "a") 1 ∷ entry_at (codes "b") 2 ∷ []) 3 (put_at (codes "c") 4 ∷ []) ≡ catalogue source with_drops 3)
+    × (entries (state_at source with_drops 6).held ≡ catalogue source with_drops 3)
+    × (gather_resources (fetched_at source with_drops (at_last 10)) ≡ gather_resources (fetched_at source with_drops (at_last 6)))
+    × (gather_changes (fetched_at source with_drops (at_last 10)) ≡ Some (6, []))
+    × (catalogue source with_drops 4
+    ≡ entry_at (codes "a") 1 ∷ entry_at (codes "b") 2 ∷ entry_at (codes "c") 4 ∷ entry_at (codes "d") 6 ∷ [])
+unfolding digits encode_with decode_pairs block_words rounds compress hash_after digest_bytes md5 first_words schedule rounds_256 compress_256 hash_after_256 digest_bytes_256 sha256 date_of period_of days_of moment_text read_moment moment_digits read_hash list_text strip cut lines_of characters read_number doc_of read_count last_part resource_part change_part document_text read_facts read_resource read_bound read_deleted read_end read_resource_entry read_change_entry before_end read_up read_resource_md read_change_md reads read_list read_index read_children read_resource_list read_change_list read_resource_index read_change_index parts_at
+walk_with_drops = (refl, refl, refl, refl, refl, refl, refl)
+
+pub walk_has_gap : HaveNoGap source with_drops (at_last 10) → ⊥
+walk_has_gap no_gap =
+    let gap : 6 ≤ 3 = no_gap 3 6 _ _ (walk_with_drops.4 ∙ walk_with_drops.0) walk_with_drops.5 in
+    omega (arith, gap)
+
 -- These fetches are such as the law on destinations speaks of: so it says something of them.
-same_document : (head text : List ℕ) (known document : Document) → read_at with_c head ≡ Some known
-    → fetched_at source with_c when head ≡ Some text → reads text ≡ Some document → known ≡ document
-same_document head text known document k h r =
+same_document : (events : List Event) (when : List ℕ → ℕ) (head text : List ℕ) (known document : Document)
+    → read_by events when head ≡ Some known → fetched_at source events when head ≡ Some text → reads text ≡ Some document → known ≡ document
+same_document events when head text known document k h r =
     let same : Some known ≡ Some document = sym k ∙ ap (λ (o : Option (List ℕ)). o >>= reads) h ∙ r in
     cc
 
@@ -128,7 +163,7 @@ walk_followed =
             by_last = omega arith;
             parts = λ text document h r.
                 subst (λ d. AllByRecursion (IsFetchedPart source with_c when 2 2) (part_paths d))
-                (same_document (codes "/resourcelist.xml") text (ResourceList 2 (record { name = codes "a"; facts = no_bytes; moment = 1 } ∷ [])) document refl h r)
+                (same_document with_c when (codes "/resourcelist.xml") text (ResourceList 2 (record { name = codes "a"; facts = no_bytes; moment = 1 } ∷ [])) document refl h r)
                 tt;
           };
       order = omega arith;
@@ -137,11 +172,43 @@ walk_followed =
             by_last = omega arith;
             parts = λ text document h r.
                 subst (λ d. AllByRecursion (IsFetchedPart source with_c when 5 9) (part_paths d))
-                (same_document (codes "/changelist.xml") text
+                (same_document with_c when (codes "/changelist.xml") text
                 (ChangeListIndex 0 None (between (codes "/changelist/0.xml") 0 (Some 3) ∷ between (codes "/changelist/1.xml") 3 None ∷ []))
                 document refl h r) (
                   part_of_head (codes "/changelist/0.xml") (omega arith) (omega arith) refl,
                   (part_of_head (codes "/changelist/1.xml") (omega arith) (omega arith) refl, tt),
                 );
           };
+      no_gap = λ at start listed changes h g.
+          let resources = same_pair (2, _) (at, listed) (sym walk_with_c.2 ∙ h) in
+          let followed = same_pair (0, _) (start, changes) (sym walk_with_c.3 ∙ g) in
+          omega (arith, resources.0, followed.0);
+    }
+
+pub walk_with_drops_followed : IsFollowed source with_drops (at_last 6) 3 6
+unfolding digits encode_with decode_pairs block_words rounds compress hash_after digest_bytes md5 first_words schedule rounds_256 compress_256 hash_after_256 digest_bytes_256 sha256 date_of period_of days_of moment_text read_moment moment_digits read_hash list_text strip cut lines_of characters read_number doc_of read_count last_part resource_part change_part document_text read_facts read_resource read_bound read_deleted read_end read_resource_entry read_change_entry before_end read_up read_resource_md read_change_md reads read_list read_index read_children read_resource_list read_change_list read_resource_index read_change_index parts_at
+walk_with_drops_followed =
+    record {
+      resources =
+          record {
+            by_last = omega arith;
+            parts = λ text document h r.
+                subst (λ d. AllByRecursion (IsFetchedPart source with_drops (at_last 6) 3 3) (part_paths d))
+                (same_document with_drops (at_last 6) (codes "/resourcelist.xml") text (ResourceList 3 (record { name = codes "a"; facts = no_bytes; moment = 1 }
+                ∷ record { name = codes "b"; facts = no_bytes; moment = 2 } ∷ [])) document refl h r)
+                tt;
+          };
+      order = omega arith;
+      changes =
+          record {
+            by_last = omega arith;
+            parts = λ text document h r.
+                subst (λ d. AllByRecursion (IsFetchedPart source with_drops (at_last 6) 6 6) (part_paths d))
+                (same_document with_drops (at_last 6) (codes "/changelist.xml") text (ChangeList 2 None (put_at (codes "c") 4 ∷ [])) document refl h r)
+                tt;
+          };
+      no_gap = λ at start listed changes h g.
+          let resources = same_pair (3, _) (at, listed) (sym walk_with_drops.0 ∙ h) in
+          let followed = same_pair (2, _) (start, changes) (sym walk_with_drops.1 ∙ g) in
+          omega (arith, resources.0, followed.0);
     }

@@ -53,8 +53,8 @@ resource_head_of s =
 -- the Change List, or its index where it has several parts; neither has an end
 abbrev pub change_head_of : Shown → Document
 change_head_of s =
-    if nat_le (change_parts_of s) 1 then ChangeList s.start None s.changes
-    else ChangeListIndex s.start None (map (change_entry_of s) (numbers_from 0 (change_parts_of s)))
+    if nat_le (change_parts_of s) 1 then ChangeList s.begin None s.changes
+    else ChangeListIndex s.begin None (map (change_entry_of s) (numbers_from 0 (change_parts_of s)))
 
 -- what the text of a list, a part or an index is to read as
 abbrev pub reading_of : Shown → Doc → Option Document

@@ -40,13 +40,22 @@ pub record IsFetched (s : Source) (events : List Event) (when : List ℕ → ℕ
   pub parts : (text : List ℕ) (document : Document) → fetched_at s events when head ≡ Some text → reads text ≡ Some document
       → AllByRecursion (IsFetchedPart s events when (when head) last) (part_paths document)
 
+-- No change between the two lists that are gathered so is missing: the Resource List's moment is not before the one at which the
+-- Change List begins. (It may be where publications come between the two, which drop changes.)
+abbrev pub HaveNoGap : Source → List Event → (List ℕ → ℕ) → Type 0
+HaveNoGap s events when =
+    (at start : ℕ) (listed : List Listed) (changes : List Change)
+    → gather_resources (fetched_at s events when) ≡ Some (at, listed)
+    → gather_changes (fetched_at s events when) ≡ Some (start, changes) → start ≤ at
+
 -- A destination fetches the Resource List's head and parts, and the Change List's: its head with the other head or later.
 pub record IsFollowed (s : Source) (events : List Event) (when : List ℕ → ℕ) (done last : ℕ) : Type 0 where
   pub resources : IsFetched s events when done (codes "/resourcelist.xml")
   pub order : when (codes "/resourcelist.xml") ≤ when (codes "/changelist.xml")
   pub changes : IsFetched s events when last (codes "/changelist.xml")
+  pub no_gap : HaveNoGap s events when
 
--- Both lists read, nothing between them is left out, and the one mirrored with the other is the catalogue after n changes:
+-- Both lists read, and the one mirrored with the other is the catalogue after n changes:
 -- at least those recorded when the Change List's head was fetched, and at most those when the last of its documents was.
 pub record Mirrors (s : Source) (events : List Event) (when : List ℕ → ℕ) (last : ℕ) : Type 0 where
   pub at : ℕ
@@ -56,7 +65,6 @@ pub record Mirrors (s : Source) (events : List Event) (when : List ℕ → ℕ) 
   pub n : ℕ
   pub resources_gathered : gather_resources (fetched_at s events when) ≡ Some (at, listed)
   pub changes_gathered : gather_changes (fetched_at s events when) ≡ Some (start, changes)
-  pub no_gap : start ≤ at
   pub low : count_at s events (when (codes "/changelist.xml")) ≤ n
   pub high : n ≤ count_at s events last
   pub mirrored : mirror_of (map listed_entry listed) at changes ≡ catalogue s events n

@@ -4,7 +4,7 @@ use Rattle.rs_model.specs.State.{Source}
 use Rattle.rs_model.specs.Listed.{record_of}
 use Rattle.rs_lists.specs.Shown.{Shown}
 
--- the latest publication, each resource as its line shows it, and all changes, of which the first part has number 0
+-- the latest publication, each resource as its line shows it, and the changes that are kept
 abbrev pub shown_of : Source → Shown
 shown_of s =
     record {
@@ -15,5 +15,6 @@ shown_of s =
       at = s.at;
       published = map record_of s.listed;
       changes = s.changes;
-      first = 0;
+      first = s.first;
+      begin = s.begin;
     }

@@ -3,7 +3,7 @@ use Rattle.std.specs.Prelude.{◌≡◌, ℕ, ◌+◌, ◌<◌, ◌≤◌, List,
 use Rattle.std.specs.List.{AllByRecursion}
 use Rattle.rs_record.specs.declared.change.Change.{Change}
 use Rattle.rs_model.specs.declared.command.Command.{Command}
-use Rattle.rs_model.specs.Regular.{IsRegular, IsTimely}
+use Rattle.rs_model.specs.Regular.{IsRegular}
 use Rattle.rs_model.specs.State.{Source, entries}
 use Rattle.rs_model.specs.Step.{fold_of, mirror_of}
 use Rattle.rs_lists.specs.declared.doc.Doc.{Doc}
@@ -37,9 +37,9 @@ TextsRead =
 abbrev pub ResourcesAreGathered : Source → Type 0
 ResourcesAreGathered s = gather_resources (answer s) ≡ Some (s.at, map listed_of (map record_of s.listed))
 
--- What is gathered from the Change List is all changes.
+-- What is gathered from the Change List is where the kept history begins, and all its changes.
 abbrev pub ChangesAreGathered : Source → Type 0
-ChangesAreGathered s = gather_changes (answer s) ≡ Some (s.start, s.changes)
+ChangesAreGathered s = gather_changes (answer s) ≡ Some (s.begin, s.changes)
 
 -- The one mirrored with the other is what is held.
 abbrev pub ListsMirror : Source → Type 0
@@ -67,11 +67,11 @@ ClosedPartsStay =
 abbrev pub IsChangeBetween : ℕ → ℕ → Change → Type 0
 IsChangeBetween low high c = (low < c.moment) × (c.moment ≤ high)
 
--- In a regular state that formatting began the changes of a part of the Change List are after its `from`, and not after the
+-- In a regular state the changes of a part of the Change List are after its `from`, and not after the
 -- next part's.
 abbrev pub PartsAreBounded : Type 0
 PartsAreBounded =
-    (s : Source) (k : ℕ) → IsRegular s → IsTimely s
+    (s : Source) (k : ℕ) → IsRegular s
     → AllByRecursion (IsChangeBetween (from_of (shown_of s) k) (from_of (shown_of s) (k + 1))) (part_at k s.limit s.changes)
 
 -- No document says where the blocks of a body are: each is the text of the same view with empty extents.
@@ -89,6 +89,7 @@ pub record IsShownAlike (s t : Shown) : Type 0 where
   pub published : map entry_of_record s.published ≡ map entry_of_record t.published
   pub changes : s.changes ≡ t.changes
   pub first : s.first ≡ t.first
+  pub begin : s.begin ≡ t.begin
 
 -- Such views have the same documents.
 abbrev pub AlikeViewsHaveOneText : Type 0

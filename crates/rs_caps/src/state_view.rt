@@ -9,10 +9,7 @@ use rs_record::{Base, Change, Record};
 use rs_time::Moment;
 use std::alloc::{AllocError, Global};
 
-// The number of the first part of the Change List: all changes are kept.
-const FIRST_PART: u64 = 0;
-
-/// A state as its documents show it: its latest publication and all its changes. It borrows the state and copies
+/// A state as its documents show it: its latest publication and the changes that it keeps. It borrows the state and copies
 /// nothing. A listed resource has no extent of its own here, so each record's extent is empty.
 #[derive(Drop)]
 pub struct StateView<'a> {
@@ -76,6 +73,10 @@ impl View for StateView<'_> {
     }
 
     fn first(&self) -> u64 {
-        FIRST_PART
+        self.state.first()
+    }
+
+    fn begin(&self) -> Moment {
+        self.state.begin()
     }
 }

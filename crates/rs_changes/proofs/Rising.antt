@@ -1,7 +1,9 @@
 -- Moments that strictly rise, by pairs of neighbours.
-use Rattle.std.proofs.Common.{◌≡◌, ℕ, zero, suc, ◌<◌, ◌≤◌, ◌+◌, ◌-◌, List, [], ◌∷◌, ◌++◌, length, drop, get_or, true, refl, sym, ap, ◌∙◌, subst, arith, length-append, length-drop}
+use Rattle.std.proofs.Common.{◌≡◌, ℕ, zero, suc, ◌<◌, ◌≤◌, ◌+◌, ◌-◌, List, [], ◌∷◌, ◌++◌, length, drop, get_or, true, false, true≢false, refl, sym, ap, ◌∙◌, subst, arith, length-append, length-drop}
 use Rattle.std.specs.Prelude.{IsTrue, nat_lt, slice_get, IfSome}
-use Rattle.std.specs.Cmp.{first_so, second_so}
+use Rattle.std.specs.Cmp.{first_so, second_so, ranked}
+use Rattle.std.specs.Ordering.{is_le, nat_cmp}
+use Rattle.std.proofs.lemmas.Cmp.{by_ranked}
 use Rattle.std.proofs.lemmas.Bool.{and_from}
 use Rattle.std.proofs.lemmas.Bool.Decides.{nat_tests}
 use Rattle.std.proofs.lemmas.Option.{get_or_from_slice_get, slice_get-get_or}
@@ -14,6 +16,11 @@ is_below a b h = grind (arith, nat_tests)
 
 below_of : (a b : ℕ) → IsTrue (nat_lt a b) → a < b
 below_of a b h = grind (arith, nat_tests)
+
+-- a number that is not up to another is above it
+pub above : (a b : ℕ) → is_le (nat_cmp a b) ≡ false → b < a
+above a b h =
+    by_ranked (a < b) (a ≡ b) (b < a) (nat_cmp a b) (ranked a b _ refl) (λ e _. absurd (true≢false (sym (ap is_le e) ∙ h))) (λ e _. absurd (true≢false (sym (ap is_le e) ∙ h))) (λ _ l. l)
 
 -- the moment at a place is below the next one
 abbrev pub Rises : List Change → ℕ → Change → Type 0

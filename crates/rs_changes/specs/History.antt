@@ -7,7 +7,14 @@ use Rattle.rs_page.specs.declared.place.PageRef.{PageRef}
 use Rattle.rs_page.specs.Items.{change_format}
 use Rattle.rs_page.specs.Pages.{Page, items_of}
 use Rattle.rs_page.specs.DiskPages.{ArePages}
+use Rattle.rs_pages.specs.Dropped.{dropped_front}
+use Rattle.rs_time.specs.Moment.{greatest}
 use Rattle.rs_pages.specs.Filled.{EndsUnstored as LastStandsUnstored}
+
+-- A history: the number of the first part of the changes that are kept, which is how many were dropped, and their pages.
+pub record Numbered : Type 0 where
+  pub first : ℕ
+  pub pages : List (Page Change)
 
 -- the changes of a list of pages, the earliest first
 abbrev pub changes_of : List (Page Change) → List Change
@@ -22,10 +29,23 @@ pub record AreKept (changes : List Change) : Type 0 where
   pub rising : IsTrue (is_rising changes)
   pub room : length changes ≤ most_changes
 
--- What each history keeps: each page has changes, and the moments strictly rise through all pages.
+-- What pages of a history keep: each page has changes, and the moments strictly rise through all pages.
 pub record IsHistory (pages : List (Page Change)) : Type 0 where
   pub some : All (λ page. 1 ≤ length page.items) pages
   pub kept : AreKept (changes_of pages)
+
+-- What each history keeps: its changes are kept, and its first number is no more than there are moments.
+pub record IsNumbered (h : Numbered) : Type 0 where
+  pub kept : AreKept (changes_of h.pages)
+  pub first : h.first ≤ greatest
+
+-- the history with these pages in place of its own
+abbrev pub with_pages : Numbered → List (Page Change) → Numbered
+with_pages h pages = record h { pages = pages }
+
+-- the history without its first parts: so many, of so many changes each
+abbrev pub without_parts : ℕ → ℕ → Numbered → Numbered
+without_parts count limit h = record { first = h.first + count; pages = dropped_front (count * limit) h.pages }
 
 -- the last change stands in a page that is not on the disk
 abbrev pub EndsUnstored : List (Page Change) → Type 0

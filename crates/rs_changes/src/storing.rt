@@ -10,8 +10,9 @@ ghost use Rattle.rs_page.specs.Placing.{Places, HasNoPlace};
 ghost use Rattle.rs_page.specs.DiskPages.{IsWritten};
 ghost use Rattle.rs_page.specs.Pages.{IsStored, IsTouched, items_of, placed_extents, stored, stored_refs};
 ghost use Rattle.rs_pages.specs.Storing.{StaysOrIsStored, WritesPages, ReadsPages};
+ghost use Rattle.rs_time.specs.Moment.{greatest};
 ghost use Rattle.rs_model.specs.Regular.{is_rising as rising};
-ghost use Rattle.rs_changes.specs.History.{changes_of, EndsUnstored, HoldsHistory};
+ghost use Rattle.rs_changes.specs.History.{with_pages, changes_of, EndsUnstored, HoldsHistory};
 
 use crate::History;
 use rs_disk::Disk;
@@ -30,15 +31,17 @@ impl History {
     ///
     /// [`Full`] where a page has no such run; nothing has changed then.
     pub fn place_touched(&mut self, used: &mut Used) -> Result<(), Full>
-        ensures places { OnOk result (Places change_format used.old self.old used.new self.new) }
-        ensures placed { OnOk result (All (λ page. ¬ IsTouched page.place) self.new) }
-        ensures taken { placed_extents self.old ≡ []
-            → OnOk result (AreTaken used.old used.new (placed_extents self.new)) }
-        ensures unstored { EndsUnstored self.old → EndsUnstored self.new }
-        ensures full { OnErr result (HasNoPlace change_format used.old self.old) }
+        ensures places { OnOk result
+            (Places change_format used.old self.old.pages used.new self.new.pages) }
+        ensures placed { OnOk result (All (λ page. ¬ IsTouched page.place) self.new.pages) }
+        ensures taken { placed_extents self.old.pages ≡ []
+            → OnOk result (AreTaken used.old used.new (placed_extents self.new.pages)) }
+        ensures unstored { EndsUnstored self.old.pages → EndsUnstored self.new.pages }
+        ensures full { OnErr result (HasNoPlace change_format used.old self.old.pages) }
         ensures used { OnErr result (used.new ≡ used.old) }
         ensures unchanged { OnErr result (self.new ≡ self.old) }
-        ensures changes { changes_of self.new ≡ changes_of self.old }
+        ensures changes { changes_of self.new.pages ≡ changes_of self.old.pages }
+        ensures first { self.new.first ≡ self.old.first }
     {
         self.pages.place_touched(used)
     }
@@ -46,9 +49,9 @@ impl History {
     /// Adds the blocks that pages were given, and are not written to yet, in the order of the pages, to
     /// a list that has room for as many as there are pages. It takes no memory.
     pub fn list_placed(&self, extents: &mut Vec<Extent>)
-        requires { vec_len extents.old + length self.now ≤ vec_capacity extents.old }
-        ensures items { extents.new.items ≡ extents.old.items ++ placed_extents self.now }
-        ensures len { vec_len extents.new ≤ vec_len extents.old + length self.now }
+        requires { vec_len extents.old + length self.now.pages ≤ vec_capacity extents.old }
+        ensures items { extents.new.items ≡ extents.old.items ++ placed_extents self.now.pages }
+        ensures len { vec_len extents.new ≤ vec_len extents.old + length self.now.pages }
         ensures capacity { vec_capacity extents.old ≤ vec_capacity extents.new }
     {
         self.pages.list_placed(extents);
@@ -71,24 +74,28 @@ impl History {
     /// After each of them the changes are as they were, and each page is as it was, or is written and
     /// stored.
     pub fn store_touched<D: Disk>(&mut self, alloc: Global, disk: &mut D) -> Result<(), StoreFault>
-        requires placed { All (λ page. ¬ IsTouched page.place) self.old }
-        requires room { AreOnDisk (placed_extents self.old) (D.state disk.old).size }
-        requires apart { AreApart (placed_extents self.old) }
-        ensures ok { OnOk result (self.new ≡ stored change_format self.old) }
+        requires placed { All (λ page. ¬ IsTouched page.place) self.old.pages }
+        requires room { AreOnDisk (placed_extents self.old.pages) (D.state disk.old).size }
+        requires apart { AreApart (placed_extents self.old.pages) }
+        ensures ok { OnOk result
+            (self.new ≡ with_pages self.old (stored change_format self.old.pages)) }
         ensures reads { OnOk result
-            (All (IsWritten change_format (D.state disk.new).now.seen) self.old) }
-        ensures changes { OnErr result (changes_of self.new ≡ changes_of self.old) }
+            (All (IsWritten change_format (D.state disk.new).now.seen) self.old.pages) }
+        ensures changes { OnErr result (changes_of self.new.pages ≡ changes_of self.old.pages) }
         ensures places { OnErr result
-            (AllZip (StaysOrIsStored change_format (D.state disk.new).now.seen) self.old self.new) }
+            (AllZip (StaysOrIsStored change_format (D.state disk.new).now.seen)
+            self.old.pages self.new.pages) }
+        ensures first { OnErr result (self.new.first ≡ self.old.first) }
         ensures device { TellsFaults (IsErrOf result StoreFault.Device)
             (D.state disk.old) (D.state disk.new) }
-        ensures writes { WritesPages self.old (D.state disk.old) (D.state disk.new) }
+        ensures writes { WritesPages self.old.pages (D.state disk.old) (D.state disk.new) }
     {
         self.pages.store_touched(alloc, disk)
     }
 
     /// Reads the history that these references point to, whatever they say, by one device call a
-    /// page. The disk stays as it is.
+    /// page. Its first part has this number, which is at most 253,402,300,799,999. The disk stays as it
+    /// is.
     ///
     /// No memory is asked for a page before its extent was found to lie on the disk and to have
     /// exactly the blocks of its length, nor for any after 50,000 changes were passed.
@@ -102,15 +109,18 @@ impl History {
     pub fn load<D: Disk>(
         alloc: Global,
         disk: &mut D,
+        first: u64,
         pages: &[PageRef],
     ) -> Result<History, LoadFault>
-        ensures pages { IfOk result (λ loaded. stored_refs loaded ≡ pages.now) }
-        ensures stored { IfOk result (All IsStored) }
+        requires { first ≤ greatest }
+        ensures first { IfOk result (λ loaded. loaded.first ≡ first) }
+        ensures pages { IfOk result (λ loaded. stored_refs loaded.pages ≡ pages.now) }
+        ensures stored { IfOk result (λ loaded. All IsStored loaded.pages) }
 
         // What the disk holds is said of a device that has followed the model.
         ensures found { IfOk result (λ loaded. IsTrue (D.state disk.new).honest
             → HoldsHistory pages.now (D.state disk.new).now.seen
-            (map (λ page. page.items) loaded)) }
+            (map (λ page. page.items) loaded.pages)) }
         ensures damaged { IsErrOf result LoadFault.Damaged
             → IsTrue (D.state disk.new).honest
             → (changes : List (List Change))
@@ -124,7 +134,7 @@ impl History {
         if !is_rising(&pages) {
             return Err(LoadFault::Damaged);
         }
-        Ok(History { pages })
+        Ok(History { first, pages })
     }
 }
 

@@ -7,7 +7,7 @@ use Rattle.rs_commit.specs.declared.slot.Slot.{Slot}
 use Rattle.rs_commit.specs.declared.slot.Slot.TheVariants.{First, Second}
 use Rattle.rs_commit.specs.declared.slot.Content.{Content}
 use Rattle.rs_commit.specs.declared.slot.Content.TheVariants.{Closed, Unknown, Open}
-use Rattle.rs_commit.specs.Slots.{other, block, gate, version, root_in, is_open, content, Standing, pick, current, OpensTo}
+use Rattle.rs_commit.specs.Slots.{other, block, gate, version, root_in, is_known, is_open, content, Standing, pick, current, OpensTo}
 use Rattle.rs_commit.proofs.Blocks.{front_blocks}
 
 is_not : (m n : ℕ) → (m ≡ n → ⊥) → nat_eq m n ≡ false
@@ -34,14 +34,14 @@ pub closed : (bytes : List ℕ) → (gate bytes ≡ 1 → ⊥) → content bytes
 unfolding content
 closed bytes shut =
     let off : is_open bytes ≡ false = never (nat_eq (length bytes) 512) (nat_eq (gate bytes) 1) (is_not (gate bytes) 1 shut) in
-    ap (λ (b : Bool). if b then (if nat_eq (version bytes) 1 then Open (root_in bytes) else Unknown) else Closed) off
+    ap (λ (b : Bool). if b then (if is_known (version bytes) then Open (root_in bytes) else Unknown) else Closed) off
 
 -- a whole one whose gate is 1 tells the root of a known version
-pub opened : (bytes : List ℕ) (root : Root) → length bytes ≡ 512 → gate bytes ≡ 1 → version bytes ≡ 1 → root_in bytes ≡ root → content bytes ≡ Open root
+pub opened : (bytes : List ℕ) (root : Root) → length bytes ≡ 512 → gate bytes ≡ 1 → is_known (version bytes) ≡ true → root_in bytes ≡ root → content bytes ≡ Open root
 unfolding content
 opened bytes root long one known tells =
     let on : is_open bytes ≡ true = and_from (nat_eq (length bytes) 512) (nat_eq (gate bytes) 1) (is_same (length bytes) 512 long) (is_same (gate bytes) 1 one) in
-    (λ i. if on i then (if is_same (version bytes) 1 known i then Open (root_in bytes) else Unknown) else Closed) ∙ ap Open tells
+    (λ i. if on i then (if known i then Open (root_in bytes) else Unknown) else Closed) ∙ ap Open tells
 
 open_from : (o k : Bool) (a root : Root) → (if o then (if k then Open a else Unknown) else Closed) ≡ Open root → o ≡ true
 open_from true k a root e = refl
@@ -56,14 +56,14 @@ closed_from true false a e = absurd cc
 pub gate_of_open : (bytes : List ℕ) (root : Root) → content bytes ≡ Open root → gate bytes ≡ 1
 unfolding content
 gate_of_open bytes root is =
-    let on : is_open bytes ≡ true = open_from (is_open bytes) (nat_eq (version bytes) 1) (root_in bytes) root is in
+    let on : is_open bytes ≡ true = open_from (is_open bytes) (is_known (version bytes)) (root_in bytes) root is in
     same_from (gate bytes) 1 (and_parts (nat_eq (length bytes) 512) (nat_eq (gate bytes) 1) on).1
 
 -- and that of a whole one that says nothing isn't
 pub gate_of_closed : (bytes : List ℕ) → length bytes ≡ 512 → content bytes ≡ Closed → gate bytes ≡ 1 → ⊥
 unfolding content
 gate_of_closed bytes long is one =
-    let off : is_open bytes ≡ false = closed_from (is_open bytes) (nat_eq (version bytes) 1) (root_in bytes) is in
+    let off : is_open bytes ≡ false = closed_from (is_open bytes) (is_known (version bytes)) (root_in bytes) is in
     let on : is_open bytes ≡ true = and_from (nat_eq (length bytes) 512) (nat_eq (gate bytes) 1) (is_same (length bytes) 512 long) (is_same (gate bytes) 1 one) in
     true≢false (sym on ∙ off)
 
@@ -149,19 +149,19 @@ unfolding current
 same_blocks one two First here there = λ i. pick (content (here i)) (content (there i))
 same_blocks one two Second here there = λ i. pick (content (there i)) (content (here i))
 
--- a whole one whose gate is 1 and whose version isn't
-pub unknown : (bytes : List ℕ) → length bytes ≡ 512 → gate bytes ≡ 1 → (version bytes ≡ 1 → ⊥) → content bytes ≡ Unknown
+-- a whole one whose gate is 1 and whose version isn't known
+pub unknown : (bytes : List ℕ) → length bytes ≡ 512 → gate bytes ≡ 1 → is_known (version bytes) ≡ false → content bytes ≡ Unknown
 unfolding content
 unknown bytes long one differs =
     let on : is_open bytes ≡ true = and_from (nat_eq (length bytes) 512) (nat_eq (gate bytes) 1) (is_same (length bytes) 512 long) (is_same (gate bytes) 1 one) in
-    λ i. if on i then (if is_not (version bytes) 1 differs i then Open (root_in bytes) else Unknown) else Closed
+    λ i. if on i then (if differs i then Open (root_in bytes) else Unknown) else Closed
 
 -- a block that the disk doesn't have says nothing
 pub missing : (bytes : List ℕ) → length bytes < 512 → content bytes ≡ Closed
 unfolding content
 missing bytes short =
     let size : nat_eq (length bytes) 512 ≡ false = grind (arith, nat_tests) in
-    ap (λ (b : Bool). if b && nat_eq (gate bytes) 1 then (if nat_eq (version bytes) 1 then Open (root_in bytes) else Unknown) else Closed) size
+    ap (λ (b : Bool). if b && nat_eq (gate bytes) 1 then (if is_known (version bytes) then Open (root_in bytes) else Unknown) else Closed) size
 
 -- the slots of an image stand by what they say
 pub current_by : (image : List ℕ) (first second : Content) → first ≡ content (block image First) → second ≡ content (block image Second) → current image ≡ pick first second

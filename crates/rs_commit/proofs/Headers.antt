@@ -1,9 +1,9 @@
 -- What the first 54 bytes of a whole block say.
-use Rattle.std.proofs.Common.{◌≡◌, ℕ, ◌<◌, List, length, take, get_or, sym, ◌∙◌, ap, arith}
+use Rattle.std.proofs.Common.{◌≡◌, ℕ, ◌<◌, true, false, List, length, take, get_or, sym, ◌∙◌, ap, arith}
 use Rattle.std.proofs.lemmas.List.{get_or-take}
 use Rattle.rs_commit.specs.declared.root.Root.{Root}
 use Rattle.rs_commit.specs.declared.slot.Content.TheVariants.{Closed, Unknown, Open}
-use Rattle.rs_commit.specs.Slots.{root_in, content}
+use Rattle.rs_commit.specs.Slots.{root_in, is_known, content}
 use Rattle.rs_commit.proofs.Contents.{closed, opened, unknown}
 use Rattle.rs_commit.proofs.Payloads.{first_bytes}
 
@@ -14,9 +14,9 @@ module _ (bytes block : List ℕ) (long : length block ≡ 512) (are : bytes ≡
   pub says_closed : (get_or bytes 0 0 ≡ 1 → ⊥) → Closed ≡ content block
   says_closed shut = sym (closed block (λ one. shut (sym (byte_at 0 (omega arith)) ∙ one)))
 
-  pub says_unknown : get_or bytes 0 0 ≡ 1 → (get_or bytes 1 0 ≡ 1 → ⊥) → Unknown ≡ content block
-  says_unknown one differs = sym (unknown block long (byte_at 0 (omega arith) ∙ one) (λ known. differs (sym (byte_at 1 (omega arith)) ∙ known)))
+  pub says_unknown : get_or bytes 0 0 ≡ 1 → is_known (get_or bytes 1 0) ≡ false → Unknown ≡ content block
+  says_unknown one differs = sym (unknown block long (byte_at 0 (omega arith) ∙ one) (ap is_known (byte_at 1 (omega arith)) ∙ differs))
 
-  pub says_open : get_or bytes 0 0 ≡ 1 → get_or bytes 1 0 ≡ 1 → (root : Root) → root ≡ root_in bytes → Open root ≡ content block
+  pub says_open : get_or bytes 0 0 ≡ 1 → is_known (get_or bytes 1 0) ≡ true → (root : Root) → root ≡ root_in bytes → Open root ≡ content block
   says_open one known root tells =
-      sym (opened block root long (byte_at 0 (omega arith) ∙ one) (byte_at 1 (omega arith) ∙ known) (sym (tells ∙ ap root_in are ∙ first_bytes block)))
+      sym (opened block root long (byte_at 0 (omega arith) ∙ one) (ap is_known (byte_at 1 (omega arith)) ∙ known) (sym (tells ∙ ap root_in are ∙ first_bytes block)))

@@ -8,7 +8,7 @@ use Rattle.rs_disk.proofs.Images.{over_torn}
 use Rattle.rs_commit.specs.declared.root.Root.{Root}
 use Rattle.rs_commit.specs.declared.slot.Slot.{Slot}
 use Rattle.rs_commit.specs.declared.slot.Content.TheVariants.{Open}
-use Rattle.rs_commit.specs.Slots.{offset, other, block, content, Standing, current, OpensTo, payload_of, IsLawfulRoot}
+use Rattle.rs_commit.specs.Slots.{offset, other, block, content, Standing, current, OpensTo, payload_of, written_version, IsLawfulRoot}
 use Rattle.rs_commit.specs.Commit.{IsReady, with_root}
 use Rattle.rs_commit.specs.Format.{slot_bytes, formatted, fresh}
 use Rattle.rs_commit.proofs.Blocks.{fits_slot, others, length-block, beside, kept_here, tail_kept, gate_put, payload_put, over_behind}
@@ -76,6 +76,6 @@ committed_ready slots old new root ready lawful greater are =
 pub formatted_ready : (root : Root) (rest : List ℕ) (new : Medium) → IsLawfulRoot root → new ≡ resting (formatted root ++ rest) → IsReady (fresh root) new
 formatted_ready root rest new lawful are =
     let one : length (slot_bytes 1 (payload_of root)) ≡ 512 = length-slot_bytes 1 (payload_of root) (omega (arith, length-payload root lawful)) in
-    let two : length (slot_bytes 0 (1 ∷ [])) ≡ 512 = length-slot_bytes 0 (1 ∷ []) (omega arith) in
-    let room : 1024 ≤ length (formatted root ++ rest) = omega (arith, one, two, length-append (formatted root) rest, length-append (slot_bytes 1 (payload_of root)) (slot_bytes 0 (1 ∷ []))) in
+    let two : length (slot_bytes 0 (written_version ∷ [])) ≡ 512 = length-slot_bytes 0 (written_version ∷ []) (omega arith) in
+    let room : 1024 ≤ length (formatted root ++ rest) = omega (arith, one, two, length-append (formatted root) rest, length-append (slot_bytes 1 (payload_of root)) (slot_bytes 0 (written_version ∷ []))) in
     subst (λ (m : Medium). IsReady (fresh root) m) (sym are) (rest_ready (fresh root) (formatted root ++ rest) room (formatted_stands root rest lawful))

@@ -8,13 +8,13 @@ use Rattle.rs_commit.specs.declared.faults.SlotFault.{SlotFault}
 use Rattle.rs_commit.specs.declared.faults.SlotFault.TheVariants.{Device}
 use Rattle.rs_commit.specs.declared.faults.CommitFault.{CommitFault}
 use Rattle.rs_commit.specs.declared.faults.CommitFault.TheVariants.{Device as DeviceFailed}
-use Rattle.rs_commit.specs.Slots.{Standing, offset, current, OpensTo, payload_of}
+use Rattle.rs_commit.specs.Slots.{Standing, offset, current, OpensTo, payload_of, written_version}
 
--- the bytes behind_slots the slots
+-- the bytes behind the slots
 abbrev pub behind_slots : List ℕ → List ℕ
 behind_slots image = drop 1024 image
 
--- two lists of one size, the same behind_slots the slots
+-- two lists of one size, the same behind the slots
 pub record SameBehind (one two : List ℕ) : Type 0 where
   pub size : length one ≡ length two
   pub bytes : behind_slots one ≡ behind_slots two
@@ -29,15 +29,15 @@ pub record IsReady (slots : Standing) (m : Medium) : Type 0 where
   pub current : current m.seen ≡ Some slots
   pub settled : AreSettled m
 
--- the root of the next generation
+-- the root of the next generation, in the version that is written
 abbrev pub next : Root → Extent → ℕ → List ℕ → Root
-next old directory length sha256 = record { generation = old.generation + 1; directory = directory; length = length; sha256 = sha256 }
+next old directory length sha256 = record { version = written_version; generation = old.generation + 1; directory = directory; length = length; sha256 = sha256 }
 
--- behind_slots the slots an image is as some image at entry
+-- behind the slots an image is as some image at entry
 abbrev pub OutsideOf : Medium → List ℕ → Type 0
 OutsideOf entry image = (e : List ℕ) × IsImage entry e × SameBehind image e
 
--- An image opens to the old root, and behind_slots the slots it is as an image at entry; or it opens to the new one, and there it
+-- An image opens to the old root, and behind the slots it is as an image at entry; or it opens to the new one, and there it
 -- is what a read gave at entry.
 abbrev pub OldOrNew : Medium → Root → Root → List ℕ → Type 0
 OldOrNew entry old new image = (OpensTo old image × OutsideOf entry image) ⊎ (OpensTo new image × SameBehind image entry.seen)

@@ -29,7 +29,7 @@ ReadyStands = (slots : Standing) (m : Medium) (size : ℕ) → IsMedium size m �
 abbrev pub ReadyOpens : Type 0
 ReadyOpens = (slots : Standing) (m : Medium) (size : ℕ) → IsMedium size m → IsReady slots m → (image : List ℕ) → IsImage m image → OpensTo slots.root image
 
--- What is written of a root reads as it, in a version that is known.
+-- What is written of a root reads as it, its version with it.
 abbrev pub PayloadsRead : Type 0
 PayloadsRead = (root : Root) (gate : ℕ) (rest : List ℕ) → IsLawfulRoot root → root_in (gate ∷ (payload_of root ++ rest)) ≡ root
 

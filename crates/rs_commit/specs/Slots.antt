@@ -1,5 +1,5 @@
 -- The root slots of a disk, and which of them holds the root. A slot is a block.
-use Rattle.std.specs.Prelude.{◌≡◌, ◌<◌, ◌^◌, ℕ, Bool, true, false, ◌&&◌, nat_lt, nat_eq, if◌then◌else◌, List, [], ◌∷◌, length, take, drop, get_or, Option, Some, None}
+use Rattle.std.specs.Prelude.{◌≡◌, ◌<◌, ◌^◌, ℕ, Bool, true, false, IsTrue, ◌&&◌, nat_lt, nat_le, nat_eq, if◌then◌else◌, List, [], ◌∷◌, length, take, drop, get_or, Option, Some, None}
 use Rattle.std.specs.Int.{from_be_bytes, to_be_bytes, w32, w64}
 use Rattle.std.specs.List.{concat}
 use Rattle.rs_extent.specs.Blocks.{block_size}
@@ -33,9 +33,17 @@ gate bytes = get_or bytes 0 0
 abbrev pub version : List ℕ → ℕ
 version bytes = get_or bytes 1 0
 
--- the root that bytes 2 to 53 tell, each number big endian
+-- the versions that are known, and the one that is written
+abbrev pub is_known : ℕ → Bool
+is_known v = nat_le 1 v && nat_le v 2
+
+abbrev pub written_version : ℕ
+written_version = 2
+
+-- the root that bytes 1 to 53 tell, each number big endian
 unfoldable pub root_in : List ℕ → Root
 root_in bytes = record {
+  version = version bytes;
   generation = from_be_bytes w64 (field bytes 2 8);
   directory = record { first = from_be_bytes w32 (field bytes 10 4); blocks = from_be_bytes w32 (field bytes 14 4) };
   length = from_be_bytes w32 (field bytes 18 4);
@@ -46,9 +54,9 @@ root_in bytes = record {
 abbrev pub is_open : List ℕ → Bool
 is_open bytes = nat_eq (length bytes) block_size && nat_eq (gate bytes) 1
 
--- what a slot says: nothing where it isn't open, and only version 1 is known
+-- what a slot says: nothing where it isn't open, and only versions 1 and 2 are known
 unfoldable pub content : List ℕ → Content
-content bytes = if is_open bytes then (if nat_eq (version bytes) 1 then Open (root_in bytes) else Unknown) else Closed
+content bytes = if is_open bytes then (if is_known (version bytes) then Open (root_in bytes) else Unknown) else Closed
 
 -- How the slots stand: which one holds the root, the root, and whether the other one, the spare, is open.
 pub record Standing : Type 0 where
@@ -78,15 +86,16 @@ current image = pick (content (block image First)) (content (block image Second)
 abbrev pub OpensTo : Root → List ℕ → Type 0
 OpensTo root image = (slots : Standing) × (current image ≡ Some slots) × (slots.root ≡ root)
 
--- bytes 1 to 53 of a slot that tells a root: version 1, and the fields of the root
+-- bytes 1 to 53 of a slot that tells a root: its version, and its other fields
 unfoldable pub payload_of : Root → List ℕ
 payload_of root =
     concat
-    ((1 ∷ []) ∷ to_be_bytes w64 root.generation ∷ to_be_bytes w32 root.directory.first ∷ to_be_bytes w32 root.directory.blocks
+    ((root.version ∷ []) ∷ to_be_bytes w64 root.generation ∷ to_be_bytes w32 root.directory.first ∷ to_be_bytes w32 root.directory.blocks
     ∷ to_be_bytes w32 root.length ∷ root.sha256 ∷ [])
 
--- The fields of a root fit their places.
+-- The version of a root is known, and its other fields fit their places.
 pub record IsLawfulRoot (root : Root) : Type 0 where
+  pub version : IsTrue (is_known root.version)
   pub generation : root.generation < 2 ^ 64
   pub first : root.directory.first < 2 ^ 32
   pub blocks : root.directory.blocks < 2 ^ 32

@@ -3,6 +3,7 @@ ghost use Rattle.std.specs.Prelude.{◌≡◌, ◌+◌, ◌≤◌, ◌++◌, len
 ghost use Rattle.rs_disk.specs.Medium.{resting};
 ghost use Rattle.rs_disk.specs.Leaves.{Leaves, Runs};
 ghost use Rattle.rs_commit.specs.Commit.{SameBehind, OutsideOf, IsReady, behind_slots};
+ghost use Rattle.rs_commit.specs.Slots.{written_version};
 ghost use Rattle.rs_commit.specs.Format.{slot_bytes, formatted, fresh};
 
 use crate::root::{VERSION, payload, put};
@@ -12,17 +13,19 @@ use crate::{Root, Slots};
 use rs_disk::{Disk, Fault};
 use rs_extent::BLOCK_SIZE;
 
-/// Makes the slots of a disk, so that it opens to `root`, which its first slot tells, and gives them
-/// as they stand then.
+/// Makes the slots of a disk, so that it opens to `root`, which its first slot tells, and gives
+/// them as they stand then.
 ///
 /// It is called after the directory was written, and its first sync settles both. The disk has
-/// blocks 0 and 1. It makes five device calls at most.
+/// blocks 0 and 1, and the root has the version that is written, [`VERSION`]. It makes five device
+/// calls at most.
 ///
 /// # Errors
 /// [`Fault`] where a device call failed. Nothing is promised of blocks 0 and 1 then; behind them a
 /// read gives what it gave.
 pub fn format_slots<D: Disk>(disk: &mut D, root: &Root) -> Result<Slots, Fault>
-    requires { 1024 ≤ (D.state disk.old).size }
+    requires size { 1024 ≤ (D.state disk.old).size }
+    requires version { root.now.version ≡ written_version }
     ensures runs { Runs (D.state disk.old) (D.state disk.new) result }
     ensures calls { (D.state disk.new).calls ≤ (D.state disk.old).calls + 5 }
     ensures slots { IfOk result (λ slots. slots ≡ fresh root.now) }
@@ -43,7 +46,8 @@ pub fn format_slots<D: Disk>(disk: &mut D, root: &Root) -> Result<Slots, Fault>
 
 // Writes both slots, and opens the first one.
 fn write_slots<D: Disk>(disk: &mut D, root: &Root) -> Result<(), Fault>
-    requires { 1024 ≤ (D.state disk.old).size }
+    requires size { 1024 ≤ (D.state disk.old).size }
+    requires version { root.now.version ≡ written_version }
     ensures runs { Runs (D.state disk.old) (D.state disk.new) result }
     ensures calls { (D.state disk.new).calls ≤ (D.state disk.old).calls + 5 }
     ensures outside { SameBehind (D.state disk.new).now.seen (D.state disk.old).now.seen }

@@ -19,5 +19,5 @@ mod slots;
 pub use faults::{CommitFault, SlotFault};
 pub use format::format_slots;
 pub use reading::open_slots;
-pub use root::Root;
+pub use root::{Root, VERSION};
 pub use slots::Slots;

@@ -5,7 +5,7 @@ ghost use Rattle.rs_extent.specs.Blocks.{block_size};
 ghost use Rattle.rs_commit.specs.Slots.{block, content as content_of, current, pick, OpensTo};
 ghost use Rattle.rs_commit.specs.Commit.{IsReady, AreSettled, device_in_open};
 
-use crate::root::{VERSION, root_in};
+use crate::root::{is_known, root_in};
 use crate::slot::{Content, OPEN, Slot};
 use crate::{Root, SlotFault, Slots};
 use rs_disk::{Disk, Fault};
@@ -71,9 +71,9 @@ fn content(bytes: &[u8; 54]) -> Content
 {
     if bytes[0] != OPEN {
         Content::Closed
-    } else if bytes[1] != VERSION {
-        Content::Unknown
-    } else {
+    } else if is_known(bytes[1]) {
         Content::Open(root_in(bytes))
+    } else {
+        Content::Unknown
     }
 }

@@ -1,16 +1,25 @@
 //! A root, and how a slot spells it.
-ghost use Rattle.std.specs.Prelude.{◌≡◌, ◌+◌, ◌≤◌, length};
+ghost use Rattle.std.specs.Prelude.{◌≡◌, ◌+◌, ◌≤◌, length, IsTrue};
 ghost use Rattle.rs_disk.specs.Medium.{over};
-ghost use Rattle.rs_commit.specs.Slots.{field as field_of, payload_of, root_in as root_told, IsLawfulRoot};
+ghost use Rattle.rs_commit.specs.Slots.{field as field_of, payload_of, root_in as root_told, is_known as known, IsLawfulRoot};
 
 use rs_extent::Extent;
 
-/// The version of the slots that are written, and the one version that is known.
-pub(crate) const VERSION: u8 = 1;
+/// The version of the format that formatting and every commit write. Versions 1 and 2 are known.
+pub const VERSION: u8 = 2;
+
+/// Is this a version of the format that is known?
+pub(crate) fn is_known(version: u8) -> bool
+    ensures { result ≡ known version }
+{
+    1 <= version && version <= VERSION
+}
 
 /// What a slot says: which commit it came by, and where the directory lies.
 #[derive(Clone, Copy, Debug, PartialEq, Eq)]
 pub struct Root {
+    /// The version of the format, 1 or 2, by which its directory is read.
+    pub version: u8,
     /// One more than that of the root before it. Of two open slots the one with the greater
     /// generation holds the root.
     pub generation: u64,
@@ -24,11 +33,12 @@ pub struct Root {
 
 /// The bytes 1 to 53 of a slot that tells a root.
 pub(crate) fn payload(root: Root) -> [u8; 53]
+    requires { IsTrue (known root.version) }
     ensures bytes { result ≡ payload_of root }
     ensures lawful { IsLawfulRoot root }
 {
     let mut bytes = [0; 53];
-    put(&mut bytes, 0, &[VERSION]);
+    put(&mut bytes, 0, &[root.version]);
     put(&mut bytes, 1, &root.generation.to_be_bytes());
     put(&mut bytes, 9, &root.directory.first.to_be_bytes());
     put(&mut bytes, 13, &root.directory.blocks.to_be_bytes());
@@ -51,6 +61,7 @@ pub(crate) fn root_in(bytes: &[u8; 54]) -> Root
     ensures { result ≡ root_told bytes.now }
 {
     Root {
+        version: bytes[1],
         generation: u64::from_be_bytes(field(bytes, 2)),
         directory: Extent {
             first: u32::from_be_bytes(field(bytes, 10)),

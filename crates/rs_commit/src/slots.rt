@@ -3,11 +3,11 @@ ghost use Rattle.std.specs.Prelude.{◌≡◌, ◌+◌, ◌<◌, ◌≤◌, ◌^
 ghost use Rattle.std.specs.Bool.{OnTrue, OnFalse};
 ghost use Rattle.rs_disk.specs.Medium.{IsImage, over, resting};
 ghost use Rattle.rs_disk.specs.Leaves.{Leaves, Runs, Torn, TornFrom};
-ghost use Rattle.rs_commit.specs.Slots.{OpensTo, offset, other, pick, newer as newer_of, payload_of, IsLawfulRoot};
+ghost use Rattle.rs_commit.specs.Slots.{OpensTo, offset, other, pick, newer as newer_of, payload_of, written_version, IsLawfulRoot};
 ghost use Rattle.rs_commit.specs.Format.{fresh};
 ghost use Rattle.rs_commit.specs.Commit.{SameBehind, IsReady, OldOrNew, next, with_root, device_in_commit};
 
-use crate::root::payload;
+use crate::root::{VERSION, payload};
 use crate::settled::write_settled;
 use crate::slot::{CLOSED, Content, OPEN, Slot};
 use crate::{CommitFault, Root};
@@ -91,7 +91,8 @@ impl Slots {
     }
 
     /// Puts the root of the next generation in the place of this one, in one step: stopped at any
-    /// moment, each image opens to the old root or to the new one.
+    /// moment, each image opens to the old root or to the new one. The new one has the version
+    /// [`VERSION`](crate::VERSION), whatever that of the old one.
     ///
     /// The disk has blocks 0 and 1. The promise is for slots that are as a read gives them, where
     /// both blocks are settled (`IsReady`): after [`open_slots`](crate::open_slots) on a disk that
@@ -142,6 +143,7 @@ impl Slots {
             return Err(CommitFault::Exhausted);
         }
         let root = Root {
+            version: VERSION,
             generation: self.root.generation + 1,
             directory,
             length,
@@ -159,7 +161,8 @@ impl Slots {
     // Puts a root into the spare. The spare is closed before its other bytes are written, and
     // opened after they are settled.
     fn put_root<D: Disk>(&self, disk: &mut D, root: Root) -> Result<(), Fault>
-        requires { 1024 ≤ (D.state disk.old).size }
+        requires size { 1024 ≤ (D.state disk.old).size }
+        requires version { root.version ≡ written_version }
         ensures runs { Runs (D.state disk.old) (D.state disk.new) result }
         ensures keeps { (D.state disk.new).honest ≡ (D.state disk.old).honest }
         ensures calls { (D.state disk.new).calls ≤ (D.state disk.old).calls + 6 }
@@ -201,7 +204,8 @@ fn close_gate<D: Disk>(disk: &mut D, slot: Slot, is_open: bool) -> Result<(), Fa
 
 // Writes a root into a slot, behind its gate.
 fn write_behind<D: Disk>(disk: &mut D, slot: Slot, root: Root) -> Result<(), Fault>
-    requires { 1024 ≤ (D.state disk.old).size }
+    requires size { 1024 ≤ (D.state disk.old).size }
+    requires version { root.version ≡ written_version }
     ensures runs { Runs (D.state disk.old) (D.state disk.new) result }
     ensures keeps { (D.state disk.new).honest ≡ (D.state disk.old).honest }
     ensures calls { (D.state disk.new).calls ≤ (D.state disk.old).calls + 2 }

@@ -1,5 +1,7 @@
 pub mod Pieces
 pub mod Limits
+pub mod History
+pub mod Headers
 pub mod PartLaws
 pub mod Entries
 pub mod OneDirectory

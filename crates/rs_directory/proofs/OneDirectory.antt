@@ -8,11 +8,12 @@ use Rattle.rs_record.proofs.FieldLaws.{AreBytes, Takes, bind_some, guard_some, s
 use Rattle.rs_page.specs.declared.place.PageRef.{PageRef}
 use Rattle.rs_directory.specs.declared.header.Header.{Header}
 use Rattle.rs_directory.specs.declared.parts.Counts.{Counts}
-use Rattle.rs_directory.specs.Directory.{header_bytes, ref_bytes, directory_bytes, directory_length, IsLawfulHeader, IsLawfulRef, AreLawfulRefs}
+use Rattle.rs_directory.specs.Directory.{header_bytes, ref_bytes, directory_bytes, directory_length, written_format, IsLawfulHeader, IsLawfulRef, AreLawfulRefs}
 use Rattle.rs_directory.specs.Laws.{DirectoryReadsOnce}
 use Rattle.rs_directory.specs.Reading.{header_at, counts_at, entries_at, pages_of}
 use Rattle.rs_directory.proofs.Pieces.{length-header_bytes, length-entries}
-use Rattle.rs_directory.proofs.PartLaws.{HasLawfulNumbers, AreLawfulCounts, counts_bytes, header, counts}
+use Rattle.rs_directory.proofs.Headers.{HasLawfulNumbers, header}
+use Rattle.rs_directory.proofs.PartLaws.{AreLawfulCounts, counts_bytes, counts}
 use Rattle.rs_directory.proofs.Entries.{all_read, some_entries, same_refs}
 
 -- how many pages there are
@@ -28,25 +29,46 @@ abbrev pub after_header : List PageRef → List PageRef → List PageRef → Lis
 after_header catalogue changes published = counts_bytes (counts_of catalogue changes published) ++ all_entries catalogue changes published
 
 -- a directory in its parts
-pub directory_parts : (h : Header) (catalogue changes published : List PageRef)
-    → directory_bytes h catalogue changes published ≡ header_bytes h ++ after_header catalogue changes published
-directory_parts h catalogue changes published =
-    ap (λ xs. header_bytes h ++ (counts_bytes (counts_of catalogue changes published) ++ (flat_map ref_bytes catalogue ++ (flat_map ref_bytes changes ++ xs))))
+pub directory_parts : (version : ℕ) (h : Header) (catalogue changes published : List PageRef)
+    → directory_bytes version h catalogue changes published ≡ header_bytes version h ++ after_header catalogue changes published
+directory_parts version h catalogue changes published =
+    ap (λ xs. header_bytes version h ++ (counts_bytes (counts_of catalogue changes published) ++ (flat_map ref_bytes catalogue ++ (flat_map ref_bytes changes ++ xs))))
     (append-nil (flat_map ref_bytes published))
 
-pub has_numbers : (h : Header) → IsLawfulHeader h → HasLawfulNumbers h
-has_numbers h lawful =
-    record { limit = record { low = lawful.low; high = lawful.high }; start = lawful.start; last = lawful.last; number = lawful.number; at = lawful.at }
+pub has_numbers : (version : ℕ) (h : Header) → IsLawfulHeader version h → HasLawfulNumbers version h
+has_numbers version h lawful =
+    record {
+      limit = record { low = lawful.low; high = lawful.high };
+      start = lawful.start;
+      last = lawful.last;
+      number = lawful.number;
+      at = lawful.at;
+      first = lawful.first;
+      begin = lawful.begin;
+      untold = lawful.untold;
+    }
 
-pub lawful_header : (h : Header) → IsTrue (is_base h.base) → HasLawfulNumbers h → IsLawfulHeader h
-lawful_header h base has =
-    record { base = base; low = has.limit.low; high = has.limit.high; start = has.start; last = has.last; number = has.number; at = has.at }
+pub lawful_header : (version : ℕ) (h : Header) → IsTrue (is_base h.base) → HasLawfulNumbers version h → IsLawfulHeader version h
+lawful_header version h base has =
+    record {
+      base = base;
+      low = has.limit.low;
+      high = has.limit.high;
+      start = has.start;
+      last = has.last;
+      number = has.number;
+      at = has.at;
+      first = has.first;
+      begin = has.begin;
+      untold = has.untold;
+    }
 
 -- the header of a directory is read
-pub header_read : (bytes : List ℕ) (h : Header) (catalogue changes published : List PageRef) → IsLawfulHeader h
-    → bytes ≡ directory_bytes h catalogue changes published → header_at bytes ≡ Some (h, after_header catalogue changes published)
-header_read bytes h catalogue changes published lawful is =
-    ap header_at (is ∙ directory_parts h catalogue changes published) ∙ header.again h (after_header catalogue changes published) (has_numbers h lawful)
+pub header_read : (version : ℕ) (bytes : List ℕ) (h : Header) (catalogue changes published : List PageRef) → IsLawfulHeader version h
+    → bytes ≡ directory_bytes version h catalogue changes published → header_at version bytes ≡ Some (h, after_header catalogue changes published)
+header_read version bytes h catalogue changes published lawful is =
+    ap (header_at version) (is ∙ directory_parts version h catalogue changes published)
+    ∙ (header version).again h (after_header catalogue changes published) (has_numbers version h lawful)
 
 -- the length of all entries
 length-all_entries : (catalogue changes published : List PageRef) → AreLawfulRefs catalogue → AreLawfulRefs changes → AreLawfulRefs published
@@ -61,15 +83,15 @@ length-all_entries catalogue changes published of_a of_b of_c =
       length-entries published of_c.each,
     )
 
--- the length of a directory
+-- the length of a directory, as it is written
 pub length-directory_bytes : (h : Header) (catalogue changes published : List PageRef) → AreLawfulRefs catalogue → AreLawfulRefs changes
     → AreLawfulRefs published
-    → length (directory_bytes h catalogue changes published) ≡ directory_length h (length catalogue + length changes + length published)
+    → length (directory_bytes written_format h catalogue changes published) ≡ directory_length h (length catalogue + length changes + length published)
 length-directory_bytes h catalogue changes published of_a of_b of_c =
     omega (
       arith,
-      ap length (directory_parts h catalogue changes published),
-      length-append (header_bytes h) (after_header catalogue changes published),
+      ap length (directory_parts written_format h catalogue changes published),
+      length-append (header_bytes written_format h) (after_header catalogue changes published),
       length-append (counts_bytes (counts_of catalogue changes published)) (all_entries catalogue changes published),
       length-header_bytes h,
       length-all_entries catalogue changes published of_a of_b of_c,
@@ -97,12 +119,12 @@ entries_takes bytes x fits e =
     let g = guard_some (eqb (length a.0.1) (44 * pages_of a.0.0)) a.0 x a.2 in
     subst (HasEntries bytes) g.1 (record { takes = counts.takes bytes a.0 fits a.1; size = eqb-true _ _ g.0 })
 
--- Bytes are a directory of at most one header and of at most one list of entries of each kind.
+-- Bytes are a directory of a version of at most one header and of at most one list of entries of each kind.
 pub one_directory : DirectoryReadsOnce
-one_directory h h' catalogue catalogue' changes changes' published published' of_h of_a of_b of_c of_h' of_a' of_b' of_c' same =
-    let bytes = directory_bytes h catalogue changes published in
+one_directory version h h' catalogue catalogue' changes changes' published published' of_h of_a of_b of_c of_h' of_a' of_b' of_c' same =
+    let bytes = directory_bytes version h catalogue changes published in
     let head : (h, after_header catalogue changes published) ≡ (h', after_header catalogue' changes' published') =
-    some_is _ _ (sym (header_read bytes h catalogue changes published of_h refl) ∙ header_read bytes h' catalogue' changes' published' of_h' same) in
+    some_is _ _ (sym (header_read version bytes h catalogue changes published of_h refl) ∙ header_read version bytes h' catalogue' changes' published' of_h' same) in
     let rest : (counts_of catalogue changes published, all_entries catalogue changes published) ≡
     (counts_of catalogue' changes' published', all_entries catalogue' changes' published') =
     some_is _ _ (sym (entries_read catalogue changes published of_a of_b of_c) ∙ ap entries_at (ap (λ x. x.1) head)
@@ -168,54 +190,58 @@ none_is x e = absurd cc
 false_is : false ≡ true → ⊥
 false_is e = absurd cc
 
-module _ (bytes : List ℕ) (fits : AreBytes bytes) where
-  -- the bytes are no lawful directory
+module _ (version : ℕ) (bytes : List ℕ) (fits : AreBytes bytes) where
+  -- the bytes are no lawful directory of this version
   abbrev pub IsNone : Type 0
-  IsNone = (h : Header) (catalogue changes published : List PageRef) → IsLawfulHeader h
-      → AreLawfulRefs catalogue → AreLawfulRefs changes → AreLawfulRefs published → ¬ (bytes ≡ directory_bytes h catalogue changes published)
+  IsNone = (h : Header) (catalogue changes published : List PageRef) → IsLawfulHeader version h
+      → AreLawfulRefs catalogue → AreLawfulRefs changes → AreLawfulRefs published → ¬ (bytes ≡ directory_bytes version h catalogue changes published)
 
-  pub no_header : header_at bytes ≡ None → IsNone
+  pub no_header : header_at version bytes ≡ None → IsNone
   no_header e h catalogue changes published of_h of_a of_b of_c is =
-      none_is _ (sym e ∙ header_read bytes h catalogue changes published of_h is)
+      none_is _ (sym e ∙ header_read version bytes h catalogue changes published of_h is)
 
-  pub no_entries : (h : Header) (rest : List ℕ) → header_at bytes ≡ Some (h, rest) → entries_at rest ≡ None → IsNone
+  pub no_entries : (h : Header) (rest : List ℕ) → header_at version bytes ≡ Some (h, rest) → entries_at rest ≡ None → IsNone
   no_entries h rest e f h' catalogue changes published of_h of_a of_b of_c is =
-      let same : (h, rest) ≡ (h', after_header catalogue changes published) = some_is _ _ (sym e ∙ header_read bytes h' catalogue changes published of_h is) in
+      let same : (h, rest) ≡ (h', after_header catalogue changes published) = some_is _ _ (sym e ∙ header_read version bytes h' catalogue changes published of_h is) in
       none_is _ (sym f ∙ ap entries_at (ap (λ x. x.1) same) ∙ entries_read catalogue changes published of_a of_b of_c)
 
-  pub no_base : (h : Header) (rest : List ℕ) → header_at bytes ≡ Some (h, rest) → is_base h.base ≡ false → IsNone
+  pub no_base : (h : Header) (rest : List ℕ) → header_at version bytes ≡ Some (h, rest) → is_base h.base ≡ false → IsNone
   no_base h rest e f h' catalogue changes published of_h of_a of_b of_c is =
-      let same : (h, rest) ≡ (h', after_header catalogue changes published) = some_is _ _ (sym e ∙ header_read bytes h' catalogue changes published of_h is) in
+      let same : (h, rest) ≡ (h', after_header catalogue changes published) = some_is _ _ (sym e ∙ header_read version bytes h' catalogue changes published of_h is) in
       false_is (sym f ∙ ap (λ x. is_base x.0.base) same ∙ of_h.base)
+
+  -- a header that was read, with a lawful base, is lawful
+  pub is_lawful : (h : Header) (rest : List ℕ) → header_at version bytes ≡ Some (h, rest) → IsTrue (is_base h.base) → IsLawfulHeader version h
+  is_lawful h rest e base = lawful_header version h base ((header version).takes bytes (h, rest) fits e).lawful
 
   -- what was read is a directory
   pub is_directory : (h : Header) (rest : List ℕ) (n : Counts) (entries : List ℕ) (catalogue changes published : List PageRef)
-      → header_at bytes ≡ Some (h, rest) → entries_at rest ≡ Some (n, entries) → counts_of catalogue changes published ≡ n
+      → header_at version bytes ≡ Some (h, rest) → entries_at rest ≡ Some (n, entries) → counts_of catalogue changes published ≡ n
       → entries ≡ all_entries catalogue changes published
-      → bytes ≡ directory_bytes h catalogue changes published
+      → bytes ≡ directory_bytes version h catalogue changes published
   is_directory h rest n entries catalogue changes published e f same is =
-      let t = header.takes bytes (h, rest) fits e in
+      let t = (header version).takes bytes (h, rest) fits e in
       let u = entries_takes rest (n, entries) t.rest f in
-      t.parts ∙ ap (λ xs. header_bytes h ++ xs) (u.takes.parts ∙ ap₂ (λ m xs. counts_bytes m ++ xs) (sym same) is)
-      ∙ sym (directory_parts h catalogue changes published)
+      t.parts ∙ ap (λ xs. header_bytes version h ++ xs) (u.takes.parts ∙ ap₂ (λ m xs. counts_bytes m ++ xs) (sym same) is)
+      ∙ sym (directory_parts version h catalogue changes published)
 
   -- where the parts were read and the base is lawful, the bytes are some lawful directory
-  pub not_none : (h : Header) (rest : List ℕ) (n : Counts) (entries : List ℕ) → header_at bytes ≡ Some (h, rest) → entries_at rest ≡ Some (n, entries)
+  pub not_none : (h : Header) (rest : List ℕ) (n : Counts) (entries : List ℕ) → header_at version bytes ≡ Some (h, rest) → entries_at rest ≡ Some (n, entries)
       → IsTrue (is_base h.base) → IsNone → ⊥
   not_none h rest n entries e f base none =
-      let t = header.takes bytes (h, rest) fits e in
+      let t = (header version).takes bytes (h, rest) fits e in
       let u = entries_takes rest (n, entries) t.rest f in
       let all = some_lists n entries u.takes.rest u.takes.lawful u.size in
-      none h all.catalogue all.changes all.published (lawful_header h base t.lawful) all.of_catalogue all.of_changes all.of_published
+      none h all.catalogue all.changes all.published (lawful_header version h base t.lawful) all.of_catalogue all.of_changes all.of_published
       (is_directory h rest n entries all.catalogue all.changes all.published e f all.counts all.entries)
 
   -- as many bytes of entries as the numbers of pages say
-  pub size_read : (h : Header) (rest : List ℕ) (n : Counts) (entries : List ℕ) → header_at bytes ≡ Some (h, rest) → entries_at rest ≡ Some (n, entries)
+  pub size_read : (h : Header) (rest : List ℕ) (n : Counts) (entries : List ℕ) → header_at version bytes ≡ Some (h, rest) → entries_at rest ≡ Some (n, entries)
       → length entries ≡ 44 * pages_of n
-  size_read h rest n entries e f = (entries_takes rest (n, entries) (header.takes bytes (h, rest) fits e).rest f).size
+  size_read h rest n entries e f = (entries_takes rest (n, entries) ((header version).takes bytes (h, rest) fits e).rest f).size
 
   -- where the parts were read, only a bad base is left
-  pub bad_base : (h : Header) (rest : List ℕ) (n : Counts) (entries : List ℕ) → header_at bytes ≡ Some (h, rest) → entries_at rest ≡ Some (n, entries)
+  pub bad_base : (h : Header) (rest : List ℕ) (n : Counts) (entries : List ℕ) → header_at version bytes ≡ Some (h, rest) → entries_at rest ≡ Some (n, entries)
       → IsNone → is_base h.base ≡ false
   bad_base h rest n entries e f none = by_cases (is_base h.base) refl
     where

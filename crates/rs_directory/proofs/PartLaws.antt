@@ -1,84 +1,13 @@
--- What is read is what was written, and what was written is read: headers, numbers of pages and entries.
+-- What is read is what was written, and what was written is read: numbers of pages and entries.
 use Rattle.std.proofs.Common.{◌≡◌, ℕ, ◌^◌, ◌<◌, List, [], ◌∷◌, ◌++◌, length, Some, None, refl, ap, ◌∙◌}
 use Rattle.std.specs.List.{concat}
-use Rattle.std.specs.Int.{w16, w32, w64, to_be_bytes}
-use Rattle.rs_time.specs.Moment.{IsMoment}
-use Rattle.rs_record.specs.Format.{counted_text}
-use Rattle.rs_record.specs.Reading.{◌>>=◌, piece_at, number_in, counted_at, moment_in}
-use Rattle.rs_record.proofs.FieldLaws.{AreBytes, Takes, IsFormat, bind_some, takes_as, one_more, concat-onto, piece, piece_read, number_4, number_8, counted, moment, number_none, piece_none_of}
+use Rattle.std.specs.Int.{w32, to_be_bytes}
+use Rattle.rs_record.specs.Reading.{◌>>=◌, piece_at, number_in}
+use Rattle.rs_record.proofs.FieldLaws.{AreBytes, Takes, IsFormat, bind_some, takes_as, one_more, concat-onto, piece, piece_read, number_4, number_none, piece_none_of}
 use Rattle.rs_page.specs.declared.place.PageRef.{PageRef}
-use Rattle.rs_directory.specs.declared.header.Header.{Header}
 use Rattle.rs_directory.specs.declared.parts.Counts.{Counts}
-use Rattle.rs_directory.specs.Limit.{IsLimit}
-use Rattle.rs_directory.specs.Directory.{header_bytes, ref_bytes, IsLawfulRef}
-use Rattle.rs_directory.specs.Reading.{limit_at, header_at, counts_at, page_entry_at}
-use Rattle.rs_directory.proofs.Limits.{limit}
-
--- ---- headers
-
--- what a header keeps beside its base
-pub record HasLawfulNumbers (h : Header) : Type 0 where
-  pub limit : IsLimit h.limit
-  pub start : IsMoment h.start
-  pub last : IsMoment h.last
-  pub number : h.number < 2 ^ 64
-  pub at : IsMoment h.at
-
-header_takes : (bytes : List ℕ) (x : Header × List ℕ) → AreBytes bytes → header_at bytes ≡ Some x → Takes header_bytes HasLawfulNumbers bytes x
-unfolding header_at
-header_takes bytes x fits e =
-    let made : ℕ → List ℕ → ℕ → ℕ → ℕ → ℕ → Header =
-    λ items base start last number at. record { base = base; limit = items; start = start; last = last; number = number; at = at } in
-    let a = bind_some (limit_at bytes) (λ items. counted_at items.1 >>= λ base. moment_in base.1 >>= λ start. moment_in start.1
-    >>= λ last. number_in w64 last.1 >>= λ number. moment_in number.1 >>= λ at. Some (made items.0 base.0 start.0 last.0 number.0 at.0, at.1)) x e in
-    let b = bind_some (counted_at a.0.1) (λ base. moment_in base.1 >>= λ start. moment_in start.1 >>= λ last. number_in w64 last.1
-    >>= λ number. moment_in number.1 >>= λ at. Some (made a.0.0 base.0 start.0 last.0 number.0 at.0, at.1)) x a.2 in
-    let d = bind_some (moment_in b.0.1) (λ start. moment_in start.1 >>= λ last. number_in w64 last.1 >>= λ number. moment_in number.1
-    >>= λ at. Some (made a.0.0 b.0.0 start.0 last.0 number.0 at.0, at.1)) x b.2 in
-    let f = bind_some (moment_in d.0.1) (λ last. number_in w64 last.1 >>= λ number. moment_in number.1
-    >>= λ at. Some (made a.0.0 b.0.0 d.0.0 last.0 number.0 at.0, at.1)) x d.2 in
-    let g = bind_some (number_in w64 f.0.1) (λ number. moment_in number.1 >>= λ at. Some (made a.0.0 b.0.0 d.0.0 f.0.0 number.0 at.0, at.1)) x f.2 in
-    let h = bind_some (moment_in g.0.1) (λ at. Some (made a.0.0 b.0.0 d.0.0 f.0.0 g.0.0 at.0, at.1)) x g.2 in
-    let ta = limit.takes bytes a.0 fits a.1 in
-    let tb = counted.takes a.0.1 b.0 ta.rest b.1 in
-    let td = moment.takes b.0.1 d.0 tb.rest d.1 in
-    let tf = moment.takes d.0.1 f.0 td.rest f.1 in
-    let tg = number_8.takes f.0.1 g.0 tf.rest g.1 in
-    let th = moment.takes g.0.1 h.0 tg.rest h.1 in
-    let L = to_be_bytes w16 a.0.0 in
-    let B = counted_text b.0.0 in
-    let S = to_be_bytes w64 d.0.0 in
-    let T = to_be_bytes w64 f.0.0 in
-    let N = to_be_bytes w64 g.0.0 in
-    let one = one_more [] bytes L bytes a.0.1 refl ta.parts in
-    let two = one_more (L ∷ []) bytes B a.0.1 b.0.1 one tb.parts in
-    let three = one_more (L ∷ B ∷ []) bytes S b.0.1 d.0.1 two td.parts in
-    let four = one_more (L ∷ B ∷ S ∷ []) bytes T d.0.1 f.0.1 three tf.parts in
-    let five = one_more (L ∷ B ∷ S ∷ T ∷ []) bytes N f.0.1 g.0.1 four tg.parts in
-    let six = one_more (L ∷ B ∷ S ∷ T ∷ N ∷ []) bytes (to_be_bytes w64 h.0.0) g.0.1 h.0.1 five th.parts in
-    takes_as (made a.0.0 b.0.0 d.0.0 f.0.0 g.0.0 h.0.0, h.0.1) x h.2
-    (record { parts = six; rest = th.rest; lawful = record { limit = ta.lawful; start = td.lawful; last = tf.lawful; number = tg.lawful; at = th.lawful } })
-
-header_again : (h : Header) (rest : List ℕ) → HasLawfulNumbers h → header_at (header_bytes h ++ rest) ≡ Some (h, rest)
-unfolding header_at
-header_again h rest lawful =
-    let at = to_be_bytes w64 h.at ++ rest in
-    let number = to_be_bytes w64 h.number ++ at in
-    let last = to_be_bytes w64 h.last ++ number in
-    let start = to_be_bytes w64 h.start ++ last in
-    ap header_at (concat-onto (to_be_bytes w16 h.limit ∷ counted_text h.base ∷ to_be_bytes w64 h.start ∷ to_be_bytes w64 h.last ∷ to_be_bytes w64 h.number ∷
-    to_be_bytes w64 h.at ∷ []) rest)
-    ∙ rw (
-      limit.again h.limit (counted_text h.base ++ start) lawful.limit,
-      counted.again h.base start tt,
-      moment.again h.start last lawful.start,
-      moment.again h.last number lawful.last,
-      number_8.again h.number at lawful.number,
-      moment.again h.at rest lawful.at,
-    ) refl
-
-pub header : IsFormat header_at header_bytes HasLawfulNumbers
-header = record { takes = header_takes; again = header_again }
+use Rattle.rs_directory.specs.Directory.{ref_bytes, IsLawfulRef}
+use Rattle.rs_directory.specs.Reading.{counts_at, page_entry_at}
 
 -- ---- numbers of pages
 

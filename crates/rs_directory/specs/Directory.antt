@@ -1,5 +1,5 @@
 -- The directory of a source: what a root points to, and how it is spelled on the disk.
-use Rattle.std.specs.Prelude.{◌≡◌, ◌<◌, ◌≤◌, ◌+◌, ◌*◌, ◌^◌, ℕ, List, [], ◌∷◌, length, flat_map, All, IsTrue}
+use Rattle.std.specs.Prelude.{◌≡◌, ◌<◌, ◌≤◌, ◌+◌, ◌*◌, ◌^◌, ℕ, nat_eq, if◌then◌else◌, List, [], ◌∷◌, length, flat_map, All, IsTrue}
 use Rattle.std.specs.List.{concat}
 use Rattle.std.specs.Int.{w16, w32, w64, to_be_bytes}
 use Rattle.rs_time.specs.Moment.{IsMoment}
@@ -8,13 +8,18 @@ use Rattle.rs_record.specs.Format.{counted_text}
 use Rattle.rs_page.specs.declared.place.PageRef.{PageRef}
 use Rattle.rs_directory.specs.declared.header.Header.{Header}
 
--- limit in 2 bytes; the base, after its length in one; start, last, publication number and its moment in 8 bytes each;
--- each number big endian
-abbrev pub header_bytes : Header → List ℕ
-header_bytes h =
+-- what version 2 has and version 1 has not: the number of the first kept part of the Change List, and the moment at which the
+-- kept history begins, in 8 bytes each
+abbrev pub history_bytes : ℕ → Header → List ℕ
+history_bytes version h = if nat_eq version 1 then [] else concat (to_be_bytes w64 h.first ∷ to_be_bytes w64 h.begin ∷ [])
+
+-- limit in 2 bytes; the base, after its length in one; start, last, publication number and its moment in 8 bytes each; then
+-- what came with version 2; each number big endian
+abbrev pub header_bytes : ℕ → Header → List ℕ
+header_bytes version h =
     concat
     (to_be_bytes w16 h.limit ∷ counted_text h.base ∷ to_be_bytes w64 h.start ∷ to_be_bytes w64 h.last
-    ∷ to_be_bytes w64 h.number ∷ to_be_bytes w64 h.at ∷ [])
+    ∷ to_be_bytes w64 h.number ∷ to_be_bytes w64 h.at ∷ history_bytes version h ∷ [])
 
 -- an entry of a page: first block, number of blocks and length in 4 bytes each, SHA-256
 abbrev pub ref_bytes : PageRef → List ℕ
@@ -25,20 +30,30 @@ ref_bytes r =
 abbrev pub count_bytes : List PageRef → List ℕ
 count_bytes refs = to_be_bytes w32 (length refs)
 
--- A directory: its header; how many catalogue pages, change pages and published pages there are; then an entry of each
--- page, in this order. Nothing follows.
-abbrev pub directory_bytes : Header → List PageRef → List PageRef → List PageRef → List ℕ
-directory_bytes h catalogue changes published =
+-- A directory of a version: its header; how many catalogue pages, change pages and published pages there are; then an entry
+-- of each page, in this order. Nothing follows.
+abbrev pub directory_bytes : ℕ → Header → List PageRef → List PageRef → List PageRef → List ℕ
+directory_bytes version h catalogue changes published =
     concat
-    (header_bytes h ∷ count_bytes catalogue ∷ count_bytes changes ∷ count_bytes published
+    (header_bytes version h ∷ count_bytes catalogue ∷ count_bytes changes ∷ count_bytes published
     ∷ flat_map ref_bytes catalogue ∷ flat_map ref_bytes changes ∷ flat_map ref_bytes published ∷ [])
 
--- how many bytes a directory with so many entries has
-abbrev pub directory_length : Header → ℕ → ℕ
-directory_length h entries = 47 + length h.base + 44 * entries
+-- the version of the format that is written
+abbrev pub written_format : ℕ
+written_format = 2
 
--- what every header keeps: a lawful base, a limit from 2 to 4,000, moments that exist, a number of 64 bits
-pub record IsLawfulHeader (h : Header) : Type 0 where
+-- how many bytes a directory with so many entries has, as it is written
+abbrev pub directory_length : Header → ℕ → ℕ
+directory_length h entries = 63 + length h.base + 44 * entries
+
+-- no part was dropped, and the kept history begins with the source
+pub record HasAllHistory (h : Header) : Type 0 where
+  pub first : h.first ≡ 0
+  pub begin : h.begin ≡ h.start
+
+-- what every header of a version keeps: a lawful base, a limit from 2 to 4,000, moments that exist, numbers of 64 bits; and of
+-- version 1, which doesn't tell them, that no part was dropped
+pub record IsLawfulHeader (version : ℕ) (h : Header) : Type 0 where
   pub base : IsTrue (is_base h.base)
   pub low : 2 ≤ h.limit
   pub high : h.limit ≤ 4000
@@ -46,6 +61,9 @@ pub record IsLawfulHeader (h : Header) : Type 0 where
   pub last : IsMoment h.last
   pub number : h.number < 2 ^ 64
   pub at : IsMoment h.at
+  pub first : h.first < 2 ^ 64
+  pub begin : IsMoment h.begin
+  pub untold : version ≡ 1 → HasAllHistory h
 
 -- what every page entry keeps: numbers of 32 bits, a digest of 32 bytes
 pub record IsLawfulRef (r : PageRef) : Type 0 where

@@ -1,6 +1,6 @@
 -- Words of the readers' own contracts: each takes a part of a directory off the front of some bytes, and gives a value and
 -- the bytes after it, or nothing. What the public reader owes is said by Directory.
-use Rattle.std.specs.Prelude.{ℕ, ◌+◌, ◌*◌, ◌==◌, List, length, Option, Some, None, if◌then◌else◌}
+use Rattle.std.specs.Prelude.{ℕ, ◌+◌, ◌*◌, ◌==◌, nat_eq, List, length, Option, Some, None, if◌then◌else◌}
 use Rattle.std.specs.Int.{w16, w32, w64}
 use Rattle.rs_record.specs.Reading.{◌>>=◌, piece_at, number_in, counted_at, moment_in}
 use Rattle.rs_page.specs.declared.place.PageRef.{PageRef}
@@ -16,16 +16,38 @@ limit_at bytes = do
   limit ← limit_of items.0
   Some (limit, items.1)
 
--- a header, its base any text
-unfoldable pub header_at : List ℕ → Option (Header × List ℕ)
-header_at bytes = do
+-- the first kept part and the begin of the history: in version 1 they are not told, and are 0 and the start
+unfoldable pub history_at : ℕ → ℕ → List ℕ → Option ((ℕ × ℕ) × List ℕ)
+history_at version start bytes =
+    if nat_eq version 1 then Some ((0, start), bytes)
+    else (do
+      first ← number_in w64 bytes
+      begin ← moment_in first.1
+      Some ((first.0, begin.0), begin.1))
+
+-- a header of a version, its base any text
+unfoldable pub header_at : ℕ → List ℕ → Option (Header × List ℕ)
+header_at version bytes = do
   limit ← limit_at bytes
   base ← counted_at limit.1
   start ← moment_in base.1
   last ← moment_in start.1
   number ← number_in w64 last.1
   at ← moment_in number.1
-  Some (record { base = base.0; limit = limit.0; start = start.0; last = last.0; number = number.0; at = at.0 }, at.1)
+  history ← history_at version start.0 at.1
+  Some (
+    record {
+      base = base.0;
+      limit = limit.0;
+      start = start.0;
+      last = last.0;
+      number = number.0;
+      at = at.0;
+      first = history.0.0;
+      begin = history.0.1;
+    },
+    history.1,
+  )
 
 -- the numbers of pages
 unfoldable pub counts_at : List ℕ → Option (Counts × List ℕ)
@@ -56,4 +78,13 @@ entries_at bytes = do
 
 -- a header that was read, without where its base lies in memory
 abbrev pub header_seen : HeaderFields → Header
-header_seen h = record { base = h.base.now; limit = h.limit; start = h.start; last = h.last; number = h.number; at = h.at }
+header_seen h = record {
+  base = h.base.now;
+  limit = h.limit;
+  start = h.start;
+  last = h.last;
+  number = h.number;
+  at = h.at;
+  first = h.first;
+  begin = h.begin;
+}

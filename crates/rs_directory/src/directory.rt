@@ -11,7 +11,7 @@ pub struct Directory {
     pub header: Header,
     /// The pages of the records of the resources that are held.
     pub catalogue: Vec<PageRef>,
-    /// The pages of the changes since the source was formatted.
+    /// The pages of the changes that are kept.
     pub changes: Vec<PageRef>,
     /// The pages of the records of the latest publication.
     pub published: Vec<PageRef>,

@@ -2,7 +2,7 @@
 
 ghost use Rattle.std.specs.Prelude.{◌≡◌, ◌≤◌, ◌+◌, ◌*◌, ◌++◌, vec_len, vec_capacity, length, flat_map, All, IfOk};
 ghost use Rattle.rs_record.specs.Limits.{most_items};
-ghost use Rattle.rs_directory.specs.Directory.{header_bytes, ref_bytes, count_bytes, directory_bytes as bytes_of, directory_length, IsLawfulHeader, IsLawfulRef, AreLawfulRefs};
+ghost use Rattle.rs_directory.specs.Directory.{header_bytes, ref_bytes, count_bytes, directory_bytes as bytes_of, directory_length, written_format, IsLawfulHeader, IsLawfulRef, AreLawfulRefs};
 
 use crate::Header;
 use rs_page::PageRef;
@@ -11,18 +11,19 @@ use std::alloc::{AllocError, Global};
 /// How many bytes an entry of a page has.
 pub(crate) const ENTRY_SIZE: usize = 44;
 
-/// How many bytes a directory with this header and so many entries has in all: at most 175, and 44
-/// for each entry.
+/// How many bytes a directory with this header and so many entries has in all, as it is written: at
+/// most 191, and 44 for each entry.
 pub fn directory_size(header: &Header, entries: usize) -> u32
     requires { entries ≤ 3 * most_items }
     ensures size { result ≡ directory_length header.now entries }
-    ensures bound { result ≤ 175 + 44 * entries }
+    ensures bound { result ≤ 191 + 44 * entries }
 {
-    (47 + header.base.bytes().len() + ENTRY_SIZE * entries) as u32
+    (63 + header.base.bytes().len() + ENTRY_SIZE * entries) as u32
 }
 
-/// The bytes of a directory: its header, the number of entries of each kind, and the entries. Each
-/// kind has at most [`MOST_ITEMS`](rs_record::MOST_ITEMS) of them.
+/// The bytes of a directory, in the version that is written, which is 2: its header, the number of
+/// entries of each kind, and the entries. Each kind has at most
+/// [`MOST_ITEMS`](rs_record::MOST_ITEMS) of them.
 ///
 /// Memory is asked for once, for exactly as many bytes as the directory has.
 ///
@@ -40,12 +41,12 @@ pub fn directory_bytes(
     requires changes { length changes.now ≤ most_items }
     requires published { length published.now ≤ most_items }
     ensures bytes { IfOk result (λ out. out.items
-        ≡ bytes_of header.now catalogue.now changes.now published.now) }
+        ≡ bytes_of written_format header.now catalogue.now changes.now published.now) }
     ensures size { IfOk result (λ out. vec_len out ≡ directory_length header.now
         (length catalogue.now + length changes.now + length published.now)) }
 
     // So what was written is read again.
-    ensures header { IfOk result (λ _. IsLawfulHeader header.now) }
+    ensures header { IfOk result (λ _. IsLawfulHeader written_format header.now) }
     ensures catalogue { IfOk result (λ _. AreLawfulRefs catalogue.now) }
     ensures changes { IfOk result (λ _. AreLawfulRefs changes.now) }
     ensures published { IfOk result (λ _. AreLawfulRefs published.now) }
@@ -64,11 +65,11 @@ pub fn directory_bytes(
 
 // Appends a header, for which there is room.
 fn append_header(header: &Header, out: &mut Vec<u8>)
-    requires { vec_len out.old + 35 + length header.now.base ≤ vec_capacity out.old }
-    ensures items { out.new.items ≡ out.old.items ++ header_bytes header.now }
-    ensures len { vec_len out.new ≡ vec_len out.old + 35 + length header.now.base }
+    requires { vec_len out.old + 51 + length header.now.base ≤ vec_capacity out.old }
+    ensures items { out.new.items ≡ out.old.items ++ header_bytes written_format header.now }
+    ensures len { vec_len out.new ≡ vec_len out.old + 51 + length header.now.base }
     ensures capacity { vec_capacity out.old ≤ vec_capacity out.new }
-    ensures lawful { IsLawfulHeader header.now }
+    ensures lawful { IsLawfulHeader written_format header.now }
 {
     let base = header.base.bytes();
     append(&header.limit.items().to_be_bytes(), out);
@@ -78,6 +79,8 @@ fn append_header(header: &Header, out: &mut Vec<u8>)
     append(&header.last.ms().to_be_bytes(), out);
     append(&header.number.to_be_bytes(), out);
     append(&header.at.ms().to_be_bytes(), out);
+    append(&header.first.to_be_bytes(), out);
+    append(&header.begin.ms().to_be_bytes(), out);
 }
 
 // Appends the number of the entries, for which there is room.

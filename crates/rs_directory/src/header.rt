@@ -20,4 +20,9 @@ pub struct Header {
     pub number: u64,
     /// The moment of the latest publication, or of formatting.
     pub at: Moment,
+    /// The number of the first part of the Change List that is kept: how many were dropped.
+    pub first: u64,
+    /// The moment at which the kept history begins: that of the last dropped change, or of
+    /// formatting.
+    pub begin: Moment,
 }

@@ -1,8 +1,9 @@
 //! The directory of a source: what a root points to, and how it is spelled on the disk.
 //!
 //! A [`Directory`] has the [`Header`] of the source and an entry of each page of its three lists.
-//! [`directory_bytes`] spells it and [`read_directory`] reads it back, or finds that the bytes are no
-//! lawful directory; [`laws`] states that bytes are the directory of one source at most.
+//! [`directory_bytes`] spells it and [`read_directory`] reads it back in either version of the
+//! format, or finds that the bytes are no lawful directory; [`laws`] states that bytes are the
+//! directory of one source at most.
 #![tactic(auto)]
 
 mod directory;

@@ -1,7 +1,7 @@
 //! The parts of a directory, read off the front of some bytes.
 
 ghost use Rattle.rs_record.specs.Reading.{IsSeenAs};
-ghost use Rattle.rs_directory.specs.Reading.{header_at as header_read, counts_at as counts_read, entries_at as entries_read, page_entry_at as ref_read, header_seen};
+ghost use Rattle.rs_directory.specs.Reading.{header_at as header_read, history_at as history_read, counts_at as counts_read, entries_at as entries_read, page_entry_at as ref_read, header_seen};
 
 use crate::Limit;
 use crate::format::ENTRY_SIZE;
@@ -19,6 +19,8 @@ pub struct HeaderFields<'a> {
     pub last: Moment,
     pub number: u64,
     pub at: Moment,
+    pub first: u64,
+    pub begin: Moment,
 }
 
 /// How many pages of each kind there are.
@@ -29,10 +31,10 @@ pub struct Counts {
     pub published: u32,
 }
 
-/// A header, and the bytes after it.
+/// A header of this version, and the bytes after it.
 #[tactic(auto, unfolding(crate::specs::Reading::header_at, crate::specs::Reading::limit_at, rs_record::specs::Reading::moment_in))]
-pub fn header_at(bytes: &[u8]) -> Option<(HeaderFields<'_>, &[u8])>
-    ensures { IsSeenAs (λ x. (header_seen x.0, x.1.now)) result (header_read bytes.now) }
+pub fn header_at(version: u8, bytes: &[u8]) -> Option<(HeaderFields<'_>, &[u8])>
+    ensures { IsSeenAs (λ x. (header_seen x.0, x.1.now)) result (header_read version bytes.now) }
 {
     let (items, rest) = u16_at(bytes)?;
     let limit = Limit::new(items)?;
@@ -44,6 +46,9 @@ pub fn header_at(bytes: &[u8]) -> Option<(HeaderFields<'_>, &[u8])>
     let (number, rest) = u64_at(rest)?;
     let (ms, rest) = u64_at(rest)?;
     let at = Moment::new(ms)?;
+    let Some(((first, begin), rest)) = history_at(version, start, rest) else {
+        return None;
+    };
     let header = HeaderFields {
         base,
         limit,
@@ -51,8 +56,25 @@ pub fn header_at(bytes: &[u8]) -> Option<(HeaderFields<'_>, &[u8])>
         last,
         number,
         at,
+        first,
+        begin,
     };
     Some((header, rest))
+}
+
+// The first kept part and the begin of the history, and the bytes after them. Version 1 doesn't
+// tell them: they are 0 and the start.
+#[tactic(auto, unfolding(crate::specs::Reading::history_at, rs_record::specs::Reading::moment_in))]
+fn history_at(version: u8, start: Moment, bytes: &[u8]) -> Option<((u64, Moment), &[u8])>
+    ensures { IsSeenAs (λ x. (x.0, x.1.now)) result (history_read version start bytes.now) }
+{
+    if version == 1 {
+        return Some(((0, start), bytes));
+    }
+    let (first, rest) = u64_at(bytes)?;
+    let (ms, rest) = u64_at(rest)?;
+    let begin = Moment::new(ms)?;
+    Some(((first, begin), rest))
 }
 
 // The numbers of pages, and the bytes after them.

@@ -14,7 +14,8 @@ use rs_page::PageRef;
 use rs_record::{Base, BaseError, FieldFault};
 use std::alloc::{AllocError, Global};
 
-/// The directory that the bytes are.
+/// The directory that the bytes are in this version of the format: version 1 has no `first` and no
+/// `begin`, which are then 0 and the start; every other version is read as version 2.
 ///
 /// The numbers of entries are held against the number of bytes before any memory is asked for, so
 /// no more of it is asked for than the bytes have entries.
@@ -23,19 +24,19 @@ use std::alloc::{AllocError, Global};
 ///
 /// `Malformed` exactly where the bytes are no lawful directory; `NoMemory` where the memory for the
 /// base or the entries was refused.
-pub fn read_directory(alloc: Global, bytes: &[u8]) -> Result<Directory, FieldFault>
-    ensures header { IfOk result (λ d. IsLawfulHeader d.header) }
+pub fn read_directory(alloc: Global, version: u8, bytes: &[u8]) -> Result<Directory, FieldFault>
+    ensures header { IfOk result (λ d. IsLawfulHeader version d.header) }
     ensures catalogue { IfOk result (λ d. AreLawfulRefs d.catalogue.items) }
     ensures changes { IfOk result (λ d. AreLawfulRefs d.changes.items) }
     ensures published { IfOk result (λ d. AreLawfulRefs d.published.items) }
     ensures found { IfOk result (λ d. bytes.now
-        ≡ directory_bytes d.header d.catalogue.items d.changes.items d.published.items) }
+        ≡ directory_bytes version d.header d.catalogue.items d.changes.items d.published.items) }
     ensures malformed { IsErrOf result FieldFault.Malformed
-        ↔ ((h : Header) (catalogue changes published : List PageRef) → IsLawfulHeader h
+        ↔ ((h : Header) (catalogue changes published : List PageRef) → IsLawfulHeader version h
         → AreLawfulRefs catalogue → AreLawfulRefs changes → AreLawfulRefs published
-        → ¬ (bytes.now ≡ directory_bytes h catalogue changes published)) }
+        → ¬ (bytes.now ≡ directory_bytes version h catalogue changes published)) }
 {
-    let Some((fields, rest)) = header_at(bytes) else {
+    let Some((fields, rest)) = header_at(version, bytes) else {
         return Err(FieldFault::Malformed);
     };
     let Some((counts, entries)) = entries_at(rest) else {
@@ -72,6 +73,8 @@ fn header_of(alloc: Global, fields: HeaderFields<'_>) -> Result<Header, FieldFau
         last: fields.last,
         number: fields.number,
         at: fields.at,
+        first: fields.first,
+        begin: fields.begin,
     })
 }
 

@@ -9,6 +9,7 @@ use std::process::Abort;
 use std::test::Fail;
 
 const OLD: Root = Root {
+    version: 2,
     generation: 4,
     directory: Extent {
         first: 2,
@@ -19,6 +20,7 @@ const OLD: Root = Root {
 };
 
 const NEXT: Root = Root {
+    version: 2,
     generation: 5,
     directory: Extent {
         first: 3,
@@ -29,6 +31,7 @@ const NEXT: Root = Root {
 };
 
 const THIRD: Root = Root {
+    version: 2,
     generation: 6,
     directory: Extent {
         first: 70000,
@@ -41,7 +44,7 @@ const THIRD: Root = Root {
 /// `NEXT` in an open slot: gate, version, generation (8), first block (4), number of blocks (4) and length of the
 /// directory (4), which its SHA-256 follows.
 const NEXT_FIELDS: [u8; 22] = [
-    1, 1, 0, 0, 0, 0, 0, 0, 0, 5, 0, 0, 0, 3, 0, 0, 0, 2, 0, 0, 2, 1,
+    1, 2, 0, 0, 0, 0, 0, 0, 0, 5, 0, 0, 0, 3, 0, 0, 0, 2, 0, 0, 2, 1,
 ];
 
 /// The first 54 bytes of a slot, whose SHA-256 is 32 times one byte.
@@ -54,11 +57,15 @@ fn slot(fields: [u8; 22], sha256: u8) -> [u8; 54] {
 /// The gate, the version and the last byte of the generation of a slot.
 type Front = (u8, u8, u8);
 
-const CLOSED: Front = (0, 1, 9);
+const CLOSED: Front = (0, 2, 9);
 
-const FOUR: Front = (1, 1, 4);
+const FOUR: Front = (1, 2, 4);
 
-const FIVE: Front = (1, 1, 5);
+const FIVE: Front = (1, 2, 5);
+
+const FOUR_OF_VERSION_ONE: Front = (1, 1, 4);
+
+const FIVE_OF_VERSION_ONE: Front = (1, 1, 5);
 
 const UNKNOWN: Front = (1, 9, 4);
 
@@ -90,33 +97,40 @@ fn root_of(disk: &mut MemoryDisk) -> Result<Root, SlotFault> {
     open_slots(disk).map(|(_, root)| root)
 }
 
-/// How many bytes a disk has, its slots, and the generation of its root.
-type Row = (usize, Front, Front, Result<u64, SlotFault>);
+/// How many bytes a disk has, its slots, and the version and the generation of its root.
+type Row = (usize, Front, Front, Result<(u8, u64), SlotFault>);
 
-const ROWS: [Row; 16] = [
+const ROWS: [Row; 23] = [
     (1024, CLOSED, CLOSED, Err(SlotFault::NotASource)),
-    (1024, FOUR, CLOSED, Ok(4)),
-    (1024, CLOSED, FOUR, Ok(4)),
-    (1024, FOUR, FIVE, Ok(5)),
-    (1024, FIVE, FOUR, Ok(5)),
+    (1024, FOUR, CLOSED, Ok((2, 4))),
+    (1024, CLOSED, FOUR, Ok((2, 4))),
+    (1024, FOUR, FIVE, Ok((2, 5))),
+    (1024, FIVE, FOUR, Ok((2, 5))),
     (1024, FOUR, FOUR, Err(SlotFault::NotASource)),
     (1024, UNKNOWN, CLOSED, Err(SlotFault::NotASource)),
     (1024, CLOSED, UNKNOWN, Err(SlotFault::NotASource)),
     (1024, UNKNOWN, FIVE, Err(SlotFault::NotASource)),
     (1024, FIVE, UNKNOWN, Err(SlotFault::NotASource)),
-    (1024, (0, 9, 6), FIVE, Ok(5)),
-    (1024, (2, 1, 6), FIVE, Ok(5)),
-    (1024, (2, 1, 6), (255, 1, 5), Err(SlotFault::NotASource)),
-    (512, FOUR, FIVE, Ok(4)),
-    (1023, FOUR, FIVE, Ok(4)),
+    (1024, (0, 9, 6), FIVE, Ok((2, 5))),
+    (1024, (2, 2, 6), FIVE, Ok((2, 5))),
+    (1024, (2, 2, 6), (255, 2, 5), Err(SlotFault::NotASource)),
+    (512, FOUR, FIVE, Ok((2, 4))),
+    (1023, FOUR, FIVE, Ok((2, 4))),
     (511, FOUR, FIVE, Err(SlotFault::NotASource)),
+    (1024, FOUR_OF_VERSION_ONE, CLOSED, Ok((1, 4))),
+    (1024, FOUR_OF_VERSION_ONE, FIVE, Ok((2, 5))),
+    (1024, FOUR, FIVE_OF_VERSION_ONE, Ok((1, 5))),
+    (1024, FOUR_OF_VERSION_ONE, FOUR, Err(SlotFault::NotASource)),
+    (1024, (1, 3, 4), CLOSED, Err(SlotFault::NotASource)),
+    (1024, FOUR, (1, 3, 5), Err(SlotFault::NotASource)),
+    (1024, (1, 0, 4), CLOSED, Err(SlotFault::NotASource)),
 ];
 
-/// The generation of the root of a disk with these slots.
-fn generation_of(alloc: Global, row: &Row) -> Result<Result<u64, SlotFault>, Fail> {
+/// The version and the generation of the root of a disk with these slots.
+fn generation_of(alloc: Global, row: &Row) -> Result<Result<(u8, u64), SlotFault>, Fail> {
     let bytes = with_slots(&old_slot(row.1), &old_slot(row.2));
     let mut disk = MemoryDisk::from_bytes(alloc, &bytes[..row.0.min(1040)])?;
-    Ok(root_of(&mut disk).map(|root| root.generation))
+    Ok(root_of(&mut disk).map(|root| (root.version, root.generation)))
 }
 
 #[test]
@@ -138,9 +152,10 @@ fn commit(
     slots.commit(disk, root.directory, root.length, &root.sha256)
 }
 
-/// Makes the slots of a disk of 1,024 bytes at least, with this root.
+/// Makes the slots of a disk of 1,024 bytes at least, with this root of version 2.
 fn made(rt: &impl Abort, disk: &mut MemoryDisk, root: &Root) -> Slots {
     assert!(rt; disk.size() >= 1024);
+    assert!(rt; root.version == 2);
     format_slots(disk, root).expect(rt, "no call fails")
 }
 
@@ -165,7 +180,7 @@ fn change_roots(rt: &impl Abort, disk: &mut MemoryDisk) {
     assert_eq!(rt; slots.root(), OLD);
     assert_eq!(rt; disk.calls(), 5);
     let mut closed = [0; 54];
-    closed[1] = 1;
+    closed[1] = 2;
     assert!(rt; rests(disk, &with_slots(&old_slot(FOUR), &closed)));
     commit_in(rt, disk, &mut slots, &NEXT, 4);
     assert!(rt; rests(disk, &with_slots(&old_slot(FOUR), &slot(NEXT_FIELDS, 8))));
@@ -181,6 +196,23 @@ fn change_roots(rt: &impl Abort, disk: &mut MemoryDisk) {
 fn roots_follow_each_other(rt: HostRuntime) -> Result<(), Fail> {
     let mut disk = MemoryDisk::from_bytes(rt.alloc(), &[0xEE; 1040])?;
     change_roots(&rt, &mut disk);
+    Ok(())
+}
+
+/// Changes a root of version 1. The new one has version 2, and the old one stays as it stood.
+fn change_version_one(rt: &impl Abort, disk: &mut MemoryDisk) {
+    let (mut slots, root) = open_slots(disk).expect(rt, "a root");
+    assert_eq!(rt; root, Root { version: 1, ..OLD });
+    commit_in(rt, disk, &mut slots, &NEXT, 4);
+    let slots = with_slots(&old_slot(FOUR_OF_VERSION_ONE), &slot(NEXT_FIELDS, 8));
+    assert!(rt; rests(disk, &slots));
+}
+
+#[test]
+fn a_commit_brings_version_two(rt: HostRuntime) -> Result<(), Fail> {
+    let bytes = with_slots(&old_slot(FOUR_OF_VERSION_ONE), &old_slot(CLOSED));
+    let mut disk = MemoryDisk::from_bytes(rt.alloc(), &bytes)?;
+    change_version_one(&rt, &mut disk);
     Ok(())
 }
 

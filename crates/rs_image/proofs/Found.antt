@@ -30,7 +30,7 @@ use Rattle.rs_changes.specs.History.{HoldsHistory}
 use Rattle.rs_directory.specs.declared.directory.Directory.{Directory}
 use Rattle.rs_image.specs.declared.contents.Contents.{Contents}
 use Rattle.rs_image.specs.Reach.{blocks_of_disk, reach, AreInside}
-use Rattle.rs_image.specs.Whole.{IsWhole}
+use Rattle.rs_image.specs.Whole.{HasFirstPart, IsWhole}
 use Rattle.rs_image.specs.StateOfImage.{Tells, state_in, listing}
 use Rattle.rs_image.specs.Loading.{IsPagePlaced, ArePlaced, NamesPlaced, ReadsBehind, pages_read, spelled, IsLawfulDirectory, AreOf, Hold}
 use Rattle.rs_image.proofs.Reaching.{reaches_catalogue, reaches_history, reaches_published}
@@ -67,8 +67,9 @@ malformed fault (Ok x) is damaged = absurd is
 malformed fault (Err made) is damaged = let same : made ≡ Damaged = cc in is_malformed fault made is same
 
 -- a directory has bytes
-pub some_bytes : (h : Header) (catalogue changes published : List PageRef) (bytes : List ℕ) → bytes ≡ directory_bytes h catalogue changes published → 0 < length bytes
-some_bytes h catalogue changes published bytes is = let long = ap length is in omega (arith, long)
+pub some_bytes : (version : ℕ) (h : Header) (catalogue changes published : List PageRef) (bytes : List ℕ)
+    → bytes ≡ directory_bytes version h catalogue changes published → 0 < length bytes
+some_bytes version h catalogue changes published bytes is = let long = ap length is in omega (arith, long)
 
 -- what was read of the directory is read still, ..
 pub still_read : (root : Root) (bytes : List ℕ) (mid new : DiskState) → Rests mid new
@@ -102,17 +103,18 @@ items_in pages = map (λ page. page.items) pages
 
 -- what pages of a directory hold the lists
 abbrev pub HoldLists : Directory → List ℕ → Contents → Type 0
-HoldLists d image c = Hold d image (items_in c.catalogue) (items_in c.history) (items_in c.published)
+HoldLists d image c = Hold d image (items_in c.catalogue) (items_in c.history.pages) (items_in c.published)
 
 -- The lists that a root tells are those of the directory that was read.
-pub told_of : (root : Root) (d : Directory) (c : Contents) (image : List ℕ) (s : Source) → IsLawfulDirectory d → part root.directory root.length image ≡ spelled d
+pub told_of : (root : Root) (d : Directory) (c : Contents) (image : List ℕ) (s : Source) → IsLawfulDirectory root.version d → part root.directory root.length image ≡ spelled root.version d
     → Tells root c image s → AreOf d c
 told_of root d c image s lawful found tells =
-    let same = one_directory c.header d.header (stored_refs c.catalogue) d.catalogue.items (stored_refs c.history) d.changes.items
+    let same = one_directory root.version c.header d.header (stored_refs c.catalogue) d.catalogue.items (stored_refs c.history.pages) d.changes.items
     (stored_refs c.published) d.published.items tells.listable.header tells.listable.catalogue tells.listable.history tells.listable.published
     lawful.header lawful.catalogue lawful.changes lawful.published (sym tells.directory ∙ found) in
     record {
       header = same.0;
+      first = tells.whole.number ∙ ap (λ (h : Header). h.first) same.0;
       catalogue = same.1;
       changes = same.2;
       published = same.3;
@@ -121,11 +123,15 @@ told_of root d c image s lawful found tells =
       published_stored = tells.whole.published;
     }
 
+-- .. so that its history can begin with the first part that it names, ..
+pub told_first : (root : Root) (d : Directory) (c : Contents) (image : List ℕ) (s : Source) → AreOf d c → Tells root c image s → HasFirstPart d.header
+told_first root d c image s of tells = subst HasFirstPart of.header tells.whole.moments.history
+
 -- .. and its pages hold them.
 pub told_hold : (root : Root) (d : Directory) (c : Contents) (image : List ℕ) (s : Source) → AreOf d c → Tells root c image s → HoldLists d image c
 told_hold root d c image s of tells = record {
   catalogue = subst (λ (refs : List PageRef). HoldsCatalogue refs image (items_in c.catalogue)) of.catalogue tells.catalogue;
-  changes = subst (λ (refs : List PageRef). HoldsHistory refs image (items_in c.history)) of.changes tells.history;
+  changes = subst (λ (refs : List PageRef). HoldsHistory refs image (items_in c.history.pages)) of.changes tells.history;
   published = subst (λ (refs : List PageRef). HoldsCatalogue refs image (items_in c.published)) of.published tells.published;
 }
 
@@ -135,21 +141,23 @@ same_lists d a b image of_a of_b hold_a hold_b =
     let header : a.header ≡ b.header = of_a.header ∙ sym of_b.header in
     let catalogue : a.catalogue ≡ b.catalogue = pages_once a.catalogue b.catalogue of_a.catalogue_stored of_b.catalogue_stored (of_a.catalogue ∙ sym of_b.catalogue)
     (catalogue_held_once d.catalogue.items image (items_in a.catalogue) (items_in b.catalogue) hold_a.catalogue hold_b.catalogue) in
-    let history : a.history ≡ b.history = pages_once a.history b.history of_a.changes_stored of_b.changes_stored (of_a.changes ∙ sym of_b.changes)
-    (history_held_once d.changes.items image (items_in a.history) (items_in b.history) hold_a.changes hold_b.changes) in
+    let first : a.history.first ≡ b.history.first = of_a.first ∙ sym of_b.first in
+    let changes : a.history.pages ≡ b.history.pages =
+    pages_once a.history.pages b.history.pages of_a.changes_stored of_b.changes_stored (of_a.changes ∙ sym of_b.changes)
+    (history_held_once d.changes.items image (items_in a.history.pages) (items_in b.history.pages) hold_a.changes hold_b.changes) in
     let published : a.published ≡ b.published = pages_once a.published b.published of_a.published_stored of_b.published_stored (of_a.published ∙ sym of_b.published)
     (catalogue_held_once d.published.items image (items_in a.published) (items_in b.published) hold_a.published hold_b.published) in
-    λ i. record { header = header i; catalogue = catalogue i; history = history i; published = published i }
+    λ i. record { header = header i; catalogue = catalogue i; history = record { first = first i; pages = changes i }; published = published i }
 
 -- Lists of a directory that are whole are told, ..
-pub are_told : (root : Root) (d : Directory) (c : Contents) (image : List ℕ) (size : ℕ) → IsLawfulDirectory d → (digests (spelled d)).sha256 ≡ root.sha256
-    → part root.directory root.length image ≡ spelled d → AreOf d c → HoldLists d image c → size ≡ length image → IsWhole size root c
+pub are_told : (root : Root) (d : Directory) (c : Contents) (image : List ℕ) (size : ℕ) → IsLawfulDirectory root.version d → (digests (spelled root.version d)).sha256 ≡ root.sha256
+    → part root.directory root.length image ≡ spelled root.version d → AreOf d c → HoldLists d image c → size ≡ length image → IsWhole size root c
     → Tells root c image (state_in image c)
 are_told root d c image size lawful digest found of hold long whole =
-    let same : spelled d ≡ listing c = λ i. directory_bytes (sym of.header i) (sym of.catalogue i) (sym of.changes i) (sym of.published i) in
+    let same : spelled root.version d ≡ listing root.version c = λ i. directory_bytes root.version (sym of.header i) (sym of.catalogue i) (sym of.changes i) (sym of.published i) in
     record {
       listable = record {
-        header = subst IsLawfulHeader (sym of.header) lawful.header;
+        header = subst (IsLawfulHeader root.version) (sym of.header) lawful.header;
         catalogue = subst AreLawfulRefs (sym of.catalogue) lawful.catalogue;
         history = subst AreLawfulRefs (sym of.changes) lawful.changes;
         published = subst AreLawfulRefs (sym of.published) lawful.published;
@@ -157,14 +165,14 @@ are_told root d c image size lawful digest found of hold long whole =
       directory = found ∙ same;
       digest = subst (λ (bytes : List ℕ). (digests bytes).sha256 ≡ root.sha256) same digest;
       catalogue = subst (λ (refs : List PageRef). HoldsCatalogue refs image (items_in c.catalogue)) (sym of.catalogue) hold.catalogue;
-      history = subst (λ (refs : List PageRef). HoldsHistory refs image (items_in c.history)) (sym of.changes) hold.changes;
+      history = subst (λ (refs : List PageRef). HoldsHistory refs image (items_in c.history.pages)) (sym of.changes) hold.changes;
       published = subst (λ (refs : List PageRef). HoldsCatalogue refs image (items_in c.published)) (sym of.published) hold.published;
       whole = subst (λ (n : ℕ). IsWhole n root c) long whole;
       state = refl;
     }
 
 -- .. and where they are not, none are.
-pub none_told : (root : Root) (d : Directory) (c : Contents) (image : List ℕ) (size : ℕ) → IsLawfulDirectory d → part root.directory root.length image ≡ spelled d
+pub none_told : (root : Root) (d : Directory) (c : Contents) (image : List ℕ) (size : ℕ) → IsLawfulDirectory root.version d → part root.directory root.length image ≡ spelled root.version d
     → AreOf d c → HoldLists d image c → size ≡ length image → ¬ IsWhole size root c → (other : Contents) (s : Source) → ¬ Tells root other image s
 none_told root d c image size lawful found of hold long broken other s tells =
     let of_other = told_of root d other image s lawful found tells in
@@ -188,22 +196,22 @@ told_placed root d c image s size of tells long =
     let hold = told_hold root d c image s of tells in
     let inside : AreInside size (reach root c) = subst (λ (n : ℕ). AreInside n (reach root c)) (sym long) tells.whole.inside in
     let catalogue : AreInside size (extents_of (stored_refs c.catalogue)) = λ b is. inside b (reaches_catalogue root c b is) in
-    let changes : AreInside size (extents_of (stored_refs c.history)) = λ b is. inside b (reaches_history root c b is) in
+    let changes : AreInside size (extents_of (stored_refs c.history.pages)) = λ b is. inside b (reaches_history root c b is) in
     let published : AreInside size (extents_of (stored_refs c.published)) = λ b is. inside b (reaches_published root c b is) in
     record {
       catalogue = are_pages_placed record_format size d.catalogue.items image (items_in c.catalogue) hold.catalogue.hold
           (subst (λ (refs : List PageRef). AreInside size (extents_of refs)) of.catalogue catalogue);
-      changes = are_pages_placed change_format size d.changes.items image (items_in c.history) hold.changes.hold
+      changes = are_pages_placed change_format size d.changes.items image (items_in c.history.pages) hold.changes.hold
           (subst (λ (refs : List PageRef). AreInside size (extents_of refs)) of.changes changes);
       published = are_pages_placed record_format size d.published.items image (items_in c.published) hold.published.hold
           (subst (λ (refs : List PageRef). AreInside size (extents_of refs)) of.published published);
     }
 
 -- A directory that was read names what each one with its bytes names.
-pub names_placed : (size : ℕ) (root : Root) (image : List ℕ) (d : Directory) → IsLawfulDirectory d → part root.directory root.length image ≡ spelled d → ArePlaced size d
+pub names_placed : (size : ℕ) (root : Root) (image : List ℕ) (d : Directory) → IsLawfulDirectory root.version d → part root.directory root.length image ≡ spelled root.version d → ArePlaced size d
     → NamesPlaced size root image
 names_placed size root image d lawful found placed other lawful_too reads =
-    let same = one_directory d.header other.header d.catalogue.items other.catalogue.items d.changes.items other.changes.items
+    let same = one_directory root.version d.header other.header d.catalogue.items other.catalogue.items d.changes.items other.changes.items
     d.published.items other.published.items lawful.header lawful.catalogue lawful.changes lawful.published
     lawful_too.header lawful_too.catalogue lawful_too.changes lawful_too.published (sym found ∙ reads) in
     record {
@@ -213,15 +221,15 @@ names_placed size root image d lawful found placed other lawful_too reads =
     }
 
 -- After the directory nothing is read unless all pages that it names are placed.
-placed_before : (old mid new : DiskState) (root : Root) (d : Directory) → IsLawfulDirectory d → (IsTrue mid.honest → part root.directory root.length mid.now.seen ≡ spelled d)
+placed_before : (old mid new : DiskState) (root : Root) (d : Directory) → IsLawfulDirectory root.version d → (IsTrue mid.honest → part root.directory root.length mid.now.seen ≡ spelled root.version d)
     → mid.calls ≤ old.calls + 1 → Rests mid new → (mid.calls < new.calls → ArePlaced new.size d)
     → old.calls + 1 < new.calls → IsTrue new.honest → NamesPlaced new.size root new.now.seen
 placed_before old mid new root d lawful found one rests placed more honest =
-    names_placed new.size root new.now.seen d lawful (still_read root (spelled d) mid new rests (found (rests.lasts honest))) (placed (omega arith))
+    names_placed new.size root new.now.seen d lawful (still_read root (spelled root.version d) mid new rests (found (rests.lasts honest))) (placed (omega arith))
 
 -- and so it is of the reading of a root
-pub reads_behind : (old mid new : DiskState) (root : Root) (d : Directory) → IsLawfulDirectory d → (digests (spelled d)).sha256 ≡ root.sha256
-    → (IsTrue mid.honest → part root.directory root.length mid.now.seen ≡ spelled d)
+pub reads_behind : (old mid new : DiskState) (root : Root) (d : Directory) → IsLawfulDirectory root.version d → (digests (spelled root.version d)).sha256 ≡ root.sha256
+    → (IsTrue mid.honest → part root.directory root.length mid.now.seen ≡ spelled root.version d)
     → Rests old mid → mid.calls ≤ old.calls + 1 → Rests mid new → new.calls ≤ mid.calls + pages_read d → (mid.calls < new.calls → ArePlaced new.size d)
     → ReadsBehind root old new
 reads_behind old mid new root d lawful digest found first one rests few placed = record {

@@ -16,6 +16,7 @@ use Rattle.rs_catalogue.specs.Catalogue.{HoldsCatalogue}
 use Rattle.rs_catalogue.specs.Laws.{CatalogueHeldOnce}
 use Rattle.rs_changes.specs.History.{HoldsHistory}
 use Rattle.rs_changes.specs.Laws.{HistoryHeldOnce}
+use Rattle.rs_directory.specs.declared.header.Header.{Header}
 use Rattle.rs_directory.proofs.OneDirectory.{one_directory}
 use Rattle.rs_record.specs.declared.record.Record.{Record}
 use Rattle.rs_record.specs.declared.change.Change.{Change}
@@ -72,15 +73,17 @@ history_once a b image of_a of_b refs holds_a holds_b =
 -- A root tells at most one set of lists in an image.
 pub tells_once : TellsOnce
 tells_once root c d image s t one two =
-    let same = one_directory c.header d.header (stored_refs c.catalogue) (stored_refs d.catalogue) (stored_refs c.history) (stored_refs d.history)
+    let same = one_directory root.version c.header d.header (stored_refs c.catalogue) (stored_refs d.catalogue) (stored_refs c.history.pages) (stored_refs d.history.pages)
     (stored_refs c.published) (stored_refs d.published) one.listable.header one.listable.catalogue one.listable.history one.listable.published
     two.listable.header two.listable.catalogue two.listable.history two.listable.published (sym one.directory ∙ two.directory) in
     let catalogue : c.catalogue ≡ d.catalogue =
     catalogue_once c.catalogue d.catalogue image one.whole.catalogue two.whole.catalogue same.1 one.catalogue two.catalogue in
-    let history : c.history ≡ d.history = history_once c.history d.history image one.whole.history two.whole.history same.2 one.history two.history in
+    let pages : c.history.pages ≡ d.history.pages =
+    history_once c.history.pages d.history.pages image one.whole.history two.whole.history same.2 one.history two.history in
+    let first : c.history.first ≡ d.history.first = one.whole.number ∙ ap (λ (h : Header). h.first) same.0 ∙ sym two.whole.number in
     let published : c.published ≡ d.published =
     catalogue_once c.published d.published image one.whole.published two.whole.published same.3 one.published two.published in
-    λ i. record { header = same.0 i; catalogue = catalogue i; history = history i; published = published i }
+    λ i. record { header = same.0 i; catalogue = catalogue i; history = record { first = first i; pages = pages i }; published = published i }
 
 -- An image stands for at most one state.
 pub stands_once : StandsOnce

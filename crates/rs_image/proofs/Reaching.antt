@@ -63,7 +63,7 @@ abbrev catalogue_pages : Contents → List Extent
 catalogue_pages c = extents_of (stored_refs c.catalogue)
 
 abbrev history_pages : Contents → List Extent
-history_pages c = extents_of (stored_refs c.history)
+history_pages c = extents_of (stored_refs c.history.pages)
 
 abbrev own_pages : Contents → List Extent
 own_pages c = extents_of (unshared (stored_refs c.published) (stored_refs c.catalogue))
@@ -88,7 +88,7 @@ module _ (root : Root) (c : Contents) (b : ℕ) where
   pub reaches_catalogue : in_some (extents_of (stored_refs c.catalogue)) b ≡ true → in_some (reach root c) b ≡ true
   reaches_catalogue is = reaches_lists (some_front (catalogue_pages c) (history_pages c) b is)
 
-  pub reaches_history : in_some (extents_of (stored_refs c.history)) b ≡ true → in_some (reach root c) b ≡ true
+  pub reaches_history : in_some (extents_of (stored_refs c.history.pages)) b ≡ true → in_some (reach root c) b ≡ true
   reaches_history is = reaches_lists (some_behind (catalogue_pages c) (history_pages c) b is)
 
   pub reaches_unshared : in_some (extents_of (unshared (stored_refs c.published) (stored_refs c.catalogue))) b ≡ true → in_some (reach root c) b ≡ true

@@ -38,29 +38,31 @@ pub record ArePlaced (size : ℕ) (d : Directory) : Type 0 where
   pub changes : All (IsPagePlaced size) d.changes.items
   pub published : All (IsPagePlaced size) d.published.items
 
--- the bytes of a directory
-abbrev pub spelled : Directory → List ℕ
-spelled d = directory_bytes d.header d.catalogue.items d.changes.items d.published.items
+-- the bytes of a directory in a version of the format
+abbrev pub spelled : ℕ → Directory → List ℕ
+spelled version d = directory_bytes version d.header d.catalogue.items d.changes.items d.published.items
 
--- What every directory that was read keeps.
-pub record IsLawfulDirectory (d : Directory) : Type 0 where
-  pub header : IsLawfulHeader d.header
+-- What every directory of a version that was read keeps.
+pub record IsLawfulDirectory (version : ℕ) (d : Directory) : Type 0 where
+  pub header : IsLawfulHeader version d.header
   pub catalogue : AreLawfulRefs d.catalogue.items
   pub changes : AreLawfulRefs d.changes.items
   pub published : AreLawfulRefs d.published.items
 
 -- Where the root's extent holds the bytes of a directory, all pages that it names are placed.
 abbrev pub NamesPlaced : ℕ → Root → List ℕ → Type 0
-NamesPlaced size root image = (d : Directory) → IsLawfulDirectory d → part root.directory root.length image ≡ spelled d → ArePlaced size d
+NamesPlaced size root image = (d : Directory) → IsLawfulDirectory root.version d → part root.directory root.length image ≡ spelled root.version d → ArePlaced size d
 
--- The lists are those of a directory: they have its header, and all their pages are stored where it says.
+-- The lists are those of a directory: they have its header, the history its first number, and all their pages are stored
+-- where it says.
 pub record AreOf (d : Directory) (c : Contents) : Type 0 where
   pub header : c.header ≡ d.header
+  pub first : c.history.first ≡ d.header.first
   pub catalogue : stored_refs c.catalogue ≡ d.catalogue.items
-  pub changes : stored_refs c.history ≡ d.changes.items
+  pub changes : stored_refs c.history.pages ≡ d.changes.items
   pub published : stored_refs c.published ≡ d.published.items
   pub catalogue_stored : All IsStored c.catalogue
-  pub changes_stored : All IsStored c.history
+  pub changes_stored : All IsStored c.history.pages
   pub published_stored : All IsStored c.published
 
 -- how many pages are read where a directory is: each that it names, but for a published one that is a page of the catalogue too
@@ -73,7 +75,7 @@ pages_read d = length d.catalogue.items + (length d.changes.items + length (unsh
 -- `placed`: of a device that has followed the model, none of these pages is read unless all of them are placed.
 pub record ReadsBehind (root : Root) (old new : DiskState) : Type 0 where
   pub rests : Rests old new
-  pub once : old.calls + 1 < new.calls → (d : Directory) × ((digests (spelled d)).sha256 ≡ root.sha256) × (new.calls ≤ old.calls + 1 + pages_read d)
+  pub once : old.calls + 1 < new.calls → (d : Directory) × ((digests (spelled root.version d)).sha256 ≡ root.sha256) × (new.calls ≤ old.calls + 1 + pages_read d)
   pub placed : old.calls + 1 < new.calls → IsTrue new.honest → NamesPlaced new.size root new.now.seen
 
 -- What the pages of a directory hold in an image: these records, changes and published records, page for page.

@@ -24,7 +24,7 @@ bodies_of records = map (λ r. r.extent) records
 abbrev pub reach : Root → Contents → List Extent
 reach root c =
     root.directory
-    ∷ extents_of (stored_refs c.catalogue) ++ extents_of (stored_refs c.history)
+    ∷ extents_of (stored_refs c.catalogue) ++ extents_of (stored_refs c.history.pages)
     ++ extents_of (unshared (stored_refs c.published) (stored_refs c.catalogue)) ++ bodies_of (records_of c.catalogue)
 
 -- a block is a slot's, or the root reaches it

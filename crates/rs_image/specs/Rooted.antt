@@ -20,7 +20,7 @@ rooted size root c = record { size = size; root = root; contents = c }
 pub record IsRooted (r : Rooted) : Type 0 where
   pub room : 1024 ≤ r.size
   pub whole : IsWhole r.size r.root r.contents
-  pub listable : AreListable r.contents
+  pub listable : AreListable r.root.version r.contents
 
 -- the blocks of the disk that the root reaches, and no others, are used
 pub record AreUsed (r : Rooted) (used : List Bool) : Type 0 where

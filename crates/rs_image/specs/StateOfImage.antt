@@ -28,31 +28,33 @@ state_in image c =
       start = c.header.start;
       last = c.header.last;
       held = map (held_in image) (records_of c.catalogue);
-      changes = changes_of c.history;
+      changes = changes_of c.history.pages;
       number = c.header.number;
       at = c.header.at;
       listed = map entry_of (records_of c.published);
+      first = c.header.first;
+      begin = c.header.begin;
     }
 
--- the bytes of the directory of these lists
-abbrev pub listing : Contents → List ℕ
-listing c = directory_bytes c.header (stored_refs c.catalogue) (stored_refs c.history) (stored_refs c.published)
+-- the bytes of the directory of these lists, in a version of the format
+abbrev pub listing : ℕ → Contents → List ℕ
+listing version c = directory_bytes version c.header (stored_refs c.catalogue) (stored_refs c.history.pages) (stored_refs c.published)
 
--- entries of pages and a header that a directory can have
-pub record AreListable (c : Contents) : Type 0 where
-  pub header : IsLawfulHeader c.header
+-- entries of pages and a header that a directory of a version can have
+pub record AreListable (version : ℕ) (c : Contents) : Type 0 where
+  pub header : IsLawfulHeader version c.header
   pub catalogue : AreLawfulRefs (stored_refs c.catalogue)
-  pub history : AreLawfulRefs (stored_refs c.history)
+  pub history : AreLawfulRefs (stored_refs c.history.pages)
   pub published : AreLawfulRefs (stored_refs c.published)
 
--- A root tells these lists in an image: the directory's bytes are theirs and have the root's digest, the pages that it
--- names hold them, and each rule of the lists and their blocks is kept. So the image tells their state.
+-- A root tells these lists in an image: the directory's bytes are theirs in the root's version and have the root's digest,
+-- the pages that it names hold them, and each rule of the lists and their blocks is kept. So the image tells their state.
 pub record Tells (root : Root) (c : Contents) (image : List ℕ) (s : Source) : Type 0 where
-  pub listable : AreListable c
-  pub directory : part root.directory root.length image ≡ listing c
-  pub digest : (digests (listing c)).sha256 ≡ root.sha256
+  pub listable : AreListable root.version c
+  pub directory : part root.directory root.length image ≡ listing root.version c
+  pub digest : (digests (listing root.version c)).sha256 ≡ root.sha256
   pub catalogue : HoldsCatalogue (stored_refs c.catalogue) image (map (λ page. page.items) c.catalogue)
-  pub history : HoldsHistory (stored_refs c.history) image (map (λ page. page.items) c.history)
+  pub history : HoldsHistory (stored_refs c.history.pages) image (map (λ page. page.items) c.history.pages)
   pub published : HoldsCatalogue (stored_refs c.published) image (map (λ page. page.items) c.published)
   pub whole : IsWhole (length image) root c
   pub state : state_in image c ≡ s

@@ -1,5 +1,5 @@
 -- What a root and the lists behind it keep, whatever the disk holds.
-use Rattle.std.specs.Prelude.{◌≡◌, ◌<◌, ◌≤◌, ℕ, max, All, IfSome, MatchOption}
+use Rattle.std.specs.Prelude.{◌≡◌, ◌<◌, ◌≤◌, ◌-◌, ℕ, max, All, IfSome, MatchOption}
 use Rattle.rs_body.specs.Blocks.{IsSized}
 use Rattle.rs_commit.specs.declared.root.Root.{Root}
 use Rattle.rs_record.specs.declared.record.Record.{Record}
@@ -29,23 +29,35 @@ pub record IsSoundChange (low high : ℕ) (c : Change) : Type 0 where
   pub moment : IsWithin low high c.moment
   pub body : IfSome c.facts (λ facts. facts.length ≤ longest_body)
 
+-- The kept history begins at formatting or later; no more parts were dropped than moments lie between, and where none was
+-- dropped, it begins at formatting.
+pub record HasFirstPart (h : Header) : Type 0 where
+  pub begun : h.start ≤ h.begin
+  pub first : h.first ≤ h.begin - h.start
+  pub none_dropped : h.first ≡ 0 → h.begin ≡ h.start
+
 -- Formatting is no later than the latest publication, which is no later than the last command; and that is the later one
--- of the publication and the last change.
+-- of the publication and the last change. The kept history begins no later than the publication, and with a part that can
+-- be its first.
 pub record AreMoments (h : Header) (c : Contents) : Type 0 where
   pub start : h.start ≤ h.at
   pub at : h.at ≤ h.last
-  pub last : MatchOption (last_of (changes_of c.history)) (h.last ≡ h.at) (λ change. h.last ≡ max h.at change.moment)
+  pub last : MatchOption (last_of (changes_of c.history.pages)) (h.last ≡ h.at) (λ change. h.last ≡ max h.at change.moment)
+  pub kept : h.begin ≤ h.at
+  pub history : HasFirstPart h
 
--- What a root and the lists behind it keep: all pages are stored; the moments are in order; each record and each change is
--- sound, where what was published is up to the publication; the directory has exactly its blocks; and what the root
--- reaches lies on a disk of this many bytes behind the slots, no two things with a block in common, nor two published pages.
+-- What a root and the lists behind it keep: all pages are stored; the moments are in order; the history has the header's
+-- first number; each record and each change is sound, where a change is after the begin of the history, and what was
+-- published is up to the publication; the directory has exactly its blocks; and what the root reaches lies on a disk of
+-- this many bytes behind the slots, no two things with a block in common, nor two published pages.
 pub record IsWhole (size : ℕ) (root : Root) (c : Contents) : Type 0 where
   pub catalogue : All IsStored c.catalogue
-  pub history : All IsStored c.history
+  pub history : All IsStored c.history.pages
   pub published : All IsStored c.published
   pub moments : AreMoments c.header c
+  pub number : c.history.first ≡ c.header.first
   pub records : All (IsSoundRecord c.header.start c.header.last) (records_of c.catalogue)
-  pub changes : All (IsSoundChange c.header.start c.header.last) (changes_of c.history)
+  pub changes : All (IsSoundChange c.header.begin c.header.last) (changes_of c.history.pages)
   pub listed : All (IsSoundRecord c.header.start c.header.at) (records_of c.published)
   pub directory : IsSized root.directory root.length
   pub apart : AreApart (reach root c)

@@ -12,7 +12,7 @@ pub struct Contents {
     pub header: Header,
     /// The resources that are held, in the ascending order of their names.
     pub catalogue: Catalogue,
-    /// The changes, the earliest first.
+    /// The changes that are kept, the earliest first, and the number of their first part.
     pub history: History,
     /// The resources of the latest publication, in the ascending order of their names.
     pub published: Catalogue,

@@ -5,6 +5,7 @@ ghost use Rattle.rs_disk.specs.Leaves.{Rests, TellsFaults};
 ghost use Rattle.rs_fixity.specs.Digests.{digests};
 ghost use Rattle.rs_extent.specs.Extents.{within};
 ghost use Rattle.rs_body.specs.Blocks.{part};
+ghost use Rattle.rs_time.specs.Moment.{greatest};
 ghost use Rattle.rs_record.specs.declared.record.Record.{Record};
 ghost use Rattle.rs_record.specs.declared.change.Change.{Change};
 ghost use Rattle.rs_model.specs.State.{Source};
@@ -15,7 +16,7 @@ ghost use Rattle.rs_image.specs.Rooted.{MemoryIsSound, rooted};
 ghost use Rattle.rs_image.specs.Loading.{IsPlaced, IsDirectoryPlaced, IsPagePlaced, ArePlaced, ReadsBehind, spelled, pages_read, IsLawfulDirectory, AreOf, Hold};
 
 use crate::used::block_count;
-use crate::whole::whole_set;
+use crate::whole::{has_first_part, whole_set};
 use crate::{Contents, Loaded};
 use rs_body::{is_sized, read_body};
 use rs_catalogue::{Catalogue, LoadFault};
@@ -28,7 +29,7 @@ use rs_page::PageRef;
 use std::alloc::Global;
 
 /// Reads what stands behind a root, whatever the root and the disk say, and checks each rule of the
-/// format. The disk stays as it is.
+/// format; the directory is read in the root's version of it. The disk stays as it is.
 ///
 /// No memory is asked for the directory, and nothing read of it, before its extent was found to lie
 /// behind the slots in what is used of the disk, and to have exactly the blocks of its length. The
@@ -69,14 +70,18 @@ pub fn load<D: Disk>(alloc: Global, disk: &mut D, root: &Root) -> Result<Loaded,
     }
 }
 
-// Reads the directory of a root.
+// Reads the directory of a root, in the root's version. It is Damaged where the first part that it
+// names can't be the first one of its history.
 fn load_directory<D: Disk>(alloc: Global, disk: &mut D, root: &Root) -> Result<Directory, LoadFault>
     ensures placed { OnOk result (IsDirectoryPlaced (D.state disk.new).size root.now) }
     ensures room { OnOk result (1024 ≤ (D.state disk.new).size) }
-    ensures lawful { IfOk result IsLawfulDirectory }
-    ensures digest { IfOk result (λ d. (digests (spelled d)).sha256 ≡ root.now.sha256) }
+    ensures lawful { IfOk result (IsLawfulDirectory root.now.version) }
+    ensures first { IfOk result (λ d. d.header.first ≤ greatest) }
+    ensures digest { IfOk result
+        (λ d. (digests (spelled root.now.version d)).sha256 ≡ root.now.sha256) }
     ensures found { IfOk result (λ d. IsTrue (D.state disk.new).honest
-        → part root.now.directory root.now.length (D.state disk.new).now.seen ≡ spelled d) }
+        → part root.now.directory root.now.length (D.state disk.new).now.seen
+        ≡ spelled root.now.version d) }
     ensures damaged { IsErrOf result LoadFault.Damaged
         → IsTrue (D.state disk.new).honest
         → (c : Contents) (s : Source)
@@ -93,7 +98,11 @@ fn load_directory<D: Disk>(alloc: Global, disk: &mut D, root: &Root) -> Result<D
     }
     let mut bytes = Vec::new(alloc);
     read_body(disk, root.directory, root.length, &root.sha256, &mut bytes)?;
-    Ok(read_directory(alloc, &bytes)?)
+    let directory = read_directory(alloc, root.version, &bytes)?;
+    if !has_first_part(&directory.header) {
+        return Err(LoadFault::Damaged);
+    }
+    Ok(directory)
 }
 
 // Whether each of these pages has exactly the blocks of its length, all of them behind the slots in
@@ -136,10 +145,11 @@ fn load_lists<D: Disk>(
     disk: &mut D,
     directory: Directory,
 ) -> Result<Contents, LoadFault>
+    requires { directory.header.first ≤ greatest }
     ensures lists { IfOk result (AreOf directory) }
     ensures found { IfOk result (λ c. IsTrue (D.state disk.new).honest
         → Hold directory (D.state disk.new).now.seen (map (λ page. page.items) c.catalogue)
-        (map (λ page. page.items) c.history) (map (λ page. page.items) c.published)) }
+        (map (λ page. page.items) c.history.pages) (map (λ page. page.items) c.published)) }
     ensures damaged { IsErrOf result LoadFault.Damaged
         → IsTrue (D.state disk.new).honest
         → (catalogue : List (List Record)) (changes : List (List Change))
@@ -165,7 +175,8 @@ fn load_lists<D: Disk>(
         return Err(LoadFault::Damaged);
     }
     let catalogue = Catalogue::load(alloc, disk, &directory.catalogue)?;
-    let history = History::load(alloc, disk, &directory.changes)?;
+    let first = directory.header.first;
+    let history = History::load(alloc, disk, first, &directory.changes)?;
     let published = Catalogue::load_beside(alloc, disk, &directory.published, &catalogue)?;
     Ok(Contents {
         header: directory.header,

@@ -146,7 +146,7 @@ pub fn unshared_pages(alloc: Global, contents: &Contents) -> Result<Vec<PageRef>
 // The pages that a root reaches: a published page that is a catalogue page too counts once.
 fn reached_pages(alloc: Global, contents: &Contents) -> Result<Vec<PageRef>, AllocError>
     ensures { IfOk result (λ pages. pages.items ≡ stored_refs contents.now.catalogue
-        ++ stored_refs contents.now.history
+        ++ stored_refs contents.now.history.pages
         ++ unshared (stored_refs contents.now.published) (stored_refs contents.now.catalogue)) }
 {
     let mut pages = contents.catalogue.pages(alloc)?;

@@ -1,9 +1,9 @@
 //! Whether what a root says, and the lists behind it, keep the rules of an image.
-ghost use Rattle.std.specs.Prelude.{◌≡◌, ◌≤◌, true, false, max, All, IfOk, IfSome, IfNone, MatchOption};
+ghost use Rattle.std.specs.Prelude.{◌≡◌, ◌≤◌, ◌↔◌, IsTrue, true, false, max, All, IfOk, IfSome, IfNone, MatchOption};
 ghost use Rattle.rs_page.specs.Pages.{IsStored};
 ghost use Rattle.rs_catalogue.specs.Catalogue.{records_of};
 ghost use Rattle.rs_changes.specs.History.{changes_of, last_of};
-ghost use Rattle.rs_image.specs.Whole.{IsWithin, IsSoundRecord, IsSoundChange, AreMoments, IsWhole};
+ghost use Rattle.rs_image.specs.Whole.{HasFirstPart, IsWithin, IsSoundRecord, IsSoundChange, AreMoments, IsWhole};
 ghost use Rattle.rs_image.specs.Rooted.{AreUsed, rooted};
 
 use crate::Contents;
@@ -12,6 +12,7 @@ use rs_body::is_sized;
 use rs_catalogue::Catalogue;
 use rs_changes::History;
 use rs_commit::Root;
+use rs_directory::Header;
 use rs_extent::Used;
 use rs_record::{Change, LONGEST_BODY, Record};
 use rs_time::Moment;
@@ -21,7 +22,8 @@ use std::alloc::{AllocError, Global};
 /// the rules of an image of `size` bytes, whatever they say: the moments are in order, each record
 /// and each change is sound, the directory has exactly its blocks, and what the root reaches lies on
 /// the disk behind the slots, no two things with a block in common, nor two published pages. `None`
-/// where a rule is broken. All pages of the lists are on the disk.
+/// where a rule is broken. All pages of the lists are on the disk, and the history has the header's
+/// first number.
 ///
 /// # Errors
 ///
@@ -34,8 +36,9 @@ pub(crate) fn whole_set(
 ) -> Result<Option<Used>, AllocError>
     requires room { 1024 ≤ size }
     requires catalogue { All IsStored contents.now.catalogue }
-    requires history { All IsStored contents.now.history }
+    requires history { All IsStored contents.now.history.pages }
     requires published { All IsStored contents.now.published }
+    requires number { contents.now.history.first ≡ contents.now.header.first }
     ensures whole { IfOk result
         (λ found. IfSome found (λ _. IsWhole size root.now contents.now)) }
     ensures used { IfOk result
@@ -46,7 +49,7 @@ pub(crate) fn whole_set(
     let is_sound = is_sized(root.directory, root.length)
         && are_moments(contents)
         && are_sound_records(header.start, header.last, &contents.catalogue)
-        && are_sound_changes(header.start, header.last, &contents.history)
+        && are_sound_changes(header.begin, header.last, &contents.history)
         && are_sound_records(header.start, header.at, &contents.published);
     if !is_sound {
         return Ok(None);
@@ -62,19 +65,33 @@ pub(crate) fn whole_set(
     }
 }
 
-// Whether formatting, the latest publication and the last command are in order, and the last command
-// is the publication or the last change.
+// Whether formatting, the begin of the history, the latest publication and the last command are in
+// order, the last command is the publication or the last change, and the first part has a number
+// that there can be.
 fn are_moments(contents: &Contents) -> bool
     ensures yes { result ≡ true → AreMoments contents.now.header contents.now }
     ensures no { result ≡ false → ¬ AreMoments contents.now.header contents.now }
 {
     let header = &contents.header;
-    header.start <= header.at && header.at <= header.last && header.last == latest(contents)
+    header.begin <= header.at
+        && header.at <= header.last
+        && header.last == latest(contents)
+        && has_first_part(header)
+}
+
+/// Whether the kept history begins at formatting or later, no more parts were dropped than moments
+/// lie between, and where none was dropped, it begins at formatting.
+pub(crate) fn has_first_part(header: &Header) -> bool
+    ensures { IsTrue result ↔ HasFirstPart header.now }
+{
+    header.start <= header.begin
+        && header.first <= header.begin.ms() - header.start.ms()
+        && (header.first != 0 || header.begin == header.start)
 }
 
 // The later moment of the latest publication and of the last change, if there is one.
 fn latest(contents: &Contents) -> Moment
-    ensures { MatchOption (last_of (changes_of contents.now.history))
+    ensures { MatchOption (last_of (changes_of contents.now.history.pages))
         (result ≡ contents.now.header.at)
         (λ change. result ≡ max contents.now.header.at change.moment) }
 {
@@ -102,8 +119,8 @@ fn are_sound_records(low: Moment, high: Moment, catalogue: &Catalogue) -> bool
 
 // Whether each change of a history is sound.
 fn are_sound_changes(low: Moment, high: Moment, history: &History) -> bool
-    ensures yes { result ≡ true → All (IsSoundChange low high) (changes_of history.now) }
-    ensures no { result ≡ false → ¬ All (IsSoundChange low high) (changes_of history.now) }
+    ensures yes { result ≡ true → All (IsSoundChange low high) (changes_of history.now.pages) }
+    ensures no { result ≡ false → ¬ All (IsSoundChange low high) (changes_of history.now.pages) }
 {
     for i in 0..history.len() {
         if !is_sound_change(low, high, history.at(i)) {

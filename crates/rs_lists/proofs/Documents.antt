@@ -39,7 +39,7 @@ pub resource_head_index : (s : Shown) → 0 < s.limit → s.limit < length s.pub
 unfolding list_text
 resource_head_index s low h = ap Some (when_false _ _ _ (several (resource_parts_of s) (several_parts (length s.published) s.limit low h)))
 
-pub change_head_list : (s : Shown) → 0 < s.limit → length s.changes ≤ s.limit → list_text s ChangeHead ≡ Some (change_list s (up_line s.base ∷ []) s.start None s.changes)
+pub change_head_list : (s : Shown) → 0 < s.limit → length s.changes ≤ s.limit → list_text s ChangeHead ≡ Some (change_list s (up_line s.base ∷ []) s.begin None s.changes)
 unfolding list_text
 change_head_list s low h = ap Some (when_true _ _ _ (at_most_one (change_parts_of s) (one_part (length s.changes) s.limit low h)))
 

@@ -9,9 +9,10 @@ use Rattle.rs_record.specs.Base.{is_base}
 use Rattle.rs_record.specs.declared.facts.Facts.{Facts}
 use Rattle.rs_record.specs.declared.record.Record.{Record}
 use Rattle.rs_record.specs.declared.change.Change.{Change}
+use Rattle.rs_record.specs.Changes.{last_moment}
 use Rattle.rs_lists.specs.Escape.{escape}
 use Rattle.rs_lists.specs.Shown.{Shown}
-use Rattle.rs_lists.specs.Text.{line, resource_line, change_line, what_text, location_parts, lastmod_parts, some_facts_parts, resource_entry, change_entry, until_parts, until_of, from_of, last_moment, change_part_path}
+use Rattle.rs_lists.specs.Text.{line, resource_line, change_line, what_text, location_parts, lastmod_parts, some_facts_parts, resource_entry, change_entry, until_parts, until_of, from_of, change_part_path}
 use Rattle.rs_lists.proofs.Plain.{escape-uri}
 use Rattle.rs_lists.proofs.Lines.{resource_path_pieces, change_path_pieces}
 
@@ -110,12 +111,12 @@ closed_entry_pieces s k b number from until p q r t =
     ∙ change_entry_same s k b number from (Some until) p q r t
 
 -- the bounds of part k, where l is the item limit
-pub part_from : (s : Shown) (k l from : ℕ) → l ≡ s.limit → from ≡ last_moment s.start (take (k * l) s.changes) → from ≡ from_of s k
-part_from s k l from e h = h ∙ ap (λ j. last_moment s.start (take (k * j) s.changes)) e
+pub part_from : (s : Shown) (k l from : ℕ) → l ≡ s.limit → from ≡ last_moment s.begin (take (k * l) s.changes) → from ≡ from_of s k
+part_from s k l from e h = h ∙ ap (λ j. last_moment s.begin (take (k * j) s.changes)) e
 
 pub part_until : (s : Shown) (k l : ℕ) (until : Option ℕ) → l ≡ s.limit
-    → until ≡ (if nat_le (k * l + l) (length s.changes) then Some (last_moment s.start (take (k * l + l) s.changes)) else None) → until ≡ until_of s k
+    → until ≡ (if nat_le (k * l + l) (length s.changes) then Some (last_moment s.begin (take (k * l + l) s.changes)) else None) → until ≡ until_of s k
 part_until s k l until e h =
     let next : k * l + l ≡ (k + 1) * l = grind arith in
-    h ∙ ap (λ j. if nat_le j (length s.changes) then Some (last_moment s.start (take j s.changes)) else None) next
-    ∙ ap (λ j. if nat_le ((k + 1) * j) (length s.changes) then Some (last_moment s.start (take ((k + 1) * j) s.changes)) else None) e
+    h ∙ ap (λ j. if nat_le j (length s.changes) then Some (last_moment s.begin (take j s.changes)) else None) next
+    ∙ ap (λ j. if nat_le ((k + 1) * j) (length s.changes) then Some (last_moment s.begin (take ((k + 1) * j) s.changes)) else None) e

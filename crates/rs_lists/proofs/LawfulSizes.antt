@@ -79,7 +79,7 @@ resource_head_small s text (inr several) h e =
 
 change_head_small : (s : Shown) (text : List ℕ) → (length s.changes ≤ s.limit) ⊎ (s.limit < length s.changes) → IsLawfulShown s → list_text s ChangeHead ≡ Some text → IsSmall text
 change_head_small s text (inl one) h e =
-    text_small _ _ text (change_head_list s (omega (arith, h.shown)) one) (change_list_small s s.start None s.changes (length s.changes) (base_length s.base h.base) (changes_small s s.changes h h.changes) (omega (arith, h.shown))) e
+    text_small _ _ text (change_head_list s (omega (arith, h.shown)) one) (change_list_small s s.begin None s.changes (length s.changes) (base_length s.base h.base) (changes_small s s.changes h h.changes) (omega (arith, h.shown))) e
 change_head_small s text (inr several) h e =
     let few = parts_few (length s.changes) s.limit h.shown.low h.shown.changes in
     text_small _ _ text (change_head_index s (omega (arith, h.shown)) several)

@@ -98,7 +98,7 @@ resource_index_small s n b h few =
 
 pub change_index_small : (s : Shown) (n : ℕ) → length s.base ≤ 128 → length (joined (map (change_entry s) (numbers_from 0 (change_parts_of s)))) ≤ 276 * n → n ≤ 25000 → IsSmall (change_index s)
 change_index_small s n b h few =
-    document_small (codes "sitemapindex") (up_line s.base ∷ []) (change_md s.start None) (map (change_entry s) (numbers_from 0 (change_parts_of s))) (omega arith) (up_small s.base b) (change_md_small s.start None) (omega arith)
+    document_small (codes "sitemapindex") (up_line s.base ∷ []) (change_md s.begin None) (map (change_entry s) (numbers_from 0 (change_parts_of s))) (omega arith) (up_small s.base b) (change_md_small s.begin None) (omega arith)
 
 -- the same of what a call gives only where it succeeds
 pub on_value : {X E : Type 0} {P : Type 0} (r : Result X E) → P → OnOk r P

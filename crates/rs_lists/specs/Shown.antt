@@ -5,7 +5,8 @@ use Rattle.rs_record.specs.declared.record.Record.{Record}
 use Rattle.rs_record.specs.declared.change.Change.{Change}
 use Rattle.rs_lists.specs.Chunks.{parts_of}
 
--- base, item limit, start, publication number, its moment, published records, kept changes, and the number of their first part
+-- base, item limit, start, publication number, its moment, published records, kept changes, the number of their first part, and
+-- the moment at which they begin
 pub record Shown : Type 0 where
   pub base : List ℕ
   pub limit : ℕ
@@ -15,6 +16,7 @@ pub record Shown : Type 0 where
   pub published : List Record
   pub changes : List Change
   pub first : ℕ
+  pub begin : ℕ
 
 -- the bounds of what is shown
 pub record IsShown (s : Shown) : Type 0 where

@@ -6,6 +6,7 @@ use Rattle.rs_time.specs.Moment.{moment_text}
 use Rattle.rs_fixity.specs.HashText.{hash_text_of}
 use Rattle.rs_record.specs.Base.{uri}
 use Rattle.rs_record.specs.Format.{facts_in}
+use Rattle.rs_record.specs.Changes.{last_moment}
 use Rattle.rs_record.specs.declared.facts.Facts.{Facts}
 use Rattle.rs_record.specs.declared.record.Record.{Record}
 use Rattle.rs_record.specs.declared.change.Change.{Change}
@@ -114,14 +115,9 @@ resource_part_path number k = codes "/resourcelist/" ++ decimal number ++ codes 
 abbrev pub change_part_path : ℕ → List ℕ
 change_part_path k = codes "/changelist/" ++ decimal k ++ codes ".xml"
 
--- the moment of the last of these changes, or the one given where there is none
-abbrev pub last_moment : ℕ → List Change → ℕ
-last_moment t [] = t
-last_moment t (c ∷ cs) = last_moment c.moment cs
-
 -- from when on the changes of part k are
 abbrev pub from_of : Shown → ℕ → ℕ
-from_of s k = last_moment s.start (take (k * s.limit) s.changes)
+from_of s k = last_moment s.begin (take (k * s.limit) s.changes)
 
 -- until when the changes of part k are, where it is full
 abbrev pub until_of : Shown → ℕ → Option ℕ
@@ -154,7 +150,7 @@ change_list s links start until changes = document (codes "urlset") links (chang
 -- the index of the Change List
 abbrev pub change_index : Shown → List ℕ
 change_index s =
-    document (codes "sitemapindex") (up_line s.base ∷ []) (change_md s.start None) (map (change_entry s) (numbers_from 0 (change_parts_of s)))
+    document (codes "sitemapindex") (up_line s.base ∷ []) (change_md s.begin None) (map (change_entry s) (numbers_from 0 (change_parts_of s)))
 
 -- the links of a part whose index has this path
 abbrev pub part_links : Shown → List ℕ → List (List ℕ)
@@ -177,7 +173,7 @@ list_text s (ResourcePart publication k) =
     then Some (resource_list s (part_links s (codes "/resourcelist.xml")) (part_at k s.limit s.published))
     else None
 list_text s ChangeHead =
-    Some (if nat_le (change_parts_of s) 1 then change_list s (up_line s.base ∷ []) s.start None s.changes else change_index s)
+    Some (if nat_le (change_parts_of s) 1 then change_list s (up_line s.base ∷ []) s.begin None s.changes else change_index s)
 list_text s (ChangePart number) =
     if is_part (change_parts_of s) s.first number then Some (change_part_text s (number - s.first)) else None
 list_text s Description = None

@@ -4,7 +4,8 @@ ghost use Rattle.std.specs.Prelude.{◌≡◌, ◌-◌, ◌*◌, ◌<◌, ◌≤
 ghost use Rattle.rs_lists.specs.Lawful.{IsSmall};
 ghost use Rattle.rs_lists.specs.Lines.{change_lines, change_entries};
 ghost use Rattle.rs_lists.specs.Shown.{IsShown, change_parts_of};
-ghost use Rattle.rs_lists.specs.Text.{line, what_text, last_moment, change_line, change_md, change_entry, change_part_text, list_text};
+ghost use Rattle.rs_record.specs.Changes.{last_moment};
+ghost use Rattle.rs_lists.specs.Text.{line, what_text, change_line, change_md, change_entry, change_part_text, list_text};
 
 use crate::frame::{Root, put_closing, put_opening, put_part_opening};
 use crate::meter::hash_length;
@@ -40,7 +41,7 @@ fn put_change_list<V: View, S: Sink>(view: &V, sink: &mut S) -> Result<(), Write
     ensures small { OnOk result (IfSome (list_text (V.shown view.now) Doc.ChangeHead) IsSmall) }
 {
     put_opening(Root::UrlSet, view.base(), sink)?;
-    put_change_md(view.start(), None, sink)?;
+    put_head_md(view, sink)?;
     put_changes(view, 0, view.changes_len(), sink)?;
     put_closing(Root::UrlSet, sink)
 }
@@ -79,27 +80,37 @@ fn put_change_index<V: View, S: Sink>(view: &V, sink: &mut S) -> Result<(), Writ
     ensures small { OnOk result (IfSome (list_text (V.shown view.now) Doc.ChangeHead) IsSmall) }
 {
     put_opening(Root::SitemapIndex, view.base(), sink)?;
-    put_change_md(view.start(), None, sink)?;
+    put_head_md(view, sink)?;
     put_change_entries(view, sink)?;
     put_closing(Root::SitemapIndex, sink)
 }
 
-// The moment of the last of the first `count` changes, or the start where there is none.
+// Puts the bounds of the head, which begins where the kept changes do and has no end.
+fn put_head_md<V: View, S: Sink>(view: &V, sink: &mut S) -> Result<(), WriteFault>
+    ensures taken { OnOk result
+        (S.takes sink.old sink.new (line (change_md (V.shown view.now).begin None))) }
+    ensures fault { OnErr result
+        (S.fails sink.old sink.new (line (change_md (V.shown view.now).begin None))) }
+{
+    put_change_md(view.begin(), None, sink)
+}
+
+// The moment of the last of the first `count` changes, or where they begin, if there is none.
 fn moment_after<V: View>(view: &V, count: usize) -> Moment
     requires { count ≤ length (V.shown view.now).changes }
     ensures { result
-        ≡ last_moment (V.shown view.now).start (take count (V.shown view.now).changes) }
+        ≡ last_moment (V.shown view.now).begin (take count (V.shown view.now).changes) }
 {
     match count.checked_sub(1) {
         Some(last) => view.change(last).moment,
-        None => view.start(),
+        None => view.begin(),
     }
 }
 
 // The moment of the last of the first `count` changes, if there are so many.
 fn closing_moment<V: View>(view: &V, count: usize) -> Option<Moment>
     ensures { result ≡ (if nat_le count (length (V.shown view.now).changes)
-        then Some (last_moment (V.shown view.now).start (take count (V.shown view.now).changes))
+        then Some (last_moment (V.shown view.now).begin (take count (V.shown view.now).changes))
         else None) }
 {
     if count <= view.changes_len() {

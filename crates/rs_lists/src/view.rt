@@ -23,7 +23,7 @@ pub trait View {
         ensures value { result ≡ (shown self.now).limit }
         ensures bounds { IsShown (shown self.now) };
 
-    /// The moment from which on changes are recorded.
+    /// The moment of formatting.
     fn start(&self) -> Moment
         ensures { result ≡ (shown self.now).start };
 
@@ -53,9 +53,14 @@ pub trait View {
         requires { i < length (shown self.now).changes }
         ensures { slice_get (shown self.now).changes i ≡ Some result.now };
 
-    /// The number of the first part of the Change List: at most 253,402,300,799,999.
+    /// The number of the first part of the Change List that is kept: at most 253,402,300,799,999.
     fn first(&self) -> u64
         ensures { result ≡ (shown self.now).first };
+
+    /// The moment at which the kept changes begin: of the last change before them, or of formatting.
+    /// It is the `from` of the Change List and of its first part.
+    fn begin(&self) -> Moment
+        ensures { result ≡ (shown self.now).begin };
 }
 
 /// How many parts the published records have, of at most [`View::limit`] records each.

@@ -1,5 +1,5 @@
 -- Steps of lawful commands keep states lawful.
-use Rattle.std.proofs.Common.{◌≡◌, ℕ, ◌+◌, ◌<◌, ◌≤◌, ◌^◌, List, [], ◌∷◌, ◌++◌, length, refl, sym, subst, arith, Option, Some, None, nat_le, length-append}
+use Rattle.std.proofs.Common.{◌≡◌, ℕ, ◌+◌, ◌<◌, ◌≤◌, ◌^◌, List, [], ◌∷◌, ◌++◌, length, refl, sym, subst, arith, Option, Some, None, nat_le, length-append, length-drop, take}
 use Rattle.std.specs.Prelude.{IsTrue, false}
 use Rattle.std.specs.List.{AllByRecursion}
 use Rattle.std.specs.declared.cmp.Ordering.{Ordering}
@@ -14,9 +14,10 @@ use Rattle.rs_model.specs.declared.command.Refusal.{Refusal}
 use Rattle.rs_model.specs.declared.value.Held.{Held}
 use Rattle.rs_model.specs.Names.{Names, by_bytes, by_order, bind, unbind}
 use Rattle.rs_model.specs.State.{Source, facts_of, entries}
-use Rattle.rs_model.specs.Step.{step, state_after, fold_of, accepted_unless, next_state, reply_to, refusal_of, causes, moment_at, put_change}
+use Rattle.rs_model.specs.Step.{step, state_after, fold_of, accepted_unless, next_state, reply_to, refusal_of, causes, moment_at, put_change, dropped_parts, dropped_changes}
 use Rattle.rs_model.specs.Lawful.{AreFacts, IsEntry, IsHeld, IsChange, IsLawful, IsLawfulCommand, IsLawfulTimed}
 use Rattle.rs_fixity.proofs.DigestBytes.{md5-bytes, sha256-bytes}
+use Rattle.rs_model.proofs.DropLemmas.{all_taken, all_dropped, last_exists}
 use Rattle.rs_model.proofs.OrderLemmas.{ordered-bind, ordered-unbind, ordered-entries}
 use Rattle.rs_model.proofs.RoomLemmas.{no_causes, below_if, at_most_if, length-bind, length-unbind, length-entries, room_to_put, change_to_put, change_to_delete}
 
@@ -76,6 +77,8 @@ after_put s name kind bytes t l c m none =
       listed_room = l.listed_room;
       changes = all_appended IsChange s.changes change l.changes (record { name = c.0; facts = facts; moment = m });
       changes_room = omega (arith, fewer, length-append s.changes (change ∷ []));
+      first = l.first;
+      begin = l.begin;
     }
 
 after_delete : (s : Source) (name : List ℕ) (t : ℕ) → IsLawful s → IsLawfulCommand (Delete name) → IsMoment t → refusal_of s (Delete name) ≡ None → IsLawful (next_state s (Delete name) t)
@@ -98,6 +101,8 @@ after_delete s name t l c m none =
       listed_room = l.listed_room;
       changes = all_appended IsChange s.changes change l.changes (record { name = c; facts = tt; moment = m });
       changes_room = omega (arith, fewer, length-append s.changes (change ∷ []));
+      first = l.first;
+      begin = l.begin;
     }
 
 after_publish : (s : Source) (t : ℕ) → IsLawful s → IsMoment t → refusal_of s Publish ≡ None → IsLawful (next_state s Publish t)
@@ -116,8 +121,10 @@ after_publish s t l m none =
       listed = all_entries s.held l.held;
       listed_order = ordered-entries s.held l.held_order;
       listed_room = omega (arith, length-entries s.held, l.held_room);
-      changes = l.changes;
-      changes_room = l.changes_room;
+      changes = all_dropped IsChange (dropped_changes s) s.changes l.changes;
+      changes_room = omega (arith, length-drop (dropped_changes s) s.changes, l.changes_room);
+      first = at_most_if 253402300799999 (s.first + dropped_parts s) (no_causes (causes s Publish) none).1.1.0;
+      begin = last_exists s.begin (take (dropped_changes s) s.changes) l.begin (all_taken IsChange (dropped_changes s) s.changes l.changes);
     }
 
 -- an accepted command

@@ -1,3 +1,5 @@
+pub mod DropLemmas
+pub mod KeptLemmas
 pub mod MirrorLemmas
 pub mod RegularLemmas
 pub mod Places

@@ -1,19 +1,22 @@
 -- A step keeps a state regular.
-use Rattle.std.proofs.Common.{◌≡◌, ℕ, ◌<◌, ◌≤◌, List, [], ◌∷◌, refl, sym, ap, subst, ◌∙◌, arith, Option, Some, None}
-use Rattle.std.specs.Prelude.{IfOk}
+use Rattle.std.proofs.Common.{◌≡◌, ℕ, ◌<◌, ◌≤◌, ◌+◌, List, [], ◌∷◌, take, drop, false, refl, sym, ap, subst, ◌∙◌, arith, Option, Some, None}
+use Rattle.std.specs.Prelude.{IfOk, IsTrue}
 use Rattle.std.specs.List.{AllByRecursion}
 use Rattle.rs_model.specs.declared.value.Held.{Held}
 use Rattle.rs_model.specs.declared.command.Command.{Command}
 use Rattle.rs_model.specs.declared.command.Command.TheVariants.{Put, Delete, Publish}
 use Rattle.rs_model.specs.declared.command.Reply.{Reply}
 use Rattle.rs_model.specs.declared.command.Refusal.{Refusal}
-use Rattle.rs_record.specs.Changes.{deleted}
+use Rattle.std.proofs.lemmas.Bool.Decides.{nat_tests}
+use Rattle.rs_time.specs.Moment.{IsMoment}
+use Rattle.rs_record.specs.Changes.{deleted, last_moment}
 use Rattle.rs_model.specs.Names.{Names, bind, unbind}
 use Rattle.rs_model.specs.State.{Source, start_of, facts_of, entries}
-use Rattle.rs_model.specs.Step.{step, state_after, fold_of, next_state, reply_to, accepted_unless, moment_at, refusal_of, put_change}
+use Rattle.rs_model.specs.Step.{step, state_after, fold_of, next_state, reply_to, accepted_unless, moment_at, refusal_of, put_change, passed_by, dropped_parts, dropped_changes, is_out_of_parts}
 use Rattle.rs_model.specs.declared.value.Entry.{Entry}
 use Rattle.rs_record.specs.declared.change.Change.{Change}
-use Rattle.rs_model.specs.Regular.{IsSound, IsUpTo, IsChangeUpTo, IsAfter, IsRegular, IsTimely}
+use Rattle.rs_model.specs.Regular.{IsSound, IsUpTo, IsChangeUpTo, IsAfter, rises_from, IsRegular, IsTimely}
+use Rattle.rs_model.proofs.DropLemmas.{all_dropped, rises_after, is_rising_from, all_after, rest_rises, last_later, last_passed, passed_within, parts_passed, changes_passed, dropped_within, few_parts}
 use Rattle.rs_model.proofs.LawfulLemmas.{all_appended, all_bound, all_unbound}
 use Rattle.rs_model.proofs.MirrorLemmas.{rising-append, mirror-append, mirror_before, entries-bind, entries-unbind}
 
@@ -27,7 +30,7 @@ later : (last t : ℕ) (m : Names Entry) → last ≤ t → AreAllUpTo last m �
 later last t [] k h = tt
 later last t (e ∷ m) k h = (omega (arith, k, h.0), later last t m k h.1)
 
-changes_later : (last t : ℕ) (cs : List Change) → last ≤ t → AllByRecursion (IsChangeUpTo last) cs → AllByRecursion (IsChangeUpTo t) cs
+pub changes_later : (last t : ℕ) (cs : List Change) → last ≤ t → AllByRecursion (IsChangeUpTo last) cs → AllByRecursion (IsChangeUpTo t) cs
 changes_later last t [] k h = tt
 changes_later last t (c ∷ cs) k h = (omega (arith, k, h.0), changes_later last t cs k h.1)
 
@@ -39,6 +42,10 @@ start_regular base limit moment =
       start = omega arith;
       last = omega arith;
       latest = record { held = tt; changes = tt; listed = tt };
+      begun = omega arith;
+      kept = omega arith;
+      first = omega arith;
+      after = tt;
       mirrored = refl;
     }
 
@@ -61,6 +68,10 @@ next_regular s (Put name kind bytes) t r after =
             changes = all_appended (IsChangeUpTo t) s.changes _ (changes_later s.last t s.changes no_later r.latest.changes) (omega arith);
             listed = later s.last t s.listed no_later r.latest.listed;
           };
+      begun = r.begun;
+      kept = r.kept;
+      first = r.first;
+      after = all_appended (IsAfter s.begin) s.changes _ r.after (omega (arith, r.kept, r.last, after));
       mirrored =
           mirror-append s.listed s.at s.changes (put_change s name (facts_of kind bytes) t) (omega (arith, r.last))
           ∙ ap (bind name entry) r.mirrored ∙ sym bound;
@@ -80,6 +91,10 @@ next_regular s (Delete name) t r after =
             changes = all_appended (IsChangeUpTo t) s.changes _ (changes_later s.last t s.changes no_later r.latest.changes) (omega arith);
             listed = later s.last t s.listed no_later r.latest.listed;
           };
+      begun = r.begun;
+      kept = r.kept;
+      first = r.first;
+      after = all_appended (IsAfter s.begin) s.changes _ r.after (omega (arith, r.kept, r.last, after));
       mirrored =
           mirror-append s.listed s.at s.changes (deleted name t) (omega (arith, r.last))
           ∙ ap (unbind name) r.mirrored ∙ sym unbound;
@@ -87,27 +102,45 @@ next_regular s (Delete name) t r after =
 next_regular s Publish t r after =
     let no_later : s.last ≤ t = omega (arith, after) in
     let held : AreAllUpTo t (entries s.held) = later s.last t (entries s.held) no_later r.latest.held in
-    let changes : AllByRecursion (IsChangeUpTo t) s.changes = changes_later s.last t s.changes no_later r.latest.changes in
+    let n : ℕ = dropped_changes s in
+    let begin : ℕ = last_moment s.begin (take n s.changes) in
+    let changes : AllByRecursion (IsChangeUpTo t) (drop n s.changes) =
+    all_dropped (IsChangeUpTo t) n s.changes (changes_later s.last t s.changes no_later r.latest.changes) in
+    let rises : IsTrue (rises_from s.begin s.changes) = rises_after s.begin s.changes r.rising r.after in
+    let rest : IsTrue (rises_from begin (drop n s.changes)) = rest_rises s.begin n s.changes rises in
+    let grown : s.begin + n ≤ begin = last_later s.begin n s.changes rises (dropped_within s) in
+    let passed : begin ≤ s.at = last_passed s.at s.begin n s.changes r.kept (changes_passed s) in
     record {
       sound = r.sound;
-      rising = r.rising;
+      rising = is_rising_from begin (drop n s.changes) rest;
       start = omega (arith, r.start, r.last);
       last = omega arith;
       latest = record { held = held; changes = changes; listed = held };
-      mirrored = mirror_before (entries s.held) t s.changes changes;
+      begun = omega (arith, r.begun, grown);
+      kept = omega (arith, passed, r.last, after);
+      first = omega (arith, r.first, r.begun, grown, few_parts s);
+      after = all_after begin begin (drop n s.changes) (omega arith) rest;
+      mirrored = mirror_before (entries s.held) t (drop n s.changes) changes;
     }
 
-pub start_timely : (base : List ℕ) (limit moment : ℕ) → IsTimely (start_of base limit moment)
-start_timely base limit moment = record { changes = tt; listed = tt }
+-- a regular state has a number for each part that a publication keeps
+pub parts_left : (s : Source) → IsRegular s → IsMoment s.at → is_out_of_parts s ≡ false
+parts_left s r m =
+    let n : ℕ = passed_by s.at s.changes in
+    let rises : IsTrue (rises_from s.begin s.changes) = rises_after s.begin s.changes r.rising r.after in
+    let grown : s.begin + n ≤ last_moment s.begin (take n s.changes) = last_later s.begin n s.changes rises (passed_within s.at s.changes) in
+    let passed : last_moment s.begin (take n s.changes) ≤ s.at = last_passed s.at s.begin n s.changes r.kept (omega arith) in
+    let few : s.first + dropped_parts s ≤ 253402300799999 = omega (arith, r.first, r.begun, grown, passed, parts_passed s, m) in
+    grind (arith, nat_tests)
 
--- An accepted command of a regular state leaves it timely: a change comes after the last command, which is not before the start.
+pub start_timely : (base : List ℕ) (limit moment : ℕ) → IsTimely (start_of base limit moment)
+start_timely base limit moment = record { listed = tt }
+
+-- what is listed is what was held, of moments up to the last one
 pub next_timely : (s : Source) (command : Command) (t : ℕ) → IsRegular s → IsTimely s → s.last < t → IsTimely (next_state s command t)
-next_timely s (Put name kind bytes) t r timely after =
-    record { changes = all_appended (IsAfter s.start) s.changes _ timely.changes (omega (arith, r.start, r.last)); listed = timely.listed }
-next_timely s (Delete name) t r timely after =
-    record { changes = all_appended (IsAfter s.start) s.changes _ timely.changes (omega (arith, r.start, r.last)); listed = timely.listed }
-next_timely s Publish t r timely after =
-    record { changes = timely.changes; listed = later s.last t (entries s.held) (omega (arith, after)) r.latest.held }
+next_timely s (Put name kind bytes) t r timely after = record { listed = timely.listed }
+next_timely s (Delete name) t r timely after = record { listed = timely.listed }
+next_timely s Publish t r timely after = record { listed = later s.last t (entries s.held) (omega (arith, after)) r.latest.held }
 
 if_accepted : (o : Option Refusal) (next : Source × Reply) → IsRegular next.0 → IfOk (accepted_unless o next) (λ n. IsRegular n.0)
 if_accepted None next h = h

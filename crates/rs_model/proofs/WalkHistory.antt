@@ -1,8 +1,10 @@
--- What the changes of a walk make.
-use Rattle.std.proofs.Common.{◌≡◌, ℕ, suc, zero, ◌-◌, ◌<◌, ◌≤◌, List, [], ◌∷◌, ◌++◌, Bool, true, false, cond, nat_lt, length, take, drop, refl, sym, ap, ◌∙◌, arith, Option, Some, None, append_assoc, append-nil}
+-- What all changes that a walk records make.
+use Rattle.std.proofs.Common.{◌≡◌, ℕ, suc, zero, ◌-◌, ◌*◌, ◌<◌, ◌≤◌, List, [], ◌∷◌, ◌++◌, Bool, true, false, cond, nat_lt, length, take, drop, refl, sym, ap, subst, ◌∙◌, arith, Option, Some, None, append_assoc, append-nil}
+use Rattle.std.specs.Prelude.{IsTrue}
 use Rattle.std.specs.List.{AllByRecursion}
 use Rattle.std.proofs.lemmas.Bool.Decides.{nat_tests}
-use Rattle.std.proofs.Math.Seq.{take-length}
+use Rattle.std.proofs.lemmas.List.{take-append-drop, take-append-le, drop_all}
+use Rattle.std.proofs.Math.Seq.{take-length, drop-append_seam}
 use Rattle.rs_record.specs.Changes.{deleted}
 use Rattle.rs_record.specs.declared.change.Change.{Change}
 use Rattle.rs_model.specs.declared.command.Command.{Command}
@@ -12,99 +14,162 @@ use Rattle.rs_model.specs.declared.command.Reply.{Reply}
 use Rattle.rs_model.specs.declared.event.Event.{Event}
 use Rattle.rs_model.specs.declared.event.Event.TheVariants.{Tried, Refused, Stopped, Idle, Fetch}
 use Rattle.rs_model.specs.declared.value.Entry.{Entry}
+use Rattle.rs_model.specs.Kept.{gone_between, KeepsChanges}
 use Rattle.rs_model.specs.Names.{Names, bind, unbind}
 use Rattle.rs_model.specs.State.{Source, start_of, facts_of, entries}
 use Rattle.rs_model.specs.Step.{step, state_after, next_state, accepted_unless, refusal_of, reply_to, moment_at, mirror_of, mirror_step, applied, put_change}
-use Rattle.rs_model.specs.Regular.{IsRegular, IsAfter}
-use Rattle.rs_model.specs.Walk.{after_event, walk_of, state_at, recorded, count_at, catalogue}
+use Rattle.rs_model.specs.Regular.{rises_from, IsAfter, IsChangeUpTo}
+use Rattle.rs_model.specs.Walk.{after_event, walk_of, state_at, recorded_by, recorded, count_at, catalogue}
+use Rattle.rs_model.proofs.DropLemmas.{all_taken, all_after, up_to_last}
+use Rattle.rs_model.proofs.KeptLemmas.{none_published}
 use Rattle.rs_model.proofs.LawfulLemmas.{all_appended}
-use Rattle.rs_model.proofs.MirrorLemmas.{mirror-append, entries-bind, entries-unbind}
-use Rattle.rs_model.proofs.RegularLemmas.{start_regular, next_regular}
-use Rattle.rs_model.proofs.WalkLemmas.{walk_onward, walk_records, recorded_first}
+use Rattle.rs_model.proofs.MirrorLemmas.{rises-append, mirror-append, mirror_before, entries-bind, entries-unbind}
+use Rattle.rs_model.proofs.RegularLemmas.{changes_later}
+use Rattle.rs_model.proofs.WalkLemmas.{recorded-append, recorded_first, walk_records}
 
--- what each accepted command at a later moment keeps, each walk keeps
-abbrev IsKept : (Source → Type 0) → Type 0
-IsKept P = (s : Source) (command : Command) (t : ℕ) → P s → s.last < t → P (next_state s command t)
+-- what comes past the changes of an earlier state
+abbrev past : Source → Source → List Change
+past s t = drop (length s.changes) t.changes
 
-unless_refused : (P : Source → Type 0) (s : Source) (o : Option Refusal) (next : Source × Reply) → P s → P next.0 → P (state_after s (accepted_unless o next))
-unless_refused P s None next h k = k
-unless_refused P s (Some refusal) next h k = h
+-- What each accepted command at a later moment keeps of all changes that were recorded and the state, each walk keeps.
+abbrev IsKept : (List Change → Source → Type 0) → Type 0
+IsKept P = (h : List Change) (s : Source) (command : Command) (t : ℕ) → P h s → s.last < t → P (h ++ past s (next_state s command t)) (next_state s command t)
 
-kept_by_step : (P : Source → Type 0) → IsKept P → (s : Source) (command : Command) (now : ℕ) → P s → P (state_after s (step s command now))
-kept_by_step P keeps s command now h =
+none_past : (P : List Change → Source → Type 0) (h : List Change) (s : Source) → P h s → P (h ++ past s s) s
+none_past P h s p =
+    subst (λ l. P l s) (sym (ap (λ l. h ++ l) (drop_all (length s.changes) s.changes (omega arith)) ∙ append-nil h)) p
+
+unless_refused : (P : List Change → Source → Type 0) (h : List Change) (s : Source) (o : Option Refusal) (next : Source × Reply) → P h s
+    → P (h ++ past s next.0) next.0 → P (h ++ past s (state_after s (accepted_unless o next))) (state_after s (accepted_unless o next))
+unless_refused P h s None next p q = q
+unless_refused P h s (Some refusal) next p q = none_past P h s p
+
+kept_by_step : (P : List Change → Source → Type 0) → IsKept P → (h : List Change) (s : Source) (command : Command) (now : ℕ) → P h s
+    → P (h ++ past s (state_after s (step s command now))) (state_after s (step s command now))
+kept_by_step P keeps h s command now p =
     let t : ℕ = moment_at s now in
-    unless_refused P s (refusal_of s command) (next_state s command t, reply_to s command t) h (keeps s command t h (omega arith))
+    unless_refused P h s (refusal_of s command) (next_state s command t, reply_to s command t) p (keeps h s command t p (omega arith))
 
-kept_by_event : (P : Source → Type 0) → IsKept P → (s : Source) (event : Event) → P s → P (after_event s event)
-kept_by_event P keeps s (Tried command now) h = kept_by_step P keeps s command now h
-kept_by_event P keeps s (Refused command) h = h
-kept_by_event P keeps s (Stopped command now true) h = kept_by_step P keeps s command now h
-kept_by_event P keeps s (Stopped command now false) h = h
-kept_by_event P keeps s Idle h = h
-kept_by_event P keeps s Fetch h = h
+kept_by_event : (P : List Change → Source → Type 0) → IsKept P → (h : List Change) (s : Source) (event : Event) → P h s
+    → P (h ++ recorded_by s event) (after_event s event)
+kept_by_event P keeps h s (Tried command now) p = kept_by_step P keeps h s command now p
+kept_by_event P keeps h s (Refused command) p = none_past P h s p
+kept_by_event P keeps h s (Stopped command now true) p = kept_by_step P keeps h s command now p
+kept_by_event P keeps h s (Stopped command now false) p = none_past P h s p
+kept_by_event P keeps h s Idle p = none_past P h s p
+kept_by_event P keeps h s Fetch p = none_past P h s p
 
-kept_by_walk : (P : Source → Type 0) → IsKept P → (s : Source) (events : List Event) → P s → P (walk_of s events)
-kept_by_walk P keeps s [] h = h
-kept_by_walk P keeps s (event ∷ events) h = kept_by_walk P keeps (after_event s event) events (kept_by_event P keeps s event h)
+kept_by_walk : (P : List Change → Source → Type 0) → IsKept P → (h : List Change) (s : Source) (events : List Event) → P h s
+    → P (h ++ recorded s events) (walk_of s events)
+kept_by_walk P keeps h s [] p = subst (λ l. P l s) (sym (append-nil h)) p
+kept_by_walk P keeps h s (event ∷ events) p =
+    let next : Source = after_event s event in
+    subst (λ l. P l (walk_of next events)) (append_assoc h (recorded_by s event) (recorded next events))
+    (kept_by_walk P keeps (h ++ recorded_by s event) next events (kept_by_event P keeps h s event p))
 
--- A regular state of which all changes since the formatting make what is held.
-record IsWhole (s : Source) : Type 0 where
-  regular : IsRegular s
-  all : mirror_of [] s.start s.changes ≡ entries s.held
+-- The changes rise from this moment on, up to the last one.
+record AreInOrder (from : ℕ) (h : List Change) (s : Source) : Type 0 where
+  low : from ≤ s.last
+  rises : IsTrue (rises_from from h)
+  latest : AllByRecursion (IsChangeUpTo s.last) h
 
-start_whole : (base : List ℕ) (limit moment : ℕ) → IsWhole (start_of base limit moment)
-start_whole base limit moment = record { regular = start_regular base limit moment; all = refl }
+-- The changes, of moments up to the last one, make what is held: from the formatting on, and from the publication on.
+record AreAll (from : ℕ) (h : List Change) (s : Source) : Type 0 where
+  start : from ≤ s.last
+  at : s.at ≤ s.last
+  latest : AllByRecursion (IsChangeUpTo s.last) h
+  all : mirror_of [] from h ≡ entries s.held
+  listed : mirror_of s.listed s.at h ≡ entries s.held
 
-whole_kept : (s : Source) (command : Command) (t : ℕ) → IsWhole s → s.last < t → IsWhole (next_state s command t)
-whole_kept s (Put name kind bytes) t h later =
+-- a put or a delete is past the changes before, and a publish is not
+changed : (P : List Change → Source → Type 0) (h : List Change) (s t : Source) (c : Change) → t.changes ≡ s.changes ++ c ∷ [] → P (h ++ c ∷ []) t
+    → P (h ++ past s t) t
+changed P h s t c e p = subst (λ l. P (h ++ l) t) (sym (ap (drop (length s.changes)) e ∙ drop-append_seam s.changes (c ∷ []))) p
+
+published : (P : List Change → Source → Type 0) (h : List Change) (s : Source) (t : ℕ) → P h (next_state s Publish t)
+    → P (h ++ past s (next_state s Publish t)) (next_state s Publish t)
+published P h s t p =
+    subst (λ l. P l (next_state s Publish t)) (sym (ap (λ l. h ++ l) (none_published s t) ∙ append-nil h)) p
+
+one_later : (low : ℕ) (h : List Change) (s t : Source) (c : Change) → AreInOrder low h s → s.last < c.moment → t.last ≡ c.moment → AreInOrder low (h ++ c ∷ []) t
+one_later low h s t c o later e =
+    record {
+      low = omega (arith, o.low, later, e);
+      rises = rises-append low s.last h c o.rises o.low o.latest later;
+      latest = all_appended (IsChangeUpTo t.last) h c (changes_later s.last t.last h (omega (arith, later, e)) o.latest) (omega (arith, e));
+    }
+
+order_kept : (low : ℕ) → IsKept (AreInOrder low)
+order_kept low h s (Put name kind bytes) t o later =
+    let c : Change = put_change s name (facts_of kind bytes) t in
+    let next : Source = next_state s (Put name kind bytes) t in
+    changed (AreInOrder low) h s next c refl (one_later low h s next c o later refl)
+order_kept low h s (Delete name) t o later =
+    let c : Change = deleted name t in
+    let next : Source = next_state s (Delete name) t in
+    changed (AreInOrder low) h s next c refl (one_later low h s next c o later refl)
+order_kept low h s Publish t o later =
+    published (AreInOrder low) h s t
+    (record { low = omega (arith, o.low, later); rises = o.rises; latest = changes_later s.last t h (omega (arith, later)) o.latest })
+
+all_kept : (start : ℕ) → IsKept (AreAll start)
+all_kept start h s (Put name kind bytes) t a later =
+    let c : Change = put_change s name (facts_of kind bytes) t in
     let entry : Entry = record { facts = facts_of kind bytes; moment = t } in
-    record {
-      regular = next_regular s (Put name kind bytes) t h.regular later;
-      all =
-          mirror-append [] s.start s.changes (put_change s name (facts_of kind bytes) t) (omega (arith, h.regular.start, h.regular.last, later))
-          ∙ ap (bind name entry) h.all ∙ sym (entries-bind name (record { bytes = bytes; entry = entry }) s.held);
-    }
-whole_kept s (Delete name) t h later =
-    record {
-      regular = next_regular s (Delete name) t h.regular later;
-      all =
-          mirror-append [] s.start s.changes (deleted name t) (omega (arith, h.regular.start, h.regular.last, later))
-          ∙ ap (unbind name) h.all ∙ sym (entries-unbind name s.held);
-    }
-whole_kept s Publish t h later = record { regular = next_regular s Publish t h.regular later; all = h.all }
+    let bound : bind name entry (entries s.held) ≡ entries (bind name (record { bytes = bytes; entry = entry }) s.held) =
+    sym (entries-bind name (record { bytes = bytes; entry = entry }) s.held) in
+    changed (AreAll start) h s (next_state s (Put name kind bytes) t) c refl
+    (record {
+      start = omega (arith, a.start, later);
+      at = omega (arith, a.at, later);
+      latest = all_appended (IsChangeUpTo t) h c (changes_later s.last t h (omega (arith, later)) a.latest) (omega arith);
+      all = mirror-append [] start h c (omega (arith, a.start, later)) ∙ ap (bind name entry) a.all ∙ bound;
+      listed = mirror-append s.listed s.at h c (omega (arith, a.at, later)) ∙ ap (bind name entry) a.listed ∙ bound;
+    })
+all_kept start h s (Delete name) t a later =
+    let c : Change = deleted name t in
+    let unbound : unbind name (entries s.held) ≡ entries (unbind name s.held) = sym (entries-unbind name s.held) in
+    changed (AreAll start) h s (next_state s (Delete name) t) c refl
+    (record {
+      start = omega (arith, a.start, later);
+      at = omega (arith, a.at, later);
+      latest = all_appended (IsChangeUpTo t) h c (changes_later s.last t h (omega (arith, later)) a.latest) (omega arith);
+      all = mirror-append [] start h c (omega (arith, a.start, later)) ∙ ap (unbind name) a.all ∙ unbound;
+      listed = mirror-append s.listed s.at h c (omega (arith, a.at, later)) ∙ ap (unbind name) a.listed ∙ unbound;
+    })
+all_kept start h s Publish t a later =
+    let latest : AllByRecursion (IsChangeUpTo t) h = changes_later s.last t h (omega (arith, later)) a.latest in
+    published (AreAll start) h s t
+    (record {
+      start = omega (arith, a.start, later);
+      at = omega arith;
+      latest = latest;
+      all = a.all;
+      listed = mirror_before (entries s.held) t h latest;
+    })
 
--- The later state has more changes, all after the last moment of the earlier one.
-record Continues (s t : Source) : Type 0 where
-  start : t.start ≡ s.start
-  more : List Change
-  changes : t.changes ≡ s.changes ++ more
-  after : AllByRecursion (IsAfter s.last) more
-  last : s.last ≤ t.last
+order_after : (s : Source) (events : List Event) → AreInOrder s.last (recorded s events) (walk_of s events)
+order_after s events = kept_by_walk (AreInOrder s.last) (order_kept s.last) [] s events (record { low = omega arith; rises = refl; latest = tt })
 
-itself : (s : Source) → Continues s s
-itself s = record { start = refl; more = []; changes = sym (append-nil s.changes); after = tt; last = omega arith }
+all_after_start : (base : List ℕ) (limit moment : ℕ) (events : List Event)
+    → AreAll moment (recorded (start_of base limit moment) events) (walk_of (start_of base limit moment) events)
+all_after_start base limit moment events =
+    kept_by_walk (AreAll moment) (all_kept moment) [] (start_of base limit moment) events
+    (record { start = omega arith; at = omega arith; latest = tt; all = refl; listed = refl })
 
-continued : (s t : Source) (command : Command) (m : ℕ) → Continues s t → t.last < m → Continues s (next_state t command m)
-continued s t (Put name kind bytes) m h later =
-    let c : Change = put_change t name (facts_of kind bytes) m in
-    record {
-      start = h.start;
-      more = h.more ++ c ∷ [];
-      changes = ap (λ l. l ++ c ∷ []) h.changes ∙ append_assoc s.changes h.more (c ∷ []);
-      after = all_appended (IsAfter s.last) h.more c h.after (omega (arith, h.last, later));
-      last = omega (arith, h.last, later);
-    }
-continued s t (Delete name) m h later =
-    let c : Change = deleted name m in
-    record {
-      start = h.start;
-      more = h.more ++ c ∷ [];
-      changes = ap (λ l. l ++ c ∷ []) h.changes ∙ append_assoc s.changes h.more (c ∷ []);
-      after = all_appended (IsAfter s.last) h.more c h.after (omega (arith, h.last, later));
-      last = omega (arith, h.last, later);
-    }
-continued s t Publish m h later =
-    record { start = h.start; more = h.more; changes = h.changes; after = h.after; last = omega (arith, h.last, later) }
+pub held_is_catalogued : (base : List ℕ) (limit moment : ℕ) (events : List Event)
+    → entries (walk_of (start_of base limit moment) events).held
+    ≡ catalogue (start_of base limit moment) events (length (recorded (start_of base limit moment) events))
+held_is_catalogued base limit moment events =
+    let s : Source = start_of base limit moment in
+    sym (all_after_start base limit moment events).all ∙ ap (mirror_of [] moment) (sym (take-length (recorded s events)))
+
+pub held_then_is_catalogued : (base : List ℕ) (limit moment : ℕ) (events : List Event) (i : ℕ)
+    → entries (state_at (start_of base limit moment) events i).held
+    ≡ catalogue (start_of base limit moment) events (count_at (start_of base limit moment) events i)
+held_then_is_catalogued base limit moment events i =
+    let s : Source = start_of base limit moment in
+    sym (all_after_start base limit moment (take i events)).all ∙ ap (mirror_of [] moment) (sym (recorded_first s events i))
 
 mirror_joined : (m : Names Entry) (at : ℕ) (a b : List Change) → mirror_of m at (a ++ b) ≡ mirror_of (mirror_of m at a) at b
 mirror_joined m at [] b = refl
@@ -117,15 +182,14 @@ one_test : (a b : Bool) (x y : Names Entry) → a ≡ true → b ≡ true → co
 one_test a b x y p q = ap (λ c. cond c x y) (p ∙ sym q)
 
 -- of changes that are all after a moment, an earlier moment passes none over
-mirror_late : (m : Names Entry) (low at start n : ℕ) (cs : List Change) → AllByRecursion (IsAfter low) cs → at ≤ low → start ≤ low
-    → mirror_of m at (take n cs) ≡ mirror_of m start (take n cs)
-mirror_late m low at start zero cs h k l = refl
-mirror_late m low at start (suc n) [] h k l = refl
-mirror_late m low at start (suc n) (c ∷ cs) h k l =
-    ap (λ x. mirror_of x at (take n cs))
+mirror_late : (m : Names Entry) (low at start : ℕ) (cs : List Change) → AllByRecursion (IsAfter low) cs → at ≤ low → start ≤ low
+    → mirror_of m at cs ≡ mirror_of m start cs
+mirror_late m low at start [] h k l = refl
+mirror_late m low at start (c ∷ cs) h k l =
+    ap (λ x. mirror_of x at cs)
     (one_test (nat_lt at c.moment) (nat_lt start c.moment) (applied c.facts c m) m
     (is_before at c.moment (omega (arith, h.0))) (is_before start c.moment (omega (arith, h.0))))
-    ∙ mirror_late (mirror_step start c m) low at start n cs h.1 k l
+    ∙ mirror_late (mirror_step start c m) low at start cs h.1 k l
 
 taken_past : {A : Type 0} (a b : List A) (n : ℕ) → length a ≤ n → take n (a ++ b) ≡ a ++ take (n - length a) b
 taken_past [] b n h = let e : n ≡ n - 0 = omega arith in ap (λ k. take k b) e
@@ -134,44 +198,10 @@ taken_past (x ∷ a) b (suc n) h =
     let e : n - length a ≡ suc n - suc (length a) = omega arith in
     ap (λ l. x ∷ l) (taken_past a b n (omega arith) ∙ ap (λ k. a ++ take k b) e)
 
--- the list of one state, with changes as a later one has them
-followed : (s t : Source) (n : ℕ) → IsWhole s → Continues s t → length s.changes ≤ n
-    → mirror_of s.listed s.at (take n t.changes) ≡ mirror_of [] s.start (take n t.changes)
-followed s t n w x h =
-    let some : List Change = take (n - length s.changes) x.more in
-    let taken : take n t.changes ≡ s.changes ++ some = ap (take n) x.changes ∙ taken_past s.changes x.more n h in
-    ap (mirror_of s.listed s.at) taken ∙ mirror_joined s.listed s.at s.changes some
-    ∙ ap (λ m. mirror_of m s.at some) (w.regular.mirrored ∙ sym w.all)
-    ∙ mirror_late (mirror_of [] s.start s.changes) s.last s.at s.start (n - length s.changes) x.more x.after w.regular.last (omega (arith, w.regular.start, w.regular.last))
-    ∙ sym (ap (mirror_of [] s.start) taken ∙ mirror_joined [] s.start s.changes some)
-
-whole_at : (base : List ℕ) (limit moment : ℕ) (events : List Event) → IsWhole (walk_of (start_of base limit moment) events)
-whole_at base limit moment events = kept_by_walk IsWhole whole_kept (start_of base limit moment) events (start_whole base limit moment)
-
-continues_at : (s : Source) (events : List Event) → Continues s (walk_of s events)
-continues_at s events = kept_by_walk (Continues s) (λ t command m h later. continued s t command m h later) s events (itself s)
-
--- what is held is the catalogue
-pub held_catalogued : (base : List ℕ) (limit moment : ℕ) (events : List Event)
-    → entries (walk_of (start_of base limit moment) events).held
-    ≡ mirror_of [] moment (recorded (start_of base limit moment) events)
-held_catalogued base limit moment events =
-    let s : Source = start_of base limit moment in
-    sym (whole_at base limit moment events).all
-    ∙ ap (λ start. mirror_of [] start (walk_of s events).changes) (continues_at s events).start
-    ∙ ap (mirror_of [] moment) (walk_records s events)
-
-pub held_is_catalogued : (base : List ℕ) (limit moment : ℕ) (events : List Event)
-    → entries (walk_of (start_of base limit moment) events).held
-    ≡ catalogue (start_of base limit moment) events (length (recorded (start_of base limit moment) events))
-held_is_catalogued base limit moment events =
-    held_catalogued base limit moment events ∙ ap (mirror_of [] moment) (sym (take-length (recorded (start_of base limit moment) events)))
-
-pub held_then_is_catalogued : (base : List ℕ) (limit moment : ℕ) (events : List Event) (i : ℕ)
-    → entries (state_at (start_of base limit moment) events i).held
-    ≡ catalogue (start_of base limit moment) events (count_at (start_of base limit moment) events i)
-held_then_is_catalogued base limit moment events i =
-    held_catalogued base limit moment (take i events) ∙ ap (mirror_of [] moment) (sym (recorded_first (start_of base limit moment) events i))
+-- what a walk records is what its first events record, and then the rest
+recorded_split : (s : Source) (events : List Event) (i : ℕ)
+    → recorded s events ≡ recorded s (take i events) ++ recorded (state_at s events i) (drop i events)
+recorded_split s events i = ap (recorded s) (sym (take-append-drop i events)) ∙ recorded-append s (take i events) (drop i events)
 
 -- a list that was published on the way, followed by changes
 pub list_is_followed : (base : List ℕ) (limit moment : ℕ) (events : List Event) (i n : ℕ)
@@ -182,11 +212,61 @@ pub list_is_followed : (base : List ℕ) (limit moment : ℕ) (events : List Eve
 list_is_followed base limit moment events i n h =
     let s : Source = start_of base limit moment in
     let t : Source = state_at s events i in
-    let end : Source = walk_of t (drop i events) in
-    let begun : t.start ≡ moment = (continues_at s (take i events)).start in
-    let counted : length t.changes ≤ n = omega (arith, h, ap length (walk_records s (take i events))) in
-    let all : end.changes ≡ recorded s events = ap (λ (u : Source). u.changes) (sym (walk_onward s events i)) ∙ walk_records s events in
-    ap (λ cs. mirror_of t.listed t.at (take n cs)) (sym all)
-    ∙ followed t end n (whole_at base limit moment (take i events)) (continues_at t (drop i events)) counted
-    ∙ ap (λ start. mirror_of [] start (take n end.changes)) begun
-    ∙ ap (λ cs. mirror_of [] moment (take n cs)) all
+    let front : List Change = recorded s (take i events) in
+    let rest : List Change = recorded t (drop i events) in
+    let some : List Change = take (n - length front) rest in
+    let a : AreAll moment front t = all_after_start base limit moment (take i events) in
+    let taken : take n (recorded s events) ≡ front ++ some = ap (take n) (recorded_split s events i) ∙ taken_past front rest n h in
+    let after : AllByRecursion (IsAfter t.last) some =
+    all_taken (IsAfter t.last) (n - length front) rest (all_after t.last t.last rest (omega arith) (order_after t (drop i events)).rises) in
+    ap (mirror_of t.listed t.at) taken ∙ mirror_joined t.listed t.at front some
+    ∙ ap (λ m. mirror_of m t.at some) (a.listed ∙ sym a.all)
+    ∙ mirror_late (mirror_of [] moment front) t.last t.at moment some after a.at a.start
+    ∙ sym (ap (mirror_of [] moment) taken ∙ mirror_joined [] moment front some)
+
+-- the first changes of which none is after the list's moment may be missing
+mirror_rest : (m : Names Entry) (at k : ℕ) (cs : List Change) → AllByRecursion (IsChangeUpTo at) (take k cs) → mirror_of m at (drop k cs) ≡ mirror_of m at cs
+mirror_rest m at k cs h =
+    ap (λ x. mirror_of x at (drop k cs)) (sym (mirror_before m at (take k cs) h))
+    ∙ sym (mirror_joined m at (take k cs) (drop k cs)) ∙ ap (mirror_of m at) (take-append-drop k cs)
+
+-- the first k of the first n of some are among their first k
+all_in_both : {A : Type 0} (P : A → Type 0) (k n : ℕ) (xs : List A) → AllByRecursion P (take k xs) → AllByRecursion P (take k (take n xs))
+all_in_both P zero n xs h = tt
+all_in_both P (suc k) zero xs h = tt
+all_in_both P (suc k) (suc n) [] h = tt
+all_in_both P (suc k) (suc n) (x ∷ xs) h = (h.0, all_in_both P k n xs h.1)
+
+-- what was dropped by a point of the walk is not after the moment at which its history begins
+dropped_up_to : (base : List ℕ) (limit moment : ℕ) (events : List Event) (j : ℕ)
+    → AllByRecursion (IsChangeUpTo (state_at (start_of base limit moment) events j).begin)
+    (take ((state_at (start_of base limit moment) events j).first * limit) (recorded (start_of base limit moment) events))
+dropped_up_to base limit moment events j =
+    let s : Source = start_of base limit moment in
+    let t : Source = state_at s events j in
+    let front : List Change = recorded s (take j events) in
+    let k : KeepsChanges s front t = walk_records s (take j events) in
+    let gone : ℕ = gone_between s t in
+    let taken : take gone (recorded s events) ≡ take gone front =
+    ap (take gone) (recorded_split s events j) ∙ take-append-le gone front (recorded t (drop j events)) k.within in
+    let whole : t.first - 0 ≡ t.first = omega arith in
+    subst (λ n. AllByRecursion (IsChangeUpTo t.begin) (take (n * limit) (recorded s events))) whole
+    (subst (AllByRecursion (IsChangeUpTo t.begin)) (sym taken)
+    (subst (λ low. AllByRecursion (IsChangeUpTo low) (take gone front)) (sym k.begin)
+    (up_to_last moment gone front (order_after s (take j events)).rises).1))
+
+pub kept_list_is_followed : (base : List ℕ) (limit moment : ℕ) (events : List Event) (i j n : ℕ)
+    → count_at (start_of base limit moment) events i ≤ n
+    → (state_at (start_of base limit moment) events j).begin ≤ (state_at (start_of base limit moment) events i).at
+    → mirror_of (state_at (start_of base limit moment) events i).listed (state_at (start_of base limit moment) events i).at
+    (drop ((state_at (start_of base limit moment) events j).first * limit) (take n (recorded (start_of base limit moment) events)))
+    ≡ catalogue (start_of base limit moment) events n
+kept_list_is_followed base limit moment events i j n h within =
+    let s : Source = start_of base limit moment in
+    let list : Source = state_at s events i in
+    let kept : Source = state_at s events j in
+    let gone : ℕ = kept.first * limit in
+    let early : AllByRecursion (IsChangeUpTo list.at) (take gone (recorded s events)) =
+    changes_later kept.begin list.at (take gone (recorded s events)) within (dropped_up_to base limit moment events j) in
+    mirror_rest list.listed list.at gone (take n (recorded s events)) (all_in_both (IsChangeUpTo list.at) gone n (recorded s events) early)
+    ∙ list_is_followed base limit moment events i n h

@@ -1,21 +1,18 @@
 -- Walks event by event: the commands done, and the changes recorded.
-use Rattle.std.proofs.Common.{◌≡◌, ℕ, suc, zero, ◌+◌, ◌-◌, ◌≤◌, ◌<◌, List, [], ◌∷◌, ◌++◌, length, take, drop, refl, sym, ap, ◌∙◌, subst, arith, Option, Some, None, Bool, true, false, nat_le, append_assoc, append-nil, length-append}
+use Rattle.std.proofs.Common.{◌≡◌, ℕ, suc, zero, ◌+◌, ◌-◌, ◌≤◌, ◌<◌, List, [], ◌∷◌, ◌++◌, length, take, drop, refl, sym, ap, ◌∙◌, subst, arith, Bool, true, false, nat_le, append_assoc, length-append}
 use Rattle.std.specs.List.{AllByRecursion}
 use Rattle.std.proofs.lemmas.Bool.Decides.{nat_tests}
 use Rattle.std.proofs.lemmas.List.{take-append-drop, take-take}
-use Rattle.std.proofs.Math.Seq.{drop-append_seam, take-append_seam}
-use Rattle.rs_record.specs.Changes.{deleted}
-use Rattle.rs_record.specs.declared.change.Change.{Change}
+use Rattle.std.proofs.Math.Seq.{take-append_seam}
 use Rattle.rs_model.specs.declared.command.Command.{Command}
-use Rattle.rs_model.specs.declared.command.Command.TheVariants.{Put, Delete, Publish}
-use Rattle.rs_model.specs.declared.command.Refusal.{Refusal}
-use Rattle.rs_model.specs.declared.command.Reply.{Reply}
 use Rattle.rs_model.specs.declared.event.Event.{Event}
 use Rattle.rs_model.specs.declared.event.Event.TheVariants.{Tried, Refused, Stopped, Idle, Fetch}
-use Rattle.rs_model.specs.State.{Source, facts_of}
-use Rattle.rs_model.specs.Step.{step, state_after, next_state, accepted_unless, refusal_of, reply_to, moment_at, put_change, fold_of}
+use Rattle.rs_model.specs.State.{Source}
+use Rattle.rs_model.specs.Step.{fold_of}
+use Rattle.rs_model.specs.Kept.{KeepsChanges}
 use Rattle.rs_model.specs.Lawful.{IsLawful, IsLawfulTimed}
 use Rattle.rs_model.specs.Walk.{after_event, walk_of, state_at, done_by, commands_of, IsLawfulEvent, recorded_by, recorded, count_at, IsPassed}
+use Rattle.rs_model.proofs.KeptLemmas.{IsNext, itself, joined, none_more, step_more}
 use Rattle.rs_model.proofs.LawfulLemmas.{fold_lawful}
 
 pub walk-append : (s : Source) (a b : List Event) → walk_of s (a ++ b) ≡ walk_of (walk_of s a) b
@@ -57,30 +54,7 @@ lawful_commands (event ∷ events) h = all_joined IsLawfulTimed (done_by event) 
 pub walk_lawful : (s : Source) (events : List Event) → IsLawful s → AllByRecursion IsLawfulEvent events → IsLawful (walk_of s events)
 walk_lawful s events l h = subst IsLawful (sym (walk-fold s events)) (fold_lawful s (commands_of events) l (lawful_commands events h))
 
--- at most one change more
-record HasOneMore (s t : Source) : Type 0 where
-  more : List Change
-  changes : t.changes ≡ s.changes ++ more
-  few : length more ≤ 1
-
-none_more : (s : Source) → HasOneMore s s
-none_more s = record { more = []; changes = sym (append-nil s.changes); few = omega arith }
-
-next_more : (s : Source) (command : Command) (t : ℕ) → HasOneMore s (next_state s command t)
-next_more s (Put name kind bytes) t = record { more = put_change s name (facts_of kind bytes) t ∷ []; changes = refl; few = omega arith }
-next_more s (Delete name) t = record { more = deleted name t ∷ []; changes = refl; few = omega arith }
-next_more s Publish t = record { more = []; changes = sym (append-nil s.changes); few = omega arith }
-
-unless_refused : (s : Source) (o : Option Refusal) (next : Source × Reply) → HasOneMore s next.0 → HasOneMore s (state_after s (accepted_unless o next))
-unless_refused s None next h = h
-unless_refused s (Some refusal) next h = none_more s
-
-step_more : (s : Source) (command : Command) (now : ℕ) → HasOneMore s (state_after s (step s command now))
-step_more s command now =
-    let t : ℕ = moment_at s now in
-    unless_refused s (refusal_of s command) (next_state s command t, reply_to s command t) (next_more s command t)
-
-event_more : (s : Source) (event : Event) → HasOneMore s (after_event s event)
+event_more : (s : Source) (event : Event) → IsNext s (after_event s event)
 event_more s (Tried command now) = step_more s command now
 event_more s (Refused command) = none_more s
 event_more s (Stopped command now true) = step_more s command now
@@ -89,20 +63,19 @@ event_more s Idle = none_more s
 event_more s Fetch = none_more s
 
 -- what an event records
-recorded_more : (s : Source) (event : Event) → recorded_by s event ≡ (event_more s event).more
-recorded_more s event = ap (drop (length s.changes)) (event_more s event).changes ∙ drop-append_seam s.changes (event_more s event).more
-
-event_records : (s : Source) (event : Event) → (after_event s event).changes ≡ s.changes ++ recorded_by s event
-event_records s event = (event_more s event).changes ∙ ap (λ more. s.changes ++ more) (sym (recorded_more s event))
+pub event_records : (s : Source) (event : Event) → KeepsChanges s (recorded_by s event) (after_event s event)
+event_records s event =
+    let next : IsNext s (after_event s event) = event_more s event in
+    subst (λ more. KeepsChanges s more (after_event s event)) (sym next.recorded) next.kept
 
 one_recorded : (s : Source) (event : Event) → length (recorded_by s event) ≤ 1
-one_recorded s event = omega (arith, ap length (recorded_more s event), (event_more s event).few)
+one_recorded s event = omega (arith, ap length (event_more s event).recorded, (event_more s event).few)
 
-pub walk_records : (s : Source) (events : List Event) → (walk_of s events).changes ≡ s.changes ++ recorded s events
-walk_records s [] = sym (append-nil s.changes)
+pub walk_records : (s : Source) (events : List Event) → KeepsChanges s (recorded s events) (walk_of s events)
+walk_records s [] = itself s
 walk_records s (event ∷ events) =
-    walk_records (after_event s event) events ∙ ap (λ l. l ++ recorded (after_event s event) events) (event_records s event)
-    ∙ append_assoc s.changes (recorded_by s event) (recorded (after_event s event) events)
+    let next : Source = after_event s event in
+    joined s next (walk_of next events) (recorded_by s event) (recorded next events) (event_records s event) (walk_records next events)
 
 pub recorded-append : (s : Source) (a b : List Event) → recorded s (a ++ b) ≡ recorded s a ++ recorded (walk_of s a) b
 recorded-append s [] b = refl

@@ -1,7 +1,7 @@
 -- What every state keeps: lawful values, moments that exist, room, and names in order.
 use Rattle.std.specs.Prelude.{ℕ, ◌<◌, ◌≤◌, ◌^◌, IsTrue, List, length, IfSome}
 use Rattle.std.specs.List.{AllByRecursion}
-use Rattle.rs_time.specs.Moment.{IsMoment}
+use Rattle.rs_time.specs.Moment.{IsMoment, greatest}
 use Rattle.rs_fixity.specs.Digests.{AreNBytes}
 use Rattle.rs_record.specs.Name.{is_name}
 use Rattle.rs_record.specs.MediaType.{is_media_type}
@@ -55,6 +55,8 @@ pub record IsLawful (s : Source) : Type 0 where
   pub listed_room : length s.listed ≤ most_resources
   pub changes : AllByRecursion IsChange s.changes
   pub changes_room : length s.changes ≤ most_changes
+  pub first : s.first ≤ greatest
+  pub begin : IsMoment s.begin
 
 -- a command of a lawful name and type
 abbrev pub IsLawfulCommand : Command → Type 0

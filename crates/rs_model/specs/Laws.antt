@@ -1,11 +1,12 @@
 -- What follows from the definitions of a source alone.
-use Rattle.std.specs.Prelude.{◌≡◌, ◌≢◌, ℕ, ◌≤◌, List, Some, None, IfOk, IsTrue}
+use Rattle.std.specs.Prelude.{◌≡◌, ◌≢◌, ℕ, ◌≤◌, List, Some, None, IfOk, IsTrue, false}
 use Rattle.std.specs.List.{AllByRecursion}
 use Rattle.rs_time.specs.Moment.{IsMoment}
 use Rattle.rs_record.specs.Base.{is_base}
 use Rattle.rs_record.specs.declared.change.Change.{Change}
 use Rattle.rs_model.specs.State.{Source, start_of}
-use Rattle.rs_model.specs.Step.{step, state_after, fold_of, mirror_of}
+use Rattle.rs_model.specs.Step.{step, state_after, fold_of, mirror_of, is_out_of_parts}
+use Rattle.rs_model.specs.Kept.{KeepsChanges}
 use Rattle.rs_model.specs.Regular.{IsRegular, IsTimely}
 use Rattle.rs_model.specs.Lawful.{IsLawful, IsLawfulCommand, IsLawfulTimed}
 use Rattle.rs_model.specs.Names.{Names, value_of, bind, unbind, is_ordered}
@@ -28,6 +29,14 @@ FoldIsRegular = (s : Source) (commands : List (Command × ℕ)) → IsRegular s 
 
 abbrev pub FoldIsTimely : Type 0
 FoldIsTimely = (s : Source) (commands : List (Command × ℕ)) → IsRegular s → IsTimely s → IsTimely (fold_of s commands)
+
+-- Whatever commands come, the changes are those that were there and then others, without the parts that were dropped.
+abbrev pub ChangesAreKept : Type 0
+ChangesAreKept = (s : Source) (commands : List (Command × ℕ)) → (more : List Change) × KeepsChanges s more (fold_of s commands)
+
+-- In a regular state whose publication is at a moment that exists, no publication wants a number for its first part.
+abbrev pub PartsDoNotRunOut : Type 0
+PartsDoNotRunOut = (s : Source) → IsRegular s → IsMoment s.at → is_out_of_parts s ≡ false
 
 -- Names in order stay so where one is bound, ..
 abbrev pub OrderedWhenBound : Type 0 → Type 0

@@ -5,6 +5,7 @@ pub mod Lawful
 pub mod StateFields
 pub mod Step
 pub mod Regular
+pub mod Kept
 pub mod Laws
 pub mod Walk
 pub mod WalkLaws

@@ -1,5 +1,5 @@
 -- Regular states, and what else every run of commands keeps true.
-use Rattle.std.specs.Prelude.{ℕ, ◌≡◌, ◌<◌, ◌≤◌, Bool, true, ◌&&◌, nat_lt, IsTrue, List, [], ◌∷◌}
+use Rattle.std.specs.Prelude.{ℕ, ◌≡◌, ◌<◌, ◌≤◌, ◌-◌, Bool, true, ◌&&◌, nat_lt, IsTrue, List, [], ◌∷◌}
 use Rattle.std.specs.List.{AllByRecursion}
 use Rattle.rs_record.specs.declared.change.Change.{Change}
 use Rattle.rs_model.specs.declared.value.Entry.{Entry}
@@ -34,22 +34,26 @@ pub record AreUpTo (last : ℕ) (s : Source) : Type 0 where
   pub changes : AllByRecursion (IsChangeUpTo last) s.changes
   pub listed : AllByRecursion (IsUpTo last) s.listed
 
+-- a change above this moment
+abbrev pub IsAfter : ℕ → Change → Type 0
+IsAfter moment c = moment < c.moment
+
 -- A regular state: what is held has the facts of its bytes; the changes rise strictly; the publication is between
--- formatting and the last command, and no moment is above that one's; and what was published, followed by the changes
--- after it, gives what is held.
+-- formatting and the last command, and no moment is above that one's; the kept history begins at formatting or later, no later
+-- than the publication, and all its changes are after that; no more parts were dropped than there are moments before it; and
+-- what was published, followed by the changes after it, gives what is held.
 pub record IsRegular (s : Source) : Type 0 where
   pub sound : AllByRecursion IsSound s.held
   pub rising : IsTrue (is_rising s.changes)
   pub start : s.start ≤ s.at
   pub last : s.at ≤ s.last
   pub latest : AreUpTo s.last s
+  pub begun : s.start ≤ s.begin
+  pub kept : s.begin ≤ s.at
+  pub first : s.first ≤ s.begin - s.start
+  pub after : AllByRecursion (IsAfter s.begin) s.changes
   pub mirrored : mirror_of s.listed s.at s.changes ≡ entries s.held
 
--- a change above this moment
-abbrev pub IsAfter : ℕ → Change → Type 0
-IsAfter moment c = moment < c.moment
-
--- What else every run keeps true: the changes come after formatting, and what was published is no later than its publication.
+-- What else every run keeps true: what was published is no later than its publication.
 pub record IsTimely (s : Source) : Type 0 where
-  pub changes : AllByRecursion (IsAfter s.start) s.changes
   pub listed : AllByRecursion (IsUpTo s.at) s.listed

@@ -17,7 +17,8 @@ abbrev pub most_changes : ℕ
 most_changes = most_items
 
 -- A source: its base and item limit, the moments of its formatting and of its latest accepted command, what is
--- held, the changes in the order in which they came, and its latest publication.
+-- held, the changes that are kept in the order in which they came, its latest publication, and where the kept history begins:
+-- the number of its first part, and the moment of the last change before it, or of formatting.
 pub record Source : Type 0 where
   pub base : List ℕ
   pub limit : ℕ
@@ -28,6 +29,8 @@ pub record Source : Type 0 where
   pub number : ℕ
   pub at : ℕ
   pub listed : Names Entry
+  pub first : ℕ
+  pub begin : ℕ
 
 -- what is known of a body: its type, its length and its digests
 abbrev pub facts_of : List ℕ → List ℕ → Facts
@@ -54,4 +57,6 @@ start_of base limit moment =
       number = 0;
       at = moment;
       listed = [];
+      first = 0;
+      begin = moment;
     }

@@ -18,6 +18,8 @@ source_of s =
       number = s.number;
       at = s.at;
       listed = map entry_of s.listed.items;
+      first = s.first;
+      begin = s.begin;
     }
 
 -- a lawful source, and listed records that are those of its entries

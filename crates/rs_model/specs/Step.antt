@@ -1,9 +1,9 @@
 -- The step of a command, runs of commands, and the mirror of a list and the changes after it.
-use Rattle.std.specs.Prelude.{ℕ, ◌+◌, ◌^◌, Bool, ◌&&◌, nat_lt, nat_le, max, List, [], ◌∷◌, ◌++◌, length, Option, Some, None, is_some, is_none, Result, Ok, Err, if◌then◌else◌}
+use Rattle.std.specs.Prelude.{ℕ, suc, ◌+◌, ◌*◌, ◌/◌, ◌^◌, Bool, ◌&&◌, nat_lt, nat_le, max, List, [], ◌∷◌, ◌++◌, length, take, drop, Option, Some, None, is_some, is_none, Result, Ok, Err, if◌then◌else◌}
 use Rattle.rs_time.specs.Moment.{greatest}
 use Rattle.rs_record.specs.declared.facts.Facts.{Facts}
 use Rattle.rs_record.specs.declared.change.Change.{Change}
-use Rattle.rs_record.specs.Changes.{bound, deleted}
+use Rattle.rs_record.specs.Changes.{bound, deleted, last_moment}
 use Rattle.rs_model.specs.declared.value.Entry.{Entry}
 use Rattle.rs_model.specs.declared.command.Command.{Command}
 use Rattle.rs_model.specs.declared.command.Command.TheVariants.{Put, Delete, Publish}
@@ -28,13 +28,30 @@ is_held s name = is_some (value_of name s.held)
 abbrev pub is_out_of_moments : Source → Bool
 is_out_of_moments s = nat_le greatest s.last
 
+-- how many of the changes, from the first on, are not after this moment
+abbrev pub passed_by : ℕ → List Change → ℕ
+passed_by moment [] = 0
+passed_by moment (c ∷ cs) = if nat_le c.moment moment then suc (passed_by moment cs) else 0
+
+-- How many parts a publication drops: the full ones whose last change is not after the publication before it.
+abbrev pub dropped_parts : Source → ℕ
+dropped_parts s = passed_by s.at s.changes / s.limit
+
+-- how many changes these parts have
+abbrev pub dropped_changes : Source → ℕ
+dropped_changes s = dropped_parts s * s.limit
+
+-- no number is left for the first part that a publication keeps; no regular state is so
+abbrev pub is_out_of_parts : Source → Bool
+is_out_of_parts s = nat_lt greatest (s.first + dropped_parts s)
+
 -- no change more is kept
 abbrev pub has_all_changes : Source → Bool
 has_all_changes s = nat_le most_changes (length s.changes)
 
 -- The causes for which a command is refused, in their order. A put: too long a body, a new name where all
 -- resources are held, all changes are kept, no moment is left. A delete: a name that is not held, then the same of
--- changes and moments. A publish: no moment or no number is left.
+-- changes and moments. A publish: no moment or no number is left, of publications or of parts.
 abbrev pub causes : Source → Command → List (Bool × Refusal)
 causes s (Put name kind bytes) =
     (nat_lt longest_body (length bytes), TooLong)
@@ -42,7 +59,7 @@ causes s (Put name kind bytes) =
     ∷ (has_all_changes s, TooManyChanges) ∷ (is_out_of_moments s, Exhausted) ∷ []
 causes s (Delete name) =
     (is_none (value_of name s.held), NotHeld) ∷ (has_all_changes s, TooManyChanges) ∷ (is_out_of_moments s, Exhausted) ∷ []
-causes s Publish = (is_out_of_moments s, Exhausted) ∷ (nat_le (2 ^ 64) (s.number + 1), Exhausted) ∷ []
+causes s Publish = (is_out_of_moments s, Exhausted) ∷ (nat_le (2 ^ 64) (s.number + 1), Exhausted) ∷ (is_out_of_parts s, Exhausted) ∷ []
 
 -- why the command is refused, if it is
 abbrev pub refusal_of : Source → Command → Option Refusal
@@ -70,7 +87,16 @@ next_state s (Put name kind bytes) t =
     }
 next_state s (Delete name) t =
     record s { last = t; held = unbind name s.held; changes = s.changes ++ deleted name t ∷ [] }
-next_state s Publish t = record s { last = t; number = s.number + 1; at = t; listed = entries s.held }
+next_state s Publish t =
+    record s {
+      last = t;
+      number = s.number + 1;
+      at = t;
+      listed = entries s.held;
+      first = s.first + dropped_parts s;
+      begin = last_moment s.begin (take (dropped_changes s) s.changes);
+      changes = drop (dropped_changes s) s.changes;
+    }
 
 -- the reply to an accepted command at its moment
 abbrev pub reply_to : Source → Command → ℕ → Reply

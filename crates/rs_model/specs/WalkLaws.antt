@@ -1,9 +1,10 @@
 -- What follows from the definition of a walk alone.
-use Rattle.std.specs.Prelude.{◌≡◌, ℕ, ◌≤◌, List, ◌++◌, length, take}
+use Rattle.std.specs.Prelude.{◌≡◌, ℕ, ◌≤◌, ◌*◌, List, length, take, drop}
 use Rattle.std.specs.List.{AllByRecursion}
 use Rattle.rs_model.specs.declared.event.Event.{Event}
 use Rattle.rs_model.specs.State.{Source, start_of, entries}
 use Rattle.rs_model.specs.Step.{fold_of, mirror_of}
+use Rattle.rs_model.specs.Kept.{KeepsChanges}
 use Rattle.rs_model.specs.Lawful.{IsLawful}
 use Rattle.rs_model.specs.Walk.{walk_of, state_at, commands_of, IsLawfulEvent, recorded, count_at, catalogue, IsPassed}
 
@@ -16,10 +17,9 @@ abbrev pub WalksStayLawful : Type 0
 WalksStayLawful =
     (s : Source) (events : List Event) → IsLawful s → AllByRecursion IsLawfulEvent events → IsLawful (walk_of s events)
 
--- After a walk the changes are those that were there, and then what the walk recorded. From a formatting on they are what
--- it recorded.
+-- After a walk the changes are those that were there, and then what the walk recorded, without the parts that were dropped.
 abbrev pub ChangesAreRecorded : Type 0
-ChangesAreRecorded = (s : Source) (events : List Event) → (walk_of s events).changes ≡ s.changes ++ recorded s events
+ChangesAreRecorded = (s : Source) (events : List Event) → KeepsChanges s (recorded s events) (walk_of s events)
 
 -- What is held after a walk from a formatting is the catalogue after all changes that it recorded, ..
 abbrev pub HeldIsCatalogued : Type 0
@@ -43,6 +43,17 @@ ListIsFollowed =
     → let s = start_of base limit moment in
     count_at s events i ≤ n
     → mirror_of (state_at s events i).listed (state_at s events i).at (take n (recorded s events)) ≡ catalogue s events n
+
+-- So it does without the parts that were dropped by any point of the walk, if the history that is kept there begins no later
+-- than the list's moment.
+abbrev pub KeptListIsFollowed : Type 0
+KeptListIsFollowed =
+    (base : List ℕ) (limit moment : ℕ) (events : List Event) (i j n : ℕ)
+    → let s = start_of base limit moment in
+    let list = state_at s events i in
+    let kept = state_at s events j in
+    count_at s events i ≤ n → kept.begin ≤ list.at
+    → mirror_of list.listed list.at (drop (kept.first * limit) (take n (recorded s events))) ≡ catalogue s events n
 
 -- Between two points of a walk each number of changes from that of the first to that of the second is passed.
 abbrev pub EachCountIsPassed : Type 0

@@ -72,7 +72,9 @@ pub enum Refusal {
     /// A put or a delete where 50,000 changes are kept.
     #[error("50000 changes are kept")]
     TooManyChanges,
-    /// Any command after the greatest moment, and a publish after the greatest publication number.
+    /// Any command after the greatest moment, and a publish after the greatest publication number, or where
+    /// the first part of the changes that is kept would have a number above 253,402,300,799,999, which no
+    /// regular state comes to.
     #[error("no moment or no publication number is left")]
     Exhausted,
 }

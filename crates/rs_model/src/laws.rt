@@ -5,7 +5,7 @@
 ghost use Rattle.std.specs.Prelude.{ℕ, List};
 ghost use Rattle.rs_model.specs.State.{start_of};
 ghost use Rattle.rs_model.specs.Regular.{IsRegular, IsTimely};
-ghost use Rattle.rs_model.specs.Laws.{StepIsRegular, StepIsTimely, FoldIsRegular, FoldIsTimely, OrderedWhenBound, OrderedWhenUnbound, OrderedWhenMirrored, BoundIsFound, OthersStayBound, UnboundIsGone, OthersStayUnbound, StartIsLawful, StepIsLawful, FoldIsLawful};
+ghost use Rattle.rs_model.specs.Laws.{StepIsRegular, StepIsTimely, FoldIsRegular, FoldIsTimely, ChangesAreKept, PartsDoNotRunOut, OrderedWhenBound, OrderedWhenUnbound, OrderedWhenMirrored, BoundIsFound, OthersStayBound, UnboundIsGone, OthersStayUnbound, StartIsLawful, StepIsLawful, FoldIsLawful};
 
 /// The starting state is regular, and no moment of it is out of its place.
 pub fn start_is_regular()
@@ -23,6 +23,17 @@ pub fn step_is_regular()
 pub fn fold_is_regular()
     ensures regular { FoldIsRegular }
     ensures timely { FoldIsTimely }
+{}
+
+/// Any run of commands keeps the changes and appends to them, but for whole parts, the first ones, which are
+/// dropped; the first number and the begin tell how many, and until when.
+pub fn changes_are_kept()
+    ensures { ChangesAreKept }
+{}
+
+/// In a regular state no publication is refused for want of a number for the first part that it keeps.
+pub fn parts_do_not_run_out()
+    ensures { PartsDoNotRunOut }
 {}
 
 /// The names of a map stay in strictly ascending order.

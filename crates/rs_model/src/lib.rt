@@ -14,8 +14,8 @@ pub use command::{Command, Refusal, Reply, StepError};
 pub use destination::mirror;
 pub use event::{Event, walk};
 pub use laws::{
-    fold_is_regular, lawful_stays, names_are_a_map, names_stay_ordered, start_is_regular,
-    step_is_regular,
+    changes_are_kept, fold_is_regular, lawful_stays, names_are_a_map, names_stay_ordered,
+    parts_do_not_run_out, start_is_regular, step_is_regular,
 };
 pub use state::State;
 pub use value::{Body, Entry, Held};

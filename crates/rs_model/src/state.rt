@@ -9,8 +9,10 @@ ghost use Rattle.rs_time.specs.Moment.{IsMoment, greatest};
 ghost use Rattle.rs_model.specs.Lawful.{AreFacts};
 ghost use Rattle.rs_model.specs.declared.command.Command.TheVariants.{Put, Delete, Publish};
 
+mod dropped;
 mod shown;
 
+use self::dropped::last_moment;
 use crate::names::{bind, place_in_order, unbind};
 use crate::{Body, Command, Entry, Held, Refusal, Reply, StepError};
 use rs_extent::Extent;
@@ -27,8 +29,8 @@ use std::marker::Model;
 /// keeps, and its latest publication. Contracts see it as a `Source`, which is a record of these.
 ///
 /// Each state has an item limit from 2 to 4,000, at most 50,000 resources held and at most 50,000 listed,
-/// both in strictly ascending order of the bytes of their names, and at most 50,000 changes; and all its
-/// values are lawful.
+/// both in strictly ascending order of the bytes of their names, at most 50,000 changes, and a number of
+/// the first part that is at most 253,402,300,799,999; and all its values are lawful.
 #[derive(Debug, Drop)]
 pub struct State {
     base: Base,
@@ -41,6 +43,10 @@ pub struct State {
     at: Moment,
     // Records of empty extents, which is what the lists are written from.
     listed: Vec<Record>,
+    // The number of the first part of the changes that is kept.
+    first: u64,
+    // The moment of the last change before the kept ones, or of formatting.
+    begin: Moment,
 }
 
 impl Model for State {
@@ -76,6 +82,8 @@ impl State {
             number: 0,
             at: moment,
             listed: Vec::new(alloc),
+            first: 0,
+            begin: moment,
         }
     }
 
@@ -93,6 +101,8 @@ impl State {
             number: self.number,
             at: self.at,
             listed: duplicate_all(alloc, self.listed.as_slice())?,
+            first: self.first,
+            begin: self.begin,
         })
     }
 
@@ -202,7 +212,10 @@ impl State {
                 }
             }
             Command::Publish => {
-                if self.last.ms() >= Moment::GREATEST || self.number == u64::MAX {
+                if self.last.ms() >= Moment::GREATEST
+                    || self.number == u64::MAX
+                    || self.is_out_of_parts()
+                {
                     Some(Refusal::Exhausted)
                 } else {
                     None
@@ -286,7 +299,8 @@ impl State {
         Ok(Reply::Deleted(moment))
     }
 
-    // Lists what is held.
+    // Lists what is held, and drops the full parts that are not after the publication before. Once the list
+    // is made nothing fails.
     fn publish(&mut self, alloc: Global, moment: Moment) -> Result<Reply, AllocError>
         requires accepted { refusal_of self.old Publish ≡ None }
         requires moment { IsMoment moment }
@@ -294,7 +308,13 @@ impl State {
         ensures reply { IfOk result (λ reply. reply ≡ reply_to self.old Publish moment) }
         ensures unchanged { OnErr result (self.new ≡ self.old) }
     {
+        let parts = self.dropped_parts();
+        let gone = parts * self.limit as usize;
+        let begin = last_moment(self.begin, &self.changes[..gone]);
         self.listed = records(alloc, self.held.as_slice())?;
+        self.changes.drain(..gone);
+        self.first += parts as u64;
+        self.begin = begin;
         self.number += 1;
         self.at = moment;
         self.last = moment;

@@ -2,7 +2,7 @@
 //!
 //! Each function here does nothing: its contract is the law, which the check proves.
 
-ghost use Rattle.rs_model.specs.WalkLaws.{WalksAreFolds, WalksStayLawful, ChangesAreRecorded, HeldIsCatalogued, HeldThenIsCatalogued, ListIsFollowed, EachCountIsPassed};
+ghost use Rattle.rs_model.specs.WalkLaws.{WalksAreFolds, WalksStayLawful, ChangesAreRecorded, HeldIsCatalogued, HeldThenIsCatalogued, ListIsFollowed, KeptListIsFollowed, EachCountIsPassed};
 
 /// A walk leaves the state that the commands which it did leave, each at its moment, in their order. So each
 /// law of runs of commands speaks of walks.
@@ -15,14 +15,16 @@ pub fn walks_stay_lawful()
     ensures { WalksStayLawful }
 {}
 
-/// The changes of a state are those that its walk has recorded, and what is held is what they make, at the end
-/// and after any of its events. A list that was published on the way, followed by the changes after it, makes the
-/// same.
+/// The changes of a state are those that its walk has recorded, but for the parts that were dropped, and what is
+/// held is what all of them make, at the end and after any of its events. A list that was published on the way,
+/// followed by the changes after it, makes the same; and so it does by those alone that a state of the walk keeps,
+/// if its history begins no later than the list's moment.
 pub fn walks_are_catalogued()
     ensures recorded { ChangesAreRecorded }
     ensures held { HeldIsCatalogued }
     ensures held_then { HeldThenIsCatalogued }
     ensures followed { ListIsFollowed }
+    ensures kept_followed { KeptListIsFollowed }
 {}
 
 /// No event records more than one change, so a walk passes each number of changes between two of its states.

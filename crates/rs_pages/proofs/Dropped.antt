@@ -8,7 +8,7 @@ use Rattle.rs_page.specs.Pages.{Page, items_of, placed_extent, placed_extents, s
 use Rattle.rs_page.specs.SharedPages.{IsSublist, stored_pages}
 use Rattle.rs_pages.specs.Rule.{HaveItems, items_at}
 use Rattle.rs_pages.specs.Laws.{IsFreshPage}
-use Rattle.rs_pages.specs.Dropped.{full_pages, dropped_front, TouchesFew, DropsAsOne, DroppingKeeps, DroppingHasItems, DroppingTouchesFew}
+use Rattle.rs_pages.specs.Dropped.{full_pages, dropped_front, front_pages, ReplacesFront, TouchesFew, DropsAsOne, DroppingKeeps, DroppingHasItems, DroppingReplacesFront, DroppingTouchesFew}
 use Rattle.rs_pages.proofs.Cut.{fresh_cut, have_items, items_of-cut, items_of-cut_first}
 use Rattle.rs_pages.proofs.AtHome.{have_both}
 use Rattle.rs_pages.proofs.Touched.{itself, drop_one, rest_none, stored_after, placed_made}
@@ -141,6 +141,38 @@ module _ {T : Type 0} where
       (dropped_front (suc n - length page.items) pages) (full_pages (drop (suc n) page.items) ++ pages)
       (λ is. first_goes (suc n) page pages (dropped_front (suc n - length page.items) pages) (is_whole (length page.items) (suc n) is) (dropping_touches_few (suc n - length page.items) pages))
       (λ is. first_cut (suc n) page pages)
+
+  front_none : (pages : List (Page T)) → front_pages 0 pages ≡ []
+  front_none [] = refl
+  front_none (page ∷ pages) = refl
+
+  none_goes : (pages : List (Page T)) → ReplacesFront 0 pages pages
+  none_goes pages =
+      record { made = []; after = pages; was = ap (λ front. front ++ pages) (sym (front_none pages)); is = refl; fresh = All-nil IsFreshPage }
+
+  front_goes : (n : ℕ) (page : Page T) (pages new : List (Page T)) → ReplacesFront (suc n - length page.items) pages new → ReplacesFront (suc n) (page ∷ pages) new
+  front_goes n page pages new rest =
+      record { made = rest.made; after = rest.after; was = ap (λ later. page ∷ later) rest.was; is = rest.is; fresh = rest.fresh }
+
+  front_cut : (n : ℕ) (page : Page T) (pages : List (Page T)) → suc n < length page.items → ReplacesFront (suc n) (page ∷ pages) (full_pages (drop (suc n) page.items) ++ pages)
+  front_cut n page pages inside =
+      let no_more : suc n - length page.items ≡ 0 = omega arith in
+      record {
+        made = full_pages (drop (suc n) page.items);
+        after = pages;
+        was = ap (λ front. page ∷ (front ++ pages)) (sym (front_none pages) ∙ ap (λ (k : ℕ). front_pages k pages) (sym no_more));
+        is = refl;
+        fresh = fresh_full (drop (suc n) page.items);
+      }
+
+  pub dropping_replaces_front : DroppingReplacesFront T
+  dropping_replaces_front n [] = record { made = []; after = []; was = refl; is = refl; fresh = All-nil IsFreshPage }
+  dropping_replaces_front zero (page ∷ pages) = none_goes (page ∷ pages)
+  dropping_replaces_front (suc n) (page ∷ pages) =
+      either (ReplacesFront (suc n) (page ∷ pages)) (nat_le (length page.items) (suc n))
+      (dropped_front (suc n - length page.items) pages) (full_pages (drop (suc n) page.items) ++ pages)
+      (λ is. front_goes n page pages (dropped_front (suc n - length page.items) pages) (dropping_replaces_front (suc n - length page.items) pages))
+      (λ is. front_cut n page pages (is_cut (length page.items) (suc n) is))
 
   -- one page as the code meets it
   stay : (pages : List (Page T)) → dropped_front 0 pages ≡ pages

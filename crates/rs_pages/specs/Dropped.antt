@@ -21,6 +21,20 @@ dropped_front zero (page ∷ pages) = page ∷ pages
 dropped_front (suc n) (page ∷ pages) =
     cond (nat_le (length page.items) (suc n)) (dropped_front (suc n - length page.items) pages) (full_pages (drop (suc n) page.items) ++ pages)
 
+-- the pages that go where the first n items do: each that has one of them
+abbrev pub front_pages : {T : Type 0} → ℕ → List (Page T) → List (Page T)
+front_pages n [] = []
+front_pages zero (page ∷ pages) = []
+front_pages (suc n) (page ∷ pages) = page ∷ front_pages (suc n - length page.items) pages
+
+-- The pages that have one of the first n items go, and touched pages of 1 to 64 items come in their place; all after them stay.
+pub record ReplacesFront {T : Type 0} (n : ℕ) (old new : List (Page T)) : Type 0 where
+  pub made : List (Page T)
+  pub after : List (Page T)
+  pub was : old ≡ front_pages n old ++ after
+  pub is : new ≡ made ++ after
+  pub fresh : All IsFreshPage made
+
 -- The first pages of the old list go, all of whose items are among its first n. At most one page after them goes too, and what
 -- it has after the first n items comes in its place, in touched pages of 1 to 64 items. All other pages stay as they are.
 pub record TouchesFew {T : Type 0} (n : ℕ) (old new : List (Page T)) : Type 0 where
@@ -47,6 +61,10 @@ DroppingKeeps T = (n : ℕ) (pages : List (Page T))
 -- Where no page is empty, none is left empty.
 abbrev pub DroppingHasItems : Type 0 → Type 0
 DroppingHasItems T = (n : ℕ) (pages : List (Page T)) → HaveItems pages → HaveItems (dropped_front n pages)
+
+-- The pages that have one of the first items go, and no other.
+abbrev pub DroppingReplacesFront : Type 0 → Type 0
+DroppingReplacesFront T = (n : ℕ) (pages : List (Page T)) → ReplacesFront n pages (dropped_front n pages)
 
 -- At most one page is made into touched ones.
 abbrev pub DroppingTouchesFew : Type 0 → Type 0

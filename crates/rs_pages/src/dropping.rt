@@ -1,11 +1,13 @@
 //! A list without its first items.
 ghost use Rattle.std.specs.Prelude.{◌≡◌, ◌++◌, ◌<◌, ◌≤◌, length, drop, IfOk, OnOk};
+ghost use Rattle.rs_page.specs.Pages.{stored_refs};
 ghost use Rattle.rs_pages.specs.Rule.{items_at};
-ghost use Rattle.rs_pages.specs.Dropped.{full_pages, dropped_front};
+ghost use Rattle.rs_pages.specs.Dropped.{full_pages, dropped_front, front_pages};
 
 use crate::Pages;
+use crate::entries::entry_of;
 use crate::making::{MOST, copy_into, cut_into_pieces};
-use rs_page::{Page, PageItem};
+use rs_page::{Page, PageItem, PageRef};
 use rs_record::{Duplicate, duplicate_all};
 use std::alloc::{AllocError, Global};
 
@@ -25,6 +27,29 @@ impl<T: PageItem + Duplicate> Pages<T> {
         let (gone, more) = whole_among(&self.pages, count);
         let pages = without_items(alloc, &self.pages[gone..], more)?;
         Pages::of_pages(alloc, pages)
+    }
+
+    /// The entries of the pages that go where the first `count` items do: those of each page on the disk
+    /// that has one of these.
+    ///
+    /// # Errors
+    ///
+    /// [`AllocError`] where the memory is refused.
+    pub fn front_entries(&self, alloc: Global, count: usize) -> Result<Vec<PageRef>, AllocError>
+        ensures { IfOk result (λ refs. refs.items ≡ stored_refs (front_pages count self.now)) }
+    {
+        let mut entries = Vec::new(alloc);
+        let mut more = count;
+        for page in &self.pages {
+            if more == 0 {
+                return Ok(entries);
+            }
+            if let Some(entry) = entry_of(page) {
+                entries.push(entry)?;
+            }
+            more = more.saturating_sub(page.items().len());
+        }
+        Ok(entries)
     }
 }
 

@@ -27,8 +27,8 @@ const CHANGES: [u8; 79] = [
     0xb4, 0x10, 0xff, 0x61, 0xf2, 0, 0x15, 0xad,
 ];
 
-// The directory of a source with these pages in blocks 3 and 4, which published what it holds: the limit
-// is 2 and the base `http://127.0.0.1:8080`.
+// The directory, in version 1, of a source with these pages in blocks 3 and 4, which published what it
+// holds: the limit is 2 and the base `http://127.0.0.1:8080`.
 const DIRECTORY: [u8; 200] = [
     0, 2, 0x15, 0x68, 0x74, 0x74, 0x70, 0x3a, 0x2f, 0x2f, 0x31, 0x32, 0x37, 0x2e, 0x30, 0x2e, 0x30,
     0x2e, 0x31, 0x3a, 0x38, 0x30, 0x38, 0x30, 0, 0, 0, 0, 0, 0, 0, 0, 0, 0, 0, 0xdd, 0x9a, 0xa6,
@@ -90,6 +90,7 @@ fn asked(
     works: u64,
 ) -> Result<(Option<LoadFault>, u64), Fail> {
     let root = Root {
+        version: 1,
         generation: 2,
         directory,
         length: 200,

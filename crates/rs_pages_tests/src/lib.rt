@@ -18,4 +18,6 @@ mod pages;
 #[cfg(test)]
 mod paging;
 #[cfg(test)]
+mod parts;
+#[cfg(test)]
 mod values;

@@ -65,7 +65,7 @@ fn is_not_kept(
     used: &mut Used,
     disk: &mut MemoryDisk,
 ) -> Result<(), Fail>
-    requires { placed_extents history.old ≡ [] }
+    requires { placed_extents history.old.pages ≡ [] }
 {
     assert_eq!(rt; disk.size(), 512 * u64::from(used.blocks()));
     history.place_touched(used)?;
@@ -92,7 +92,8 @@ pub(super) fn with(
     history: &History,
     ms: u64,
 ) -> Result<History, Fail>
-    ensures { placed_extents history.now ≡ [] → IfOk result (λ next. placed_extents next ≡ []) }
+    ensures { placed_extents history.now.pages ≡ []
+        → IfOk result (λ next. placed_extents next.pages ≡ []) }
 {
     let change = deletion(rt, b"a", ms)?;
     let len = history.len();

@@ -82,25 +82,37 @@ fn unbind(
     store(rt, &mut catalogue, used, disk)
 }
 
-// Appends a change at this moment to the history of these pages.
-#[tactic(auto, using(crate::proofs::Placed::none_placed))]
-fn append(
+// Stores a history, and gives the references to its pages.
+pub(super) fn store_history(
     rt: &(impl Abort + AllocGlobal),
-    disk: &mut MemoryDisk,
+    history: &mut History,
     used: &mut Used,
-    pages: &[PageRef],
-    ms: u64,
-) -> Result<Vec<PageRef>, Fail> {
-    let old = History::load(rt.alloc(), disk, pages)?;
-    let mut history = with(rt, &old, ms)?;
+    disk: &mut MemoryDisk,
+) -> Result<Vec<PageRef>, Fail>
+    requires { placed_extents history.old.pages ≡ [] }
+{
     assert_eq!(rt; disk.size(), 512 * u64::from(used.blocks()));
     history.place_touched(used)?;
     history.store_touched(rt.alloc(), disk)?;
     Ok(history.pages(rt.alloc())?)
 }
 
+// Appends a change at this moment to the history of these pages.
+#[tactic(auto, using(crate::proofs::Placed::none_placed))]
+pub(super) fn append(
+    rt: &(impl Abort + AllocGlobal),
+    disk: &mut MemoryDisk,
+    used: &mut Used,
+    pages: &[PageRef],
+    ms: u64,
+) -> Result<Vec<PageRef>, Fail> {
+    let old = History::load(rt.alloc(), disk, 0, pages)?;
+    let mut history = with(rt, &old, ms)?;
+    store_history(rt, &mut history, used, disk)
+}
+
 // How many items each of these pages has.
-fn counts<T: PageItem>(
+pub(super) fn counts<T: PageItem>(
     rt: &impl AllocGlobal,
     disk: &mut MemoryDisk,
     pages: &[PageRef],
@@ -143,7 +155,7 @@ fn are_timed(
     disk: &mut MemoryDisk,
     pages: &[PageRef],
 ) -> Result<(), Fail> {
-    let history = History::load(rt.alloc(), disk, pages)?;
+    let history = History::load(rt.alloc(), disk, 0, pages)?;
     assert_eq!(rt; history.len(), 130);
     for i in 0..history.len() {
         assert_eq!(rt; history.at(i).moment.ms(), i as u64);

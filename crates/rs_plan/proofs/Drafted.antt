@@ -61,7 +61,7 @@ pub record IsDraft (old c : Contents) (name kind : List ℕ) (n : ℕ) (blank : 
   pub header : c.header ≡ record old.header { last = moment }
   pub published : c.published ≡ old.published
   pub catalogue : c.catalogue ≡ bound_in (λ (r : Record). r.name) (record_of_body name kind n blank body moment) old.catalogue
-  pub history : c.history ≡ appended_to (bound name (is_some (value_of name (named (records_of old.catalogue)))) moment (facts_of_body kind n blank)) old.history
+  pub history : c.history.pages ≡ appended_to (bound name (is_some (value_of name (named (records_of old.catalogue)))) moment (facts_of_body kind n blank)) old.history.pages
   pub old_lawful : IsCatalogue old.catalogue
   pub unplaced : AreUnplaced c
   pub long : AreLong blank
@@ -93,17 +93,17 @@ module _ (law : IsPageRuleKept) (old c : Contents) (name kind bytes : List ℕ) 
   catalogue_ruled : filled.catalogue ≡ bound_in (λ (r : Record). r.name) made old.catalogue
   catalogue_ruled = ap (pages_filled name (digests bytes)) draft.catalogue ∙ law.filled (record_filled (digests bytes)) (λ r. refl) blank_record old.catalogue in_order
 
-  history_ruled : filled.history ≡ appended_to (change_put old name kind bytes moment) old.history
+  history_ruled : filled.history.pages ≡ appended_to (change_put old name kind bytes moment) old.history.pages
   history_ruled =
       ap (history_filled (digests bytes)) draft.history
-      ∙ (law.filled_last (change_filled (digests bytes)) blank_change old.history
-      ∙ ap (λ (change : Change). appended_to change old.history) (filled_bound (digests bytes) name again moment blank_facts))
+      ∙ (law.filled_last (change_filled (digests bytes)) blank_change old.history.pages
+      ∙ ap (λ (change : Change). appended_to change old.history.pages) (filled_bound (digests bytes) name again moment blank_facts))
 
   pub records_are : named (records_of filled.catalogue) ≡ bind name made (named (records_of old.catalogue))
   records_are = ap (λ (pages : List (Page Record)). named (records_of pages)) catalogue_ruled ∙ (law.bound made old.catalogue in_order).0
 
-  pub changes_are : changes_of filled.history ≡ changes_of old.history ++ change_put old name kind bytes moment ∷ []
-  changes_are = ap (λ (pages : List (Page Change)). changes_of pages) history_ruled ∙ law.appended (change_put old name kind bytes moment) old.history
+  pub changes_are : changes_of filled.history.pages ≡ changes_of old.history.pages ++ change_put old name kind bytes moment ∷ []
+  changes_are = ap (λ (pages : List (Page Change)). changes_of pages) history_ruled ∙ law.appended (change_put old name kind bytes moment) old.history.pages
 
   -- the pages of the draft
   draft_in_order : Ascend (λ (r : Record). r.name) c.catalogue
@@ -114,8 +114,8 @@ module _ (law : IsPageRuleKept) (old c : Contents) (name kind bytes : List ℕ) 
       ap (λ (pages : List (Page Record)). value_of name (named (records_of pages))) draft.catalogue
       ∙ (ap (value_of name) (law.bound blank_record old.catalogue in_order).0 ∙ value-bind name blank_record (named (records_of old.catalogue)))
 
-  draft_changes : changes_of c.history ≡ changes_of old.history ++ blank_change ∷ []
-  draft_changes = ap (λ (pages : List (Page Change)). changes_of pages) draft.history ∙ law.appended blank_change old.history
+  draft_changes : changes_of c.history.pages ≡ changes_of old.history.pages ++ blank_change ∷ []
+  draft_changes = ap (λ (pages : List (Page Change)). changes_of pages) draft.history ∙ law.appended blank_change old.history.pages
 
   stay_long : AllByRecursion (StaysAsLong name (digests bytes) (digests_long bytes)) (records_of c.catalogue)
   stay_long = records_long name (digests bytes) (digests_long bytes) (records_of c.catalogue) blank_record draft.long draft_in_order draft_record
@@ -123,32 +123,32 @@ module _ (law : IsPageRuleKept) (old c : Contents) (name kind bytes : List ℕ) 
   abbrev LastStaysLong : List Change → Type 0
   LastStaysLong changes = HoldsOfLast (StaysLong change_format (change_filled (digests bytes))) changes
 
-  last_stays_long : LastStaysLong (changes_of c.history)
+  last_stays_long : LastStaysLong (changes_of c.history.pages)
   last_stays_long =
       subst LastStaysLong (sym draft_changes)
-      (of_last (StaysLong change_format (change_filled (digests bytes))) (changes_of old.history) blank_change
+      (of_last (StaysLong change_format (change_filled (digests bytes))) (changes_of old.history.pages) blank_change
       (change_long (digests bytes) name again moment blank_facts (digests_long bytes) draft.long))
 
   catalogue_is : AreRefilled record_format c.catalogue filled.catalogue
   catalogue_is = each_refilled record_format (filling name (digests bytes) (digests_long bytes)) c.catalogue stay_long
 
-  history_is : AreRefilled change_format c.history filled.history
-  history_is = last_refilled change_format (change_filled (digests bytes)) c.history last_stays_long
+  history_is : AreRefilled change_format c.history.pages filled.history.pages
+  history_is = last_refilled change_format (change_filled (digests bytes)) c.history.pages last_stays_long
 
   -- so they need as many blocks
   pub needed_is : lists_needed filled ≡ lists_needed c
   needed_is =
       rw (
         same_needed record_format c.catalogue filled.catalogue catalogue_is,
-        same_needed change_format c.history filled.history history_is,
+        same_needed change_format c.history.pages filled.history.pages history_is,
         same_count record_format c.catalogue filled.catalogue catalogue_is,
-        same_count change_format c.history filled.history history_is,
+        same_count change_format c.history.pages filled.history.pages history_is,
       ) refl
 
   pub unplaced_is : AreUnplaced filled
   unplaced_is = record {
     catalogue = same_extents record_format c.catalogue filled.catalogue catalogue_is ∙ draft.unplaced.catalogue;
-    history = same_extents change_format c.history filled.history history_is ∙ draft.unplaced.history;
+    history = same_extents change_format c.history.pages filled.history.pages history_is ∙ draft.unplaced.history;
   }
 
   pub next_is : IsNext old (Put name kind bytes) moment body filled
@@ -156,11 +156,11 @@ module _ (law : IsPageRuleKept) (old c : Contents) (name kind bytes : List ℕ) 
       put_next old filled name kind bytes body moment draft.header records_are changes_are draft.published
       (subst (KeepsPages old.catalogue) (sym catalogue_ruled)
       (touching_keeps old.catalogue (bound_in (λ (r : Record). r.name) made old.catalogue) (law.touches_bound made old.catalogue)).0)
-      (subst (KeepsPages old.history) (sym history_ruled)
-      (touching_keeps old.history (appended_to (change_put old name kind bytes moment) old.history)
-      (law.touches_appended (change_put old name kind bytes moment) old.history)).0)
+      (subst (KeepsPages old.history.pages) (sym history_ruled)
+      (touching_keeps old.history.pages (appended_to (change_put old name kind bytes moment) old.history.pages)
+      (law.touches_appended (change_put old name kind bytes moment) old.history.pages)).0)
       (subst (λ (pages : List (Page Record)). MayHavePlaces pages filled.catalogue) catalogue_ruled (ruled_itself filled.catalogue unplaced_is.catalogue))
-      (subst (λ (pages : List (Page Change)). MayHavePlaces pages filled.history) history_ruled (ruled_itself filled.history unplaced_is.history))
+      (subst (λ (pages : List (Page Change)). MayHavePlaces pages filled.history.pages) history_ruled (ruled_itself filled.history.pages unplaced_is.history))
 
   -- and are lists of a disk
   pub lawful_catalogue : IsCatalogue c.catalogue → IsCatalogue filled.catalogue
@@ -172,14 +172,14 @@ module _ (law : IsPageRuleKept) (old c : Contents) (name kind bytes : List ℕ) 
     };
   }
 
-  pub lawful_history : IsHistory c.history → IsHistory filled.history
+  pub lawful_history : IsHistory c.history.pages → IsHistory filled.history.pages
   lawful_history is = record {
-    some = still_some change_format c.history filled.history history_is is.some;
+    some = still_some change_format c.history.pages filled.history.pages history_is is.some;
     kept = record {
       rising = subst (λ (changes : List Change). IsTrue (is_rising changes)) (sym changes_are)
-          (rising_again (changes_of old.history) name again moment blank_facts (facts_of kind bytes)
+          (rising_again (changes_of old.history.pages) name again moment blank_facts (facts_of kind bytes)
           (subst (λ (changes : List Change). IsTrue (is_rising changes)) draft_changes is.kept.rising));
-      room = omega (arith, same_many change_format c.history filled.history history_is, is.kept.room);
+      room = omega (arith, same_many change_format c.history.pages filled.history.pages history_is, is.kept.room);
     };
   }
 
@@ -193,26 +193,26 @@ module _ (law : IsPageRuleKept) (old c : Contents) (name kind bytes : List ℕ) 
       (subst (AllByRecursion (StaysAsLong name (digests bytes) (digests_long bytes))) (sym same_records) stay_long)
 
   placed_history_is : (used : List Bool) (p : Plan) → HasItsPlaces used body c p
-      → AreRefilled change_format p.contents.history (history_filled (digests bytes) p.contents.history)
+      → AreRefilled change_format p.contents.history.pages (history_filled (digests bytes) p.contents.history.pages)
   placed_history_is used p placed =
-      let same_changes : changes_of p.contents.history ≡ changes_of c.history =
-      places_items change_format placed.after_catalogue placed.after_history c.history p.contents.history placed.history in
-      last_refilled change_format (change_filled (digests bytes)) p.contents.history (subst LastStaysLong (sym same_changes) last_stays_long)
+      let same_changes : changes_of p.contents.history.pages ≡ changes_of c.history.pages =
+      places_items change_format placed.after_catalogue placed.after_history c.history.pages p.contents.history.pages placed.history in
+      last_refilled change_format (change_filled (digests bytes)) p.contents.history.pages (subst LastStaysLong (sym same_changes) last_stays_long)
 
   -- and it has the same places
   pub places_are : (used : List Bool) (p : Plan) → HasItsPlaces used body c p → places p ≡ places (plan_filled name (digests bytes) p)
   places_are used p placed =
       ap₂ (λ (a b : List Extent). p.body ∷ a ++ b ++ p.directory ∷ [])
       (sym (same_extents record_format p.contents.catalogue (pages_filled name (digests bytes) p.contents.catalogue) (placed_catalogue_is used p placed)))
-      (sym (same_extents change_format p.contents.history (history_filled (digests bytes) p.contents.history) (placed_history_is used p placed)))
+      (sym (same_extents change_format p.contents.history.pages (history_filled (digests bytes) p.contents.history.pages) (placed_history_is used p placed)))
 
   -- what goes from the old lists
   pub frees_is : Frees (Put name kind bytes) old body filled
   frees_is = record {
     catalogue = subst (λ (pages : List (Page Record)). LosesOne (entry_of_name old name) (stored_refs old.catalogue) (stored_refs pages)) (sym catalogue_ruled)
         (bind_takes (λ (r : Record). r.name) made old.catalogue);
-    history = subst (λ (pages : List (Page Change)). LosesOne (open_entry old.history) (stored_refs old.history) (stored_refs pages)) (sym history_ruled)
-        (append_takes (change_put old name kind bytes moment) old.history);
+    history = subst (λ (pages : List (Page Change)). LosesOne (open_entry old.history.pages) (stored_refs old.history.pages) (stored_refs pages)) (sym history_ruled)
+        (append_takes (change_put old name kind bytes moment) old.history.pages);
     bodies = body_bound name made (records_of old.catalogue) (records_of filled.catalogue) records_are;
     published = draft.published;
   }
@@ -224,24 +224,25 @@ module _ (law : IsPageRuleKept) (old c : Contents) (name kind bytes : List ℕ) 
       let of_history = placed_history_is used p placed in
       let bytes_of : directory_bytes_of filled ≡ directory_bytes_of c =
       ap₂ (λ (a b : ℕ). directory_length c.header (a + b + length c.published))
-      (same_count record_format c.catalogue filled.catalogue catalogue_is) (same_count change_format c.history filled.history history_is) in
+      (same_count record_format c.catalogue filled.catalogue catalogue_is) (same_count change_format c.history.pages filled.history.pages history_is) in
       record {
         after_catalogue = placed.after_catalogue;
         after_history = placed.after_history;
         after = placed.after;
         catalogue = each_placed record_format (filling name (digests bytes) (digests_long bytes)) used placed.after_catalogue c.catalogue p.contents.catalogue stay_long
             placed.catalogue;
-        history = last_placed change_format (change_filled (digests bytes)) placed.after_catalogue placed.after_history c.history p.contents.history last_stays_long
+        history = last_placed change_format (change_filled (digests bytes)) placed.after_catalogue placed.after_history c.history.pages p.contents.history.pages last_stays_long
             placed.history;
         takes_catalogue = subst (AreTaken used placed.after_catalogue)
             (sym (same_extents record_format p.contents.catalogue (pages_filled name (digests bytes) p.contents.catalogue) of_catalogue)) placed.takes_catalogue;
         takes_history = subst (AreTaken placed.after_catalogue placed.after_history)
-            (sym (same_extents change_format p.contents.history (history_filled (digests bytes) p.contents.history) of_history)) placed.takes_history;
+            (sym (same_extents change_format p.contents.history.pages (history_filled (digests bytes) p.contents.history.pages) of_history)) placed.takes_history;
         untouched_catalogue = still_untouched record_format p.contents.catalogue (pages_filled name (digests bytes) p.contents.catalogue) of_catalogue
             placed.untouched_catalogue;
-        untouched_history = still_untouched change_format p.contents.history (history_filled (digests bytes) p.contents.history) of_history placed.untouched_history;
+        untouched_history = still_untouched change_format p.contents.history.pages (history_filled (digests bytes) p.contents.history.pages) of_history placed.untouched_history;
         directory = subst (λ (n : ℕ). Takes placed.after_history (blocks_of n) p.directory placed.after) (sym bytes_of) placed.directory;
         header = placed.header;
+        first = placed.first;
         published = placed.published;
         body_is = placed.body_is;
       }

@@ -2,7 +2,7 @@
 use Rattle.std.proofs.Common.{◌≡◌, ℕ, Bool, true, List, [], ◌∷◌, ◌++◌, Result, Ok, Err, is_ok, IsOk, if◌then◌else◌, refl, sym, ◌∙◌, ap, subst, arith}
 use Rattle.rs_extent.specs.declared.Extent.{Extent}
 use Rattle.rs_extent.specs.Blocks.{IsFree, IsFreeRun, Sets}
-use Rattle.rs_extent.specs.Extents.{AreTaken, AreGiven}
+use Rattle.rs_extent.specs.Extents.{AreTaken, AreGiven, CanGive}
 use Rattle.rs_extent.proofs.Taken.{taken_free, taken_both}
 use Rattle.rs_extent.proofs.InTurn.{taken_is_given_back}
 use Rattle.rs_plan.specs.Room.{Takes, HasNoRun, IsFoundRun}
@@ -27,13 +27,22 @@ takes_found used used' n e found sets = record { blocks = found.blocks; nowhere 
 pub found_none : (used : List Bool) → IsFoundRun used 0 (record { first = 0; blocks = 0 })
 found_none used = record { blocks = refl; nowhere = λ none. refl; lowest = λ some. absurd (omega arith) }
 
--- What was taken, and is given back, leaves the set as it was.
+-- A body and then some extents are taken, ..
+pub taken_all : (old mid after : List Bool) (body : Extent) (extents first all : List Extent) → IsFree old body → Sets old mid body true → AreTaken mid after extents
+    → first ≡ body ∷ [] → all ≡ first ++ extents → AreTaken old after all
+taken_all old mid after body extents first all free sets taken one is =
+    subst (AreTaken old after) (sym (is ∙ ap (λ (l : List Extent). l ++ extents) one))
+    (taken_both old mid after (body ∷ []) extents (taken_free old mid body free sets) taken)
+
+-- .. so they can be given back, ..
+pub can_give : (old after : List Bool) (all : List Extent) → AreTaken old after all → CanGive after all
+can_give old after all taken = record { apart = taken.apart; on_disk = λ b is. omega (arith, taken.inside b is, taken.size); are_used = taken.after }
+
+-- .. which leaves the set as it was.
 pub given_back : (old mid after new : List Bool) (body : Extent) (extents first all : List Extent) → IsFree old body → Sets old mid body true → AreTaken mid after extents
     → first ≡ body ∷ [] → all ≡ first ++ extents → AreGiven after new all → new ≡ old
 given_back old mid after new body extents first all free sets taken one is given =
-    taken_is_given_back old after new all
-    (subst (AreTaken old after) (sym (is ∙ ap (λ (l : List Extent). l ++ extents) one))
-    (taken_both old mid after (body ∷ []) extents (taken_free old mid body free sets) taken)) given
+    taken_is_given_back old after new all (taken_all old mid after body extents first all free sets taken one is) given
 
 -- what is pushed, where there is room for it
 pub pushed : {A B : Type 0} (r : Result A B) (xs ys zs : List Extent) → IsOk r → zs ≡ (if is_ok r then xs else ys) → zs ≡ xs

@@ -1,5 +1,5 @@
 -- The lists after each command, and that there is no room for one.
-use Rattle.std.proofs.Common.{◌≡◌, inr, ℕ, ◌+◌, Bool, true, List, [], ◌∷◌, ◌++◌, Option, refl, sym, ◌∙◌, ap, subst}
+use Rattle.std.proofs.Common.{◌≡◌, inr, ℕ, Bool, true, List, [], ◌∷◌, ◌++◌, Option, refl, sym, ◌∙◌, ap, subst}
 use Rattle.std.specs.Prelude.{All, IsSome, is_some}
 use Rattle.std.specs.List.{cons_option}
 use Rattle.std.proofs.lemmas.List.Elements.{All-head, All-tail}
@@ -10,7 +10,7 @@ use Rattle.rs_record.specs.Changes.{bound, deleted}
 use Rattle.rs_page.specs.declared.place.Place.{Place}
 use Rattle.rs_page.specs.declared.place.Place.TheVariants.{Touched, Placed, Stored}
 use Rattle.rs_page.specs.Pages.{Page, IsStored, placed_extent, placed_extents, stored_ref, stored_refs}
-use Rattle.rs_page.specs.SharedPages.{IsSublist, KeepsPages, stored_pages}
+use Rattle.rs_page.specs.SharedPages.{KeepsPages}
 use Rattle.rs_pages.specs.Items.{keyed}
 use Rattle.rs_pages.specs.Rule.{items_at, home, bound_in, unbound_in, appended_to}
 use Rattle.rs_pages.specs.Entries.{open_entry}
@@ -19,7 +19,7 @@ use Rattle.rs_catalogue.specs.Catalogue.{records_of, IsCatalogue}
 use Rattle.rs_catalogue.specs.Named.{named}
 use Rattle.rs_changes.specs.History.{changes_of}
 use Rattle.rs_model.specs.declared.command.Command.{Command}
-use Rattle.rs_model.specs.declared.command.Command.TheVariants.{Put, Delete, Publish}
+use Rattle.rs_model.specs.declared.command.Command.TheVariants.{Put, Delete}
 use Rattle.rs_model.specs.Names.{value_of, bind, unbind}
 use Rattle.rs_model.specs.State.{facts_of}
 use Rattle.rs_image.specs.declared.contents.Contents.{Contents}
@@ -27,9 +27,8 @@ use Rattle.rs_image.specs.Rooted.{Rooted, AreUsed}
 use Rattle.rs_plan.specs.Room.{Takes, HasNoRoom, lists_needed, body_needed}
 use Rattle.rs_plan.specs.Plans.{MayHavePlaces, change_put, IsNext, LacksRoom}
 use Rattle.rs_plan.specs.Placed.{AreUnplaced, record_made}
-use Rattle.rs_plan.proofs.Turns.{put_turns, delete_turns, publish_turns}
+use Rattle.rs_plan.proofs.Turns.{put_turns, delete_turns}
 use Rattle.rs_plan.specs.Freed.{entry_of_name}
-use Rattle.rs_plan.proofs.Bodies.{itself}
 use Rattle.rs_plan.proofs.FreedPages.{LosesOne, unbind_takes, append_takes}
 use Rattle.rs_plan.proofs.FreedBodies.{body_unbound}
 use Rattle.rs_plan.proofs.GivenBack.{Frees}
@@ -37,10 +36,10 @@ use Rattle.rs_plan.proofs.GivenBack.{Frees}
 -- a put
 pub put_next : (old c : Contents) (name kind bytes : List ℕ) (body : Extent) (moment : ℕ) → c.header ≡ record old.header { last = moment }
     → named (records_of c.catalogue) ≡ bind name (record_made name kind bytes body moment) (named (records_of old.catalogue))
-    → changes_of c.history ≡ changes_of old.history ++ bound name (is_some (value_of name (named (records_of old.catalogue)))) moment (facts_of kind bytes) ∷ []
-    → c.published ≡ old.published → KeepsPages old.catalogue c.catalogue → KeepsPages old.history c.history
+    → changes_of c.history.pages ≡ changes_of old.history.pages ++ bound name (is_some (value_of name (named (records_of old.catalogue)))) moment (facts_of kind bytes) ∷ []
+    → c.published ≡ old.published → KeepsPages old.catalogue c.catalogue → KeepsPages old.history.pages c.history.pages
     → MayHavePlaces (bound_in (λ (r : Record). r.name) (record_made name kind bytes body moment) old.catalogue) c.catalogue
-    → MayHavePlaces (appended_to (change_put old name kind bytes moment) old.history) c.history
+    → MayHavePlaces (appended_to (change_put old name kind bytes moment) old.history.pages) c.history.pages
     → IsNext old (Put name kind bytes) moment body c
 put_next old c name kind bytes body moment header records changes published catalogue history ruled ruled' = record {
   turns = put_turns old c name kind bytes body moment header records changes published;
@@ -51,28 +50,15 @@ put_next old c name kind bytes body moment header records changes published cata
 
 -- a delete
 pub delete_next : (old c : Contents) (name : List ℕ) (body : Extent) (moment : ℕ) → c.header ≡ record old.header { last = moment }
-    → named (records_of c.catalogue) ≡ unbind name (named (records_of old.catalogue)) → changes_of c.history ≡ changes_of old.history ++ deleted name moment ∷ []
-    → c.published ≡ old.published → KeepsPages old.catalogue c.catalogue → KeepsPages old.history c.history
-    → MayHavePlaces (unbound_in (λ (r : Record). r.name) name old.catalogue) c.catalogue → MayHavePlaces (appended_to (deleted name moment) old.history) c.history
+    → named (records_of c.catalogue) ≡ unbind name (named (records_of old.catalogue)) → changes_of c.history.pages ≡ changes_of old.history.pages ++ deleted name moment ∷ []
+    → c.published ≡ old.published → KeepsPages old.catalogue c.catalogue → KeepsPages old.history.pages c.history.pages
+    → MayHavePlaces (unbound_in (λ (r : Record). r.name) name old.catalogue) c.catalogue → MayHavePlaces (appended_to (deleted name moment) old.history.pages) c.history.pages
     → IsNext old (Delete name) moment body c
 delete_next old c name body moment header records changes published catalogue history ruled ruled' = record {
   turns = λ image there. delete_turns old c name moment header records changes published image;
   catalogue = catalogue;
   history = history;
   pages = (ruled, ruled', published);
-}
-
--- a publish
-same_pages : {T : Type 0} (old new : List (Page T)) → new ≡ old → KeepsPages old new
-same_pages {T} old new same = subst (λ (l : List (Page T)). IsSublist (stored_pages l) (stored_pages old)) (sym same) (itself (stored_pages old))
-
-pub publish_next : (old c : Contents) (body : Extent) (moment : ℕ) → c.header ≡ record old.header { last = moment; number = old.header.number + 1; at = moment }
-    → c.catalogue ≡ old.catalogue → c.history ≡ old.history → c.published ≡ old.catalogue → IsNext old Publish moment body c
-publish_next old c body moment header catalogue history published = record {
-  turns = λ image there. publish_turns old c moment header catalogue history published image;
-  catalogue = same_pages old.catalogue c.catalogue catalogue;
-  history = same_pages old.history c.history history;
-  pages = (catalogue, history, published);
 }
 
 -- no page that is stored was given blocks
@@ -85,11 +71,8 @@ none_placed : {T : Type 0} (pages : List (Page T)) → All IsStored pages → pl
 none_placed [] h = refl
 none_placed (page ∷ pages) h = none_one page.place (placed_extents pages) (All-head IsStored page pages h) (none_placed pages (All-tail IsStored page pages h))
 
-pub all_unplaced : (old c : Contents) → All IsStored old.catalogue → All IsStored old.history → c.catalogue ≡ old.catalogue → c.history ≡ old.history → AreUnplaced c
-all_unplaced old c of_catalogue of_history catalogue history = record {
-  catalogue = none_placed c.catalogue (subst (All IsStored) (sym catalogue) of_catalogue);
-  history = none_placed c.history (subst (All IsStored) (sym history) of_history);
-}
+pub all_unplaced : (c : Contents) → All IsStored c.catalogue → All IsStored c.history.pages → AreUnplaced c
+all_unplaced c catalogue history = record { catalogue = none_placed c.catalogue catalogue; history = none_placed c.history.pages history }
 
 -- There is no room for lists where the body took its place.
 pub lacking : (old : Rooted) (command : Command) (moment : ℕ) (used used' : List Bool) (body : Extent) (c : Contents) → AreUsed old used
@@ -99,7 +82,7 @@ lacking old command moment used used' body c are_used takes next none =
 
 -- what goes from the old lists, where a name is unbound that is held
 pub delete_frees : (old c : Contents) (name : List ℕ) (body : Extent) (moment : ℕ) → IsCatalogue old.catalogue → IsSome (value_of name (named (records_of old.catalogue)))
-    → c.catalogue ≡ unbound_in (λ (r : Record). r.name) name old.catalogue → c.history ≡ appended_to (deleted name moment) old.history
+    → c.catalogue ≡ unbound_in (λ (r : Record). r.name) name old.catalogue → c.history.pages ≡ appended_to (deleted name moment) old.history.pages
     → named (records_of c.catalogue) ≡ unbind name (named (records_of old.catalogue)) → c.published ≡ old.published → body.blocks ≡ 0
     → Frees (Delete name) old body c
 delete_frees old c name body moment lawful held catalogue history records published none =
@@ -108,15 +91,10 @@ delete_frees old c name body moment lawful held catalogue history records publis
       record {
         catalogue = subst (λ (pages : List (Page Record)). LosesOne (entry_of_name old name) (stored_refs old.catalogue) (stored_refs pages)) (sym catalogue)
             (unbind_takes (λ (r : Record). r.name) name old.catalogue there);
-        history = subst (λ (pages : List (Page Change)). LosesOne (open_entry old.history) (stored_refs old.history) (stored_refs pages)) (sym history)
-            (append_takes (deleted name moment) old.history);
+        history = subst (λ (pages : List (Page Change)). LosesOne (open_entry old.history.pages) (stored_refs old.history.pages) (stored_refs pages)) (sym history)
+            (append_takes (deleted name moment) old.history.pages);
         bodies = body_unbound name (records_of old.catalogue) (records_of c.catalogue) records;
         published = published;
       },
       none,
     )
-
--- and with a publication
-pub publish_frees : (old c : Contents) (body : Extent) → c.catalogue ≡ old.catalogue → c.history ≡ old.history → c.published ≡ old.catalogue → body.blocks ≡ 0
-    → Frees Publish old body c
-publish_frees old c body catalogue history published none = (record { catalogue = catalogue; history = history; published = published }, none)

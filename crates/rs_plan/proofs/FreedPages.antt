@@ -1,13 +1,17 @@
 -- Which entry the page rule takes out of the pages on the disk.
 use Rattle.std.proofs.Common.{◌≡◌, ℕ, zero, suc, ◌-◌, Bool, true, false, cond, nat_lt, List, [], ◌∷◌, ◌++◌, length, map, Option, Some, None, refl, sym, ◌∙◌, ap, subst}
-use Rattle.std.specs.Prelude.{is_some}
+use Rattle.std.specs.Prelude.{All, is_some}
 use Rattle.std.specs.List.{cons_option}
 use Rattle.std.proofs.lemmas.List.{append-nil}
+use Rattle.std.proofs.lemmas.List.Elements.{All-head, All-tail}
 use Rattle.rs_page.specs.declared.place.PageRef.{PageRef}
-use Rattle.rs_page.specs.Pages.{Page, stored_ref, stored_refs}
+use Rattle.rs_page.specs.declared.place.Place.{Place}
+use Rattle.rs_page.specs.declared.place.Place.TheVariants.{Touched, Placed, Stored}
+use Rattle.rs_page.specs.Pages.{Page, IsTouched, stored_ref, stored_refs}
 use Rattle.rs_pages.specs.Items.{keyed, put_in, taken_out}
 use Rattle.rs_pages.specs.Rule.{cut_front, touched, touched_pages, items_at, with_page, home, bound_in, unbound_in, appended_to}
 use Rattle.rs_pages.specs.Entries.{entry_at, open_entry}
+use Rattle.rs_pages.specs.Laws.{IsFreshPage}
 use Rattle.rs_model.specs.Names.{value_of}
 
 -- Of some entries all are kept but one, if there is one.
@@ -22,7 +26,7 @@ in_front : {A : Type 0} (o : Option A) (xs ys : List A) → cons_option o (xs ++
 in_front None xs ys = refl
 in_front (Some x) xs ys = refl
 
-refs_both : {T : Type 0} (pages others : List (Page T)) → stored_refs (pages ++ others) ≡ stored_refs pages ++ stored_refs others
+pub refs_both : {T : Type 0} (pages others : List (Page T)) → stored_refs (pages ++ others) ≡ stored_refs pages ++ stored_refs others
 refs_both [] others = refl
 refs_both (page ∷ pages) others =
     ap (cons_option (stored_ref page.place)) (refs_both pages others) ∙ in_front (stored_ref page.place) (stored_refs pages) (stored_refs others)
@@ -35,6 +39,17 @@ none_touched (items ∷ lists) = none_touched lists
 none_made : {T : Type 0} (items : List T) → stored_refs (touched_pages items) ≡ []
 none_made [] = refl
 none_made (x ∷ xs) = none_touched (cut_front (x ∷ xs))
+
+-- nor have other touched ones
+fresh_one : (place : Place) (refs : List PageRef) → IsTouched place → cons_option (stored_ref place) refs ≡ refs
+fresh_one Touched refs h = refl
+fresh_one (Placed e) refs h = absurd h
+fresh_one (Stored ref) refs h = absurd h
+
+pub none_fresh : {T : Type 0} (pages : List (Page T)) → All IsFreshPage pages → stored_refs pages ≡ []
+none_fresh [] fresh = refl
+none_fresh (page ∷ pages) fresh =
+    fresh_one page.place (stored_refs pages) (All-head IsFreshPage page pages fresh).0 ∙ none_fresh pages (All-tail IsFreshPage page pages fresh)
 
 -- Where one page is touched, its entry goes.
 pub page_goes : {T : Type 0} (i : ℕ) (items : List T) (pages : List (Page T)) → LosesOne (entry_at i pages) (stored_refs pages) (stored_refs (with_page i items pages))

@@ -9,12 +9,13 @@ use Rattle.rs_extent.specs.declared.Extent.{Extent}
 use Rattle.rs_extent.specs.Extents.{within, in_some, AreApart, AreDisjoint, IsSubset}
 use Rattle.rs_extent.proofs.Sets.{not_true, not_both, some_first, some_rest, some_split, some_front, some_behind, some_of_both, none_front, apart_front, apart_behind, apart_between}
 use Rattle.rs_page.specs.declared.place.PageRef.{PageRef}
-use Rattle.rs_page.specs.Pages.{same_page, extents_of}
+use Rattle.rs_page.specs.Pages.{Page, same_page, stored_refs, extents_of}
+use Rattle.rs_pages.specs.Dropped.{front_pages, ReplacesFront}
 use Rattle.rs_pages.specs.Storing.{unshared}
 use Rattle.rs_plan.specs.Freed.{extent_of_page}
 use Rattle.rs_plan.proofs.Unshared.{itself, same_extent, same_number, shared_some}
 use Rattle.rs_plan.proofs.Freed.{PartTurns}
-use Rattle.rs_plan.proofs.FreedPages.{LosesOne}
+use Rattle.rs_plan.proofs.FreedPages.{LosesOne, refs_both, none_fresh}
 
 -- Of a list of extents some are gone, and others stand in their place.
 pub record Replaces (old new gone made : List Extent) : Type 0 where
@@ -92,6 +93,18 @@ page_replaced entry old kept loses = record {
   was = ap extents_of loses.was ∙ (map-append (λ (ref : PageRef). ref.extent) loses.front (cons_option entry loses.back)
       ∙ ap (λ (l : List Extent). extents_of loses.front ++ l) (one_extent entry loses.back));
   is = ap extents_of loses.is ∙ map-append (λ (ref : PageRef). ref.extent) loses.front loses.back;
+}
+
+-- Where the pages that have the first items go, all their entries go.
+pub front_replaced : {T : Type 0} (n : ℕ) (old new : List (Page T)) → ReplacesFront n old new
+    → Replaces (extents_of (stored_refs old)) (extents_of (stored_refs new)) (extents_of (stored_refs (front_pages n old))) []
+front_replaced {T} n old new by = record {
+  front = [];
+  back = extents_of (stored_refs by.after);
+  was = ap (λ (pages : List (Page T)). extents_of (stored_refs pages)) by.was ∙ (ap extents_of (refs_both (front_pages n old) by.after)
+      ∙ map-append (λ (ref : PageRef). ref.extent) (stored_refs (front_pages n old)) (stored_refs by.after));
+  is = ap (λ (pages : List (Page T)). extents_of (stored_refs pages)) by.is
+      ∙ ap extents_of (refs_both by.made by.after ∙ ap (λ (l : List PageRef). l ++ stored_refs by.after) (none_fresh by.made by.fresh));
 }
 
 -- the same page, turned

@@ -1,5 +1,5 @@
 -- What a plan gives back, by the parts of what the old root reaches.
-use Rattle.std.proofs.Common.{◌≡◌, ◌⊎◌, inl, inr, ℕ, ◌≤◌, Bool, true, ◌&&◌, ◌||◌, not, nat_lt, List, [], ◌∷◌, ◌++◌, Option, None, refl, sym, ◌∙◌, ap, subst, arith}
+use Rattle.std.proofs.Common.{◌≡◌, ◌⊎◌, inl, inr, ℕ, ◌≤◌, Bool, true, ◌&&◌, ◌||◌, not, nat_lt, List, [], ◌∷◌, ◌++◌, Option, refl, sym, ◌∙◌, ap, subst, arith}
 use Rattle.std.proofs.lemmas.List.{append-nil}
 use Rattle.rs_extent.specs.declared.Extent.{Extent}
 use Rattle.rs_extent.specs.Extents.{in_some, AreApart, IsSubset}
@@ -11,6 +11,7 @@ use Rattle.rs_page.specs.Format.{ItemFormat}
 use Rattle.rs_page.specs.Items.{record_format, change_format}
 use Rattle.rs_page.specs.Pages.{Page, stored_refs, extents_of, stored}
 use Rattle.rs_page.specs.Placing.{Places}
+use Rattle.rs_pages.specs.Dropped.{front_pages, ReplacesFront}
 use Rattle.rs_pages.specs.Entries.{open_entry}
 use Rattle.rs_catalogue.specs.Catalogue.{records_of}
 use Rattle.rs_model.specs.declared.command.Command.{Command}
@@ -20,6 +21,7 @@ use Rattle.rs_pages.specs.Storing.{unshared}
 use Rattle.rs_image.specs.Reach.{reach, bodies_of}
 use Rattle.rs_image.specs.Rooted.{rooted}
 use Rattle.rs_plan.specs.declared.plan.Plan.{Plan}
+use Rattle.rs_plan.specs.Allowed.{changes_dropped}
 use Rattle.rs_plan.specs.Plans.{places, TakesAndGives}
 use Rattle.rs_plan.specs.Freed.{unpublished, entry_of_name, extent_of_page, extent_of_body, freed_by}
 use Rattle.rs_plan.proofs.Sublists.{mapped, some_of}
@@ -29,26 +31,26 @@ use Rattle.rs_plan.proofs.Separate.{joined, AreSeparate}
 use Rattle.rs_plan.proofs.Parts.{pages_in, changes_in, shown_in, bodies_in, written, given_pages, given_changes}
 use Rattle.rs_plan.proofs.Freed.{PartTurns, PagesTurn, freed_apart, freed_reached, next_reaches}
 use Rattle.rs_plan.proofs.FreedPages.{LosesOne}
-use Rattle.rs_plan.proofs.FreedParts.{Replaces, page_replaced, replaced, grown, none_in}
+use Rattle.rs_plan.proofs.FreedParts.{Replaces, page_replaced, front_replaced, replaced, grown, none_in}
 use Rattle.rs_plan.proofs.FreedPublished.{pages_turn, pages_listed}
 
 -- What goes from the old lists where a name changes: a page of the catalogue, one of the history, and a body, in whose place these stand.
 pub record LosesParts (old : Contents) (page change : Option PageRef) (body made : List Extent) (c : Contents) : Type 0 where
   pub catalogue : LosesOne page (stored_refs old.catalogue) (stored_refs c.catalogue)
-  pub history : LosesOne change (stored_refs old.history) (stored_refs c.history)
+  pub history : LosesOne change (stored_refs old.history.pages) (stored_refs c.history.pages)
   pub bodies : Replaces (bodies_in old) (bodies_in c) body made
   pub published : c.published ≡ old.published
 
--- What goes from the old lists with a publication: nothing of the catalogue and of the history.
+-- What goes from the old lists with a publication: nothing of the catalogue, and the pages of the history that have a change that it drops.
 pub record ListsAll (old c : Contents) : Type 0 where
   pub catalogue : c.catalogue ≡ old.catalogue
-  pub history : c.history ≡ old.history
+  pub history : ReplacesFront (changes_dropped old) old.history.pages c.history.pages
   pub published : c.published ≡ old.catalogue
 
 -- What goes from the old lists by a command whose body stands in an extent.
 abbrev pub Frees : Command → Contents → Extent → Contents → Type 0
-Frees (Put name kind bytes) old body c = LosesParts old (entry_of_name old name) (open_entry old.history) (extent_of_body old name) (body ∷ []) c
-Frees (Delete name) old body c = LosesParts old (entry_of_name old name) (open_entry old.history) (extent_of_body old name) [] c × (body.blocks ≡ 0)
+Frees (Put name kind bytes) old body c = LosesParts old (entry_of_name old name) (open_entry old.history.pages) (extent_of_body old name) (body ∷ []) c
+Frees (Delete name) old body c = LosesParts old (entry_of_name old name) (open_entry old.history.pages) (extent_of_body old name) [] c × (body.blocks ≡ 0)
 Frees Publish old body c = ListsAll old c × (body.blocks ≡ 0)
 
 -- The parts that are given back, and what becomes of the others.
@@ -87,7 +89,7 @@ nothing_written old gone new e none turns = record {
 }
 
 module _ (root : Root) (old c : Contents) (p : Plan) (was : AreSeparate root.directory (pages_in old) (changes_in old) (shown_in old) (bodies_in old))
-    (refs_catalogue : stored_refs p.contents.catalogue ≡ stored_refs c.catalogue) (refs_history : stored_refs p.contents.history ≡ stored_refs c.history)
+    (refs_catalogue : stored_refs p.contents.catalogue ≡ stored_refs c.catalogue) (refs_history : stored_refs p.contents.history.pages ≡ stored_refs c.history.pages)
     (records : records_of (stored record_format p.contents.catalogue) ≡ records_of c.catalogue) (published : p.contents.published ≡ c.published) where
   abbrev d : Extent
   d = root.directory
@@ -95,15 +97,14 @@ module _ (root : Root) (old c : Contents) (p : Plan) (was : AreSeparate root.dir
   abbrev after : List PageRef
   after = stored_refs (written p).catalogue
 
-  -- the entry of a change goes
-  changes_turn : (change : Option PageRef) → LosesOne change (stored_refs old.history) (stored_refs c.history)
-      → PartTurns (changes_in old) (extent_of_page change) (changes_in (written p)) (given_changes p)
-  changes_turn change loses =
-      let kept : LosesOne change (stored_refs old.history) (stored_refs p.contents.history) =
-      subst (LosesOne change (stored_refs old.history)) (sym refs_history) loses in
-      grown (changes_in old) (extent_of_page change) (changes_in p.contents) (changes_in (written p)) (given_changes p)
-      (replaced (changes_in old) (changes_in p.contents) (extent_of_page change) [] (page_replaced change (stored_refs old.history) (stored_refs p.contents.history) kept) was.in_b)
-      (stored_some change_format p.contents.history) (kept_in change_format p.contents.history) (placed_some change_format p.contents.history)
+  -- pages of changes go
+  changes_turn : (gone : List Extent) → Replaces (changes_in old) (changes_in c) gone [] → PartTurns (changes_in old) gone (changes_in (written p)) (given_changes p)
+  changes_turn gone by =
+      let kept : Replaces (changes_in old) (changes_in p.contents) gone [] =
+      subst (λ (refs : List PageRef). Replaces (changes_in old) (extents_of refs) gone []) (sym refs_history) by in
+      grown (changes_in old) gone (changes_in p.contents) (changes_in (written p)) (given_changes p)
+      (replaced (changes_in old) (changes_in p.contents) gone [] kept was.in_b)
+      (stored_some change_format p.contents.history.pages) (kept_in change_format p.contents.history.pages) (placed_some change_format p.contents.history.pages)
 
   -- a body goes
   bodies_turn : (gone made : List Extent) → Replaces (bodies_in old) (bodies_in c) gone made → PartTurns (bodies_in old) gone (bodies_in (written p)) made
@@ -129,11 +130,14 @@ module _ (root : Root) (old c : Contents) (p : Plan) (was : AreSeparate root.dir
         pages = subst (λ (l : List PageRef). PagesTurn (pages_in old) (shown_in old) ga [] (pages_in (written p)) (extents_of (unshared l after)) (given_pages p)) (sym shown)
             (pages_turn page (stored_refs old.catalogue) (stored_refs p.contents.catalogue) after (stored_refs old.published) (given_pages p) kept was.in_a was.ac
             (stored_some record_format p.contents.catalogue) (kept_in record_format p.contents.catalogue) (placed_some record_format p.contents.catalogue));
-        changes = changes_turn change loses.history;
+        changes = changes_turn gb (page_replaced change (stored_refs old.history.pages) (stored_refs c.history.pages) loses.history);
         bodies = of_bodies;
       }
 
-  listed : ListsAll old c → p.body.blocks ≡ 0 → GivesParts d old p (d ∷ shown_in old)
+  abbrev front : List Extent
+  front = extents_of (stored_refs (front_pages (changes_dropped old) old.history.pages))
+
+  listed : ListsAll old c → p.body.blocks ≡ 0 → GivesParts d old p (d ∷ front ++ shown_in old)
   listed all none =
       let refs : stored_refs p.contents.catalogue ≡ stored_refs old.catalogue =
       refs_catalogue ∙ ap (λ (pages : List (Page Record)). stored_refs pages) all.catalogue in
@@ -147,18 +151,13 @@ module _ (root : Root) (old c : Contents) (p : Plan) (was : AreSeparate root.dir
       let same : bodies_in c ≡ bodies_in old = ap (λ (pages : List (Page Record)). bodies_of (records_of pages)) all.catalogue in
       record {
         ga = [];
-        gb = [];
+        gb = front;
         gc = shown_in old;
         ge = [];
-        parts = sym (append-nil (d ∷ shown_in old));
+        parts = sym (append-nil (d ∷ front ++ shown_in old));
         pages = subst (λ (l : List PageRef). PagesTurn (pages_in old) (shown_in old) [] (shown_in old) (pages_in (written p)) (extents_of (unshared l after)) (given_pages p)) (sym shown)
             (pages_listed (stored_refs old.catalogue) after (stored_refs old.published) (given_pages p) was.ac was.in_c comes stay (placed_some record_format p.contents.catalogue));
-        changes = changes_turn None (record {
-          front = [];
-          back = stored_refs old.history;
-          was = refl;
-          is = ap stored_refs all.history;
-        });
+        changes = changes_turn front (front_replaced (changes_dropped old) old.history.pages c.history.pages all.history);
         bodies = nothing_written (bodies_in old) [] (bodies_in (written p)) p.body none
             (bodies_turn [] [] (record { front = []; back = bodies_in old; was = refl; is = same }));
       }
@@ -167,11 +166,11 @@ module _ (root : Root) (old c : Contents) (p : Plan) (was : AreSeparate root.dir
   pub gives_parts : (size : ℕ) (body : Extent) (command : Command) → p.body ≡ body → Frees command old body c
       → GivesParts d old p (freed_by command (rooted size root old))
   gives_parts size body (Put name kind bytes) same loses =
-      changed (entry_of_name old name) (open_entry old.history) (extent_of_body old name) (body ∷ []) loses
+      changed (entry_of_name old name) (open_entry old.history.pages) (extent_of_body old name) (body ∷ []) loses
       (subst (λ (e : Extent). PartTurns (bodies_in old) (extent_of_body old name) (bodies_in (written p)) (e ∷ [])) (sym same)
       (bodies_turn (extent_of_body old name) (body ∷ []) loses.bodies))
   gives_parts size body (Delete name) same loses =
-      changed (entry_of_name old name) (open_entry old.history) (extent_of_body old name) [] loses.0
+      changed (entry_of_name old name) (open_entry old.history.pages) (extent_of_body old name) [] loses.0
       (nothing_written (bodies_in old) (extent_of_body old name) (bodies_in (written p)) p.body (ap (λ (e : Extent). e.blocks) same ∙ loses.1)
       (bodies_turn (extent_of_body old name) [] loses.0.bodies))
   gives_parts size body Publish same all = listed all.0 (ap (λ (e : Extent). e.blocks) same ∙ all.1)

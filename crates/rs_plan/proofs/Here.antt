@@ -1,9 +1,10 @@
 -- What is said of a root with its lists is said of these lists.
-use Rattle.std.proofs.Common.{◌≡◌, ◌<◌, ◌+◌, ◌^◌, ℕ, Bool, List, Result, Ok, Err, IsErrAnd, IsErrOf, IsSome, sym, ◌∙◌, subst}
+use Rattle.std.proofs.Common.{◌≡◌, ◌<◌, ℕ, Bool, List, Result, Ok, Err, IsErrAnd, IsErrOf, IsSome, sym, ◌∙◌, subst}
 use Rattle.rs_image.specs.declared.contents.Contents.{Contents}
 use Rattle.rs_image.specs.Rooted.{Rooted, rooted, IsRooted, AreUsed}
 use Rattle.rs_model.specs.declared.command.Command.{Command}
 use Rattle.rs_extent.specs.declared.Extent.{Extent}
+use Rattle.rs_plan.specs.Allowed.{MayPublish}
 use Rattle.rs_plan.specs.Freed.{freed_by}
 use Rattle.rs_model.specs.Names.{value_of}
 use Rattle.rs_catalogue.specs.Catalogue.{records_of}
@@ -32,8 +33,8 @@ module _ (r : Rooted) (c : Contents) (at : c ≡ r.contents) where
   pub later_here : (moment : ℕ) → r.contents.header.last < moment → c.header.last < moment
   later_here moment later = subst (λ (x : Contents). x.header.last < moment) (sym at) later
 
-  pub number_here : r.contents.header.number + 1 < 2 ^ 64 → c.header.number + 1 < 2 ^ 64
-  number_here few = subst (λ (x : Contents). x.header.number + 1 < 2 ^ 64) (sym at) few
+  pub may_here : (moment : ℕ) → MayPublish r.contents moment → MayPublish c moment
+  may_here moment may = subst (λ (x : Contents). MayPublish x moment) (sym at) may
 
   pub freed_here : (command : Command) (freed : List Extent) → freed ≡ freed_by command r → freed ≡ freed_by command (rooted r.size r.root c)
   freed_here command freed is = subst (λ (x : Contents). freed ≡ freed_by command (rooted r.size r.root x)) (sym at) is

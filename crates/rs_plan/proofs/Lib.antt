@@ -13,7 +13,9 @@ pub mod Rules
 pub mod Replies
 pub mod Parts
 pub mod Planned
+pub mod PublishRules
 pub mod Following
+pub mod Publishing
 pub mod Drafts
 pub mod Drafted
 pub mod Freed

@@ -5,10 +5,10 @@ use Rattle.std.proofs.lemmas.List.{length-append}
 use Rattle.std.proofs.lemmas.List.Elements.{All-head, All-tail}
 use Rattle.rs_page.specs.declared.place.PageRef.{PageRef}
 use Rattle.rs_directory.specs.declared.header.Header.{Header}
-use Rattle.rs_directory.specs.Directory.{header_bytes, ref_bytes, count_bytes, directory_bytes, directory_length, IsLawfulRef}
+use Rattle.rs_directory.specs.Directory.{header_bytes, ref_bytes, count_bytes, directory_bytes, directory_length, written_format, IsLawfulRef}
 
 -- a header, an entry, and entries
-length-header : (h : Header) → length (header_bytes h) ≡ 35 + length h.base
+length-header : (h : Header) → length (header_bytes written_format h) ≡ 51 + length h.base
 length-header h = simp length-append (omega arith)
 
 length-ref : (r : PageRef) → IsLawfulRef r → length (ref_bytes r) ≡ 44
@@ -23,11 +23,11 @@ joined : (h c d e x y z : List ℕ) → length (h ++ (c ++ (d ++ (e ++ (x ++ (y 
 joined h c d e x y z = simp length-append (omega arith)
 
 pub length-directory : (h : Header) (a b c : List PageRef) → All IsLawfulRef a → All IsLawfulRef b → All IsLawfulRef c
-    → length (directory_bytes h a b c) ≡ directory_length h (length a + length b + length c)
+    → length (directory_bytes written_format h a b c) ≡ directory_length h (length a + length b + length c)
 length-directory h a b c of_a of_b of_c =
     omega (
       arith,
-      joined (header_bytes h) (count_bytes a) (count_bytes b) (count_bytes c) (flat_map ref_bytes a) (flat_map ref_bytes b) (flat_map ref_bytes c),
+      joined (header_bytes written_format h) (count_bytes a) (count_bytes b) (count_bytes c) (flat_map ref_bytes a) (flat_map ref_bytes b) (flat_map ref_bytes c),
       length-header h,
       length-refs a of_a,
       length-refs b of_b,

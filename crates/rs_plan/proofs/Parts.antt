@@ -30,7 +30,7 @@ abbrev pub pages_in : Contents → List Extent
 pages_in c = extents_of (stored_refs c.catalogue)
 
 abbrev pub changes_in : Contents → List Extent
-changes_in c = extents_of (stored_refs c.history)
+changes_in c = extents_of (stored_refs c.history.pages)
 
 abbrev pub shown_in : Contents → List Extent
 shown_in c = extents_of (unshared (stored_refs c.published) (stored_refs c.catalogue))
@@ -46,7 +46,7 @@ abbrev pub given_pages : Plan → List Extent
 given_pages p = placed_extents p.contents.catalogue
 
 abbrev pub given_changes : Plan → List Extent
-given_changes p = placed_extents p.contents.history
+given_changes p = placed_extents p.contents.history.pages
 
 -- the body of a command has its blocks
 needed_blocks : (command : Command) → body_needed command ≡ blocks_of (length (body_of_command command))
@@ -94,13 +94,9 @@ published_is old c Publish moment body pages = inr (pages.2, pages.0)
 -- the pages after a command, once they are placed
 pub pages_placed : (old c next : Contents) (command : Command) (moment : ℕ) (body : Extent) → ArePagesAfter old command moment body c
     → ((pages : List (Page Record)) → MayHavePlaces pages c.catalogue → MayHavePlaces pages next.catalogue)
-    → ((pages : List (Page Change)) → MayHavePlaces pages c.history → MayHavePlaces pages next.history) → next.published ≡ c.published
-    → (All IsStored c.catalogue → next.catalogue ≡ c.catalogue) → (All IsStored c.history → next.history ≡ c.history) → All IsStored old.catalogue → All IsStored old.history
-    → ArePagesAfter old command moment body next
-pages_placed old c next (Put name kind bytes) moment body pages ruled ruled' published catalogue history of_old of_old' = (ruled _ pages.0, ruled' _ pages.1, published ∙ pages.2)
-pages_placed old c next (Delete name) moment body pages ruled ruled' published catalogue history of_old of_old' = (ruled _ pages.0, ruled' _ pages.1, published ∙ pages.2)
-pages_placed old c next Publish moment body pages ruled ruled' published catalogue history of_old of_old' = (
-  catalogue (subst (All IsStored) (sym pages.0) of_old) ∙ pages.0,
-  history (subst (All IsStored) (sym pages.1) of_old') ∙ pages.1,
-  published ∙ pages.2,
-)
+    → ((pages : List (Page Change)) → MayHavePlaces pages c.history.pages → MayHavePlaces pages next.history.pages) → next.published ≡ c.published
+    → (All IsStored c.catalogue → next.catalogue ≡ c.catalogue) → All IsStored old.catalogue → ArePagesAfter old command moment body next
+pages_placed old c next (Put name kind bytes) moment body pages ruled ruled' published catalogue of_old = (ruled _ pages.0, ruled' _ pages.1, published ∙ pages.2)
+pages_placed old c next (Delete name) moment body pages ruled ruled' published catalogue of_old = (ruled _ pages.0, ruled' _ pages.1, published ∙ pages.2)
+pages_placed old c next Publish moment body pages ruled ruled' published catalogue of_old =
+    (catalogue (subst (All IsStored) (sym pages.0) of_old) ∙ pages.0, ruled' _ pages.1, published ∙ pages.2)

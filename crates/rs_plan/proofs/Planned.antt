@@ -4,7 +4,7 @@ use Rattle.std.specs.Prelude.{All, MatchOption}
 use Rattle.std.proofs.lemmas.Bool.{or_parts, or_right}
 use Rattle.std.proofs.lemmas.Bool.Decides.{nat_tests}
 use Rattle.rs_extent.specs.declared.Extent.{Extent}
-use Rattle.rs_extent.specs.Extents.{in_some, AreBeside, AreApart, AreTaken}
+use Rattle.rs_extent.specs.Extents.{in_some, AreBeside, AreApart, AreTaken, AreDisjoint, IsSubset}
 use Rattle.rs_body.specs.Blocks.{blocks_of, part, IsSized}
 use Rattle.rs_commit.specs.declared.root.Root.{Root}
 use Rattle.rs_record.specs.declared.record.Record.{Record}
@@ -16,7 +16,7 @@ use Rattle.rs_page.specs.SharedPages.{IsSublist, stored_pages}
 use Rattle.rs_catalogue.specs.Catalogue.{records_of, IsCatalogue}
 use Rattle.rs_changes.specs.History.{changes_of, last_of, IsHistory}
 use Rattle.rs_directory.specs.declared.header.Header.{Header}
-use Rattle.rs_directory.specs.Directory.{directory_length, IsLawfulHeader, IsLawfulRef, AreLawfulRefs}
+use Rattle.rs_directory.specs.Directory.{directory_length, written_format, IsLawfulHeader, IsLawfulRef, AreLawfulRefs}
 use Rattle.rs_model.specs.declared.command.Command.{Command}
 use Rattle.rs_model.specs.Step.{next_state, reply_to}
 use Rattle.rs_model.specs.Listed.{entry_of}
@@ -31,7 +31,6 @@ use Rattle.rs_plan.specs.Room.{Takes, body_needed}
 use Rattle.rs_plan.specs.Plans.{body_of_command, ArePagesAfter, IsNext, places, planned_listing, planned_root, TakesInTurn, TakesAndGives, IsPlanned}
 use Rattle.rs_plan.specs.Placed.{AreUnplaced, HasItsPlaces, directory_bytes_of}
 use Rattle.rs_plan.specs.Freed.{freed_by}
-use Rattle.rs_extent.specs.Extents.{AreDisjoint, IsSubset}
 use Rattle.rs_extent.proofs.Sets.{not_true, not_both, turned, some_front, some_behind}
 use Rattle.rs_extent.proofs.Taken.{taken_both}
 use Rattle.rs_plan.proofs.Extents.{taken_lowest}
@@ -55,7 +54,7 @@ module _ (size : ℕ) (root : Root) (old : Contents) (sound : IsRooted (rooted s
     (used used₁ : List Bool) (are_used : AreUsed (rooted size root old) used) (body : Extent) (takes : Takes used (body_needed command) body used₁)
     (c : Contents) (next : IsNext old command moment body c) (rules : KeepsRules old body c) (unplaced : AreUnplaced c) (p : Plan) (placed : HasItsPlaces used₁ body c p)
     (reply : (image : List ℕ) → p.reply ≡ reply_to (state_in image old) command moment)
-    (of_catalogue : IsCatalogue c.catalogue) (of_history : IsHistory c.history) (of_published : IsCatalogue c.published) (frees : Frees command old body c)
+    (of_catalogue : IsCatalogue c.catalogue) (of_history : IsHistory c.history.pages) (of_published : IsCatalogue c.published) (frees : Frees command old body c)
     (taken_is : p.taken.items ≡ places p) (freed_is : p.freed.items ≡ freed_by command (rooted size root old)) where
   whole : IsWhole size root old
   whole = sound.whole
@@ -105,15 +104,15 @@ module _ (size : ℕ) (root : Root) (old : Contents) (sound : IsRooted (rooted s
   kept_catalogue : IsSublist (stored_refs p.contents.catalogue) (stored_refs old.catalogue)
   kept_catalogue = kept_part record_format used₁ placed.after_catalogue old.catalogue c.catalogue p.contents.catalogue next.catalogue placed.catalogue
 
-  kept_history : IsSublist (stored_refs p.contents.history) (stored_refs old.history)
-  kept_history = kept_part change_format placed.after_catalogue placed.after_history old.history c.history p.contents.history next.history placed.history
+  kept_history : IsSublist (stored_refs p.contents.history.pages) (stored_refs old.history.pages)
+  kept_history = kept_part change_format placed.after_catalogue placed.after_history old.history.pages c.history.pages p.contents.history.pages next.history placed.history
 
   -- the numbers of pages
   long_catalogue : length p.contents.catalogue ≡ length c.catalogue
   long_catalogue = places_length record_format used₁ placed.after_catalogue c.catalogue p.contents.catalogue placed.catalogue
 
-  long_history : length p.contents.history ≡ length c.history
-  long_history = places_length change_format placed.after_catalogue placed.after_history c.history p.contents.history placed.history
+  long_history : length p.contents.history.pages ≡ length c.history.pages
+  long_history = places_length change_format placed.after_catalogue placed.after_history c.history.pages p.contents.history.pages placed.history
 
   -- the pages after the command
   pages : ArePagesAfter old command moment p.body p.contents
@@ -121,10 +120,8 @@ module _ (size : ℕ) (root : Root) (old : Contents) (sound : IsRooted (rooted s
       subst (λ (e : Extent). ArePagesAfter old command moment e p.contents) (sym placed.body_is)
       (pages_placed old c p.contents command moment body next.pages
       (λ ruled. places_ruled record_format used₁ placed.after_catalogue ruled c.catalogue p.contents.catalogue placed.catalogue)
-      (λ ruled. places_ruled change_format placed.after_catalogue placed.after_history ruled c.history p.contents.history placed.history) placed.published
-      (λ all. places_same record_format used₁ placed.after_catalogue c.catalogue p.contents.catalogue all placed.catalogue)
-      (λ all. places_same change_format placed.after_catalogue placed.after_history c.history p.contents.history all placed.history)
-      whole.catalogue whole.history)
+      (λ ruled. places_ruled change_format placed.after_catalogue placed.after_history ruled c.history.pages p.contents.history.pages placed.history) placed.published
+      (λ all. places_same record_format used₁ placed.after_catalogue c.catalogue p.contents.catalogue all placed.catalogue) whole.catalogue)
 
   published : IsPublished old p.contents
   published = published_is old p.contents command moment p.body pages
@@ -133,21 +130,21 @@ module _ (size : ℕ) (root : Root) (old : Contents) (sound : IsRooted (rooted s
   same_records : records_of p.contents.catalogue ≡ records_of c.catalogue
   same_records = places_items record_format used₁ placed.after_catalogue c.catalogue p.contents.catalogue placed.catalogue
 
-  same_changes : changes_of p.contents.history ≡ changes_of c.history
-  same_changes = places_items change_format placed.after_catalogue placed.after_history c.history p.contents.history placed.history
+  same_changes : changes_of p.contents.history.pages ≡ changes_of c.history.pages
+  same_changes = places_items change_format placed.after_catalogue placed.after_history c.history.pages p.contents.history.pages placed.history
 
   same_stored_records : records_of (stored record_format p.contents.catalogue) ≡ records_of c.catalogue
   same_stored_records = stored_items record_format p.contents.catalogue ∙ same_records
 
-  same_stored_changes : changes_of (stored change_format p.contents.history) ≡ changes_of c.history
-  same_stored_changes = stored_items change_format p.contents.history ∙ same_changes
+  same_stored_changes : changes_of (stored change_format p.contents.history.pages) ≡ changes_of c.history.pages
+  same_stored_changes = stored_items change_format p.contents.history.pages ∙ same_changes
 
   -- the state that the lists tell
   turns : (image : List ℕ) → part p.body (length (body_of_command command)) image ≡ body_of_command command
       → state_in image p.contents ≡ next_state (state_in image old) command moment
   turns image there =
       same_state p.contents.header c.header (map (held_in image) (records_of p.contents.catalogue)) (map (held_in image) (records_of c.catalogue))
-      (changes_of p.contents.history) (changes_of c.history) (map entry_of (records_of p.contents.published)) (map entry_of (records_of c.published))
+      (changes_of p.contents.history.pages) (changes_of c.history.pages) (map entry_of (records_of p.contents.published)) (map entry_of (records_of c.published))
       placed.header (ap (λ (rs : List Record). map (held_in image) rs) same_records) same_changes
       (ap (λ (pages : List (Page Record)). map entry_of (records_of pages)) placed.published)
       ∙ next.turns image (subst (λ (e : Extent). part e (length (body_of_command command)) image ≡ body_of_command command) placed.body_is there)
@@ -157,8 +154,8 @@ module _ (size : ℕ) (root : Root) (old : Contents) (sound : IsRooted (rooted s
     turns = turns;
     catalogue = subst (λ (l : List (Page Record)). IsSublist l (stored_pages old.catalogue))
         (sym (places_stored record_format used₁ placed.after_catalogue c.catalogue p.contents.catalogue placed.catalogue)) next.catalogue;
-    history = subst (λ (l : List (Page Change)). IsSublist l (stored_pages old.history))
-        (sym (places_stored change_format placed.after_catalogue placed.after_history c.history p.contents.history placed.history)) next.history;
+    history = subst (λ (l : List (Page Change)). IsSublist l (stored_pages old.history.pages))
+        (sym (places_stored change_format placed.after_catalogue placed.after_history c.history.pages p.contents.history.pages placed.history)) next.history;
     pages = pages;
   }
 
@@ -166,8 +163,8 @@ module _ (size : ℕ) (root : Root) (old : Contents) (sound : IsRooted (rooted s
   stored_catalogue : All IsStored (stored record_format p.contents.catalogue)
   stored_catalogue = all_stored record_format p.contents.catalogue placed.untouched_catalogue
 
-  stored_history : All IsStored (stored change_format p.contents.history)
-  stored_history = all_stored change_format p.contents.history placed.untouched_history
+  stored_history : All IsStored (stored change_format p.contents.history.pages)
+  stored_history = all_stored change_format p.contents.history.pages placed.untouched_history
 
   stored_published : All IsStored p.contents.published
   stored_published = elim published [
@@ -178,8 +175,8 @@ module _ (size : ℕ) (root : Root) (old : Contents) (sound : IsRooted (rooted s
   count_catalogue : length (stored_refs (written p).catalogue) ≡ length c.catalogue
   count_catalogue = count_refs (stored record_format p.contents.catalogue) stored_catalogue ∙ length_stored record_format p.contents.catalogue ∙ long_catalogue
 
-  count_history : length (stored_refs (written p).history) ≡ length c.history
-  count_history = count_refs (stored change_format p.contents.history) stored_history ∙ length_stored change_format p.contents.history ∙ long_history
+  count_history : length (stored_refs (written p).history.pages) ≡ length c.history.pages
+  count_history = count_refs (stored change_format p.contents.history.pages) stored_history ∙ length_stored change_format p.contents.history.pages ∙ long_history
 
   count_published : length (stored_refs p.contents.published) ≡ length c.published
   count_published = count_refs p.contents.published stored_published ∙ ap (λ (pages : List (Page Record)). length pages) placed.published
@@ -195,11 +192,11 @@ module _ (size : ℕ) (root : Root) (old : Contents) (sound : IsRooted (rooted s
       (all_of IsLawfulRef (stored_refs p.contents.catalogue) (stored_refs old.catalogue) kept_catalogue sound.listable.catalogue.each)
       (λ b is. inside b (in_catalogue b is))
 
-  lawful_history : All IsLawfulRef (stored_refs (written p).history)
+  lawful_history : All IsLawfulRef (stored_refs (written p).history.pages)
   lawful_history =
-      lawful_refs change_format p.contents.history (blocks_of_disk size) small_disk
-      (places_fitted change_format placed.after_catalogue placed.after_history c.history p.contents.history placed.history unplaced.history)
-      (all_of IsLawfulRef (stored_refs p.contents.history) (stored_refs old.history) kept_history sound.listable.history.each)
+      lawful_refs change_format p.contents.history.pages (blocks_of_disk size) small_disk
+      (places_fitted change_format placed.after_catalogue placed.after_history c.history.pages p.contents.history.pages placed.history unplaced.history)
+      (all_of IsLawfulRef (stored_refs p.contents.history.pages) (stored_refs old.history.pages) kept_history sound.listable.history.each)
       (λ b is. inside b (in_history b is))
 
   lawful_published : AreLawfulRefs (stored_refs p.contents.published)
@@ -208,21 +205,21 @@ module _ (size : ℕ) (root : Root) (old : Contents) (sound : IsRooted (rooted s
     | inr listed ↦ subst (λ (pages : List (Page Record)). AreLawfulRefs (stored_refs pages)) (sym listed.0) sound.listable.catalogue
   ]
 
-  listable_next : AreListable (written p)
+  listable_next : AreListable written_format (written p)
   listable_next = record {
-    header = subst (λ (h : Header). IsLawfulHeader h) (sym placed.header) rules.header;
+    header = subst (IsLawfulHeader written_format) (sym placed.header) rules.header;
     catalogue = record { each = lawful_catalogue; count = omega (arith, count_catalogue, few_catalogue c.catalogue of_catalogue) };
-    history = record { each = lawful_history; count = omega (arith, count_history, few_history c.history of_history) };
+    history = record { each = lawful_history; count = omega (arith, count_history, few_history c.history.pages of_history) };
     published = lawful_published;
   }
 
   -- the directory
   long_listing : length (planned_listing p) ≡ directory_bytes_of c
   long_listing =
-      length-directory p.contents.header (stored_refs (written p).catalogue) (stored_refs (written p).history) (stored_refs p.contents.published)
+      length-directory p.contents.header (stored_refs (written p).catalogue) (stored_refs (written p).history.pages) (stored_refs p.contents.published)
       lawful_catalogue lawful_history lawful_published.each
       ∙ ap (λ (h : Header). directory_length h
-      (length (stored_refs (written p).catalogue) + length (stored_refs (written p).history) + length (stored_refs p.contents.published))) placed.header
+      (length (stored_refs (written p).catalogue) + length (stored_refs (written p).history.pages) + length (stored_refs p.contents.published))) placed.header
       ∙ ap (directory_length c.header) (omega (arith, count_catalogue, count_history, count_published))
 
   sized_directory : IsSized p.directory (length (planned_listing p))
@@ -286,7 +283,7 @@ module _ (size : ℕ) (root : Root) (old : Contents) (sound : IsRooted (rooted s
 
   some_kept_history : IsSubset (in_some (changes_in p.contents)) (in_some (changes_in old))
   some_kept_history =
-      some_of (changes_in p.contents) (changes_in old) (mapped (λ ref. ref.extent) (stored_refs p.contents.history) (stored_refs old.history) kept_history)
+      some_of (changes_in p.contents) (changes_in old) (mapped (λ ref. ref.extent) (stored_refs p.contents.history.pages) (stored_refs old.history.pages) kept_history)
 
   -- each list is apart
   apart_catalogue : AreApart (pages_in (written p))
@@ -299,9 +296,9 @@ module _ (size : ℕ) (root : Root) (old : Contents) (sound : IsRooted (rooted s
 
   apart_history : AreApart (changes_in (written p))
   apart_history =
-      stored_apart change_format p.contents.history
+      stored_apart change_format p.contents.history.pages
       (apart_of (changes_in p.contents) (changes_in old)
-      (mapped (λ ref. ref.extent) (stored_refs p.contents.history) (stored_refs old.history) kept_history) was.in_b)
+      (mapped (λ ref. ref.extent) (stored_refs p.contents.history.pages) (stored_refs old.history.pages) kept_history) was.in_b)
       placed.takes_history.apart
       (unwritten (changes_in p.contents) (given_changes p) (λ b is. old_history_in b (some_kept_history b is)) in_history)
 
@@ -321,7 +318,7 @@ module _ (size : ℕ) (root : Root) (old : Contents) (sound : IsRooted (rooted s
       (pages_in (written p)) (changes_in (written p)) (shown_in (written p)) (bodies_in (written p))
       (given_pages p) (given_changes p) (pages_in p.contents) (changes_in p.contents)
       was reached new some_kept_catalogue some_kept_history
-      (stored_some record_format p.contents.catalogue) (stored_some change_format p.contents.history) alone.comes bodies.comes alone.beside
+      (stored_some record_format p.contents.catalogue) (stored_some change_format p.contents.history.pages) alone.comes bodies.comes alone.beside
       apart_catalogue apart_history alone.apart apart_bodies
 
   inside_next : AreInside size (reach (planned_root root p) (written p))
@@ -330,7 +327,7 @@ module _ (size : ℕ) (root : Root) (old : Contents) (sound : IsRooted (rooted s
       ((2 ≤ b) × (b < blocks_of_disk size)) b is
       (λ here. inside b (in_directory b here))
       (λ here. elim (stored_some record_format p.contents.catalogue b here) [ inl was ↦ whole.inside b (old_catalogue_in b (some_kept_catalogue b was)) | inr is_new ↦ inside b (in_catalogue b is_new) ])
-      (λ here. elim (stored_some change_format p.contents.history b here) [ inl was ↦ whole.inside b (old_history_in b (some_kept_history b was)) | inr is_new ↦ inside b (in_history b is_new) ])
+      (λ here. elim (stored_some change_format p.contents.history.pages b here) [ inl was ↦ whole.inside b (old_history_in b (some_kept_history b was)) | inr is_new ↦ inside b (in_history b is_new) ])
       (λ here. elim (alone.comes b here) [ inl was ↦ whole.inside b (old_catalogue_in b was) | inr shown ↦ whole.inside b (old_published_in b shown) ])
       (λ here. elim (bodies.comes b here) [ inl was ↦ whole.inside b (old_bodies_in b was) | inr is_new ↦ inside b (in_body b is_new) ])
 
@@ -341,6 +338,8 @@ module _ (size : ℕ) (root : Root) (old : Contents) (sound : IsRooted (rooted s
         start = rules.moments.start;
         at = rules.moments.at;
         last = subst (λ (l : List Change). MatchOption (last_of l) (c.header.last ≡ c.header.at) (λ x. c.header.last ≡ max c.header.at x.moment)) (sym same_stored_changes) rules.moments.last;
+        kept = rules.moments.kept;
+        history = rules.moments.history;
       } in
       subst (λ (h : Header). AreMoments h (written p)) (sym placed.header) there
 
@@ -350,10 +349,11 @@ module _ (size : ℕ) (root : Root) (old : Contents) (sound : IsRooted (rooted s
     history = stored_history;
     published = stored_published;
     moments = moments_next;
+    number = placed.first ∙ rules.number ∙ sym (ap (λ (h : Header). h.first) placed.header);
     records = subst (λ (h : Header). All (IsSoundRecord h.start h.last) (records_of (stored record_format p.contents.catalogue))) (sym placed.header)
         (subst (All (IsSoundRecord c.header.start c.header.last)) (sym same_stored_records) rules.records);
-    changes = subst (λ (h : Header). All (IsSoundChange h.start h.last) (changes_of (stored change_format p.contents.history))) (sym placed.header)
-        (subst (All (IsSoundChange c.header.start c.header.last)) (sym same_stored_changes) rules.changes);
+    changes = subst (λ (h : Header). All (IsSoundChange h.begin h.last) (changes_of (stored change_format p.contents.history.pages))) (sym placed.header)
+        (subst (All (IsSoundChange c.header.begin c.header.last)) (sym same_stored_changes) rules.changes);
     listed = subst (λ (h : Header). All (IsSoundRecord h.start h.at) (records_of p.contents.published)) (sym placed.header)
         (subst (λ (pages : List (Page Record)). All (IsSoundRecord c.header.start c.header.at) (records_of pages)) (sym placed.published) rules.listed);
     directory = sized_directory;
@@ -379,7 +379,7 @@ module _ (size : ℕ) (root : Root) (old : Contents) (sound : IsRooted (rooted s
   blocks =
       takes_and_gives size root old p (freed_by command (rooted size root old)) was (λ k is. (whole.inside k is).0)
       (gives_parts root old c p was (placed_refs record_format used₁ placed.after_catalogue c.catalogue p.contents.catalogue placed.catalogue)
-      (placed_refs change_format placed.after_catalogue placed.after_history c.history p.contents.history placed.history) same_stored_records placed.published
+      (placed_refs change_format placed.after_catalogue placed.after_history c.history.pages p.contents.history.pages placed.history) same_stored_records placed.published
       size body command placed.body_is frees) taken_is freed_is
 
   pub planned : IsPlanned (rooted size root old) command moment p

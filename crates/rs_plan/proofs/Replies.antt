@@ -28,19 +28,19 @@ told false moment = refl
 
 -- the reply to a put, by the change that it made
 pub put_told : (image : List ℕ) (old c : Contents) (name kind bytes : List ℕ) (moment : ℕ) (facts : Facts) (reply : Reply)
-    → changes_of c.history ≡ changes_of old.history ++ bound name (is_some (value_of name (named (records_of old.catalogue)))) moment facts ∷ []
-    → MatchOption (last_of (changes_of c.history)) ⊥ (λ change. reply ≡ reply_of change) → reply ≡ reply_to (state_in image old) (Put name kind bytes) moment
+    → changes_of c.history.pages ≡ changes_of old.history.pages ++ bound name (is_some (value_of name (named (records_of old.catalogue)))) moment facts ∷ []
+    → MatchOption (last_of (changes_of c.history.pages)) ⊥ (λ change. reply ≡ reply_of change) → reply ≡ reply_to (state_in image old) (Put name kind bytes) moment
 put_told image old c name kind bytes moment facts reply changes is =
     let again : Bool = is_some (value_of name (named (records_of old.catalogue))) in
     let change : Change = bound name again moment facts in
     let here : reply ≡ reply_of change =
-    subst (λ (o : Option Change). MatchOption o ⊥ (λ x. reply ≡ reply_of x)) (ap last_of changes ∙ last_pushed (changes_of old.history) change) is in
+    subst (λ (o : Option Change). MatchOption o ⊥ (λ x. reply ≡ reply_of x)) (ap last_of changes ∙ last_pushed (changes_of old.history.pages) change) is in
     here ∙ told again moment
     ∙ ap (λ (b : Bool). if b then replies.Updated moment else replies.Created moment) (sym (held_named image name (records_of old.catalogue)))
 
 -- there is a change to tell of
-pub some_change : (old c : Contents) (change : Change) → changes_of c.history ≡ changes_of old.history ++ change ∷ [] → 1 ≤ length (changes_of c.history)
-some_change old c change is = omega (arith, ap (λ (l : List Change). length l) is, length-append (changes_of old.history) (change ∷ []))
+pub some_change : (old c : Contents) (change : Change) → changes_of c.history.pages ≡ changes_of old.history.pages ++ change ∷ [] → 1 ≤ length (changes_of c.history.pages)
+some_change old c change is = omega (arith, ap (λ (l : List Change). length l) is, length-append (changes_of old.history.pages) (change ∷ []))
 
 -- a catalogue grows where the name was not held
 grown : {A : Type 0} (o : Option A) (n m : ℕ) → m ≡ cond (is_none o) (n + 1) n → is_some o ≡ eqb m n

@@ -1,5 +1,5 @@
 -- The rules that lists keep after a command, but for where their pages are.
-use Rattle.std.proofs.Common.{◌≡◌, ℕ, ◌+◌, ◌-◌, ◌<◌, ◌≤◌, ◌^◌, List, [], ◌∷◌, ◌++◌, length, max, Option, Some, None, refl, sym, ◌∙◌, ap, subst, arith}
+use Rattle.std.proofs.Common.{◌≡◌, ℕ, ◌-◌, ◌<◌, ◌≤◌, List, [], ◌∷◌, ◌++◌, length, max, Option, Some, refl, sym, ◌∙◌, ap, subst, arith}
 use Rattle.std.specs.Prelude.{All, MatchOption, IfSome, is_some, slice_get}
 use Rattle.std.proofs.lemmas.List.{length-append}
 use Rattle.std.proofs.lemmas.List.Elements.{All-push, All-weaker}
@@ -18,31 +18,32 @@ use Rattle.rs_record.specs.Limits.{longest_body}
 use Rattle.rs_model.specs.State.{facts_of}
 use Rattle.rs_page.specs.Pages.{Page}
 use Rattle.rs_directory.specs.declared.header.Header.{Header}
-use Rattle.rs_directory.specs.Directory.{IsLawfulHeader}
+use Rattle.rs_directory.specs.Directory.{IsLawfulHeader, written_format}
 use Rattle.rs_image.specs.declared.contents.Contents.{Contents}
 use Rattle.rs_image.specs.Whole.{IsWhole, IsSoundRecord, IsSoundChange, AreMoments}
 use Rattle.rs_plan.specs.Placed.{record_made}
-use Rattle.rs_plan.proofs.Bodies.{AreBodies, all_bound, all_unbound, bodies_bound, bodies_unbound, bodies_same}
+use Rattle.rs_plan.proofs.Bodies.{AreBodies, all_bound, all_unbound, bodies_bound, bodies_unbound}
 
 pub record KeepsRules (old : Contents) (body : Extent) (c : Contents) : Type 0 where
-  pub header : IsLawfulHeader c.header
+  pub header : IsLawfulHeader written_format c.header
   pub moments : AreMoments c.header c
+  pub number : c.history.first ≡ c.header.first
   pub records : All (IsSoundRecord c.header.start c.header.last) (records_of c.catalogue)
-  pub changes : All (IsSoundChange c.header.start c.header.last) (changes_of c.history)
+  pub changes : All (IsSoundChange c.header.begin c.header.last) (changes_of c.history.pages)
   pub listed : All (IsSoundRecord c.header.start c.header.at) (records_of c.published)
   pub bodies : AreBodies body (records_of old.catalogue) (records_of c.catalogue)
 
 -- up to a later moment
-later_record : (low high more : ℕ) (r : Record) → high ≤ more → IsSoundRecord low high r → IsSoundRecord low more r
+pub later_record : (low high more : ℕ) (r : Record) → high ≤ more → IsSoundRecord low high r → IsSoundRecord low more r
 later_record low high more r le sound = record { moment = record { after = sound.moment.after; up_to = omega (arith, sound.moment.up_to) }; body = sound.body; sized = sound.sized }
 
 later_change : (low high more : ℕ) (c : Change) → high ≤ more → IsSoundChange low high c → IsSoundChange low more c
 later_change low high more c le sound = record { moment = record { after = sound.moment.after; up_to = omega (arith, sound.moment.up_to) }; body = sound.body }
 
-later_records : (low high more : ℕ) (rs : List Record) → high ≤ more → All (IsSoundRecord low high) rs → All (IsSoundRecord low more) rs
+pub later_records : (low high more : ℕ) (rs : List Record) → high ≤ more → All (IsSoundRecord low high) rs → All (IsSoundRecord low more) rs
 later_records low high more rs le all = All-weaker (IsSoundRecord low high) (IsSoundRecord low more) (λ r sound. later_record low high more r le sound) rs all
 
-later_changes : (low high more : ℕ) (cs : List Change) → high ≤ more → All (IsSoundChange low high) cs → All (IsSoundChange low more) cs
+pub later_changes : (low high more : ℕ) (cs : List Change) → high ≤ more → All (IsSoundChange low high) cs → All (IsSoundChange low more) cs
 later_changes low high more cs le all = All-weaker (IsSoundChange low high) (IsSoundChange low more) (λ c sound. later_change low high more c le sound) cs all
 
 -- the last change is the one at the end
@@ -57,91 +58,77 @@ last_pushed changes c =
 
 -- the moments after a change
 moments_after : (old c : Contents) (change : Change) (moment : ℕ) → AreMoments old.header old → old.header.last < moment → change.moment ≡ moment
-    → changes_of c.history ≡ changes_of old.history ++ change ∷ [] → AreMoments (record old.header { last = moment }) c
+    → changes_of c.history.pages ≡ changes_of old.history.pages ++ change ∷ [] → AreMoments (record old.header { last = moment }) c
 moments_after old c change moment moments later here changes = record {
   start = moments.start;
   at = omega (arith, moments.at);
   last = subst (λ (o : Option Change). MatchOption o (moment ≡ old.header.at) (λ x. moment ≡ max old.header.at x.moment))
-      (sym (ap last_of changes ∙ last_pushed (changes_of old.history) change)) (omega (arith, here, moments.at));
+      (sym (ap last_of changes ∙ last_pushed (changes_of old.history.pages) change)) (omega (arith, here, moments.at));
+  kept = moments.kept;
+  history = record { begun = moments.history.begun; first = moments.history.first; none_dropped = moments.history.none_dropped };
 }
 
--- and after a publication
-last_published : (o : Option Change) (last at moment : ℕ) → last < moment → MatchOption o (last ≡ at) (λ x. last ≡ max at x.moment) → MatchOption o (moment ≡ moment) (λ x. moment ≡ max moment x.moment)
-last_published None last at moment later h = refl
-last_published (Some x) last at moment later h = omega arith
-
 -- a header whose last command came at this moment
-lawful_at : (h : Header) (moment : ℕ) → IsLawfulHeader h → IsMoment moment → IsLawfulHeader (record h { last = moment })
-lawful_at h moment lawful is = record { base = lawful.base; low = lawful.low; high = lawful.high; start = lawful.start; last = is; number = lawful.number; at = lawful.at }
+lawful_at : (h : Header) (version moment : ℕ) → IsLawfulHeader version h → IsMoment moment → IsLawfulHeader written_format (record h { last = moment })
+lawful_at h version moment lawful is = record {
+  base = lawful.base;
+  low = lawful.low;
+  high = lawful.high;
+  start = lawful.start;
+  last = is;
+  number = lawful.number;
+  at = lawful.at;
+  first = lawful.first;
+  begin = lawful.begin;
+  untold = λ one. absurd (omega arith);
+}
 
 -- The rules after a change of one name.
-changed : (size : ℕ) (root : Root) (old c : Contents) (body : Extent) (change : Change) (moment : ℕ) → IsWhole size root old → IsLawfulHeader old.header → IsMoment moment
+changed : (size : ℕ) (root : Root) (old c : Contents) (body : Extent) (change : Change) (moment : ℕ) → IsWhole size root old → IsLawfulHeader root.version old.header → IsMoment moment
     → old.header.last < moment → change.moment ≡ moment → IfSome change.facts (λ facts. facts.length ≤ longest_body)
-    → c.header ≡ record old.header { last = moment } → changes_of c.history ≡ changes_of old.history ++ change ∷ [] → c.published ≡ old.published
+    → c.header ≡ record old.header { last = moment } → c.history.first ≡ old.history.first
+    → changes_of c.history.pages ≡ changes_of old.history.pages ++ change ∷ [] → c.published ≡ old.published
     → All (IsSoundRecord old.header.start moment) (records_of c.catalogue) → AreBodies body (records_of old.catalogue) (records_of c.catalogue) → KeepsRules old body c
-changed size root old c body change moment whole lawful is later here long header changes published records bodies =
+changed size root old c body change moment whole lawful is later here long header first changes published records bodies =
     let h : Header = record old.header { last = moment } in
-    let start : old.header.start < moment = omega (arith, whole.moments.start, whole.moments.at) in
-    let sound : IsSoundChange old.header.start moment change = record { moment = record { after = omega (arith, here); up_to = omega (arith, here) }; body = long } in
-    let all : All (IsSoundChange old.header.start moment) (changes_of c.history) =
-    subst (All (IsSoundChange old.header.start moment)) (sym changes)
-    (All-push (IsSoundChange old.header.start moment) (changes_of old.history) change (later_changes old.header.start old.header.last moment (changes_of old.history) (omega arith) whole.changes) sound) in
+    let begin : old.header.begin < moment = omega (arith, whole.moments.kept, whole.moments.at) in
+    let sound : IsSoundChange old.header.begin moment change = record { moment = record { after = omega (arith, here); up_to = omega (arith, here) }; body = long } in
+    let all : All (IsSoundChange old.header.begin moment) (changes_of c.history.pages) =
+    subst (All (IsSoundChange old.header.begin moment)) (sym changes)
+    (All-push (IsSoundChange old.header.begin moment) (changes_of old.history.pages) change (later_changes old.header.begin old.header.last moment (changes_of old.history.pages) (omega arith) whole.changes) sound) in
     let listed : All (IsSoundRecord old.header.start old.header.at) (records_of c.published) =
     subst (λ (pages : List (Page Record)). All (IsSoundRecord old.header.start old.header.at) (records_of pages)) (sym published) whole.listed in
     record {
-      header = subst IsLawfulHeader (sym header) (lawful_at old.header moment lawful is);
+      header = subst (IsLawfulHeader written_format) (sym header) (lawful_at old.header root.version moment lawful is);
       moments = subst (λ (h : Header). AreMoments h c) (sym header) (moments_after old c change moment whole.moments later here changes);
+      number = first ∙ whole.number ∙ sym (ap (λ (h : Header). h.first) header);
       records = subst (λ (h : Header). All (IsSoundRecord h.start h.last) (records_of c.catalogue)) (sym header) records;
-      changes = subst (λ (h : Header). All (IsSoundChange h.start h.last) (changes_of c.history)) (sym header) all;
+      changes = subst (λ (h : Header). All (IsSoundChange h.begin h.last) (changes_of c.history.pages)) (sym header) all;
       listed = subst (λ (h : Header). All (IsSoundRecord h.start h.at) (records_of c.published)) (sym header) listed;
       bodies = bodies;
     }
 
-pub put_rules : (size : ℕ) (root : Root) (old c : Contents) (name kind bytes : List ℕ) (body : Extent) (moment : ℕ) → IsWhole size root old → IsLawfulHeader old.header → IsMoment moment
-    → old.header.last < moment → length bytes ≤ longest_body → IsSized body (length bytes) → c.header ≡ record old.header { last = moment }
+pub put_rules : (size : ℕ) (root : Root) (old c : Contents) (name kind bytes : List ℕ) (body : Extent) (moment : ℕ) → IsWhole size root old
+    → IsLawfulHeader root.version old.header → IsMoment moment
+    → old.header.last < moment → length bytes ≤ longest_body → IsSized body (length bytes) → c.header ≡ record old.header { last = moment } → c.history.first ≡ old.history.first
     → named (records_of c.catalogue) ≡ bind name (record_made name kind bytes body moment) (named (records_of old.catalogue))
-    → changes_of c.history ≡ changes_of old.history ++ bound name (is_some (value_of name (named (records_of old.catalogue)))) moment (facts_of kind bytes) ∷ []
+    → changes_of c.history.pages ≡ changes_of old.history.pages ++ bound name (is_some (value_of name (named (records_of old.catalogue)))) moment (facts_of kind bytes) ∷ []
     → c.published ≡ old.published → KeepsRules old body c
-put_rules size root old c name kind bytes body moment whole lawful is later long sized header records changes published =
+put_rules size root old c name kind bytes body moment whole lawful is later long sized header first records changes published =
     let made : Record = record_made name kind bytes body moment in
     let start : old.header.start < moment = omega (arith, whole.moments.start, whole.moments.at) in
     let sound : IsSoundRecord old.header.start moment made = record { moment = record { after = start; up_to = omega arith }; body = long; sized = sized } in
-    changed size root old c body (bound name (is_some (value_of name (named (records_of old.catalogue)))) moment (facts_of kind bytes)) moment whole lawful is later refl long header changes published
+    changed size root old c body (bound name (is_some (value_of name (named (records_of old.catalogue)))) moment (facts_of kind bytes)) moment whole lawful is later refl long header first changes published
     (all_bound (IsSoundRecord old.header.start moment) name made (records_of old.catalogue) (records_of c.catalogue) records sound
     (later_records old.header.start old.header.last moment (records_of old.catalogue) (omega arith) whole.records))
     (bodies_bound name made (records_of old.catalogue) (records_of c.catalogue) records)
 
-pub delete_rules : (size : ℕ) (root : Root) (old c : Contents) (name : List ℕ) (body : Extent) (moment : ℕ) → IsWhole size root old → IsLawfulHeader old.header → IsMoment moment
-    → old.header.last < moment → c.header ≡ record old.header { last = moment } → named (records_of c.catalogue) ≡ unbind name (named (records_of old.catalogue))
-    → changes_of c.history ≡ changes_of old.history ++ deleted name moment ∷ [] → c.published ≡ old.published → KeepsRules old body c
-delete_rules size root old c name body moment whole lawful is later header records changes published =
-    changed size root old c body (deleted name moment) moment whole lawful is later refl tt header changes published
+pub delete_rules : (size : ℕ) (root : Root) (old c : Contents) (name : List ℕ) (body : Extent) (moment : ℕ) → IsWhole size root old
+    → IsLawfulHeader root.version old.header → IsMoment moment
+    → old.header.last < moment → c.header ≡ record old.header { last = moment } → c.history.first ≡ old.history.first → named (records_of c.catalogue) ≡ unbind name (named (records_of old.catalogue))
+    → changes_of c.history.pages ≡ changes_of old.history.pages ++ deleted name moment ∷ [] → c.published ≡ old.published → KeepsRules old body c
+delete_rules size root old c name body moment whole lawful is later header first records changes published =
+    changed size root old c body (deleted name moment) moment whole lawful is later refl tt header first changes published
     (all_unbound (IsSoundRecord old.header.start moment) name (records_of old.catalogue) (records_of c.catalogue) records
     (later_records old.header.start old.header.last moment (records_of old.catalogue) (omega arith) whole.records))
     (bodies_unbound body name (records_of old.catalogue) (records_of c.catalogue) records)
-
-pub publish_rules : (size : ℕ) (root : Root) (old c : Contents) (body : Extent) (moment : ℕ) → IsWhole size root old → IsLawfulHeader old.header → IsMoment moment
-    → old.header.last < moment → old.header.number + 1 < 2 ^ 64 → c.header ≡ record old.header { last = moment; number = old.header.number + 1; at = moment }
-    → c.catalogue ≡ old.catalogue → c.history ≡ old.history → c.published ≡ old.catalogue → KeepsRules old body c
-publish_rules size root old c body moment whole lawful is later number header catalogue history published =
-    let h : Header = record old.header { last = moment; number = old.header.number + 1; at = moment } in
-    let lawful_next : IsLawfulHeader h = record { base = lawful.base; low = lawful.low; high = lawful.high; start = lawful.start; last = is; number = number; at = is } in
-    let moments : AreMoments h c = record {
-      start = omega (arith, whole.moments.start, whole.moments.at);
-      at = omega arith;
-      last = subst (λ (pages : List (Page Change)). MatchOption (last_of (changes_of pages)) (moment ≡ moment) (λ x. moment ≡ max moment x.moment)) (sym history)
-          (last_published (last_of (changes_of old.history)) old.header.last old.header.at moment later whole.moments.last);
-    } in
-    let records : All (IsSoundRecord old.header.start moment) (records_of old.catalogue) = later_records old.header.start old.header.last moment (records_of old.catalogue) (omega arith) whole.records in
-    record {
-      header = subst IsLawfulHeader (sym header) lawful_next;
-      moments = subst (λ (h : Header). AreMoments h c) (sym header) moments;
-      records = subst (λ (h : Header). All (IsSoundRecord h.start h.last) (records_of c.catalogue)) (sym header)
-          (subst (λ (pages : List (Page Record)). All (IsSoundRecord old.header.start moment) (records_of pages)) (sym catalogue) records);
-      changes = subst (λ (h : Header). All (IsSoundChange h.start h.last) (changes_of c.history)) (sym header)
-          (subst (λ (pages : List (Page Change)). All (IsSoundChange old.header.start moment) (changes_of pages)) (sym history)
-          (later_changes old.header.start old.header.last moment (changes_of old.history) (omega arith) whole.changes));
-      listed = subst (λ (h : Header). All (IsSoundRecord h.start h.at) (records_of c.published)) (sym header)
-          (subst (λ (pages : List (Page Record)). All (IsSoundRecord old.header.start moment) (records_of pages)) (sym published) records);
-      bodies = subst (λ (pages : List (Page Record)). AreBodies body (records_of old.catalogue) (records_of pages)) (sym catalogue) (bodies_same body (records_of old.catalogue));
-    }

@@ -1,6 +1,6 @@
 -- The state of the lists after a command.
-use Rattle.std.proofs.Common.{◌≡◌, ℕ, ◌+◌, Bool, List, [], ◌∷◌, ◌++◌, length, map, Option, Some, None, refl, sym, ◌∙◌, ap, ap₂}
-use Rattle.std.specs.Prelude.{is_some, option_map}
+use Rattle.std.proofs.Common.{◌≡◌, ℕ, Bool, List, [], ◌∷◌, ◌++◌, length, map, Option, Some, None, refl, sym, ◌∙◌, ap, ap₂}
+use Rattle.std.specs.Prelude.{is_some, option_map, drop}
 use Rattle.rs_extent.specs.declared.Extent.{Extent}
 use Rattle.rs_record.specs.declared.record.Record.{Record}
 use Rattle.rs_record.specs.declared.change.Change.{Change}
@@ -21,7 +21,9 @@ use Rattle.rs_model.specs.Listed.{entry_of}
 use Rattle.rs_page.specs.Pages.{Page}
 use Rattle.rs_image.specs.declared.contents.Contents.{Contents}
 use Rattle.rs_image.specs.StateOfImage.{held_in, state_in}
+use Rattle.rs_plan.specs.Allowed.{changes_dropped}
 use Rattle.rs_plan.specs.Placed.{record_made}
+use Rattle.rs_plan.specs.Published.{published_header}
 
 -- what is held of a record in an image
 abbrev pub shown_in : List ℕ → Record → Held
@@ -60,6 +62,8 @@ state_with h held changes listed =
       number = h.number;
       at = h.at;
       listed = listed;
+      first = h.first;
+      begin = h.begin;
     }
 
 pub same_state : (h h' : Header) (held held' : Names Held) (changes changes' : List Change) (listed listed' : Names Entry) → h ≡ h' → held ≡ held' → changes ≡ changes' → listed ≡ listed'
@@ -70,7 +74,7 @@ same_state h h' held held' changes changes' listed listed' e f g i =
 -- a put
 pub put_turns : (old c : Contents) (name kind bytes : List ℕ) (body : Extent) (moment : ℕ) → c.header ≡ record old.header { last = moment }
     → named (records_of c.catalogue) ≡ bind name (record_made name kind bytes body moment) (named (records_of old.catalogue))
-    → changes_of c.history ≡ changes_of old.history ++ bound name (is_some (value_of name (named (records_of old.catalogue)))) moment (facts_of kind bytes) ∷ []
+    → changes_of c.history.pages ≡ changes_of old.history.pages ++ bound name (is_some (value_of name (named (records_of old.catalogue)))) moment (facts_of kind bytes) ∷ []
     → c.published ≡ old.published → (image : List ℕ) → part body (length bytes) image ≡ bytes → state_in image c ≡ next_state (state_in image old) (Put name kind bytes) moment
 put_turns old c name kind bytes body moment header records changes published image there =
     let rs : List Record = records_of old.catalogue in
@@ -80,14 +84,14 @@ put_turns old c name kind bytes body moment header records changes published ima
     held_shown image (records_of c.catalogue) ∙ ap (map_values (shown_in image)) records ∙ map_values-bind (shown_in image) name made (named rs)
     ∙ ap₂ (λ (b : List ℕ) (m : Names Held). bind name (record { bytes = b; entry = entry }) m) there (sym (held_shown image rs)) in
     same_state c.header (record old.header { last = moment }) (map (held_in image) (records_of c.catalogue)) (bind name (record { bytes = bytes; entry = entry }) (map (held_in image) rs))
-    (changes_of c.history) (changes_of old.history ++ bound name (is_some (value_of name (map (held_in image) rs))) moment (facts_of kind bytes) ∷ [])
+    (changes_of c.history.pages) (changes_of old.history.pages ++ bound name (is_some (value_of name (map (held_in image) rs))) moment (facts_of kind bytes) ∷ [])
     (map entry_of (records_of c.published)) (map entry_of (records_of old.published)) header held
-    (changes ∙ ap (λ (again : Bool). changes_of old.history ++ bound name again moment (facts_of kind bytes) ∷ []) (sym (held_named image name rs)))
+    (changes ∙ ap (λ (again : Bool). changes_of old.history.pages ++ bound name again moment (facts_of kind bytes) ∷ []) (sym (held_named image name rs)))
     (ap (λ (pages : List (Page Record)). map entry_of (records_of pages)) published)
 
 -- a delete
 pub delete_turns : (old c : Contents) (name : List ℕ) (moment : ℕ) → c.header ≡ record old.header { last = moment }
-    → named (records_of c.catalogue) ≡ unbind name (named (records_of old.catalogue)) → changes_of c.history ≡ changes_of old.history ++ deleted name moment ∷ []
+    → named (records_of c.catalogue) ≡ unbind name (named (records_of old.catalogue)) → changes_of c.history.pages ≡ changes_of old.history.pages ++ deleted name moment ∷ []
     → c.published ≡ old.published → (image : List ℕ) → state_in image c ≡ next_state (state_in image old) (Delete name) moment
 delete_turns old c name moment header records changes published image =
     let rs : List Record = records_of old.catalogue in
@@ -95,17 +99,17 @@ delete_turns old c name moment header records changes published image =
     held_shown image (records_of c.catalogue) ∙ ap (map_values (shown_in image)) records ∙ map_values-unbind (shown_in image) name (named rs)
     ∙ ap (unbind name) (sym (held_shown image rs)) in
     same_state c.header (record old.header { last = moment }) (map (held_in image) (records_of c.catalogue)) (unbind name (map (held_in image) rs))
-    (changes_of c.history) (changes_of old.history ++ deleted name moment ∷ [])
+    (changes_of c.history.pages) (changes_of old.history.pages ++ deleted name moment ∷ [])
     (map entry_of (records_of c.published)) (map entry_of (records_of old.published)) header held changes
     (ap (λ (pages : List (Page Record)). map entry_of (records_of pages)) published)
 
 -- a publish
-pub publish_turns : (old c : Contents) (moment : ℕ) → c.header ≡ record old.header { last = moment; number = old.header.number + 1; at = moment }
-    → c.catalogue ≡ old.catalogue → c.history ≡ old.history → c.published ≡ old.catalogue
+pub publish_turns : (old c : Contents) (moment : ℕ) → c.header ≡ published_header old moment → c.catalogue ≡ old.catalogue
+    → changes_of c.history.pages ≡ drop (changes_dropped old) (changes_of old.history.pages) → c.published ≡ old.catalogue
     → (image : List ℕ) → state_in image c ≡ next_state (state_in image old) Publish moment
-publish_turns old c moment header catalogue history published image =
+publish_turns old c moment header catalogue changes published image =
     let rs : List Record = records_of old.catalogue in
-    same_state c.header (record old.header { last = moment; number = old.header.number + 1; at = moment }) (map (held_in image) (records_of c.catalogue)) (map (held_in image) rs)
-    (changes_of c.history) (changes_of old.history) (map entry_of (records_of c.published)) (entries (map (held_in image) rs)) header
-    (ap (λ (pages : List (Page Record)). map (held_in image) (records_of pages)) catalogue) (ap (λ (pages : List (Page Change)). changes_of pages) history)
+    same_state c.header (published_header old moment) (map (held_in image) (records_of c.catalogue)) (map (held_in image) rs)
+    (changes_of c.history.pages) (drop (changes_dropped old) (changes_of old.history.pages)) (map entry_of (records_of c.published)) (entries (map (held_in image) rs)) header
+    (ap (λ (pages : List (Page Record)). map (held_in image) (records_of pages)) catalogue) changes
     (ap (λ (pages : List (Page Record)). map entry_of (records_of pages)) published ∙ entries_shown image rs)

@@ -1,16 +1,18 @@
 -- When a command may be planned: a source accepts it.
-use Rattle.std.specs.Prelude.{◌<◌, ◌≤◌, ◌+◌, ◌^◌, ℕ, List, length, IsNone, IsSome}
+use Rattle.std.specs.Prelude.{◌<◌, ◌≤◌, ◌+◌, ◌*◌, ◌/◌, ◌^◌, ℕ, List, length, IsNone, IsSome}
 use Rattle.rs_catalogue.specs.Catalogue.{records_of}
 use Rattle.rs_catalogue.specs.Named.{named}
 use Rattle.rs_changes.specs.History.{changes_of}
 use Rattle.rs_image.specs.declared.contents.Contents.{Contents}
+use Rattle.rs_time.specs.Moment.{greatest}
 use Rattle.rs_model.specs.Names.{value_of}
+use Rattle.rs_model.specs.Step.{passed_by}
 use Rattle.rs_record.specs.Limits.{longest_body}
 use Rattle.rs_model.specs.State.{most_resources, most_changes}
 
 -- A change at this moment has room in the history, and is later than the last command.
 pub record MayChange (c : Contents) (moment : ℕ) : Type 0 where
-  pub changes : length (changes_of c.history) < most_changes
+  pub changes : length (changes_of c.history.pages) < most_changes
   pub later : c.header.last < moment
 
 -- A name may be bound to a body of n bytes.
@@ -24,7 +26,16 @@ pub record MayDelete (c : Contents) (name : List ℕ) (moment : ℕ) : Type 0 wh
   pub held : IsSome (value_of name (named (records_of c.catalogue)))
   pub change : MayChange c moment
 
--- The next publication has a number, and a moment after the last command.
+-- how many parts of these lists a publication drops
+abbrev pub parts_dropped : Contents → ℕ
+parts_dropped c = passed_by c.header.at (changes_of c.history.pages) / c.header.limit
+
+-- how many changes these parts have
+abbrev pub changes_dropped : Contents → ℕ
+changes_dropped c = parts_dropped c * c.header.limit
+
+-- The next publication has a number, so has the first part that it keeps, and it has a moment after the last command.
 pub record MayPublish (c : Contents) (moment : ℕ) : Type 0 where
+  pub parts : c.header.first + parts_dropped c ≤ greatest
   pub number : c.header.number + 1 < 2 ^ 64
   pub later : c.header.last < moment

@@ -6,7 +6,7 @@ use Rattle.rs_record.specs.declared.change.Change.{Change}
 use Rattle.rs_pages.specs.Laws.{BindsAsOne, AppendsAsOne, FillingBound, FillingAppended, BindingTouchesOne, UnbindingTouchesOne, AppendingTouchesOne}
 use Rattle.rs_catalogue.specs.Catalogue.{StandsUnstored}
 use Rattle.rs_catalogue.specs.Filled.{pages_filled}
-use Rattle.rs_changes.specs.History.{EndsUnstored}
+use Rattle.rs_changes.specs.History.{EndsUnstored, with_pages}
 use Rattle.rs_changes.specs.Filled.{history_filled}
 use Rattle.rs_image.specs.declared.contents.Contents.{Contents}
 use Rattle.rs_plan.specs.declared.plan.Plan.{Plan}
@@ -17,7 +17,7 @@ lists_filled name digests c =
     record {
       header = c.header;
       catalogue = pages_filled name digests c.catalogue;
-      history = history_filled digests c.history;
+      history = with_pages c.history (history_filled digests c.history.pages);
       published = c.published;
     }
 
@@ -36,7 +36,7 @@ plan_filled name digests p =
 -- The record of a name and the last change stand in pages that are not stored, so that both may still get digests.
 pub record AwaitsBody (name : List ℕ) (p : Plan) : Type 0 where
   pub catalogue : StandsUnstored name p.contents.catalogue
-  pub history : EndsUnstored p.contents.history
+  pub history : EndsUnstored p.contents.history.pages
 
 -- What the page rule keeps of the lists of a draft: the item that is bound or appended stands in a page that is not stored, and filling it
 -- gives the pages that have it filled from the start.

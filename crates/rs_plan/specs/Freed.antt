@@ -6,6 +6,7 @@ use Rattle.rs_record.specs.declared.record.Record.{Record}
 use Rattle.rs_page.specs.declared.place.PageRef.{PageRef}
 use Rattle.rs_page.specs.Pages.{same_page, stored_refs, extents_of}
 use Rattle.rs_pages.specs.Rule.{home}
+use Rattle.rs_pages.specs.Dropped.{front_pages}
 use Rattle.rs_pages.specs.Entries.{entry_at, open_entry}
 use Rattle.rs_catalogue.specs.Catalogue.{records_of}
 use Rattle.rs_catalogue.specs.Named.{named}
@@ -16,6 +17,7 @@ use Rattle.rs_image.specs.declared.contents.Contents.{Contents}
 use Rattle.rs_pages.specs.Storing.{unshared}
 use Rattle.rs_image.specs.Reach.{bodies_of}
 use Rattle.rs_image.specs.Rooted.{Rooted}
+use Rattle.rs_plan.specs.Allowed.{changes_dropped}
 
 -- an entry, unless one of the published pages has it
 abbrev pub unpublished : Option PageRef → List PageRef → Option PageRef
@@ -40,11 +42,15 @@ abbrev pub freed_by_change : Rooted → List ℕ → List Extent
 freed_by_change old name =
     old.root.directory
     ∷ extent_of_page (unpublished (entry_of_name old.contents name) (stored_refs old.contents.published))
-    ++ extent_of_page (open_entry old.contents.history) ++ extent_of_body old.contents name
+    ++ extent_of_page (open_entry old.contents.history.pages) ++ extent_of_body old.contents name
 
--- What a publication frees: the directory, and the published pages that are no pages of the catalogue.
+-- What a publication frees: the directory, the pages of the history that have a change that it drops, and the published pages that are
+-- no pages of the catalogue.
 abbrev pub freed_by_publication : Rooted → List Extent
-freed_by_publication old = old.root.directory ∷ extents_of (unshared (stored_refs old.contents.published) (stored_refs old.contents.catalogue))
+freed_by_publication old =
+    old.root.directory
+    ∷ extents_of (stored_refs (front_pages (changes_dropped old.contents) old.contents.history.pages))
+    ++ extents_of (unshared (stored_refs old.contents.published) (stored_refs old.contents.catalogue))
 
 -- what a command frees
 abbrev pub freed_by : Command → Rooted → List Extent

@@ -3,5 +3,6 @@ pub mod Replies
 pub mod Room
 pub mod Plans
 pub mod Placed
+pub mod Published
 pub mod Freed
 pub mod Drafts

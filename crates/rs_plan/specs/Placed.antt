@@ -32,11 +32,11 @@ facts_of_body kind n digests = record { kind = kind; length = n; digests = diges
 -- no page has blocks that it is not written to
 pub record AreUnplaced (c : Contents) : Type 0 where
   pub catalogue : placed_extents c.catalogue ≡ []
-  pub history : placed_extents c.history ≡ []
+  pub history : placed_extents c.history.pages ≡ []
 
 -- how many bytes the directory of these lists has, once all pages are stored
 abbrev pub directory_bytes_of : Contents → ℕ
-directory_bytes_of c = directory_length c.header (length c.catalogue + length c.history + length c.published)
+directory_bytes_of c = directory_length c.header (length c.catalogue + length c.history.pages + length c.published)
 
 -- The pages of these lists, and then their directory, took blocks of a disk: first those of the catalogue, then those of
 -- the history. Nothing else of the lists changed.
@@ -45,13 +45,14 @@ pub record HasItsPlaces (used : List Bool) (body : Extent) (c : Contents) (p : P
   pub after_history : List Bool
   pub after : List Bool
   pub catalogue : Places record_format used c.catalogue after_catalogue p.contents.catalogue
-  pub history : Places change_format after_catalogue c.history after_history p.contents.history
+  pub history : Places change_format after_catalogue c.history.pages after_history p.contents.history.pages
   pub takes_catalogue : AreTaken used after_catalogue (placed_extents p.contents.catalogue)
-  pub takes_history : AreTaken after_catalogue after_history (placed_extents p.contents.history)
+  pub takes_history : AreTaken after_catalogue after_history (placed_extents p.contents.history.pages)
   pub untouched_catalogue : All (λ page. ¬ IsTouched page.place) p.contents.catalogue
-  pub untouched_history : All (λ page. ¬ IsTouched page.place) p.contents.history
+  pub untouched_history : All (λ page. ¬ IsTouched page.place) p.contents.history.pages
   pub directory : Takes after_history (blocks_of (directory_bytes_of c)) p.directory after
   pub header : p.contents.header ≡ c.header
+  pub first : p.contents.history.first ≡ c.history.first
   pub published : p.contents.published ≡ c.published
   pub body_is : p.body ≡ body
 
@@ -60,13 +61,14 @@ pub record HaveTheirPlaces (used : List Bool) (c placed : Contents) (found : Ext
   pub after_catalogue : List Bool
   pub after_history : List Bool
   pub catalogue : Places record_format used c.catalogue after_catalogue placed.catalogue
-  pub history : Places change_format after_catalogue c.history after_history placed.history
+  pub history : Places change_format after_catalogue c.history.pages after_history placed.history.pages
   pub takes_catalogue : AreTaken used after_catalogue (placed_extents placed.catalogue)
-  pub takes_history : AreTaken after_catalogue after_history (placed_extents placed.history)
+  pub takes_history : AreTaken after_catalogue after_history (placed_extents placed.history.pages)
   pub untouched_catalogue : All (λ page. ¬ IsTouched page.place) placed.catalogue
-  pub untouched_history : All (λ page. ¬ IsTouched page.place) placed.history
+  pub untouched_history : All (λ page. ¬ IsTouched page.place) placed.history.pages
   pub directory : Takes after_history (blocks_of (directory_bytes_of c)) found after
   pub header : placed.header ≡ c.header
+  pub first : placed.history.first ≡ c.history.first
   pub published : placed.published ≡ c.published
 
 -- A plan has a body that is free, and then its pages and its directory take blocks.

@@ -20,6 +20,9 @@ use Rattle.rs_page.specs.Pages.{Page, IsTouched, WhereTouched, placed_extents, s
 use Rattle.rs_page.specs.DiskPages.{IsWritten}
 use Rattle.rs_page.specs.SharedPages.{KeepsPages}
 use Rattle.rs_pages.specs.Rule.{bound_in, unbound_in, appended_to}
+use Rattle.rs_pages.specs.Dropped.{dropped_front}
+use Rattle.rs_changes.specs.History.{with_pages}
+use Rattle.rs_directory.specs.Directory.{written_format}
 use Rattle.rs_catalogue.specs.Catalogue.{records_of}
 use Rattle.rs_catalogue.specs.Named.{named}
 use Rattle.rs_image.specs.declared.contents.Contents.{Contents}
@@ -28,6 +31,7 @@ use Rattle.rs_image.specs.Whole.{IsWhole}
 use Rattle.rs_image.specs.StateOfImage.{state_in, listing, AreListable}
 use Rattle.rs_image.specs.Rooted.{Rooted, AreUsed}
 use Rattle.rs_plan.specs.declared.plan.Plan.{Plan}
+use Rattle.rs_plan.specs.Allowed.{changes_dropped}
 use Rattle.rs_plan.specs.Room.{Takes, HasNoRun, HasNoRoom, lists_needed, body_needed}
 use Rattle.rs_plan.specs.Placed.{AreUnplaced, HasItsPlaces, record_made}
 
@@ -51,15 +55,17 @@ change_put old name kind bytes moment = bound name (is_some (value_of name (name
 
 -- The pages after a command at its moment, whose body stands in an extent, are those of the page rule: a record is bound or unbound in
 -- the pages of the catalogue, and a change is appended to those of the history. A publication lists the pages of the catalogue,
--- and touches none; any other command leaves what is published.
+-- touches none of them, and drops the first changes of the history; any other command leaves what is published.
 abbrev pub ArePagesAfter : Contents → Command → ℕ → Extent → Contents → Type 0
 ArePagesAfter old (Put name kind bytes) moment body c =
     MayHavePlaces (bound_in (λ (r : Record). r.name) (record_made name kind bytes body moment) old.catalogue) c.catalogue
-    × MayHavePlaces (appended_to (change_put old name kind bytes moment) old.history) c.history × (c.published ≡ old.published)
+    × MayHavePlaces (appended_to (change_put old name kind bytes moment) old.history.pages) c.history.pages × (c.published ≡ old.published)
 ArePagesAfter old (Delete name) moment body c =
     MayHavePlaces (unbound_in (λ (r : Record). r.name) name old.catalogue) c.catalogue
-    × MayHavePlaces (appended_to (deleted name moment) old.history) c.history × (c.published ≡ old.published)
-ArePagesAfter old Publish moment body c = (c.catalogue ≡ old.catalogue) × (c.history ≡ old.history) × (c.published ≡ old.catalogue)
+    × MayHavePlaces (appended_to (deleted name moment) old.history.pages) c.history.pages × (c.published ≡ old.published)
+ArePagesAfter old Publish moment body c =
+    (c.catalogue ≡ old.catalogue) × MayHavePlaces (dropped_front (changes_dropped old) old.history.pages) c.history.pages
+    × (c.published ≡ old.catalogue)
 
 -- The lists after a command at its moment: where its body stands in an extent, they tell the next state, of whatever the old
 -- lists tell; and their stored pages are pages of the old ones.
@@ -67,7 +73,7 @@ pub record IsNext (old : Contents) (command : Command) (moment : ℕ) (body : Ex
   pub turns : (image : List ℕ) → part body (length (body_of_command command)) image ≡ body_of_command command
       → state_in image c ≡ next_state (state_in image old) command moment
   pub catalogue : KeepsPages old.catalogue c.catalogue
-  pub history : KeepsPages old.history c.history
+  pub history : KeepsPages old.history.pages c.history.pages
   pub pages : ArePagesAfter old command moment body c
 
 -- A command lacks room: with those blocks used that the root reaches, its body has no run; or it takes the lowest, and then
@@ -85,18 +91,18 @@ once_stored c =
     record {
       header = c.header;
       catalogue = stored record_format c.catalogue;
-      history = stored change_format c.history;
+      history = with_pages c.history (stored change_format c.history.pages);
       published = c.published;
     }
 
 -- what a plan writes to, in the order in which it was found: the body, the catalogue pages, the change pages, the directory
 abbrev pub places : Plan → List Extent
 places p =
-    p.body ∷ placed_extents p.contents.catalogue ++ placed_extents p.contents.history ++ p.directory ∷ []
+    p.body ∷ placed_extents p.contents.catalogue ++ placed_extents p.contents.history.pages ++ p.directory ∷ []
 
--- the bytes of the directory that it writes
+-- the bytes of the directory that it writes, in the version that is written
 abbrev pub planned_listing : Plan → List ℕ
-planned_listing p = listing (once_stored p.contents)
+planned_listing p = listing written_format (once_stored p.contents)
 
 -- the root that it leads to
 abbrev pub planned_root : Root → Plan → Root
@@ -134,10 +140,10 @@ pub record IsPlanned (old : Rooted) (command : Command) (moment : ℕ) (p : Plan
   pub apart : AreApart (places p)
   pub inside : AreInside old.size (places p)
   pub catalogue : All (λ page. ¬ IsTouched page.place) p.contents.catalogue
-  pub history : All (λ page. ¬ IsTouched page.place) p.contents.history
+  pub history : All (λ page. ¬ IsTouched page.place) p.contents.history.pages
   pub body : IsSized p.body (length (body_of_command command))
   pub directory : IsSized p.directory (length (planned_listing p))
-  pub listable : AreListable (once_stored p.contents)
+  pub listable : AreListable written_format (once_stored p.contents)
   pub whole : IsWhole old.size (planned_root old.root p) (once_stored p.contents)
   pub blocks : TakesAndGives old p
 
@@ -145,5 +151,5 @@ pub record IsPlanned (old : Rooted) (command : Command) (moment : ℕ) (p : Plan
 pub record AreWritten (p : Plan) (bytes image : List ℕ) : Type 0 where
   pub body : part p.body (length bytes) image ≡ bytes
   pub catalogue : All (IsWritten record_format image) p.contents.catalogue
-  pub history : All (IsWritten change_format image) p.contents.history
+  pub history : All (IsWritten change_format image) p.contents.history.pages
   pub directory : part p.directory (length (planned_listing p)) image ≡ planned_listing p

@@ -40,8 +40,8 @@ pages_needed format pages = map (λ page. blocks_needed format page.items) (filt
 -- how many blocks the pages and the directory of these lists need, in the order in which they are found
 abbrev pub lists_needed : Contents → List ℕ
 lists_needed c =
-    pages_needed record_format c.catalogue ++ pages_needed change_format c.history
-    ++ blocks_of (directory_length c.header (length c.catalogue + length c.history + length c.published)) ∷ []
+    pages_needed record_format c.catalogue ++ pages_needed change_format c.history.pages
+    ++ blocks_of (directory_length c.header (length c.catalogue + length c.history.pages + length c.published)) ∷ []
 
 -- how many blocks the body of a command needs
 abbrev pub body_needed : Command → ℕ

@@ -9,4 +9,4 @@ mod plan;
 mod planning;
 
 pub use plan::Plan;
-pub use planning::{PlanFault, draft_put, plan_delete, plan_publish, plan_put};
+pub use planning::{PlanFault, draft_put, dropped_parts, plan_delete, plan_publish, plan_put};

@@ -11,11 +11,13 @@ ghost use Rattle.rs_plan.specs.Room.{HasNoRun};
 ghost use Rattle.rs_plan.specs.Plans.{IsPlanned, LacksRoom};
 ghost use Rattle.rs_plan.specs.Drafts.{AwaitsBody, IsPageRuleKept, plan_filled};
 
+mod dropping;
 mod freeing;
 mod lists;
 mod placing;
 
 use crate::plan::Plan;
+pub use dropping::dropped_parts;
 use freeing::{freed_by_change, freed_by_publication};
 use lists::{lists_after_delete, lists_after_publish, lists_after_put, reply_told};
 use placing::{find_lowest, place_lists};
@@ -25,8 +27,8 @@ use rs_image::Rooted;
 use rs_model::Reply;
 use rs_page::Full;
 use rs_pages::laws::{
-    items_are_filled_as_one, last_items_are_filled, one_page_is_touched, pages_are_one_list,
-    pages_are_one_map,
+    first_items_are_dropped_as_one, items_are_filled_as_one, last_items_are_filled,
+    one_page_is_touched, pages_are_one_list, pages_are_one_map,
 };
 use rs_record::{Change, MediaType, Name, Record};
 use rs_time::Moment;
@@ -180,12 +182,13 @@ pub fn plan_delete(
     Ok(plan)
 }
 
-/// Plans to list all resources that are held, at this moment. The command is one that a source
-/// accepts. The set has the blocks in use, and is as it was when this returns.
+/// Plans to list all resources that are held, at this moment, and to drop the parts of the changes
+/// that end no later than the publication before. The command is one that a source accepts. The set
+/// has the blocks in use, and is as it was when this returns.
 ///
 /// # Errors
 ///
-/// - [`PlanFault::Full`] where the directory has no run of free blocks.
+/// - [`PlanFault::Full`] where a page or the directory has no run of free blocks.
 /// - [`PlanFault::NoMemory`] where a growth of memory is refused.
 pub fn plan_publish(
     alloc: Global,
@@ -199,6 +202,7 @@ pub fn plan_publish(
     ensures planned { IfOk result (IsPlanned old.now Publish moment) }
     ensures full { IsErrOf result PlanFault.Full → LacksRoom old.now Publish moment }
 {
+    first_items_are_dropped_as_one::<Change>();
     let contents = old.contents();
     let lists = lists_after_publish(alloc, contents, moment)?;
     let reply = Reply::Published(lists.header.number, moment);

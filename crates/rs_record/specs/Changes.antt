@@ -1,5 +1,5 @@
 -- Changes of each kind.
-use Rattle.std.specs.Prelude.{ℕ, List, Bool, true, false, if◌then◌else◌, IsTrue, Some, None, refl}
+use Rattle.std.specs.Prelude.{ℕ, List, [], ◌∷◌, Bool, true, false, if◌then◌else◌, IsTrue, Some, None, refl}
 use Rattle.rs_record.specs.ChangeKind.{agree}
 use Rattle.rs_record.specs.declared.facts.Facts.{Facts}
 use Rattle.rs_record.specs.declared.change.What.{What}
@@ -22,3 +22,8 @@ bound name again moment facts =
 -- the name was unbound
 abbrev pub deleted : List ℕ → ℕ → Change
 deleted name moment = record { name = name; what = Deleted; moment = moment; facts = None; agreed = refl }
+
+-- the moment of the last of these changes, or the one given where there is none
+abbrev pub last_moment : ℕ → List Change → ℕ
+last_moment t [] = t
+last_moment t (c ∷ cs) = last_moment c.moment cs

@@ -1,11 +1,11 @@
 -- How many commands a state has behind it, so that an image stands for one number of them alone.
-use Rattle.std.proofs.Common.{◌≡◌, ⊎_elim, ℕ, zero, suc, ◌+◌, ◌≤◌, Bool, true, false, ◌||◌, List, [], ◌∷◌, ◌++◌, length, take, refl, sym, ◌∙◌, ap, subst, arith, cond, Option, Some, None, Result, Ok, Err}
+use Rattle.std.proofs.Common.{◌≡◌, ⊎_elim, ℕ, zero, suc, ◌+◌, ◌-◌, ◌*◌, ◌≤◌, Bool, true, false, ◌||◌, List, [], ◌∷◌, ◌++◌, length, take, drop, refl, sym, ◌∙◌, ap, subst, arith, cond, Option, Some, None, Result, Ok, Err}
 use Rattle.std.specs.Prelude.{nat_le}
-use Rattle.std.proofs.lemmas.List.{length-append}
+use Rattle.std.proofs.lemmas.List.{length-append, length-drop}
 use Rattle.rs_disk.specs.Medium.{DiskState, IsMedium}
 use Rattle.rs_record.specs.Changes.{deleted}
 use Rattle.rs_model.specs.State.{Source, facts_of}
-use Rattle.rs_model.specs.Step.{step, state_after, fold_of, refusal_of, accepted_unless, next_state, reply_to, moment_at, put_change}
+use Rattle.rs_model.specs.Step.{step, state_after, fold_of, refusal_of, accepted_unless, next_state, reply_to, moment_at, put_change, dropped_parts, dropped_changes}
 use Rattle.rs_model.specs.declared.command.Command.{Command}
 use Rattle.rs_model.specs.declared.command.Command.TheVariants.{Put, Delete, Publish}
 use Rattle.rs_model.specs.declared.command.Reply.{Reply}
@@ -19,28 +19,33 @@ use Rattle.rs_store.specs.Answered.{Answers}
 use Rattle.rs_store.specs.declared.running.Ack.{Ack}
 use Rattle.rs_store.specs.Counted.{is_accepted, is_in_doubt, answered, counted_commands, begun}
 use Rattle.rs_store.specs.Runs.{InTurn}
+use Rattle.rs_model.proofs.DropLemmas.{dropped_within}
 use Rattle.rs_recovery.specs.Below.{Below}
 use Rattle.rs_recovery.proofs.Below.{Commands, Acks, one}
 
--- how many commands were accepted
+-- how many commands were accepted: the changes that were dropped, those that are kept, and the publications
 pub commands_behind : Source → ℕ
-commands_behind s = length s.changes + s.number
+commands_behind s = s.first * s.limit + length s.changes + s.number
 
-add_one : (a b n : ℕ) → a ≡ b + 1 → a + n ≡ b + n + 1
-add_one a b n more = omega (arith, more)
+add_one : (gone a b n : ℕ) → a ≡ b + 1 → gone + a + n ≡ gone + b + n + 1
+add_one gone a b n more = omega (arith, more)
 
-one_further : (a n : ℕ) → a + (n + 1) ≡ a + n + 1
-one_further a n = omega arith
+-- what a publication drops is counted by its parts
+one_further : (first parts limit kept left n : ℕ) → parts * limit ≤ kept → left ≡ kept - parts * limit
+    → (first + parts) * limit + left + (n + 1) ≡ first * limit + kept + n + 1
+one_further first parts limit kept left n within rest = grind arith
 
 one_next : (s : Source) (command : Command) (t : ℕ) → commands_behind (next_state s command t) ≡ commands_behind s + 1
 unfolding commands_behind
 one_next s (Put name kind bytes) t =
     let change = put_change s name (facts_of kind bytes) t in
-    add_one (length (s.changes ++ change ∷ [])) (length s.changes) s.number (length-append s.changes (change ∷ []))
+    add_one (s.first * s.limit) (length (s.changes ++ change ∷ [])) (length s.changes) s.number (length-append s.changes (change ∷ []))
 one_next s (Delete name) t =
     let change = deleted name t in
-    add_one (length (s.changes ++ change ∷ [])) (length s.changes) s.number (length-append s.changes (change ∷ []))
-one_next s Publish t = one_further (length s.changes) s.number
+    add_one (s.first * s.limit) (length (s.changes ++ change ∷ [])) (length s.changes) s.number (length-append s.changes (change ∷ []))
+one_next s Publish t =
+    one_further s.first (dropped_parts s) s.limit (length s.changes) (length (drop (dropped_changes s) s.changes)) s.number
+    (dropped_within s) (length-drop (dropped_changes s) s.changes)
 
 -- an accepted command
 one_more : (s : Source) (command : Command) (now : ℕ) → refusal_of s command ≡ None → commands_behind (state_after s (step s command now)) ≡ commands_behind s + 1

@@ -8,3 +8,4 @@ pub mod Prefixes
 pub mod OneSession
 pub mod Walked
 pub mod Mirrored
+pub mod Halted

@@ -156,6 +156,8 @@ module _ {D : Type 0} (device : D → DiskState) (sound : (disk : D) → IsMediu
           (λ path part. part_fetched changes_head path latest part.0 (by_last path part.1)) (part_paths document)
           (all_both Part InTime (part_paths document) (asks.changes text document here read) (asks.parts_by_last text document here read));
     };
+    no_gap = λ at from listed changes resources moves.
+        asks.no_gap at from listed changes (ap gather_resources alike ∙ resources) (ap gather_changes alike ∙ moves);
   }
 
   pub is_mirrored : IsMirrored device start sessions standing asked
@@ -174,7 +176,6 @@ module _ {D : Type 0} (device : D → DiskState) (sound : (disk : D) → IsMediu
         commands = take w.point whole;
         resources_gathered = ap gather_resources alike ∙ m.resources_gathered;
         changes_gathered = ap gather_changes alike ∙ m.changes_gathered;
-        no_gap = m.no_gap;
         after_head = subst (λ (l : Commands). IsPrefixOf l (take w.point whole)) head_first (first_of_first (when changes_head) w.point whole w.after_head);
         by_last = subst (λ (l : Commands). IsPrefixOf (take w.point whole) l) last_first (first_of_first w.point latest whole w.by_last);
         stands = (drop w.point whole, take-append-drop w.point whole);

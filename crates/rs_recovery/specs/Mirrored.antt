@@ -50,6 +50,14 @@ OfParts device asking head IsPart =
     (text : List ℕ) (document : Document) → answered_by device asking head ≡ Some text → reads text ≡ Some document
     → AllByRecursion IsPart (part_paths document)
 
+-- No change between the two lists that are gathered so is missing: the Resource List's moment is not before the one at which the
+-- Change List begins.
+abbrev pub HaveNoGap : {D : Type 0} → (D → DiskState) → (List ℕ → Asking D) → Type 0
+HaveNoGap device asking =
+    (at from : ℕ) (listed : List Listed) (changes : List Change)
+    → gather_resources (answered_by device asking) ≡ Some (at, listed)
+    → gather_changes (answered_by device asking) ≡ Some (from, changes) → from ≤ at
+
 -- A destination asks for the Resource List's head and its parts, and for the Change List's, in any order among the parts: the
 -- Change List's head with the other head or later, and none of its documents after the last time.
 pub record AsksBoth {D : Type 0} (device : D → DiskState) (asking : List ℕ → Asking D) (last : Asking D) : Type 0 where
@@ -58,8 +66,9 @@ pub record AsksBoth {D : Type 0} (device : D → DiskState) (asking : List ℕ �
   pub changes : OfParts device asking changes_head (IsAskedPart device asking changes_head)
   pub head_by_last : IsNoLater (asking changes_head) last
   pub parts_by_last : OfParts device asking changes_head (λ path. IsNoLater (asking path) last)
+  pub no_gap : HaveNoGap device asking
 
--- Both lists read, and nothing between them is left out. The one mirrored with the other is what the source held after the first
+-- Both lists read. The one mirrored with the other is what the source held after the first
 -- of the commands that stand: all that were behind it as the Change List's head was asked, and none that was not yet at the last
 -- time.
 pub record IsMirrored {D : Type 0} (device : D → DiskState) (start : Source) (sessions : List (Session D)) (standing : List ℕ) (asked : Asked device sessions standing) : Type 0 where
@@ -70,7 +79,6 @@ pub record IsMirrored {D : Type 0} (device : D → DiskState) (start : Source) (
   pub commands : List (Command × ℕ)
   pub resources_gathered : gather_resources (answered_by device asked.asking) ≡ Some (at, listed)
   pub changes_gathered : gather_changes (answered_by device asked.asking) ≡ Some (from, changes)
-  pub no_gap : from ≤ at
   pub after_head : IsPrefixOf (asked.behind changes_head) commands
   pub by_last : IsPrefixOf commands asked.behind_last
   pub stands : IsPrefixOf commands (commands_standing sessions standing)

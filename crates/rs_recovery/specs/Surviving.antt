@@ -1,5 +1,8 @@
 -- What a source on a memory disk is after a stop.
-use Rattle.std.specs.Prelude.{◌≡◌, ℕ, ◌≤◌, List, length, take}
+use Rattle.std.specs.Prelude.{◌≡◌, ℕ, ◌<◌, ◌≤◌, false, IsTrue, List, length, take}
+use Rattle.rs_record.specs.Base.{is_base}
+use Rattle.rs_directory.specs.Limit.{IsLimit}
+use Rattle.rs_image.specs.Reach.{blocks_of_disk}
 use Rattle.rs_disk.specs.declared.memory.MemoryDisk.{MemoryDisk}
 use Rattle.rs_disk.specs.Medium.{image_of}
 use Rattle.rs_disk.specs.Memory.{memory_state}
@@ -7,7 +10,9 @@ use Rattle.rs_model.specs.State.{Source}
 use Rattle.rs_model.specs.Step.{fold_of}
 use Rattle.rs_model.specs.declared.command.Command.{Command}
 use Rattle.rs_image.specs.StateOfImage.{StandsFor}
+use Rattle.rs_store.specs.declared.formatting.FormatFault.TheVariants as formattings
 use Rattle.rs_store.specs.declared.opening.OpenFault.TheVariants as openings
+use Rattle.rs_store.specs.declared.refusal.Refusal.TheVariants as refusals
 use Rattle.rs_store.specs.declared.running.Ack.{Ack}
 use Rattle.rs_store.specs.Source.{Stored, Holds}
 use Rattle.rs_store.specs.Counted.{is_accepted, answered, counted_commands}
@@ -39,3 +44,21 @@ IsLost (Opening openings.NotASource) = Unit {0}
 IsLost (Opening openings.Damaged) = Unit {0}
 IsLost (Opening openings.Device) = ⊥
 IsLost (Opening openings.NoMemory) = ⊥
+
+-- A disk of this many bytes can be formatted with this base and limit.
+pub record MayFormat (base : List ℕ) (limit size : ℕ) : Type 0 where
+  pub lawful : IsTrue (is_base base)
+  pub among : IsLimit limit
+  pub room : 16 ≤ blocks_of_disk size
+
+-- Why it halted: its formatting was refused, by the first cause that is there; or there was none, and the device failed or memory
+-- was refused, in the step that is told.
+abbrev pub HasHalted : List ℕ → ℕ → ℕ → Halt → Type 0
+HasHalted base limit size (Formatting formattings.BadBase) = is_base base ≡ false
+HasHalted base limit size (Formatting formattings.BadLimit) = IsTrue (is_base base) × (¬ IsLimit limit)
+HasHalted base limit size (Formatting formattings.TooSmall) = IsTrue (is_base base) × IsLimit limit × (blocks_of_disk size < 16)
+HasHalted base limit size (Formatting formattings.Device) = MayFormat base limit size
+HasHalted base limit size (Formatting formattings.NoMemory) = MayFormat base limit size
+HasHalted base limit size (Running refusal) = (refusal ≡ refusals.NoMemory) × MayFormat base limit size
+HasHalted base limit size Imaging = MayFormat base limit size
+HasHalted base limit size (Opening fault) = MayFormat base limit size

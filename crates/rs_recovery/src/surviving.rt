@@ -1,8 +1,9 @@
 //! A source on a memory disk, from its formatting through a stop to its recovery.
 
 ghost use Rattle.std.specs.Prelude.{IfOk, IfErr};
+ghost use Rattle.rs_disk.specs.Memory.{memory_state};
 ghost use Rattle.rs_model.specs.State.{start_of};
-ghost use Rattle.rs_recovery.specs.Surviving.{Survives, IsLost};
+ghost use Rattle.rs_recovery.specs.Surviving.{Survives, IsLost, HasHalted};
 
 use crate::recover;
 use rs_disk::MemoryDisk;
@@ -46,6 +47,7 @@ pub fn format_run_recover(
     ensures survives { IfOk result
         (λ x. Survives (start_of base.now limit now) commands.now x.0.items x.1 choice.now x.2) }
     ensures found { IfErr result (λ halt. ¬ IsLost halt) }
+    ensures halted { IfErr result (HasHalted base.now limit (memory_state disk).size) }
 {
     turns_go_on::<MemoryDisk>();
     let mut source = match Source::format(alloc, disk, base, limit, now) {

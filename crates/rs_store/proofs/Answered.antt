@@ -142,6 +142,7 @@ module _ {D : Type 0} (device : D → DiskState) (medium : (disk : D) → IsMedi
         refused = λ q is. let here : r ≡ q = cc in subst (λ (x : Refusal). IsCause device old new command now x) here cause;
         accepted = tt;
         generation = tt;
+        version = tt;
         leads = λ s holds. kept_leads new s r other (leads s holds).0 (leads s holds).1;
         told = record { failed = λ is. let here : r ≡ Device = cc in absurd (other here); sound = λ _. unmet };
         closes = λ is. let here : r ≡ Device = cc in absurd (other here);
@@ -224,6 +225,7 @@ module _ {D : Type 0} (device : D → DiskState) (medium : (disk : D) → IsMedi
           refused = λ q is. let here : Device ≡ q = cc in subst (λ (x : Refusal). IsCause device old new command now x) here (free, failed);
           accepted = tt;
           generation = tt;
+          version = tt;
           leads = λ s holds. subst (λ (t : Source). Leaves (device old.disk) (device new.disk) (λ _ image. StandsFor image s ⊎ StandsFor image t))
               (sym (after_step s holds)) (leaves s holds);
           told = record { failed = λ _. failed; sound = λ is. absurd (is refl) };
@@ -330,6 +332,7 @@ module _ {D : Type 0} (device : D → DiskState) (medium : (disk : D) → IsMedi
             refused = λ q other. absurd cc;
             accepted = steps;
             generation = ap (λ (r : Root). r.generation) (at ∙ root_is);
+            version = ap (λ (r : Root). r.version) (at ∙ root_is);
             leads = λ s holds.
                 let of : state_of device old ≡ s = tells_state s holds in
                 let t : next s ≡ state_of device new = ap (λ (x : Source). next_state x command (moment_at x now)) (sym of) ∙ sym state in

@@ -9,7 +9,7 @@ use Rattle.rs_record.specs.Base.{is_base}
 use Rattle.rs_page.specs.declared.place.PageRef.{PageRef}
 use Rattle.rs_page.specs.Pages.{Page, stored_ref, stored_refs, items_of}
 use Rattle.rs_directory.specs.declared.header.Header.{Header}
-use Rattle.rs_directory.specs.Directory.{IsLawfulHeader, directory_length}
+use Rattle.rs_directory.specs.Directory.{written_format, IsLawfulHeader, directory_length}
 
 at_most : (n : ℕ) → nat_le n 128 ≡ true → n ≤ 128
 at_most n is = grind (arith, nat_tests)
@@ -46,6 +46,6 @@ refs_fit pages refs some room is =
 
 -- a directory of three such lists has fewer bytes than 32 bits count
 pub fits : {E : Type 0} (result : Result (Vec ℕ Global) E) (h : Header) (n : ℕ) → n ≤ 150000 → IfOk result (λ out. vec_len out ≡ directory_length h n)
-    → IfOk result (λ _. IsLawfulHeader h) → IfOk result (λ out. vec_len out < 2 ^ 32)
+    → IfOk result (λ _. IsLawfulHeader written_format h) → IfOk result (λ out. vec_len out < 2 ^ 32)
 fits (Ok out) h n few size lawful = omega (arith, size, short_base h.base lawful.base)
 fits (Err e) h n few size lawful = tt

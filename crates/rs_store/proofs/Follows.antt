@@ -79,7 +79,7 @@ items_stored format (page ∷ pages) = ap (λ items. page.items ++ items) (items
 once_state : (image : List ℕ) (c : Contents) → state_in image (once_stored c) ≡ state_in image c
 once_state image c =
     ap₂ (λ (records : List Record) (changes : List Change). record (state_in image c) { held = map (held_in image) records; changes = changes })
-    (items_stored record_format c.catalogue) (items_stored change_format c.history)
+    (items_stored record_format c.catalogue) (items_stored change_format c.history.pages)
 
 -- The lists are on the disk as what was kept of the old ones and what was written.
 held_catalogue : (pages : List (Page Record)) (image : List ℕ) → IsCatalogue pages → All IsStored pages
@@ -126,15 +126,15 @@ pub tells_next : (size : ℕ) (root : Root) (old : Contents) (command : Command)
 tells_next size root old command moment p bytes image s planned body there lists long told =
     let c = p.contents in
     let records : All (Stands record_format image) old.catalogue = pages_stand record_format old.catalogue image told.whole.catalogue told.catalogue.hold in
-    let changes : All (Stands change_format image) old.history = pages_stand change_format old.history image told.whole.history told.history.hold in
+    let changes : All (Stands change_format image) old.history.pages = pages_stand change_format old.history.pages image told.whole.history told.history.hold in
     record {
       listable = planned.listable;
       directory = there.directory;
       digest = refl;
       catalogue = held_catalogue (stored record_format c.catalogue) image lists.catalogue planned.whole.catalogue
           (written_stand record_format c.catalogue image (kept_stand record_format old.catalogue c.catalogue image planned.next.catalogue records) there.catalogue);
-      history = held_history (stored change_format c.history) image lists.history planned.whole.history
-          (written_stand change_format c.history image (kept_stand change_format old.history c.history image planned.next.history changes) there.history);
+      history = held_history (stored change_format c.history.pages) image lists.history planned.whole.history
+          (written_stand change_format c.history.pages image (kept_stand change_format old.history.pages c.history.pages image planned.next.history changes) there.history);
       published = held_published command moment p.body old c image planned.next.pages told.catalogue told.published;
       whole = subst (λ (n : ℕ). IsWhole n (planned_root root p) (once_stored c)) (sym long) planned.whole;
       state = state_follows size root old command moment p bytes image planned body there ∙ ap (λ (t : Source). next_state t command moment) told.state;

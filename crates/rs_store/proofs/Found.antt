@@ -67,7 +67,7 @@ block_fits size b less = omega arith
 -- what a root reaches before the bodies
 abbrev pub lists_reached : Root → Contents → List Extent
 lists_reached root c =
-    root.directory ∷ extents_of (stored_refs c.catalogue) ++ extents_of (stored_refs c.history)
+    root.directory ∷ extents_of (stored_refs c.catalogue) ++ extents_of (stored_refs c.history.pages)
     ++ extents_of (unshared (stored_refs c.published) (stored_refs c.catalogue))
 
 -- the blocks of a held body lie on the disk, and its bytes fit into them

@@ -28,8 +28,8 @@ failed_behind old mid new le (inl more) = inl (omega (arith, le, more))
 failed_behind old mid new le (inr last) = inr last
 
 -- a directory has bytes
-pub some_bytes : (c : Contents) → 2 ≤ length (listing c)
-some_bytes c = simp length-append (omega arith)
+pub some_bytes : (version : ℕ) (c : Contents) → 2 ≤ length (listing version c)
+some_bytes version c = simp length-append (omega arith)
 
 -- where a directory lies, a disk has more than the slots
 has_room : (size n : ℕ) (e : Extent) (es : List Extent) → IsSized e n → 1 ≤ n → AreInside size (e ∷ es) → 1024 ≤ size
@@ -41,8 +41,8 @@ has_room size n e es sized some inside =
 -- a disk of which something is told has room for the slots
 pub told_room : (root : Root) (c : Contents) (image : List ℕ) (s : Source) → Tells root c image s → 1024 ≤ length image
 told_room root c image s told =
-    let same : length (part root.directory root.length image) ≡ length (listing c) = ap length told.directory in
-    let some : 1 ≤ root.length = omega (arith, same, some_bytes c, length-take {A = ℕ}) in
+    let same : length (part root.directory root.length image) ≡ length (listing root.version c) = ap length told.directory in
+    let some : 1 ≤ root.length = omega (arith, same, some_bytes root.version c, length-take {A = ℕ}) in
     has_room (length image) root.length root.directory _ told.whole.directory some told.whole.inside
 
 -- so where there is none, no state is stood for

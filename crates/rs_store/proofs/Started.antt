@@ -14,13 +14,13 @@ use Rattle.rs_commit.specs.Format.{fresh}
 use Rattle.rs_commit.specs.declared.root.Root.{Root}
 use Rattle.rs_commit.specs.Slots.{Standing}
 use Rattle.rs_record.specs.declared.record.Record.{Record}
-use Rattle.rs_record.specs.declared.change.Change.{Change}
 use Rattle.rs_page.specs.Pages.{Page}
+use Rattle.rs_changes.specs.History.{Numbered}
 use Rattle.rs_directory.specs.declared.header.Header.{Header}
 use Rattle.rs_image.specs.declared.contents.Contents.{Contents}
 use Rattle.rs_model.specs.State.{start_of}
 use Rattle.rs_page.specs.Pages.{IsStored}
-use Rattle.rs_directory.specs.Directory.{IsLawfulHeader, IsLawfulRef}
+use Rattle.rs_directory.specs.Directory.{written_format, IsLawfulHeader, IsLawfulRef}
 use Rattle.rs_image.specs.Reach.{blocks_of_disk}
 use Rattle.rs_image.specs.Whole.{IsWhole, IsSoundRecord, IsSoundChange}
 use Rattle.rs_image.specs.Rooted.{rooted, IsRooted}
@@ -45,7 +45,7 @@ one_block e n size b first blocks small room is =
     ⊎_elim (λ there. let at = within_is e b there in (omega (arith, at.0), omega (arith, at.1))) (λ none. absurd (false≢true none)) (some_split e [] b is)
 
 -- what the root of a formatting reaches keeps all rules
-pub first_whole : (base : List ℕ) (limit moment size : ℕ) → length (listing (first_contents base limit moment)) ≤ 512 → 16 ≤ blocks_of_disk size
+pub first_whole : (base : List ℕ) (limit moment size : ℕ) → length (listing written_format (first_contents base limit moment)) ≤ 512 → 16 ≤ blocks_of_disk size
     → IsWhole size (first_root (first_contents base limit moment)) (first_contents base limit moment)
 first_whole base limit moment size small room =
     let c = first_contents base limit moment in
@@ -54,18 +54,25 @@ first_whole base limit moment size small room =
       catalogue = All-nil IsStored;
       history = All-nil IsStored;
       published = All-nil IsStored;
-      moments = record { start = omega arith; at = omega arith; last = refl };
+      moments = record {
+        start = omega arith;
+        at = omega arith;
+        last = refl;
+        kept = omega arith;
+        history = record { begun = omega arith; first = omega arith; none_dropped = λ is. refl };
+      };
+      number = refl;
       records = All-nil (IsSoundRecord moment moment);
       changes = All-nil (IsSoundChange moment moment);
       listed = All-nil (IsSoundRecord moment moment);
-      directory = (refl, λ none. absurd (omega (arith, some_bytes c)));
+      directory = (refl, λ none. absurd (omega (arith, some_bytes written_format c)));
       apart = (λ b is. refl, tt);
       published_apart = tt;
-      inside = λ b is. one_block (first_root c).directory (length (listing c)) size b refl refl small room is;
+      inside = λ b is. one_block (first_root c).directory (length (listing written_format c)) size b refl refl small room is;
     }
 
 -- the lists of it can be those of a directory
-first_listable : (base : List ℕ) (limit moment : ℕ) → IsLawfulHeader (first_header base limit moment) → AreListable (first_contents base limit moment)
+first_listable : (base : List ℕ) (limit moment : ℕ) → IsLawfulHeader written_format (first_header base limit moment) → AreListable written_format (first_contents base limit moment)
 first_listable base limit moment lawful = record {
   header = lawful;
   catalogue = record { each = All-nil IsLawfulRef; count = omega arith };
@@ -75,9 +82,9 @@ first_listable base limit moment lawful = record {
 
 -- so its root with its lists is one that planners take
 pub first_rooted : (base : List ℕ) (limit moment size : ℕ) → 16 ≤ blocks_of_disk size → (c : Contents) → c ≡ first_contents base limit moment
-    → (root : Root) → root ≡ first_root c → IsLawfulHeader c.header → length (listing c) ≤ 512 → IsRooted (rooted size root c)
+    → (root : Root) → root ≡ first_root c → IsLawfulHeader written_format c.header → length (listing written_format c) ≤ 512 → IsRooted (rooted size root c)
 first_rooted base limit moment size room c e =
-    let P : Contents → Type 0 = λ c. (root : Root) → root ≡ first_root c → IsLawfulHeader c.header → length (listing c) ≤ 512 → IsRooted (rooted size root c) in
+    let P : Contents → Type 0 = λ c. (root : Root) → root ≡ first_root c → IsLawfulHeader written_format c.header → length (listing written_format c) ≤ 512 → IsRooted (rooted size root c) in
     let first = first_contents base limit moment in
     subst P (sym e)
     (λ root f lawful small.
@@ -85,9 +92,9 @@ first_rooted base limit moment size room c e =
     (record { room = omega (arith, room); whole = first_whole base limit moment size small room; listable = first_listable base limit moment lawful }))
 
 -- where its directory stands, its lists are told, and they are those of a source at its start
-pub first_told : (base : List ℕ) (limit moment : ℕ) (image : List ℕ) → IsLawfulHeader (first_header base limit moment)
-    → length (listing (first_contents base limit moment)) ≤ 512 → 16 ≤ blocks_of_disk (length image)
-    → part (first_root (first_contents base limit moment)).directory (length (listing (first_contents base limit moment))) image ≡ listing (first_contents base limit moment)
+pub first_told : (base : List ℕ) (limit moment : ℕ) (image : List ℕ) → IsLawfulHeader written_format (first_header base limit moment)
+    → length (listing written_format (first_contents base limit moment)) ≤ 512 → 16 ≤ blocks_of_disk (length image)
+    → part (first_root (first_contents base limit moment)).directory (length (listing written_format (first_contents base limit moment))) image ≡ listing written_format (first_contents base limit moment)
     → Tells (first_root (first_contents base limit moment)) (first_contents base limit moment) image (start_of base limit moment)
 first_told base limit moment image lawful small room reads =
     record {
@@ -102,22 +109,22 @@ first_told base limit moment image lawful small room reads =
     }
 
 -- the lists of a formatting, from their parts
-pub made_contents : (base : List ℕ) (limit moment : ℕ) (h : Header) (a : List (Page Record)) (b : List (Page Change)) (p : List (Page Record))
-    → h ≡ first_header base limit moment → a ≡ [] → b ≡ [] → p ≡ []
+pub made_contents : (base : List ℕ) (limit moment : ℕ) (h : Header) (a : List (Page Record)) (b : Numbered) (p : List (Page Record))
+    → h ≡ first_header base limit moment → a ≡ [] → b ≡ record { first = 0; pages = [] } → p ≡ []
     → record { header = h; catalogue = a; history = b; published = p } ≡ first_contents base limit moment
 made_contents base limit moment h a b p e f g k = λ i. record { header = e i; catalogue = f i; history = g i; published = k i }
 
 -- the same of whatever is what a formatting writes
 told_of : (base : List ℕ) (limit moment : ℕ) (image : List ℕ) → 16 ≤ blocks_of_disk (length image) → (c : Contents) → c ≡ first_contents base limit moment
-    → (root : Root) → root ≡ first_root c → IsLawfulHeader c.header → length (listing c) ≤ 512 → part root.directory (length (listing c)) image ≡ listing c
+    → (root : Root) → root ≡ first_root c → IsLawfulHeader written_format c.header → length (listing written_format c) ≤ 512 → part root.directory (length (listing written_format c)) image ≡ listing written_format c
     → Tells root c image (start_of base limit moment)
 told_of base limit moment image room c e =
-    let P : Contents → Type 0 = λ c. (root : Root) → root ≡ first_root c → IsLawfulHeader c.header → length (listing c) ≤ 512
-    → part root.directory (length (listing c)) image ≡ listing c → Tells root c image (start_of base limit moment) in
+    let P : Contents → Type 0 = λ c. (root : Root) → root ≡ first_root c → IsLawfulHeader written_format c.header → length (listing written_format c) ≤ 512
+    → part root.directory (length (listing written_format c)) image ≡ listing written_format c → Tells root c image (start_of base limit moment) in
     let first = first_contents base limit moment in
     subst P (sym e)
     (λ root f lawful small.
-    let Q : Root → Type 0 = λ r. part r.directory (length (listing first)) image ≡ listing first → Tells r first image (start_of base limit moment) in
+    let Q : Root → Type 0 = λ r. part r.directory (length (listing written_format first)) image ≡ listing written_format first → Tells r first image (start_of base limit moment) in
     subst Q (sym f) (λ reads. first_told base limit moment image lawful small room reads))
 
 -- What a source holds that was just formatted.
@@ -127,7 +134,7 @@ pub first_holds : {D : Type 0} (device : D → DiskState) (disk : D) (slots : St
     → Holds device (record { disk = disk; slots = slots; contents = b.contents; is_closed = false }) (start_of base limit moment)
 first_holds device disk slots base limit moment b is made ready rests reads room =
     let seen = (device disk).now.seen in
-    let stands : part b.root.directory (length (listing b.contents)) seen ≡ listing b.contents =
+    let stands : part b.root.directory (length (listing written_format b.contents)) seen ≡ listing written_format b.contents =
     subst (λ (l : List ℕ). part b.root.directory (length l) seen ≡ l) is.directory reads in
     let told : Tells b.root b.contents seen (start_of base limit moment) =
     told_of base limit moment seen room b.contents is.contents b.root is.root is.lawful is.small stands in

@@ -25,12 +25,12 @@ on_ok (Err e) from p = tt
 
 -- the blocks of the pages of a plan, and of the pages and the directory
 abbrev pub pages_of : Plan → List Extent
-pages_of p = placed_extents p.contents.catalogue ++ placed_extents p.contents.history
+pages_of p = placed_extents p.contents.catalogue ++ placed_extents p.contents.history.pages
 
 abbrev pub behind_body : Plan → List Extent
 behind_body p = pages_of p ++ p.directory ∷ []
 
-places_are : (p : Plan) → behind_body p ≡ placed_extents p.contents.catalogue ++ placed_extents p.contents.history ++ p.directory ∷ []
+places_are : (p : Plan) → behind_body p ≡ placed_extents p.contents.catalogue ++ placed_extents p.contents.history.pages ++ p.directory ∷ []
 places_are p = refl
 
 -- What is beside the places of a plan is beside each of them.
@@ -41,7 +41,7 @@ pub record AreEachBeside (kept : ℕ → Bool) (p : Plan) : Type 0 where
 
 pub beside_each : (kept : ℕ → Bool) (p : Plan) → AreBeside kept (places p) → AreEachBeside kept p
 beside_each kept p beside =
-    let rest = placed_extents p.contents.catalogue ++ placed_extents p.contents.history ++ p.directory ∷ [] in
+    let rest = placed_extents p.contents.catalogue ++ placed_extents p.contents.history.pages ++ p.directory ∷ [] in
     let behind : AreBeside kept (behind_body p) = subst (λ (es : List Extent). AreBeside kept es) (sym (places_are p)) (beside_rest kept p.body rest beside) in
     record {
       body = beside_first kept p.body rest beside;
@@ -58,7 +58,7 @@ pub record AreEachApart (p : Plan) : Type 0 where
 
 pub apart_each : (p : Plan) → AreApart (places p) → AreEachApart p
 apart_each p apart =
-    let rest = placed_extents p.contents.catalogue ++ placed_extents p.contents.history ++ p.directory ∷ [] in
+    let rest = placed_extents p.contents.catalogue ++ placed_extents p.contents.history.pages ++ p.directory ∷ [] in
     let behind : AreApart (behind_body p) = subst (λ (es : List Extent). AreApart es) (sym (places_are p)) apart.1 in
     let body : AreBeside (within p.body) rest = λ b is. not_true (within p.body b) (λ here. true≢false (sym is ∙ apart.0 b here)) in
     let beside : AreBeside (within p.body) (behind_body p) = subst (λ (es : List Extent). AreBeside (within p.body) es) (sym (places_are p)) body in
@@ -80,7 +80,7 @@ pub record AreEachOnDisk (size : ℕ) (p : Plan) : Type 0 where
 
 pub inside_each : (size : ℕ) (p : Plan) → AreInside size (places p) → AreEachOnDisk size p
 inside_each size p inside =
-    let rest = placed_extents p.contents.catalogue ++ placed_extents p.contents.history ++ p.directory ∷ [] in
+    let rest = placed_extents p.contents.catalogue ++ placed_extents p.contents.history.pages ++ p.directory ∷ [] in
     let behind : (b : ℕ) → in_some (behind_body p) b ≡ true → 512 * b + 512 ≤ size =
     subst (λ (es : List Extent). (b : ℕ) → in_some es b ≡ true → 512 * b + 512 ≤ size) (sym (places_are p))
     (λ b is. on_disk size b (inside b (some_rest p.body rest b is)).1) in
@@ -94,18 +94,18 @@ inside_each size p inside =
 pub all_written : (p : Plan) (bytes : List ℕ) (first mid new : DiskState) → AreApart (places p) → IsSized p.body (length bytes)
     → part p.body (length bytes) first.now.seen ≡ bytes
     → ((kept : ℕ → Bool) → AreBeside kept (pages_of p) → WritesOutside kept first mid)
-    → All (IsWritten record_format mid.now.seen) p.contents.catalogue → All (IsWritten change_format mid.now.seen) p.contents.history
+    → All (IsWritten record_format mid.now.seen) p.contents.catalogue → All (IsWritten change_format mid.now.seen) p.contents.history.pages
     → ((kept : ℕ → Bool) → IsBeside kept p.directory → WritesOutside kept mid new)
     → part p.directory (length (planned_listing p)) new.now.seen ≡ planned_listing p → AreWritten p bytes new.now.seen
 all_written p bytes first mid new apart sized body pages catalogue history last directory =
     let each = apart_each p apart in
     let cat = placed_extents p.contents.catalogue in
-    let hist = placed_extents p.contents.history in
+    let hist = placed_extents p.contents.history.pages in
     let after = outside_on (within p.body) first mid new (pages (within p.body) each.body_pages) (last (within p.body) each.body_directory) in
     let kept = last (in_some (pages_of p)) each.pages_directory in
     record {
       body = part_kept (within p.body) p.body (length bytes) (fits_sized p.body (length bytes) sized) (λ b is. is) first.now.seen new.now.seen after.seen ∙ body;
       catalogue = written_stay record_format (in_some (pages_of p)) p.contents.catalogue mid.now.seen new.now.seen (λ b is. some_front cat hist b is) kept.seen catalogue;
-      history = written_stay change_format (in_some (pages_of p)) p.contents.history mid.now.seen new.now.seen (λ b is. some_behind cat hist b is) kept.seen history;
+      history = written_stay change_format (in_some (pages_of p)) p.contents.history.pages mid.now.seen new.now.seen (λ b is. some_behind cat hist b is) kept.seen history;
       directory = directory;
     }

@@ -2,6 +2,7 @@
 use Rattle.std.specs.Prelude.{◌≡◌, ◌+◌, ℕ, true, Option, Some, None, Result, Ok, Err, IfOk, IsErrOf}
 use Rattle.rs_disk.specs.Leaves.{Advances, TellsFaults}
 use Rattle.rs_disk.specs.Medium.{DiskState}
+use Rattle.rs_commit.specs.Slots.{written_version}
 use Rattle.rs_model.specs.State.{Source}
 use Rattle.rs_model.specs.Step.{step}
 use Rattle.rs_model.specs.declared.command.Command.{Command}
@@ -27,7 +28,7 @@ pub record IsUnchanged {D : Type 0} (device : D → DiskState) (old new : Stored
 -- `decides`, `untouched`: what is decided before anything is asked of memory or the disk is answered, and nothing changes.
 -- `refused`: the cause of each refusal is there.
 -- `accepted`: what is accepted is the step of the state that the lists tell, and its reply.
--- `generation`: each accepted command takes one generation of the root.
+-- `generation`, `version`: each accepted command takes one generation of the root, which has the version that is written then.
 -- `leads`: of a source that holds a state, what is held then, and what each image of a crash meanwhile stands for.
 -- `told`: it answers Device only where a device call failed, and where it answers anything else none did.
 -- `closes`, `stays_open`: Device closes it, and nothing else does.
@@ -39,6 +40,7 @@ pub record Answers {D : Type 0} (device : D → DiskState) (old new : Stored D) 
   pub refused : (r : Refusal) → IsErrOf result r → IsCause device old new command now r
   pub accepted : IfOk result (λ reply. step (state_of device old) command now ≡ Ok (state_of device new, reply))
   pub generation : IfOk result (λ _. new.slots.root.generation ≡ old.slots.root.generation + 1)
+  pub version : IfOk result (λ _. new.slots.root.version ≡ written_version)
   pub leads : (s : Source) → Holds device old s → Leads device old new s command now result
   pub told : TellsFaults (IsErrOf result Device) (device old.disk) (device new.disk)
   pub closes : IsErrOf result Device → new.is_closed ≡ true

@@ -5,7 +5,7 @@ use Rattle.rs_image.specs.declared.contents.Contents.{Contents}
 use Rattle.rs_lists.specs.Shown.{Shown}
 use Rattle.rs_store.specs.declared.view.SourceView.{SourceView}
 
--- the latest publication as it is stored, and all changes, of which the first part has number 0
+-- the latest publication as it is stored, and the changes that are kept
 abbrev pub shown_in : Contents → Shown
 shown_in c =
     record {
@@ -15,8 +15,9 @@ shown_in c =
       number = c.header.number;
       at = c.header.at;
       published = records_of c.published;
-      changes = changes_of c.history;
-      first = 0;
+      changes = changes_of c.history.pages;
+      first = c.header.first;
+      begin = c.header.begin;
     }
 
 abbrev pub shown_by_source : {D : Type 0} → SourceView D → Shown

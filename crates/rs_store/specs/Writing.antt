@@ -8,6 +8,7 @@ use Rattle.rs_page.specs.declared.page.store.StoreFault.TheVariants.{Device as N
 use Rattle.rs_catalogue.specs.Catalogue.{IsCatalogue}
 use Rattle.rs_changes.specs.History.{IsHistory}
 use Rattle.rs_image.specs.declared.contents.Contents.{Contents}
+use Rattle.rs_directory.specs.Directory.{written_format}
 use Rattle.rs_body.specs.Blocks.{part, IsSized}
 use Rattle.rs_body.specs.Outside.{WritesOutside}
 use Rattle.rs_disk.specs.Medium.{DiskState}
@@ -39,13 +40,13 @@ of_plan NoPlanMemory = OutOfMemory
 
 -- the length and the digest of the directory of these lists
 pub record IsDigestOf (c : Contents) (w : Written) : Type 0 where
-  pub len : w.length ≡ length (listing c)
-  pub sha256 : w.sha256 ≡ (digests (listing c)).sha256
+  pub len : w.length ≡ length (listing written_format c)
+  pub sha256 : w.sha256 ≡ (digests (listing written_format c)).sha256
 
 -- The lists are those of a catalogue, of a history and of what a catalogue had when it was published.
 pub record AreLists (c : Contents) : Type 0 where
   pub catalogue : IsCatalogue c.catalogue
-  pub history : IsHistory c.history
+  pub history : IsHistory c.history.pages
   pub published : IsCatalogue c.published
 
 -- A plan is of some command.
@@ -60,9 +61,9 @@ pub record IsWritable (size : ℕ) (p : Plan) : Type 0 where
   pub inside : AreInside size (places p)
   pub apart : AreApart (places p)
   pub catalogue : All (λ page. ¬ IsTouched page.place) p.contents.catalogue
-  pub history : All (λ page. ¬ IsTouched page.place) p.contents.history
+  pub history : All (λ page. ¬ IsTouched page.place) p.contents.history.pages
   pub directory : IsSized p.directory (length (planned_listing p))
-  pub listable : AreListable (once_stored p.contents)
+  pub listable : AreListable written_format (once_stored p.contents)
 
 -- The lists of a plan were written, and a read gave `old` before it and gives `new` then: they are stored, and with a body that
 -- stood in its extent all of the plan stands.

@@ -96,9 +96,10 @@ impl<D: Disk> Source<D> {
         self.finish(plan)
     }
 
-    /// Lists all resources that are held, as the next publication. The command comes at the moment
-    /// `now`, and is accepted at this one, or at one millisecond after the last accepted command where
-    /// that is later.
+    /// Lists all resources that are held, as the next publication, and drops the full parts of the
+    /// changes whose last change is not after the publication before it. The command comes at the
+    /// moment `now`, and is accepted at this one, or at one millisecond after the last accepted command
+    /// where that is later.
     ///
     /// The reply tells the number of the publication and the moment. It comes after all is settled, as
     /// with [`Source::put`].

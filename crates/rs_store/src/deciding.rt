@@ -14,6 +14,7 @@ ghost use Rattle.rs_store.specs.Answered.{moment_unless};
 
 use crate::{Refusal, Source};
 use rs_disk::Disk;
+use rs_plan::dropped_parts;
 use rs_record::{LONGEST_BODY, MOST_ITEMS, Name};
 use rs_time::Moment;
 
@@ -77,7 +78,9 @@ impl<D: Disk> Source<D> {
         if self.is_closed {
             return Err(Refusal::Closed);
         }
-        if self.contents.header.number == u64::MAX {
+        let header = &self.contents.header;
+        let first = header.first.saturating_add(dropped_parts(&self.contents));
+        if header.number == u64::MAX || first > Moment::GREATEST {
             return Err(Refusal::Exhausted);
         }
         let moment = self.next_moment(now)?;

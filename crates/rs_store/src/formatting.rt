@@ -2,11 +2,12 @@
 
 ghost use Rattle.std.specs.Prelude.{◌≡◌, ◌↔◌, ◌*◌, ◌<◌, ◌≤◌, false, length, IfOk, OnOk, IfErr, IsErrAnd, IsErrOf, IsTrue};
 ghost use Rattle.rs_disk.specs.Medium.{resting};
-ghost use Rattle.rs_disk.specs.Leaves.{Runs, TellsFaults};
+ghost use Rattle.rs_disk.specs.Leaves.{Runs};
 ghost use Rattle.rs_extent.specs.Extents.{IsOnDisk};
 ghost use Rattle.rs_body.specs.Blocks.{part};
 ghost use Rattle.rs_record.specs.Base.{is_base};
 ghost use Rattle.rs_commit.specs.Commit.{IsReady};
+ghost use Rattle.rs_commit.specs.Slots.{written_version};
 ghost use Rattle.rs_commit.specs.Format.{fresh};
 ghost use Rattle.rs_directory.specs.Limit.{IsLimit};
 ghost use Rattle.rs_model.specs.State.{start_of};
@@ -14,13 +15,13 @@ ghost use Rattle.rs_image.specs.Reach.{blocks_of_disk};
 ghost use Rattle.rs_image.specs.Rooted.{rooted, MemoryIsSound};
 ghost use Rattle.rs_store.specs.Source.{Holds};
 ghost use Rattle.rs_store.specs.Opening.{disk_of};
-ghost use Rattle.rs_store.specs.Formatting.{first_header as header_of, IsBlank};
+ghost use Rattle.rs_store.specs.Formatting.{first_header as header_of, IsBlank, device_in_format};
 
 use crate::Source;
 use rs_body::{blocks_for, write_body};
 use rs_catalogue::Catalogue;
 use rs_changes::History;
-use rs_commit::{Root, Slots, format_slots};
+use rs_commit::{Root, Slots, VERSION, format_slots};
 use rs_directory::{Header, Limit, directory_bytes, directory_size};
 use rs_disk::{Disk, Fault};
 use rs_extent::{Extent, Used};
@@ -81,7 +82,8 @@ struct Blank {
 impl<D: Disk> Source<D> {
     /// Makes a source on a disk, in place of whatever the disk holds: nothing is held, there are no
     /// changes, and the empty list is published as number 0. `base` is the front of each URI of the
-    /// source; a list of more items than `limit`, which is 2 to 4,000, is cut into parts of that many.
+    /// source; a list of more items than `limit`, which is 2 to 4,000, is cut into parts of that many. The
+    /// disk is of version 2 of the format then, the one that is written.
     ///
     /// # Errors
     ///
@@ -101,6 +103,7 @@ impl<D: Disk> Source<D> {
     ) -> Result<Source<D>, (D, FormatFault)>
         // Of every device, since nothing is read.
         ensures holds { IfOk result (λ source. Holds D.state source (start_of base.now limit now)) }
+        ensures version { IfOk result (λ source. source.slots.root.version ≡ written_version) }
 
         ensures bad_base { IsErrAnd result (λ e. e.1 ≡ FormatFault.BadBase)
             ↔ (is_base base.now ≡ false) }
@@ -110,15 +113,10 @@ impl<D: Disk> Source<D> {
             ↔ (IsTrue (is_base base.now)
             × IsLimit limit
             × (blocks_of_disk (D.state disk).size < 16)) }
-        ensures device { TellsFaults (IsErrAnd result (λ e. e.1 ≡ FormatFault.Device))
-            (D.state disk) (D.state (disk_of result)) }
         ensures untouched { IfErr result (λ e. ¬ (e.1 ≡ FormatFault.Device) → e.0 ≡ disk) }
 
-        // Whatever it answers.
-        ensures size { (D.state (disk_of result)).size ≡ (D.state disk).size }
-        ensures lasts { IsTrue (D.state (disk_of result)).honest → IsTrue (D.state disk).honest }
-        ensures calls { (D.state disk).calls ≤ (D.state (disk_of result)).calls }
-        ensures faults { (D.state disk).faults ≤ (D.state (disk_of result)).faults }
+        // What holds of every device, whatever it answers.
+        ensures runs { Runs (D.state disk) (D.state (disk_of result)) (device_in_format result) }
     {
         let mut disk = disk;
         let blank = match lay_out(alloc, disk.size(), base, limit, now) {
@@ -165,6 +163,7 @@ fn lay_out(
     let length = directory_size(&header, 0);
     let sha256 = sha256_of(&directory);
     let root = Root {
+        version: VERSION,
         generation: 1,
         directory: Extent {
             first: 2,
@@ -227,12 +226,15 @@ fn first_header(
         last: now,
         number: 0,
         at: now,
+        first: 0,
+        begin: now,
     })
 }
 
 // Writes the directory, and then the slots, of which the first sync settles both.
 fn write_blank<D: Disk>(disk: &mut D, blank: &Blank) -> Result<Slots, Fault>
     requires slots { 1024 ≤ (D.state disk.old).size }
+    requires version { blank.now.root.version ≡ written_version }
     requires behind { blank.now.root.directory.first ≡ 2 }
     requires room { IsOnDisk blank.now.root.directory (D.state disk.old).size }
     requires fits { length blank.now.directory.items ≤ 512 * blank.now.root.directory.blocks }

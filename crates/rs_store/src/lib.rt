@@ -1,9 +1,10 @@
 //! A source on a disk: each command is whole or absent, whatever moment a crash comes at.
 //!
 //! A [`Source`] is formatted on a disk or opened from one, and keeps there the resources that it holds,
-//! the changes to them and its latest publication. [`Source::put`], [`Source::put_from`], [`Source::delete`] and
-//! [`Source::publish`] do one step of the model, or refuse it; [`Source::run`] does many, and tells of each how it was
-//! answered and after how many calls of the disk; the others show what the source holds.
+//! the changes to them that it keeps and its latest publication. [`Source::put`], [`Source::put_from`],
+//! [`Source::delete`] and [`Source::publish`] do one step of the model, or refuse it; [`Source::run`] does
+//! many, and tells of each how it was answered and after how many calls of the disk; the others show
+//! what the source holds.
 #![tactic(auto)]
 
 mod commands;

@@ -77,6 +77,9 @@ impl From<LoadFault> for OpenFault {
 impl<D: Disk> Source<D> {
     /// Opens the source on a disk, whatever the disk holds.
     ///
+    /// A disk of version 1 of the format is opened too: none of its changes was dropped, and its first
+    /// accepted command makes it one of version 2.
+    ///
     /// It begins with one sync, so that nothing is unsettled, and writes nothing. It checks the
     /// directory, all pages and all extents; the bodies are not read, and whether the changes lead
     /// to what is held is not looked at.

@@ -189,7 +189,7 @@ impl<D: Disk> Source<D> {
         Ok(records_in(self.alloc, &self.contents.published)?)
     }
 
-    /// The changes, the earliest first.
+    /// The changes that are kept, the earliest first.
     ///
     /// # Errors
     ///
@@ -263,7 +263,7 @@ fn records_in(alloc: Global, catalogue: &Catalogue) -> Result<Vec<Record>, Alloc
 
 // Copies of the changes of a history, in their order.
 fn changes_in(alloc: Global, history: &History) -> Result<Vec<Change>, AllocError>
-    ensures { IfOk result (λ changes. changes.items ≡ changes_of history.now) }
+    ensures { IfOk result (λ changes. changes.items ≡ changes_of history.now.pages) }
 {
     let len = history.len();
     let mut changes = Vec::with_capacity(alloc, len)?;

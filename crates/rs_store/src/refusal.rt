@@ -24,8 +24,8 @@ pub enum Refusal {
     /// A put or a delete where 50,000 changes are kept.
     #[error("50000 changes are kept")]
     TooManyChanges,
-    /// No moment, no publication number or no generation is left.
-    #[error("no moment, publication number or generation is left")]
+    /// No moment, no number of a publication or of a part, or no generation is left.
+    #[error("no moment, publication number, part number or generation is left")]
     Exhausted,
     /// The disk has no run of free blocks for something that has to be written.
     #[error("the disk is full")]

@@ -10,8 +10,8 @@ use rs_image::{Contents, Rooted};
 use std::alloc::Global;
 use std::marker::Model;
 
-/// A source on a disk: the resources that it holds, the changes to them and its latest publication,
-/// which outlast a crash at any moment.
+/// A source on a disk: the resources that it holds, the changes to them that it keeps and its latest
+/// publication, which outlast a crash at any moment.
 ///
 /// It keeps the set of the blocks that its root reaches, so that a command costs no walk over all
 /// pages. Contracts don't see the set: between calls it is the one that the root and the lists have.

@@ -1,6 +1,7 @@
 //! A source, as its documents show it.
 
-ghost use Rattle.std.specs.Prelude.{◌≡◌};
+ghost use Rattle.std.specs.Prelude.{◌≡◌, ◌≤◌};
+ghost use Rattle.rs_time.specs.Moment.{greatest};
 
 use crate::Source;
 use rs_disk::Disk;
@@ -9,11 +10,8 @@ use rs_lists::View;
 use rs_record::{Base, Change, Record};
 use rs_time::Moment;
 
-// The number of the first part of the Change List: all changes are kept.
-const FIRST_PART: u64 = 0;
-
-/// A source as its documents show it: its latest publication and all its changes, in the pages in
-/// which they are stored. It borrows the source and copies nothing.
+/// A source as its documents show it: its latest publication and the changes that it keeps, in the
+/// pages in which they are stored. It borrows the source and copies nothing.
 #[derive(Drop)]
 pub struct SourceView<'a, D: Disk> {
     pub(crate) source: &'a Source<D>,
@@ -22,7 +20,8 @@ pub struct SourceView<'a, D: Disk> {
 impl<'a, D: Disk> SourceView<'a, D> {
     // The lists of the source.
     fn contents(&self) -> &'a Contents
-        ensures { result.now ≡ self.now.source.now.contents }
+        ensures value { result.now ≡ self.now.source.now.contents }
+        ensures first { result.now.header.first ≤ greatest }
     {
         let source = self.source;
         &source.contents
@@ -74,6 +73,10 @@ impl<D: Disk> View for SourceView<'_, D> {
     }
 
     fn first(&self) -> u64 {
-        FIRST_PART
+        self.contents().header.first
+    }
+
+    fn begin(&self) -> Moment {
+        self.contents().header.begin
     }
 }

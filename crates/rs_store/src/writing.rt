@@ -8,6 +8,7 @@ ghost use Rattle.rs_page.specs.Items.{record_format, change_format};
 ghost use Rattle.rs_page.specs.Pages.{IsTouched, placed_extents};
 ghost use Rattle.rs_page.specs.DiskPages.{IsWritten};
 ghost use Rattle.rs_image.specs.Reach.{AreInside};
+ghost use Rattle.rs_directory.specs.Directory.{written_format};
 ghost use Rattle.rs_image.specs.StateOfImage.{listing, AreListable};
 ghost use Rattle.rs_disk.specs.Leaves.{Advances, TellsFaults};
 ghost use Rattle.rs_plan.specs.Plans.{once_stored, places};
@@ -115,22 +116,22 @@ fn write_pages<D: Disk>(
     contents: &mut Contents,
 ) -> Result<(), WriteFault>
     requires catalogue { All (λ page. ¬ IsTouched page.place) contents.old.catalogue }
-    requires history { All (λ page. ¬ IsTouched page.place) contents.old.history }
+    requires history { All (λ page. ¬ IsTouched page.place) contents.old.history.pages }
     requires room { AreOnDisk
-        (placed_extents contents.old.catalogue ++ placed_extents contents.old.history)
+        (placed_extents contents.old.catalogue ++ placed_extents contents.old.history.pages)
         (D.state disk.old).size }
     requires apart { AreApart
-        (placed_extents contents.old.catalogue ++ placed_extents contents.old.history) }
+        (placed_extents contents.old.catalogue ++ placed_extents contents.old.history.pages) }
     ensures ok { OnOk result (contents.new ≡ once_stored contents.old) }
     ensures catalogue { OnOk result
         (All (IsWritten record_format (D.state disk.new).now.seen) contents.old.catalogue) }
     ensures history { OnOk result
-        (All (IsWritten change_format (D.state disk.new).now.seen) contents.old.history) }
+        (All (IsWritten change_format (D.state disk.new).now.seen) contents.old.history.pages) }
     ensures device { TellsFaults (IsErrOf result WriteFault.Device)
         (D.state disk.old) (D.state disk.new) }
     ensures outside { (kept : ℕ → Bool)
         → AreBeside kept
-        (placed_extents contents.old.catalogue ++ placed_extents contents.old.history)
+        (placed_extents contents.old.catalogue ++ placed_extents contents.old.history.pages)
         → WritesOutside kept (D.state disk.old) (D.state disk.new) }
     ensures advances { Advances (D.state disk.old) (D.state disk.new) }
 {
@@ -147,12 +148,12 @@ fn write_directory<D: Disk>(
     contents: &Contents,
 ) -> Result<Written, WriteFault>
     requires room { IsOnDisk extent (D.state disk.old).size }
-    requires sized { IsSized extent (length (listing contents.now)) }
+    requires sized { IsSized extent (length (listing written_format contents.now)) }
     ensures written { IfOk result (IsDigestOf contents.now) }
     ensures lists { OnOk result (AreLists contents.now) }
     ensures reads { OnOk result
-        (part extent (length (listing contents.now)) (D.state disk.new).now.seen
-        ≡ listing contents.now) }
+        (part extent (length (listing written_format contents.now)) (D.state disk.new).now.seen
+        ≡ listing written_format contents.now) }
     ensures device { TellsFaults (IsErrOf result WriteFault.Device)
         (D.state disk.old) (D.state disk.new) }
     ensures outside { (kept : ℕ → Bool) → IsBeside kept extent
@@ -170,7 +171,7 @@ fn write_directory<D: Disk>(
 
 // The bytes of the directory of these lists.
 fn directory_of(alloc: Global, contents: &Contents) -> Result<Vec<u8>, AllocError>
-    ensures bytes { IfOk result (λ bytes. bytes.items ≡ listing contents.now) }
+    ensures bytes { IfOk result (λ bytes. bytes.items ≡ listing written_format contents.now) }
     ensures fits { IfOk result (λ bytes. vec_len bytes < 2 ^ 32) }
     ensures lists { OnOk result (AreLists contents.now) }
 {

@@ -12,11 +12,15 @@ mod failing;
 #[cfg(test)]
 mod filling;
 #[cfg(test)]
+mod making;
+#[cfg(test)]
 mod paging;
 #[cfg(test)]
 mod reading;
 #[cfg(test)]
 mod receiving;
+#[cfg(test)]
+mod retaining;
 #[cfg(test)]
 mod showing;
 #[cfg(test)]

@@ -44,7 +44,7 @@ const REFUSALS: [(Refusal, &str); 12] = [
     (Refusal::TooManyChanges, "50000 changes are kept"),
     (
         Refusal::Exhausted,
-        "no moment, publication number or generation is left",
+        "no moment, publication number, part number or generation is left",
     ),
     (Refusal::Full, "the disk is full"),
     (Refusal::ReadFault, "the body cannot be read"),

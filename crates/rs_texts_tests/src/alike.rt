@@ -15,6 +15,7 @@ pub struct Alike<'a> {
     pub at: Moment,
     pub number: u64,
     pub first: u64,
+    pub begin: Moment,
     pub record: &'a Record,
     pub change: &'a Change,
     pub limit: u16,
@@ -39,6 +40,7 @@ impl View for Alike<'_> {
       published = replicate s.items s.record.now;
       changes = replicate s.items s.change.now;
       first = s.first;
+      begin = s.begin;
     } };
 
     fn base(&self) -> &Base {
@@ -79,6 +81,10 @@ impl View for Alike<'_> {
 
     fn first(&self) -> u64 {
         self.first
+    }
+
+    fn begin(&self) -> Moment {
+        self.begin
     }
 }
 

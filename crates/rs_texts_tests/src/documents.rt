@@ -1,5 +1,5 @@
-//! Documents of views that no script can make: parts that are numbered from 7 on, and the longest values that there
-//! are. Their lengths are counted by a program in Python that spells the table of docs/DOCUMENTS.md.
+//! Documents of views that no short script makes: parts that are numbered from 7 on and begin after the start, and the
+//! longest values that there are. Their lengths are counted by a program in Python that spells the table of docs/DOCUMENTS.md.
 
 use crate::alike::Alike;
 use crate::narrow::Narrow;
@@ -24,12 +24,13 @@ struct Case<'a> {
     start: u64,
     number: u64,
     first: u64,
+    begin: u64,
     rows: &'a [Row],
     // With the limit and the items of the last row: the number of parts, and what is not there.
     parts: u64,
     missing: &'a [Doc],
-    // The index of the changes, where it is looked at.
-    index: Option<&'a [u8]>,
+    // With the same: what some documents are, byte for byte.
+    texts: &'a [(Doc, &'a [u8])],
 }
 
 // Writes a list to writers that have too little room for it, or for its first thousand bytes.
@@ -107,8 +108,12 @@ fn is_so(
     for doc in case.missing {
         is_so_long(rt, view, *doc, None);
     }
-    if let Some(index) = case.index {
-        assert_eq!(rt; text(rt.alloc(), view, Doc::ChangeHead)?.as_slice(), index);
+    for (doc, wanted) in case.texts {
+        assert_eq!(rt;
+            text(rt.alloc(), view, *doc)?.as_slice(),
+            *wanted,
+            "{doc:?}"
+        );
     }
     Ok(())
 }
@@ -126,6 +131,7 @@ fn look(rt: &(impl Abort + AllocGlobal), case: &Case<'_>) -> Result<(), Fail> {
         at: published,
         number: case.number,
         first: 0,
+        begin: at(case.begin)?,
         record: &record,
         change: &change,
         limit: 2,
@@ -171,23 +177,74 @@ fn the_longest_documents(rt: HostRuntime) -> Result<(), Fail> {
         start: Moment::GREATEST,
         number: u64::MAX,
         first: 253_402_300_799_999,
+        begin: Moment::GREATEST,
         rows: &ROWS,
         parts: 25_000,
         missing: &MISSING,
-        index: None,
+        texts: &[],
     };
     look(&rt, &case)
 }
 
-// The index of the changes of the view below.
+// The documents of changes of the view below, which begin a millisecond after the start.
 const INDEX: &[u8] = b"<?xml version=\"1.0\" encoding=\"UTF-8\"?>
 <sitemapindex xmlns=\"http://www.sitemaps.org/schemas/sitemap/0.9\" xmlns:rs=\"http://www.openarchives.org/rs/terms/\">
 <rs:ln rel=\"up\" href=\"http://127.0.0.1:8080/capabilitylist.xml\"/>
-<rs:md capability=\"changelist\" from=\"1970-01-01T00:00:00.000Z\"/>
-<sitemap><loc>http://127.0.0.1:8080/changelist/7.xml</loc><rs:md from=\"1970-01-01T00:00:00.000Z\" until=\"1970-01-01T00:00:00.002Z\"/></sitemap>
+<rs:md capability=\"changelist\" from=\"1970-01-01T00:00:00.001Z\"/>
+<sitemap><loc>http://127.0.0.1:8080/changelist/7.xml</loc><rs:md from=\"1970-01-01T00:00:00.001Z\" until=\"1970-01-01T00:00:00.002Z\"/></sitemap>
 <sitemap><loc>http://127.0.0.1:8080/changelist/8.xml</loc><rs:md from=\"1970-01-01T00:00:00.002Z\"/></sitemap>
 </sitemapindex>
 ";
+
+const FIRST_PART: &[u8] = b"<?xml version=\"1.0\" encoding=\"UTF-8\"?>
+<urlset xmlns=\"http://www.sitemaps.org/schemas/sitemap/0.9\" xmlns:rs=\"http://www.openarchives.org/rs/terms/\">
+<rs:ln rel=\"up\" href=\"http://127.0.0.1:8080/capabilitylist.xml\"/>
+<rs:ln rel=\"index\" href=\"http://127.0.0.1:8080/changelist.xml\"/>
+<rs:md capability=\"changelist\" from=\"1970-01-01T00:00:00.001Z\" until=\"1970-01-01T00:00:00.002Z\"/>
+<url><loc>http://127.0.0.1:8080/resource/a</loc><lastmod>1970-01-01T00:00:00.002Z</lastmod><rs:md change=\"updated\" datetime=\"1970-01-01T00:00:00.002Z\" hash=\"md5:d41d8cd98f00b204e9800998ecf8427e sha-256:e3b0c44298fc1c149afbf4c8996fb92427ae41e4649b934ca495991b7852b855\" length=\"0\" type=\"text/plain\"/></url>
+<url><loc>http://127.0.0.1:8080/resource/a</loc><lastmod>1970-01-01T00:00:00.002Z</lastmod><rs:md change=\"updated\" datetime=\"1970-01-01T00:00:00.002Z\" hash=\"md5:d41d8cd98f00b204e9800998ecf8427e sha-256:e3b0c44298fc1c149afbf4c8996fb92427ae41e4649b934ca495991b7852b855\" length=\"0\" type=\"text/plain\"/></url>
+</urlset>
+";
+
+const LAST_PART: &[u8] = b"<?xml version=\"1.0\" encoding=\"UTF-8\"?>
+<urlset xmlns=\"http://www.sitemaps.org/schemas/sitemap/0.9\" xmlns:rs=\"http://www.openarchives.org/rs/terms/\">
+<rs:ln rel=\"up\" href=\"http://127.0.0.1:8080/capabilitylist.xml\"/>
+<rs:ln rel=\"index\" href=\"http://127.0.0.1:8080/changelist.xml\"/>
+<rs:md capability=\"changelist\" from=\"1970-01-01T00:00:00.002Z\"/>
+<url><loc>http://127.0.0.1:8080/resource/a</loc><lastmod>1970-01-01T00:00:00.002Z</lastmod><rs:md change=\"updated\" datetime=\"1970-01-01T00:00:00.002Z\" hash=\"md5:d41d8cd98f00b204e9800998ecf8427e sha-256:e3b0c44298fc1c149afbf4c8996fb92427ae41e4649b934ca495991b7852b855\" length=\"0\" type=\"text/plain\"/></url>
+</urlset>
+";
+
+// The same changes in one list, of which no part is there.
+const ONE_LIST: &[u8] = b"<?xml version=\"1.0\" encoding=\"UTF-8\"?>
+<urlset xmlns=\"http://www.sitemaps.org/schemas/sitemap/0.9\" xmlns:rs=\"http://www.openarchives.org/rs/terms/\">
+<rs:ln rel=\"up\" href=\"http://127.0.0.1:8080/capabilitylist.xml\"/>
+<rs:md capability=\"changelist\" from=\"1970-01-01T00:00:00.001Z\"/>
+<url><loc>http://127.0.0.1:8080/resource/a</loc><lastmod>1970-01-01T00:00:00.002Z</lastmod><rs:md change=\"updated\" datetime=\"1970-01-01T00:00:00.002Z\" hash=\"md5:d41d8cd98f00b204e9800998ecf8427e sha-256:e3b0c44298fc1c149afbf4c8996fb92427ae41e4649b934ca495991b7852b855\" length=\"0\" type=\"text/plain\"/></url>
+<url><loc>http://127.0.0.1:8080/resource/a</loc><lastmod>1970-01-01T00:00:00.002Z</lastmod><rs:md change=\"updated\" datetime=\"1970-01-01T00:00:00.002Z\" hash=\"md5:d41d8cd98f00b204e9800998ecf8427e sha-256:e3b0c44298fc1c149afbf4c8996fb92427ae41e4649b934ca495991b7852b855\" length=\"0\" type=\"text/plain\"/></url>
+</urlset>
+";
+
+// A view whose first part has the number 7, and whose changes begin at the moment 1.
+fn from_seven_on<'a>(
+    rows: &'a [Row],
+    parts: u64,
+    missing: &'a [Doc],
+    texts: &'a [(Doc, &'a [u8])],
+) -> Case<'a> {
+    Case {
+        base: b"http://127.0.0.1:8080",
+        put: (b"a", b"text/plain", 0, 2),
+        start: 0,
+        number: 1,
+        first: 7,
+        begin: 1,
+        rows,
+        parts,
+        missing,
+        texts,
+    }
+}
 
 #[test]
 fn parts_from_seven_on(rt: HostRuntime) -> Result<(), Fail> {
@@ -212,16 +269,28 @@ fn parts_from_seven_on(rt: HostRuntime) -> Result<(), Fail> {
         Doc::ChangePart { part: 0 },
         Doc::ChangePart { part: 6 },
     ];
-    let case = Case {
-        base: b"http://127.0.0.1:8080",
-        put: (b"a", b"text/plain", 0, 2),
-        start: 0,
-        number: 1,
-        first: 7,
-        rows: &ROWS,
-        parts: 2,
-        missing: &MISSING,
-        index: Some(INDEX),
-    };
-    look(&rt, &case)
+    const TEXTS: [(Doc, &[u8]); 3] = [
+        (Doc::ChangeHead, INDEX),
+        (Doc::ChangePart { part: 7 }, FIRST_PART),
+        (Doc::ChangePart { part: 8 }, LAST_PART),
+    ];
+    look(&rt, &from_seven_on(&ROWS, 2, &MISSING, &TEXTS))
+}
+
+#[test]
+fn one_list_that_begins_after_the_start(rt: HostRuntime) -> Result<(), Fail> {
+    const ROWS: [Row; 2] = [
+        (2, 2, None, Some(794), Some(900)),
+        (2, 2, Some(0), None, None),
+    ];
+    const MISSING: [Doc; 3] = [
+        Doc::ResourcePart {
+            publication: 1,
+            part: 7,
+        },
+        Doc::ChangePart { part: 0 },
+        Doc::ChangePart { part: 7 },
+    ];
+    const TEXTS: [(Doc, &[u8]); 1] = [(Doc::ChangeHead, ONE_LIST)];
+    look(&rt, &from_seven_on(&ROWS, 1, &MISSING, &TEXTS))
 }

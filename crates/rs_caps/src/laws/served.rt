@@ -6,7 +6,7 @@ ghost use Rattle.rs_model.specs.Lawful.{IsLawful};
 ghost use Rattle.rs_caps.specs.Statements.{TextsAreAnswered, TextsRead, ResourcesAreGathered, ChangesAreGathered, ListsMirror, ListedPartsStay, ClosedPartsStay, PartsAreBounded, BlocksAreNotShown, AlikeViewsHaveOneText};
 
 use rs_lists::parts_are_chunks;
-use rs_model::{State, lawful_stays};
+use rs_model::{State, changes_are_kept, lawful_stays};
 use rs_record::{Change, Record};
 
 /// The text of each list, part and index that is there is what is answered at its path, and reads as exactly
@@ -17,8 +17,8 @@ pub fn texts_read()
 {}
 
 /// Served lists mirror what is held: what is gathered from the Resource List's texts is all that was published,
-/// what is gathered from the Change List's is all changes, and in a regular state the published resources
-/// with the changes after their publication are the resources that are held.
+/// what is gathered from the Change List's is all changes that are kept and where they begin, and in a regular state
+/// the published resources with the changes after their publication are the resources that are held.
 pub fn lists_read()
     ensures resources { (s : Source) → IsLawful s → ResourcesAreGathered s }
     ensures changes { (s : Source) → IsLawful s → ChangesAreGathered s }
@@ -44,10 +44,11 @@ pub fn listed_parts_stay()
     ensures { ListedPartsStay }
 {}
 
-/// So does a part of the Change List from the time on when it has an `until`.
+/// So does a part of the Change List from the time on when it has an `until`, whatever parts before it are dropped.
 pub fn closed_parts_stay()
     ensures { ClosedPartsStay }
 {
+    changes_are_kept();
     lawful_stays();
 }
 

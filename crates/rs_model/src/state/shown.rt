@@ -70,11 +70,27 @@ impl State {
         &self.listed
     }
 
-    /// All changes since formatting, in the order of their moments.
+    /// The changes that are kept, in the order of their moments.
     pub fn changes(&self) -> &[Change]
         ensures { result.now ≡ self.now.changes }
     {
         &self.changes
+    }
+
+    /// The number of the first part of the changes that is kept: how many were dropped, at most
+    /// 253,402,300,799,999.
+    pub fn first(&self) -> u64
+        ensures { result ≡ self.now.first }
+    {
+        self.first
+    }
+
+    /// The moment at which the kept changes begin: of the last change that was dropped, or of
+    /// formatting.
+    pub fn begin(&self) -> Moment
+        ensures { result ≡ self.now.begin }
+    {
+        self.begin
     }
 
     /// The number of resources that are held, at most 50,000.

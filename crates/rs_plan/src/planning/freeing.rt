@@ -1,9 +1,12 @@
 //! What the root after a command no longer reaches.
 
 ghost use Rattle.std.specs.Prelude.{◌≡◌, ◌++◌, IfOk, OnOk};
-ghost use Rattle.rs_page.specs.Pages.{stored_refs};
+ghost use Rattle.rs_page.specs.Pages.{stored_refs, extents_of};
+ghost use Rattle.rs_pages.specs.Dropped.{front_pages};
+ghost use Rattle.rs_plan.specs.Allowed.{changes_dropped};
 ghost use Rattle.rs_plan.specs.Freed.{unpublished, entry_of_name, extent_of_page, extent_of_body, freed_by_change, freed_by_publication};
 
+use super::dropping::dropped_parts;
 use rs_extent::Extent;
 use rs_image::{Contents, Rooted, unshared_pages};
 use rs_page::PageRef;
@@ -33,8 +36,8 @@ pub(crate) fn freed_by_change(
     Ok(freed)
 }
 
-/// What a publication frees: the directory, and the published pages that are no pages of the
-/// catalogue.
+/// What a publication frees: the directory, the pages of the history that have a change that it
+/// drops, and the published pages that are no pages of the catalogue.
 ///
 /// # Errors
 ///
@@ -46,13 +49,33 @@ pub(crate) fn freed_by_publication(
     ensures { IfOk result (λ freed. freed.items ≡ freed_by_publication old.now) }
 {
     let root = old.root();
+    let dropped = dropped_pages(alloc, old.contents())?;
     let pages = unshared_pages(alloc, old.contents())?;
     let mut freed = Vec::new(alloc);
     freed.push(root.directory)?;
-    for page in &pages {
+    add_pages(&mut freed, &dropped)?;
+    add_pages(&mut freed, &pages)?;
+    Ok(freed)
+}
+
+// The pages of the history that have a change that a publication drops.
+fn dropped_pages(alloc: Global, contents: &Contents) -> Result<Vec<PageRef>, AllocError>
+    ensures { IfOk result (λ pages. pages.items ≡ stored_refs
+        (front_pages (changes_dropped contents.now) contents.now.history.pages)) }
+{
+    let history = &contents.history;
+    let limit = contents.header.limit.items();
+    history.dropped_entries(alloc, dropped_parts(contents), limit)
+}
+
+// Adds the blocks of pages.
+fn add_pages(freed: &mut Vec<Extent>, pages: &[PageRef]) -> Result<(), AllocError>
+    ensures { OnOk result (freed.new.items ≡ freed.old.items ++ extents_of pages.now) }
+{
+    for page in pages {
         freed.push(page.extent)?;
     }
-    Ok(freed)
+    Ok(())
 }
 
 // The page of the catalogue that a name goes into, unless it is published.

@@ -8,13 +8,15 @@ ghost use Rattle.rs_page.specs.Pages.{placed_extents};
 ghost use Rattle.rs_pages.specs.Rule.{bound_in, unbound_in, appended_to};
 ghost use Rattle.rs_catalogue.specs.Catalogue.{records_of, IsCatalogue, StandsUnstored};
 ghost use Rattle.rs_catalogue.specs.Named.{named};
-ghost use Rattle.rs_changes.specs.History.{changes_of, last_of, EndsUnstored};
+ghost use Rattle.rs_changes.specs.History.{changes_of, last_of, with_pages, without_parts, IsHistory, EndsUnstored};
 ghost use Rattle.rs_model.specs.Names.{value_of, bind, unbind};
 ghost use Rattle.rs_image.specs.Whole.{AreMoments};
-ghost use Rattle.rs_plan.specs.Allowed.{MayChange, MayPut, MayDelete, MayPublish};
+ghost use Rattle.rs_plan.specs.Allowed.{MayChange, MayPut, MayDelete, MayPublish, parts_dropped};
+ghost use Rattle.rs_plan.specs.Published.{published_header};
 ghost use Rattle.rs_plan.specs.Placed.{AreUnplaced, record_of_body, facts_of_body};
 ghost use Rattle.rs_plan.specs.Replies.{reply_of};
 
+use super::dropping::{begin_without, dropped_parts};
 use rs_catalogue::Catalogue;
 use rs_changes::History;
 use rs_directory::Header;
@@ -26,8 +28,8 @@ use rs_record::{Change, Facts, MediaType, Name, Record, What};
 use rs_time::Moment;
 use std::alloc::{AllocError, Global};
 
-/// The lists where the name is bound to a body of this type, of `body_length` bytes with these digests, in an extent, at a
-/// moment.
+/// The lists where the name is bound to a body of this type, of `body_length` bytes with these
+/// digests, in an extent, at a moment.
 ///
 /// # Errors
 ///
@@ -49,22 +51,24 @@ pub(crate) fn lists_after_put(
     ensures records { IfOk result (λ lists. named (records_of lists.catalogue)
         ≡ bind name.now (record_of_body name.now kind.now body_length digests body moment)
         (named (records_of old.now.catalogue))) }
-    ensures changes { IfOk result (λ lists. changes_of lists.history ≡ changes_of old.now.history
-        ++ bound name.now
+    ensures changes { IfOk result (λ lists. changes_of lists.history.pages
+        ≡ changes_of old.now.history.pages ++ bound name.now
         (is_some (value_of name.now (named (records_of old.now.catalogue)))) moment
         (facts_of_body kind.now body_length digests) ∷ []) }
     ensures published { IfOk result (λ lists. lists.published ≡ old.now.published) }
     ensures catalogue_pages { IfOk result (λ lists. KeepsPages old.now.catalogue lists.catalogue) }
-    ensures history_pages { IfOk result (λ lists. KeepsPages old.now.history lists.history) }
+    ensures history_pages { IfOk result
+        (λ lists. KeepsPages old.now.history.pages lists.history.pages) }
     ensures unplaced { AreUnplaced old.now → IfOk result AreUnplaced }
     ensures moment { IfOk result (λ _. IsMoment moment) }
     ensures catalogue { IfOk result (λ lists. lists.catalogue ≡ bound_in (λ r. r.name)
         (record_of_body name.now kind.now body_length digests body moment) old.now.catalogue) }
-    ensures history { IfOk result (λ lists. lists.history ≡ appended_to (bound name.now
+    ensures history { IfOk result (λ lists. lists.history ≡ with_pages old.now.history
+        (appended_to (bound name.now
         (is_some (value_of name.now (named (records_of old.now.catalogue)))) moment
-        (facts_of_body kind.now body_length digests)) old.now.history) }
+        (facts_of_body kind.now body_length digests)) old.now.history.pages)) }
     ensures unstored { IfOk result (λ lists. StandsUnstored name.now lists.catalogue
-        × EndsUnstored lists.history) }
+        × EndsUnstored lists.history.pages) }
     ensures lawful { IfOk result (λ _. IsCatalogue old.now.catalogue) }
 {
     let record = Record {
@@ -89,8 +93,8 @@ pub(crate) fn lists_after_put(
 
 /// The reply to the command that made the last change.
 pub(crate) fn reply_told(history: &History) -> Reply
-    requires { 1 ≤ length (changes_of history.now) }
-    ensures { MatchOption (last_of (changes_of history.now)) ⊥
+    requires { 1 ≤ length (changes_of history.now.pages) }
+    ensures { MatchOption (last_of (changes_of history.now.pages)) ⊥
         (λ change. result ≡ reply_of change) }
 {
     let change = history.at(history.len() - 1);
@@ -117,17 +121,18 @@ pub(crate) fn lists_after_delete(
     ensures header { IfOk result (λ lists. lists.header ≡ record old.now.header { last = moment }) }
     ensures records { IfOk result (λ lists. named (records_of lists.catalogue)
         ≡ unbind name.now (named (records_of old.now.catalogue))) }
-    ensures changes { IfOk result (λ lists. changes_of lists.history
-        ≡ changes_of old.now.history ++ deleted name.now moment ∷ []) }
+    ensures changes { IfOk result (λ lists. changes_of lists.history.pages
+        ≡ changes_of old.now.history.pages ++ deleted name.now moment ∷ []) }
     ensures published { IfOk result (λ lists. lists.published ≡ old.now.published) }
     ensures catalogue_pages { IfOk result (λ lists. KeepsPages old.now.catalogue lists.catalogue) }
-    ensures history_pages { IfOk result (λ lists. KeepsPages old.now.history lists.history) }
+    ensures history_pages { IfOk result
+        (λ lists. KeepsPages old.now.history.pages lists.history.pages) }
     ensures unplaced { AreUnplaced old.now → IfOk result AreUnplaced }
     ensures moment { IfOk result (λ _. IsMoment moment) }
     ensures catalogue { IfOk result (λ lists. lists.catalogue
         ≡ unbound_in (λ r. r.name) name.now old.now.catalogue) }
-    ensures history { IfOk result (λ lists. lists.history
-        ≡ appended_to (deleted name.now moment) old.now.history) }
+    ensures history { IfOk result (λ lists. lists.history ≡ with_pages old.now.history
+        (appended_to (deleted name.now moment) old.now.history.pages)) }
     ensures lawful { IfOk result (λ _. IsCatalogue old.now.catalogue) }
 {
     // Reading it shows what its type keeps.
@@ -148,16 +153,17 @@ fn lists_with(
     ensures header { IfOk result
         (λ lists. lists.header ≡ record old.now.header { last = «change».moment }) }
     ensures catalogue { IfOk result (λ lists. lists.catalogue ≡ catalogue) }
-    ensures changes { IfOk result (λ lists. changes_of lists.history
-        ≡ changes_of old.now.history ++ «change» ∷ []) }
+    ensures changes { IfOk result (λ lists. changes_of lists.history.pages
+        ≡ changes_of old.now.history.pages ++ «change» ∷ []) }
     ensures published { IfOk result (λ lists. lists.published ≡ old.now.published) }
-    ensures history_pages { IfOk result (λ lists. KeepsPages old.now.history lists.history) }
-    ensures unstored { IfOk result (λ lists. EndsUnstored lists.history) }
-    ensures unplaced { placed_extents old.now.history ≡ []
-        → IfOk result (λ lists. placed_extents lists.history ≡ []) }
+    ensures history_pages { IfOk result
+        (λ lists. KeepsPages old.now.history.pages lists.history.pages) }
+    ensures unstored { IfOk result (λ lists. EndsUnstored lists.history.pages) }
+    ensures unplaced { placed_extents old.now.history.pages ≡ []
+        → IfOk result (λ lists. placed_extents lists.history.pages ≡ []) }
     ensures moment { IfOk result (λ _. IsMoment «change».moment) }
     ensures history { IfOk result (λ lists. lists.history
-        ≡ appended_to «change» old.now.history) }
+        ≡ with_pages old.now.history (appended_to «change» old.now.history.pages)) }
 {
     let header = header_at(alloc, &old.header, change.moment)?;
     Ok(Contents {
@@ -168,7 +174,8 @@ fn lists_with(
     })
 }
 
-/// The lists where all resources that are held are published, at a moment.
+/// The lists where all resources that are held are published, at a moment, and the parts of the
+/// changes are dropped that end no later than the publication before.
 ///
 /// # Errors
 ///
@@ -178,22 +185,29 @@ pub(crate) fn lists_after_publish(
     old: &Contents,
     moment: Moment,
 ) -> Result<Contents, AllocError>
-    requires { MayPublish old.now moment }
-    ensures header { IfOk result
-        (λ lists. lists.header ≡ record old.now.header
-        { last = moment; number = old.now.header.number + 1; at = moment }) }
+    requires may { MayPublish old.now moment }
+    requires number { old.now.history.first ≡ old.now.header.first }
+    ensures header { IfOk result (λ lists. lists.header ≡ published_header old.now moment) }
     ensures catalogue { IfOk result (λ lists. lists.catalogue ≡ old.now.catalogue) }
-    ensures history { IfOk result (λ lists. lists.history ≡ old.now.history) }
+    ensures history { IfOk result (λ lists. lists.history
+        ≡ without_parts (parts_dropped old.now) old.now.header.limit old.now.history) }
     ensures published { IfOk result (λ lists. lists.published ≡ old.now.catalogue) }
     ensures moment { IfOk result (λ _. IsMoment moment) }
+    ensures lawful { IfOk result (λ _. IsHistory old.now.history.pages) }
 {
+    // Reading it shows what its type keeps.
+    let _len = old.history.len();
+    let dropped = dropped_parts(old);
     let mut header = header_at(alloc, &old.header, moment)?;
     header.number += 1;
     header.at = moment;
+    header.first += dropped;
+    header.begin = begin_without(old, dropped);
+    let limit = header.limit.items();
     Ok(Contents {
         header,
+        history: old.history.drop_parts(alloc, dropped, limit)?,
         catalogue: old.catalogue.copy(alloc)?,
-        history: old.history.copy(alloc)?,
         published: old.catalogue.copy(alloc)?,
     })
 }
@@ -212,5 +226,7 @@ fn header_at(alloc: Global, old: &Header, moment: Moment) -> Result<Header, Allo
         last: moment,
         number: old.number,
         at: old.at,
+        first: old.first,
+        begin: old.begin,
     })
 }

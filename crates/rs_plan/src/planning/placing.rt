@@ -65,7 +65,7 @@ pub(crate) fn place_lists(
     ensures reply { IfOk result (λ plan. plan.reply ≡ reply) }
     ensures full { IsErrOf result PlanFault.Full → HasNoRoomFrom used.old body lists }
     ensures catalogue { IfOk result (λ _. IsCatalogue lists.catalogue) }
-    ensures history { IfOk result (λ _. IsHistory lists.history) }
+    ensures history { IfOk result (λ _. IsHistory lists.history.pages) }
     ensures published { IfOk result (λ _. IsCatalogue lists.published) }
 {
     let mut taken = room_for_places(alloc, &lists)?;
@@ -88,8 +88,8 @@ pub(crate) fn place_lists(
 fn room_for_places(alloc: Global, lists: &Contents) -> Result<Vec<Extent>, AllocError>
     ensures empty { IfOk result (λ places. places.items ≡ []) }
     ensures len { IfOk result (λ places. vec_len places ≡ 0) }
-    ensures room { IfOk result (λ places. length lists.now.catalogue + length lists.now.history + 2
-        ≤ vec_capacity places) }
+    ensures room { IfOk result (λ places. length lists.now.catalogue
+        + length lists.now.history.pages + 2 ≤ vec_capacity places) }
 {
     let pages = lists.catalogue.page_count() + lists.history.page_count();
     Vec::with_capacity(alloc, pages + 2)
@@ -103,18 +103,18 @@ fn take_places(
     taken: &mut Vec<Extent>,
 ) -> Result<Extent, Full>
     requires unplaced { AreUnplaced lists.old }
-    requires room { vec_len taken.old + length lists.old.catalogue + length lists.old.history + 1
-        ≤ vec_capacity taken.old }
+    requires room { vec_len taken.old + length lists.old.catalogue
+        + length lists.old.history.pages + 1 ≤ vec_capacity taken.old }
     ensures taken { (extents : List Extent) × (taken.new.items ≡ taken.old.items ++ extents)
         × AreTaken used.old used.new extents }
     ensures listed { IfOk result (λ directory. taken.new.items ≡ taken.old.items
-        ++ placed_extents lists.new.catalogue ++ placed_extents lists.new.history
+        ++ placed_extents lists.new.catalogue ++ placed_extents lists.new.history.pages
         ++ directory ∷ []) }
     ensures placed { IfOk result
         (λ directory. HaveTheirPlaces used.old lists.old lists.new directory used.new) }
     ensures full { OnErr result (HasNoRoom used.old (lists_needed lists.old)) }
     ensures catalogue { IsCatalogue lists.old.catalogue }
-    ensures history { IsHistory lists.old.history }
+    ensures history { IsHistory lists.old.history.pages }
     ensures published { IsCatalogue lists.old.published }
 {
     let length = directory_size(&lists.header, pages_of(lists));
@@ -143,10 +143,10 @@ fn take_lowest(used: &mut Used, length: u32) -> Option<Extent>
 
 // How many pages there are in all.
 fn pages_of(lists: &Contents) -> usize
-    ensures pages { result ≡ length lists.now.catalogue + length lists.now.history
+    ensures pages { result ≡ length lists.now.catalogue + length lists.now.history.pages
         + length lists.now.published }
     ensures catalogue { IsCatalogue lists.now.catalogue }
-    ensures history { IsHistory lists.now.history }
+    ensures history { IsHistory lists.now.history.pages }
     ensures published { IsCatalogue lists.now.published }
 {
     lists.catalogue.page_count() + lists.history.page_count() + lists.published.page_count()

@@ -1,14 +1,11 @@
-use Rattle.std.proofs.Common.{true≢false, ◌≡◌, ◌<◌, ◌≤◌, ◌+◌, ◌-◌, ℕ, suc, false, List, length, get_or, inl, inr, refl, sym, ap, ◌∙◌, arith, Some}
+use Rattle.std.proofs.Common.{◌≡◌, ◌<◌, ◌≤◌, ◌+◌, ◌-◌, ℕ, suc, List, length, get_or, inl, inr, refl, sym, ap, ◌∙◌, arith, Some}
 use Rattle.std.specs.Prelude.{slice_get}
-use Rattle.std.specs.Ordering.{is_le, nat_cmp}
-use Rattle.std.specs.Cmp.{ranked}
-use Rattle.std.proofs.lemmas.Cmp.{by_ranked}
 use Rattle.std.proofs.lemmas.Bool.{cases_lt}
 use Rattle.std.proofs.lemmas.Map.Keys.{le_from_is_le}
 use Rattle.std.proofs.lemmas.Option.{get_or_from_slice_get}
 use Rattle.rs_record.specs.declared.change.Change.{Change}
 use Rattle.rs_page.specs.Pages.{items_of}
-use Rattle.rs_changes.proofs.Rising.{Rises, rising_from, refuted}
+use Rattle.rs_changes.proofs.Rising.{Rises, rising_from, refuted, above}
 use Rattle.rs_changes.proofs.storing.is_rising.Goals as goal
 
 pub returns-then-le : goal.returns-then-le
@@ -24,10 +21,6 @@ returns-then-le c =
 
 pub returns : goal.returns
 returns c = (λ _. rising_from (items_of c.args.changes.now) (λ k d inside. c.loop-i.invariant k d (omega (arith, c.len-i-end.ensures.value, c.loop-i-test.false, inside))), λ _. refl)
-
-above : (a b : ℕ) → is_le (nat_cmp a b) ≡ false → b < a
-above a b h =
-    by_ranked (a < b) (a ≡ b) (b < a) (nat_cmp a b) (ranked a b _ refl) (λ e _. absurd (true≢false (sym (ap is_le e) ∙ h))) (λ e _. absurd (true≢false (sym (ap is_le e) ∙ h))) (λ _ l. l)
 
 -- neighbours up to this place
 rises_here : (changes : List Change) (i : ℕ) (this other : Change) → 1 ≤ i → i < length changes → slice_get changes i ≡ Some this → slice_get changes (i - 1) ≡ Some other

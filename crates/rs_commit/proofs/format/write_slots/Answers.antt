@@ -1,6 +1,6 @@
 use Rattle.std.proofs.Common.{◌≡◌, ◌≤◌, ◌∷◌, [], ◌++◌, ℕ, List, length, refl, ◌∙◌, ap, arith}
 use Rattle.rs_disk.specs.Medium.{Medium, over, resting}
-use Rattle.rs_commit.specs.Slots.{payload_of}
+use Rattle.rs_commit.specs.Slots.{payload_of, written_version}
 use Rattle.rs_commit.specs.Commit.{IsReady, behind_slots}
 use Rattle.rs_commit.specs.Format.{slot_bytes, formatted, fresh}
 use Rattle.rs_commit.proofs.Payloads.{made}
@@ -12,17 +12,17 @@ use Rattle.rs_commit.proofs.format.write_slots.Goals as goal
 pub returns-in_err-write-clause-outside : goal.returns-in_err-write-clause-outside
 returns-in_err-write-clause-outside g c =
     (outside_write (g.D.Disk.state c.args.disk.now) (g.D.Disk.state c.write.new.self) c.offset.result c.closed_slot.result c.write.result c.write.ensures.counts
-    (g.met.D.Disk.holds c.args.disk.now) c.requires (omega (arith, c.offset.ensures)) c.write.ensures.writes c.write.ensures.tears).0
+    (g.met.D.Disk.holds c.args.disk.now) c.requires.size (omega (arith, c.offset.ensures)) c.write.ensures.writes c.write.ensures.tears).0
 
 pub returns-in_err-write-clause-any_moment : goal.returns-in_err-write-clause-any_moment
 returns-in_err-write-clause-any_moment g c =
     (outside_write (g.D.Disk.state c.args.disk.now) (g.D.Disk.state c.write.new.self) c.offset.result c.closed_slot.result c.write.result c.write.ensures.counts
-    (g.met.D.Disk.holds c.args.disk.now) c.requires (omega (arith, c.offset.ensures)) c.write.ensures.writes c.write.ensures.tears).1
+    (g.met.D.Disk.holds c.args.disk.now) c.requires.size (omega (arith, c.offset.ensures)) c.write.ensures.writes c.write.ensures.tears).1
 
 pub returns-in_err-write_settled-clause-outside : goal.returns-in_err-write_settled-clause-outside
 returns-in_err-write_settled-clause-outside g c =
     let first = outside_write (g.D.Disk.state c.args.disk.now) (g.D.Disk.state c.write.new.self) c.offset.result c.closed_slot.result c.write.result c.write.ensures.counts
-    (g.met.D.Disk.holds c.args.disk.now) c.requires (omega (arith, c.offset.ensures)) c.write.ensures.writes c.write.ensures.tears in
+    (g.met.D.Disk.holds c.args.disk.now) c.requires.size (omega (arith, c.offset.ensures)) c.write.ensures.writes c.write.ensures.tears in
     let mid = (g.D.Disk.state c.write.new.self).now.seen in
     let next = (g.D.Disk.state c.write_settled.new.disk).now.seen in
     behind_on next mid (g.D.Disk.state c.args.disk.now).now.seen
@@ -31,7 +31,7 @@ returns-in_err-write_settled-clause-outside g c =
 pub returns-in_err-write_settled-clause-any_moment : goal.returns-in_err-write_settled-clause-any_moment
 returns-in_err-write_settled-clause-any_moment g c =
     let first = outside_write (g.D.Disk.state c.args.disk.now) (g.D.Disk.state c.write.new.self) c.offset.result c.closed_slot.result c.write.result c.write.ensures.counts
-    (g.met.D.Disk.holds c.args.disk.now) c.requires (omega (arith, c.offset.ensures)) c.write.ensures.writes c.write.ensures.tears in
+    (g.met.D.Disk.holds c.args.disk.now) c.requires.size (omega (arith, c.offset.ensures)) c.write.ensures.writes c.write.ensures.tears in
     let mid = g.D.Disk.state c.write.new.self in
     let next = g.D.Disk.state c.write_settled.new.disk in
     outside_on (g.D.Disk.state c.args.disk.now) mid next first.1
@@ -40,7 +40,7 @@ returns-in_err-write_settled-clause-any_moment g c =
 pub returns-clause-outside : goal.returns-clause-outside
 returns-clause-outside g c =
     let first = outside_write (g.D.Disk.state c.args.disk.now) (g.D.Disk.state c.write.new.self) c.offset.result c.closed_slot.result c.write.result c.write.ensures.counts
-    (g.met.D.Disk.holds c.args.disk.now) c.requires (omega (arith, c.offset.ensures)) c.write.ensures.writes c.write.ensures.tears in
+    (g.met.D.Disk.holds c.args.disk.now) c.requires.size (omega (arith, c.offset.ensures)) c.write.ensures.writes c.write.ensures.tears in
     let old = (g.D.Disk.state c.args.disk.now).now.seen in
     let mid = (g.D.Disk.state c.write.new.self).now.seen in
     let next = (g.D.Disk.state c.write_settled.new.disk).now.seen in
@@ -53,7 +53,7 @@ returns-clause-outside g c =
 pub returns-clause-any_moment : goal.returns-clause-any_moment
 returns-clause-any_moment g c =
     let first = outside_write (g.D.Disk.state c.args.disk.now) (g.D.Disk.state c.write.new.self) c.offset.result c.closed_slot.result c.write.result c.write.ensures.counts
-    (g.met.D.Disk.holds c.args.disk.now) c.requires (omega (arith, c.offset.ensures)) c.write.ensures.writes c.write.ensures.tears in
+    (g.met.D.Disk.holds c.args.disk.now) c.requires.size (omega (arith, c.offset.ensures)) c.write.ensures.writes c.write.ensures.tears in
     let old = g.D.Disk.state c.args.disk.now in
     let mid = g.D.Disk.state c.write.new.self in
     let next = g.D.Disk.state c.write_settled.new.disk in
@@ -75,7 +75,7 @@ returns-clause-made g c =
     let first : c.closed_slot.result ≡ slot_bytes 0 (payload_of root) = c.closed_slot.ensures ∙ ap (λ (l : List ℕ). slot_bytes 0 l) c.payload.ensures.bytes in
     let e1 : mid.now.seen ≡ over old.now.seen 0 (slot_bytes 0 (payload_of root)) =
     ap (λ (m : Medium). m.seen) c.in_ok-write.ensures.writes.now ∙ (λ i. over old.now.seen (c.offset.ensures i) (first i)) in
-    let e2 : next.now.seen ≡ over mid.now.seen 512 (slot_bytes 0 (1 ∷ [])) =
+    let e2 : next.now.seen ≡ over mid.now.seen 512 (slot_bytes 0 (written_version ∷ [])) =
     ap (λ (m : Medium). m.seen) c.in_ok-write_settled.ensures.settled ∙ (λ i. over mid.now.seen (c.offset-2.ensures i) (c.closed_slot-2.ensures i)) in
     let last_seen : List ℕ = over next.now.seen 0 (1 ∷ []) in
     on_ok {P = last.now ≡ resting (over next.now.seen c.offset-3.result (1 ∷ []))} {Q = last.now ≡ resting (formatted root ++ behind_slots old.now.seen)} c.write_settled-2.result

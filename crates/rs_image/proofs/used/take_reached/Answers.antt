@@ -15,7 +15,7 @@ returns-then-not-take_bodies-clause-refused c is can =
     let bodies = bodies_of (records_of lists.catalogue) in
     let pages = c.in_ok-pages.pages.items in
     let are : directory ∷ extents_of pages ++ bodies ≡ reach c.args.root.now lists =
-    reach_by directory (stored_refs lists.catalogue) (stored_refs lists.history) (unshared (stored_refs lists.published) (stored_refs lists.catalogue)) pages bodies c.in_ok-pages.ensures in
+    reach_by directory (stored_refs lists.catalogue) (stored_refs lists.history.pages) (unshared (stored_refs lists.published) (stored_refs lists.catalogue)) pages bodies c.in_ok-pages.ensures in
     c.take_bodies.ensures.refused c.if-not-take_bodies.true
     (can_behind c.args.used.now (directory ∷ extents_of pages) bodies (subst (CanTake c.args.used.now) (sym are) can))
 
@@ -26,7 +26,7 @@ returns-then-not-take_pages-clause-refused c is can =
     let bodies = bodies_of (records_of lists.catalogue) in
     let pages = c.in_ok-pages.pages.items in
     let are : directory ∷ extents_of pages ++ bodies ≡ reach c.args.root.now lists =
-    reach_by directory (stored_refs lists.catalogue) (stored_refs lists.history) (unshared (stored_refs lists.published) (stored_refs lists.catalogue)) pages bodies c.in_ok-pages.ensures in
+    reach_by directory (stored_refs lists.catalogue) (stored_refs lists.history.pages) (unshared (stored_refs lists.published) (stored_refs lists.catalogue)) pages bodies c.in_ok-pages.ensures in
     let left : CanTake c.take_bodies.new.used (extents_of pages) =
     can_front c.args.used.now c.take_bodies.new.used (extents_of pages) bodies (c.take_bodies.ensures.taken c.if-not-take_bodies.false)
     (can_behind c.args.used.now (directory ∷ []) (extents_of pages ++ bodies) (subst (CanTake c.args.used.now) (sym are) can)) in
@@ -39,7 +39,7 @@ returns-clause-taken c is =
     let bodies = bodies_of (records_of lists.catalogue) in
     let pages = c.in_ok-pages.pages.items in
     let are : directory ∷ extents_of pages ++ bodies ≡ reach c.args.root.now lists =
-    reach_by directory (stored_refs lists.catalogue) (stored_refs lists.history) (unshared (stored_refs lists.published) (stored_refs lists.catalogue)) pages bodies c.in_ok-pages.ensures in
+    reach_by directory (stored_refs lists.catalogue) (stored_refs lists.history.pages) (unshared (stored_refs lists.published) (stored_refs lists.catalogue)) pages bodies c.in_ok-pages.ensures in
     let behind : AreTaken c.args.used.now c.take_pages.new.used (extents_of pages ++ bodies) =
     taken_before c.args.used.now c.take_bodies.new.used c.take_pages.new.used (extents_of pages) bodies (c.take_bodies.ensures.taken c.if-not-take_bodies.false)
     (rw c.deref.ensures.value at (c.take_pages.ensures.taken c.if-not-take_pages.false)) in
@@ -53,7 +53,7 @@ returns-clause-refused c is can =
     let bodies = bodies_of (records_of lists.catalogue) in
     let pages = c.in_ok-pages.pages.items in
     let are : directory ∷ extents_of pages ++ bodies ≡ reach c.args.root.now lists =
-    reach_by directory (stored_refs lists.catalogue) (stored_refs lists.history) (unshared (stored_refs lists.published) (stored_refs lists.catalogue)) pages bodies c.in_ok-pages.ensures in
+    reach_by directory (stored_refs lists.catalogue) (stored_refs lists.history.pages) (unshared (stored_refs lists.published) (stored_refs lists.catalogue)) pages bodies c.in_ok-pages.ensures in
     let behind : AreTaken c.args.used.now c.take_pages.new.used (extents_of pages ++ bodies) =
     taken_before c.args.used.now c.take_bodies.new.used c.take_pages.new.used (extents_of pages) bodies (c.take_bodies.ensures.taken c.if-not-take_bodies.false)
     (rw c.deref.ensures.value at (c.take_pages.ensures.taken c.if-not-take_pages.false)) in

@@ -15,9 +15,9 @@ pub returns-clause-taken : goal.returns-clause-taken
 returns-clause-taken g c =
     let s = g.V.View.shown c.args.view.now in
     on_document (g.S.Sink.takes _ _) _ _ _
-    (on_four g.S.Sink.takes g.met.S.Sink.takes_more c.put_closing.result _ _ _ _ _ _ _ _ _ _ c.in_ok-put_opening.ensures.taken c.in_ok-put_change_md.ensures.taken
+    (on_four g.S.Sink.takes g.met.S.Sink.takes_more c.put_closing.result _ _ _ _ _ _ _ _ _ _ c.in_ok-put_opening.ensures.taken c.in_ok-put_head_md.ensures.taken
     c.in_ok-put_change_entries.ensures.taken c.put_closing.ensures.taken
-    (same_document _ _ _ _ _ _ (close_line (codes "sitemapindex")) (ap (λ (b : List ℕ). xml_line ∷ open_line (codes "sitemapindex") ∷ up_line b ∷ []) c.base.ensures) (ap (λ (t : ℕ). change_md t None) c.start.ensures) refl))
+    (same_document _ _ _ _ (change_md s.begin None) _ (close_line (codes "sitemapindex")) (ap (λ (b : List ℕ). xml_line ∷ open_line (codes "sitemapindex") ∷ up_line b ∷ []) c.base.ensures) refl refl))
     (change_head_index s (omega (arith, c.requires.shown)) c.requires.several)
 
 pub returns-clause-small : goal.returns-clause-small
@@ -32,31 +32,31 @@ returns-in_err-put_opening-clause-fault g c =
     let s = g.V.View.shown c.args.view.now in
     err_document (g.S.Sink.fails _ _) c.from_residual.result _ _
     (err_first_of_four g.S.Sink.fails g.met.S.Sink.fails_sooner c.from_residual.result _ _ _ _ _ _ _ c.in_err-put_opening.ensures.fault
-    (same_document _ _ (map (change_entry s) (numbers_from 0 (change_parts_of s))) _ (change_md s.start None) _ (close_line (codes "sitemapindex")) (ap (λ (b : List ℕ). xml_line ∷ open_line (codes "sitemapindex") ∷ up_line b ∷ []) c.base.ensures) refl refl))
+    (same_document _ _ (map (change_entry s) (numbers_from 0 (change_parts_of s))) _ (change_md s.begin None) _ (close_line (codes "sitemapindex")) (ap (λ (b : List ℕ). xml_line ∷ open_line (codes "sitemapindex") ∷ up_line b ∷ []) c.base.ensures) refl refl))
     (change_head_index s (omega (arith, c.requires.shown)) c.requires.several)
 
-pub returns-in_err-put_change_md-clause-fault : goal.returns-in_err-put_change_md-clause-fault
-returns-in_err-put_change_md-clause-fault g c =
+pub returns-in_err-put_head_md-clause-fault : goal.returns-in_err-put_head_md-clause-fault
+returns-in_err-put_head_md-clause-fault g c =
     let s = g.V.View.shown c.args.view.now in
-    err_document (g.S.Sink.fails _ _) c.from_residual-in_err-put_change_md.result _ _
-    (err_second_of_four g.S.Sink.takes g.S.Sink.fails g.met.S.Sink.fails_sooner g.met.S.Sink.fails_later c.from_residual-in_err-put_change_md.result _ _ _ _ _ _ _ _ c.in_ok-put_opening.ensures.taken c.in_err-put_change_md.ensures.fault
-    (same_document _ _ (map (change_entry s) (numbers_from 0 (change_parts_of s))) _ _ _ (close_line (codes "sitemapindex")) (ap (λ (b : List ℕ). xml_line ∷ open_line (codes "sitemapindex") ∷ up_line b ∷ []) c.base.ensures) (ap (λ (t : ℕ). change_md t None) c.start.ensures) refl))
+    err_document (g.S.Sink.fails _ _) c.from_residual-in_err-put_head_md.result _ _
+    (err_second_of_four g.S.Sink.takes g.S.Sink.fails g.met.S.Sink.fails_sooner g.met.S.Sink.fails_later c.from_residual-in_err-put_head_md.result _ _ _ _ _ _ _ _ c.in_ok-put_opening.ensures.taken c.in_err-put_head_md.ensures.fault
+    (same_document _ _ (map (change_entry s) (numbers_from 0 (change_parts_of s))) _ (change_md s.begin None) _ (close_line (codes "sitemapindex")) (ap (λ (b : List ℕ). xml_line ∷ open_line (codes "sitemapindex") ∷ up_line b ∷ []) c.base.ensures) refl refl))
     (change_head_index s (omega (arith, c.requires.shown)) c.requires.several)
 
 pub returns-in_err-put_change_entries-clause-fault : goal.returns-in_err-put_change_entries-clause-fault
 returns-in_err-put_change_entries-clause-fault g c =
     let s = g.V.View.shown c.args.view.now in
     err_document (g.S.Sink.fails _ _) c.from_residual-in_err-put_change_entries.result _ _
-    (err_third_of_four g.S.Sink.takes g.S.Sink.fails g.met.S.Sink.takes_more g.met.S.Sink.fails_sooner g.met.S.Sink.fails_later c.from_residual-in_err-put_change_entries.result _ _ _ _ _ _ _ _ _ c.in_ok-put_opening.ensures.taken c.in_ok-put_change_md.ensures.taken
+    (err_third_of_four g.S.Sink.takes g.S.Sink.fails g.met.S.Sink.takes_more g.met.S.Sink.fails_sooner g.met.S.Sink.fails_later c.from_residual-in_err-put_change_entries.result _ _ _ _ _ _ _ _ _ c.in_ok-put_opening.ensures.taken c.in_ok-put_head_md.ensures.taken
     c.in_err-put_change_entries.ensures.fault
-    (same_document _ _ _ _ _ _ (close_line (codes "sitemapindex")) (ap (λ (b : List ℕ). xml_line ∷ open_line (codes "sitemapindex") ∷ up_line b ∷ []) c.base.ensures) (ap (λ (t : ℕ). change_md t None) c.start.ensures) refl))
+    (same_document _ _ _ _ (change_md s.begin None) _ (close_line (codes "sitemapindex")) (ap (λ (b : List ℕ). xml_line ∷ open_line (codes "sitemapindex") ∷ up_line b ∷ []) c.base.ensures) refl refl))
     (change_head_index s (omega (arith, c.requires.shown)) c.requires.several)
 
 pub returns-clause-fault : goal.returns-clause-fault
 returns-clause-fault g c =
     let s = g.V.View.shown c.args.view.now in
     err_document (g.S.Sink.fails _ _) c.put_closing.result _ _
-    (err_four g.S.Sink.takes g.S.Sink.fails g.met.S.Sink.takes_more g.met.S.Sink.fails_later c.put_closing.result _ _ _ _ _ _ _ _ _ _ c.in_ok-put_opening.ensures.taken c.in_ok-put_change_md.ensures.taken
+    (err_four g.S.Sink.takes g.S.Sink.fails g.met.S.Sink.takes_more g.met.S.Sink.fails_later c.put_closing.result _ _ _ _ _ _ _ _ _ _ c.in_ok-put_opening.ensures.taken c.in_ok-put_head_md.ensures.taken
     c.in_ok-put_change_entries.ensures.taken c.put_closing.ensures.fault
-    (same_document _ _ _ _ _ _ (close_line (codes "sitemapindex")) (ap (λ (b : List ℕ). xml_line ∷ open_line (codes "sitemapindex") ∷ up_line b ∷ []) c.base.ensures) (ap (λ (t : ℕ). change_md t None) c.start.ensures) refl))
+    (same_document _ _ _ _ (change_md s.begin None) _ (close_line (codes "sitemapindex")) (ap (λ (b : List ℕ). xml_line ∷ open_line (codes "sitemapindex") ∷ up_line b ∷ []) c.base.ensures) refl refl))
     (change_head_index s (omega (arith, c.requires.shown)) c.requires.several)

@@ -15,9 +15,9 @@ pub returns-clause-taken : goal.returns-clause-taken
 returns-clause-taken g c =
     let s = g.V.View.shown c.args.view.now in
     on_document (g.S.Sink.takes _ _) _ _ _
-    (on_four g.S.Sink.takes g.met.S.Sink.takes_more c.put_closing.result _ _ _ _ _ _ _ _ _ _ c.in_ok-put_opening.ensures.taken c.in_ok-put_change_md.ensures.taken
+    (on_four g.S.Sink.takes g.met.S.Sink.takes_more c.put_closing.result _ _ _ _ _ _ _ _ _ _ c.in_ok-put_opening.ensures.taken c.in_ok-put_head_md.ensures.taken
     c.in_ok-put_changes.ensures.taken c.put_closing.ensures.taken
-    (same_document _ _ _ _ _ _ (close_line (codes "urlset")) (ap (λ (b : List ℕ). xml_line ∷ open_line (codes "urlset") ∷ up_line b ∷ []) c.base.ensures) (ap (λ (t : ℕ). change_md t None) c.start.ensures)
+    (same_document _ _ _ _ (change_md s.begin None) _ (close_line (codes "urlset")) (ap (λ (b : List ℕ). xml_line ∷ open_line (codes "urlset") ∷ up_line b ∷ []) c.base.ensures) refl
     (ap (λ (xs : List Change). map (change_line s.base) xs) (all_items s.changes c.changes_len.result c.changes_len.ensures))))
     (change_head_list s (omega (arith, c.requires.shown)) c.requires.one)
 
@@ -27,7 +27,7 @@ returns-clause-small g c =
     let n = c.changes_len.result in
     let short : length s.base ≤ 128 = rw c.base.ensures at c.in_ok-put_opening.ensures.base in
     let text : length (joined (map (change_line s.base) s.changes)) ≤ 2450 * (n - 0) = rw (all_items s.changes n c.changes_len.ensures) at c.in_ok-put_changes.ensures.small in
-    on_document IsSmall _ _ _ (on_value c.put_closing.result (change_list_small s s.start None s.changes (n - 0) short text (omega (arith, c.changes_len.ensures))))
+    on_document IsSmall _ _ _ (on_value c.put_closing.result (change_list_small s s.begin None s.changes (n - 0) short text (omega (arith, c.changes_len.ensures))))
     (change_head_list s (omega (arith, c.requires.shown)) c.requires.one)
 
 pub returns-in_err-put_opening-clause-fault : goal.returns-in_err-put_opening-clause-fault
@@ -35,31 +35,31 @@ returns-in_err-put_opening-clause-fault g c =
     let s = g.V.View.shown c.args.view.now in
     err_document (g.S.Sink.fails _ _) c.from_residual.result _ _
     (err_first_of_four g.S.Sink.fails g.met.S.Sink.fails_sooner c.from_residual.result _ _ _ _ _ _ _ c.in_err-put_opening.ensures.fault
-    (same_document _ _ (map (change_line s.base) s.changes) _ (change_md s.start None) _ (close_line (codes "urlset")) (ap (λ (b : List ℕ). xml_line ∷ open_line (codes "urlset") ∷ up_line b ∷ []) c.base.ensures) refl refl))
+    (same_document _ _ (map (change_line s.base) s.changes) _ (change_md s.begin None) _ (close_line (codes "urlset")) (ap (λ (b : List ℕ). xml_line ∷ open_line (codes "urlset") ∷ up_line b ∷ []) c.base.ensures) refl refl))
     (change_head_list s (omega (arith, c.requires.shown)) c.requires.one)
 
-pub returns-in_err-put_change_md-clause-fault : goal.returns-in_err-put_change_md-clause-fault
-returns-in_err-put_change_md-clause-fault g c =
+pub returns-in_err-put_head_md-clause-fault : goal.returns-in_err-put_head_md-clause-fault
+returns-in_err-put_head_md-clause-fault g c =
     let s = g.V.View.shown c.args.view.now in
-    err_document (g.S.Sink.fails _ _) c.from_residual-in_err-put_change_md.result _ _
-    (err_second_of_four g.S.Sink.takes g.S.Sink.fails g.met.S.Sink.fails_sooner g.met.S.Sink.fails_later c.from_residual-in_err-put_change_md.result _ _ _ _ _ _ _ _ c.in_ok-put_opening.ensures.taken c.in_err-put_change_md.ensures.fault
-    (same_document _ _ (map (change_line s.base) s.changes) _ _ _ (close_line (codes "urlset")) (ap (λ (b : List ℕ). xml_line ∷ open_line (codes "urlset") ∷ up_line b ∷ []) c.base.ensures) (ap (λ (t : ℕ). change_md t None) c.start.ensures) refl))
+    err_document (g.S.Sink.fails _ _) c.from_residual-in_err-put_head_md.result _ _
+    (err_second_of_four g.S.Sink.takes g.S.Sink.fails g.met.S.Sink.fails_sooner g.met.S.Sink.fails_later c.from_residual-in_err-put_head_md.result _ _ _ _ _ _ _ _ c.in_ok-put_opening.ensures.taken c.in_err-put_head_md.ensures.fault
+    (same_document _ _ (map (change_line s.base) s.changes) _ (change_md s.begin None) _ (close_line (codes "urlset")) (ap (λ (b : List ℕ). xml_line ∷ open_line (codes "urlset") ∷ up_line b ∷ []) c.base.ensures) refl refl))
     (change_head_list s (omega (arith, c.requires.shown)) c.requires.one)
 
 pub returns-in_err-put_changes-clause-fault : goal.returns-in_err-put_changes-clause-fault
 returns-in_err-put_changes-clause-fault g c =
     let s = g.V.View.shown c.args.view.now in
     err_document (g.S.Sink.fails _ _) c.from_residual-in_err-put_changes.result _ _
-    (err_third_of_four g.S.Sink.takes g.S.Sink.fails g.met.S.Sink.takes_more g.met.S.Sink.fails_sooner g.met.S.Sink.fails_later c.from_residual-in_err-put_changes.result _ _ _ _ _ _ _ _ _ c.in_ok-put_opening.ensures.taken c.in_ok-put_change_md.ensures.taken
+    (err_third_of_four g.S.Sink.takes g.S.Sink.fails g.met.S.Sink.takes_more g.met.S.Sink.fails_sooner g.met.S.Sink.fails_later c.from_residual-in_err-put_changes.result _ _ _ _ _ _ _ _ _ c.in_ok-put_opening.ensures.taken c.in_ok-put_head_md.ensures.taken
     c.in_err-put_changes.ensures.fault
-    (same_document _ _ _ _ _ _ (close_line (codes "urlset")) (ap (λ (b : List ℕ). xml_line ∷ open_line (codes "urlset") ∷ up_line b ∷ []) c.base.ensures) (ap (λ (t : ℕ). change_md t None) c.start.ensures) (ap (λ (xs : List Change). map (change_line s.base) xs) (all_items s.changes c.changes_len.result c.changes_len.ensures))))
+    (same_document _ _ _ _ (change_md s.begin None) _ (close_line (codes "urlset")) (ap (λ (b : List ℕ). xml_line ∷ open_line (codes "urlset") ∷ up_line b ∷ []) c.base.ensures) refl (ap (λ (xs : List Change). map (change_line s.base) xs) (all_items s.changes c.changes_len.result c.changes_len.ensures))))
     (change_head_list s (omega (arith, c.requires.shown)) c.requires.one)
 
 pub returns-clause-fault : goal.returns-clause-fault
 returns-clause-fault g c =
     let s = g.V.View.shown c.args.view.now in
     err_document (g.S.Sink.fails _ _) c.put_closing.result _ _
-    (err_four g.S.Sink.takes g.S.Sink.fails g.met.S.Sink.takes_more g.met.S.Sink.fails_later c.put_closing.result _ _ _ _ _ _ _ _ _ _ c.in_ok-put_opening.ensures.taken c.in_ok-put_change_md.ensures.taken
+    (err_four g.S.Sink.takes g.S.Sink.fails g.met.S.Sink.takes_more g.met.S.Sink.fails_later c.put_closing.result _ _ _ _ _ _ _ _ _ _ c.in_ok-put_opening.ensures.taken c.in_ok-put_head_md.ensures.taken
     c.in_ok-put_changes.ensures.taken c.put_closing.ensures.fault
-    (same_document _ _ _ _ _ _ (close_line (codes "urlset")) (ap (λ (b : List ℕ). xml_line ∷ open_line (codes "urlset") ∷ up_line b ∷ []) c.base.ensures) (ap (λ (t : ℕ). change_md t None) c.start.ensures) (ap (λ (xs : List Change). map (change_line s.base) xs) (all_items s.changes c.changes_len.result c.changes_len.ensures))))
+    (same_document _ _ _ _ (change_md s.begin None) _ (close_line (codes "urlset")) (ap (λ (b : List ℕ). xml_line ∷ open_line (codes "urlset") ∷ up_line b ∷ []) c.base.ensures) refl (ap (λ (xs : List Change). map (change_line s.base) xs) (all_items s.changes c.changes_len.result c.changes_len.ensures))))
     (change_head_list s (omega (arith, c.requires.shown)) c.requires.one)

@@ -1,5 +1,5 @@
 use Rattle.rs_model.proofs.WalkLemmas.{walk_records}
-use Rattle.rs_model.proofs.WalkHistory.{held_is_catalogued, held_then_is_catalogued, list_is_followed}
+use Rattle.rs_model.proofs.WalkHistory.{held_is_catalogued, held_then_is_catalogued, list_is_followed, kept_list_is_followed}
 use Rattle.rs_model.proofs.walk_laws.walks_are_catalogued.Goals as goal
 
 pub returns-clause-recorded : goal.returns-clause-recorded
@@ -13,3 +13,6 @@ returns-clause-held_then c = held_then_is_catalogued
 
 pub returns-clause-followed : goal.returns-clause-followed
 returns-clause-followed c = list_is_followed
+
+pub returns-clause-kept_followed : goal.returns-clause-kept_followed
+returns-clause-kept_followed c = kept_list_is_followed

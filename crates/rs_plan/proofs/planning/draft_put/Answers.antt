@@ -6,6 +6,7 @@ use Rattle.rs_image.specs.Rooted.{IsRooted, rooted}
 use Rattle.rs_record.specs.declared.record.Record.{Record}
 use Rattle.rs_record.specs.Limits.{longest_body}
 use Rattle.rs_page.specs.Items.{record_format, change_format}
+use Rattle.rs_changes.specs.History.{Numbered}
 use Rattle.rs_plan.specs.Drafts.{lists_filled, plan_filled}
 use Rattle.rs_plan.proofs.Drafts.{AreLong, placed_stands, placed_ends}
 use Rattle.rs_body.specs.Blocks.{blocks_of}
@@ -37,7 +38,7 @@ place_lists-requires c =
     let old = c.contents-contents.result.now in
     let sound : IsRooted (rooted r.size r.root old) = sound_here r old c.contents-contents.ensures.contents c.contents-contents.ensures.sound in
     record {
-      unplaced = c.in_ok-lists.ensures.unplaced (all_unplaced old old sound.whole.catalogue sound.whole.history refl refl);
+      unplaced = c.in_ok-lists.ensures.unplaced (all_unplaced old sound.whole.catalogue sound.whole.history);
       is_free = found_free c.args.used.now (blocks_of c.args.body_length) c.in-Some.body c.in-Some.ensures;
     }
 
@@ -51,7 +52,7 @@ returns-clause-awaits c =
     record {
       catalogue = placed_stands record_format (λ (r : Record). r.name) c.args.name.now from.after_body placed.after_catalogue lists.catalogue plan.contents.catalogue
           placed.catalogue unstored.0;
-      history = placed_ends change_format placed.after_catalogue placed.after_history lists.history plan.contents.history placed.history unstored.1;
+      history = placed_ends change_format placed.after_catalogue placed.after_history lists.history.pages plan.contents.history.pages placed.history unstored.1;
     }
 
 pub returns-clause-no_body : goal.returns-clause-no_body
@@ -80,14 +81,14 @@ returns-in_err-plan-clause-full c full bytes is =
     let room : HasNoRoomFrom used body lists =
     c.place_lists.ensures.full (c.in_err-plan.was ∙ ap Err (same_fault c.from_residual-in_err-plan.result c.in_err-plan.field-0.0 Full c.from_residual-in_err-plan.ensures.1 full)) in
     let sound : IsRooted (rooted r.size r.root old) = sound_here r old at c.contents-contents.ensures.sound in
-    let unplaced : AreUnplaced lists = made.unplaced (all_unplaced old old sound.whole.catalogue sound.whole.history refl refl) in
+    let unplaced : AreUnplaced lists = made.unplaced (all_unplaced old sound.whole.catalogue sound.whole.history) in
     let draft : IsDraft old lists name kind (length bytes) unknown body moment =
     subst (λ (n : ℕ). IsDraft old lists name kind n unknown body moment) (sym is)
     (record {
       header = made.header;
       published = made.published;
       catalogue = made.catalogue;
-      history = made.history;
+      history = ap (λ (h : Numbered). h.pages) made.history;
       old_lawful = made.lawful;
       unplaced = unplaced;
       long = unknown_long;
@@ -116,14 +117,14 @@ returns-clause-planned c bytes is =
     let used = placing.placed.after_body in
     let moment = c.args.moment in
     let sound : IsRooted (rooted r.size r.root old) = sound_here r old at c.contents-contents.ensures.sound in
-    let unplaced : AreUnplaced lists = made.unplaced (all_unplaced old old sound.whole.catalogue sound.whole.history refl refl) in
+    let unplaced : AreUnplaced lists = made.unplaced (all_unplaced old sound.whole.catalogue sound.whole.history) in
     let draft : IsDraft old lists name kind (length bytes) unknown body moment =
     subst (λ (n : ℕ). IsDraft old lists name kind n unknown body moment) (sym is)
     (record {
       header = made.header;
       published = made.published;
       catalogue = made.catalogue;
-      history = made.history;
+      history = ap (λ (h : Numbered). h.pages) made.history;
       old_lawful = made.lawful;
       unplaced = unplaced;
       long = unknown_long;
@@ -139,7 +140,7 @@ returns-clause-planned c bytes is =
     (next_is law old lists name kind bytes unknown body moment draft)
     (put_rules r.size r.root old filled name kind bytes body moment sound.whole sound.listable.header made.moment
     (later_here r old at moment c.requires.may.change.later) short
-    (sized_body (Put name kind bytes) start used body takes) made.header
+    (sized_body (Put name kind bytes) start used body takes) made.header (ap (λ (h : Numbered). h.first) made.history)
     (records_are law old lists name kind bytes unknown body moment draft) (changes_are law old lists name kind bytes unknown body moment draft) made.published)
     (unplaced_is law old lists name kind bytes unknown body moment draft)
     (plan_filled name (digests bytes) c.in_ok-plan.plan) (placed_is law old lists name kind bytes unknown body moment draft used c.in_ok-plan.plan placing.placed.placed)

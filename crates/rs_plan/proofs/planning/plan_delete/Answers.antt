@@ -5,6 +5,7 @@ use Rattle.rs_record.specs.declared.record.Record.{Record}
 use Rattle.rs_record.specs.Changes.{deleted}
 use Rattle.rs_page.specs.Pages.{Page, placed_extents}
 use Rattle.rs_pages.specs.Rule.{unbound_in, appended_to}
+use Rattle.rs_changes.specs.History.{Numbered}
 use Rattle.rs_image.specs.declared.contents.Contents.{Contents}
 use Rattle.rs_image.specs.Rooted.{IsRooted, rooted}
 use Rattle.rs_model.specs.declared.command.Command.TheVariants.{Delete}
@@ -26,7 +27,7 @@ ruled {T} pages made is none = subst (λ (l : List (Page T)). MayHavePlaces l ma
 
 -- where a root reaches the lists, none of their pages waits to be written
 unplaced : (old : Contents) (size : ℕ) (root : Root) → IsRooted (rooted size root old) → AreUnplaced old
-unplaced old size root sound = all_unplaced old old sound.whole.catalogue sound.whole.history refl refl
+unplaced old size root sound = all_unplaced old sound.whole.catalogue sound.whole.history
 
 pub place_lists-requires : goal.place_lists-requires
 place_lists-requires c =
@@ -56,7 +57,7 @@ returns-in_err-plan-clause-full c full =
     (takes_found used room.after_body 0 body (found_none used) room.sets)
     (delete_next old lists name body moment made.header made.records made.changes made.published made.catalogue_pages made.history_pages
     (ruled (unbound_in (λ (r : Record). r.name) name old.catalogue) lists.catalogue made.catalogue none.catalogue)
-    (ruled (appended_to (deleted name moment) old.history) lists.history made.history none.history))
+    (ruled (appended_to (deleted name moment) old.history.pages) lists.history.pages (ap (λ (h : Numbered). h.pages) made.history) none.history))
     room.fails)
 
 pub returns-clause-planned : goal.returns-clause-planned
@@ -79,9 +80,10 @@ returns-clause-planned c =
     (takes_found used after 0 body (found_none used) placing.placed.sets) lists
     (delete_next old lists name body moment made.header made.records made.changes made.published made.catalogue_pages made.history_pages
     (ruled (unbound_in (λ (r : Record). r.name) name old.catalogue) lists.catalogue made.catalogue none.catalogue)
-    (ruled (appended_to (deleted name moment) old.history) lists.history made.history none.history))
+    (ruled (appended_to (deleted name moment) old.history.pages) lists.history.pages (ap (λ (h : Numbered). h.pages) made.history) none.history))
     (delete_rules r.size r.root old lists name body moment sound.whole sound.listable.header made.moment (later_here r old at moment c.requires.may.change.later)
-    made.header made.records made.changes made.published)
+    made.header (ap (λ (h : Numbered). h.first) made.history) made.records made.changes made.published)
     none c.in_ok-plan.plan placing.placed.placed (λ image. placing.reply) placing.catalogue placing.history placing.published
-    (delete_frees old lists name body moment made.lawful (held_here r old at name c.requires.may.held) made.catalogue made.history made.records made.published refl)
+    (delete_frees old lists name body moment made.lawful (held_here r old at name c.requires.may.held) made.catalogue (ap (λ (h : Numbered). h.pages) made.history)
+    made.records made.published refl)
     placing.taken (placing.freed ∙ freed_here r old at (Delete name) c.in_ok-freed.freed.items c.in_ok-freed.ensures))

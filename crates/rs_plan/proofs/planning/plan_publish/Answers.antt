@@ -4,30 +4,46 @@ use Rattle.rs_directory.specs.declared.header.Header.{Header}
 use Rattle.rs_image.specs.Rooted.{IsRooted, rooted}
 use Rattle.rs_model.specs.declared.command.Command.TheVariants.{Publish}
 use Rattle.rs_model.specs.declared.command.Reply.TheVariants as replies
-use Rattle.rs_plan.proofs.Following.{publish_next, publish_frees, all_unplaced, lacking}
-use Rattle.rs_plan.proofs.Here.{sound_here, used_here, later_here, number_here, same_fault, freed_here, planned_there, lacking_there}
+use Rattle.rs_plan.proofs.Following.{all_unplaced, lacking}
+use Rattle.rs_plan.proofs.Publishing.{first_is, changes_left, publish_unplaced, publish_next, publish_frees}
+use Rattle.rs_plan.proofs.Here.{sound_here, used_here, may_here, same_fault, freed_here, planned_there, lacking_there}
 use Rattle.rs_plan.proofs.Extents.{found_none, takes_found}
-use Rattle.rs_plan.proofs.Rules.{publish_rules}
+use Rattle.rs_plan.proofs.PublishRules.{publish_rules}
 use Rattle.rs_plan.proofs.Planned.{planned}
 use Rattle.rs_plan.specs.declared.planning.PlanFault.TheVariants.{Full}
-use Rattle.rs_plan.specs.Placed.{HasNoRoomFrom}
+use Rattle.rs_plan.specs.Placed.{AreUnplaced, HasNoRoomFrom}
 use Rattle.rs_plan.proofs.planning.plan_publish.Goals as goal
+
+pub lists_after_publish-requires-clause-may : goal.lists_after_publish-requires-clause-may
+lists_after_publish-requires-clause-may c =
+    may_here c.args.old.now c.contents-contents.result.now c.contents-contents.ensures.contents c.args.moment c.requires.may
+
+pub lists_after_publish-requires-clause-number : goal.lists_after_publish-requires-clause-number
+lists_after_publish-requires-clause-number c =
+    let old = c.contents-contents.result.now in
+    let sound : IsRooted (rooted c.args.old.now.size c.args.old.now.root old) =
+    sound_here c.args.old.now old c.contents-contents.ensures.contents c.contents-contents.ensures.sound in
+    sound.whole.number
 
 pub place_lists-requires : goal.place_lists-requires
 place_lists-requires c =
     let old = c.contents-contents.result.now in
+    let made = c.in_ok-lists.ensures in
     let sound : IsRooted (rooted c.args.old.now.size c.args.old.now.root old) =
     sound_here c.args.old.now old c.contents-contents.ensures.contents c.contents-contents.ensures.sound in
     record {
-      unplaced = all_unplaced old c.in_ok-lists.lists sound.whole.catalogue sound.whole.history c.in_ok-lists.ensures.catalogue c.in_ok-lists.ensures.history;
+      unplaced = publish_unplaced old c.in_ok-lists.lists c.args.moment made.header made.catalogue made.history made.published
+          c.first_items_are_dropped_as_one.ensures.keeps (all_unplaced old sound.whole.catalogue sound.whole.history);
       is_free = λ b from until. absurd (omega arith);
     }
 
 pub returns-in_err-plan-clause-full : goal.returns-in_err-plan-clause-full
 returns-in_err-plan-clause-full c full =
+    let law = c.first_items_are_dropped_as_one.ensures in
     let r = c.args.old.now in
     let old = c.contents-contents.result.now in
     let at = c.contents-contents.ensures.contents in
+    let sound : IsRooted (rooted r.size r.root old) = sound_here r old at c.contents-contents.ensures.sound in
     let used = c.args.used.now in
     let lists = c.in_ok-lists.lists in
     let made = c.in_ok-lists.ensures in
@@ -37,10 +53,12 @@ returns-in_err-plan-clause-full c full =
     lacking_there r old at Publish c.args.moment
     (lacking (rooted r.size r.root old) Publish c.args.moment used room.after_body body lists (used_here r old at used c.requires.used)
     (takes_found used room.after_body 0 body (found_none used) room.sets)
-    (publish_next old lists body c.args.moment made.header made.catalogue made.history made.published) room.fails)
+    (publish_next old lists c.args.moment made.header made.catalogue made.history made.published law.dropped law.keeps
+    (all_unplaced old sound.whole.catalogue sound.whole.history) body) room.fails)
 
 pub returns-clause-planned : goal.returns-clause-planned
 returns-clause-planned c =
+    let law = c.first_items_are_dropped_as_one.ensures in
     let r = c.args.old.now in
     let old = c.contents-contents.result.now in
     let at = c.contents-contents.ensures.contents in
@@ -52,14 +70,17 @@ returns-clause-planned c =
     let placing = c.in_ok-plan.ensures in
     let after = placing.placed.after_body in
     let body : Extent = record { first = 0; blocks = 0 } in
+    let none : AreUnplaced old = all_unplaced old sound.whole.catalogue sound.whole.history in
     planned_there r old at Publish moment c.in_ok-plan.plan
     (planned r.size r.root old sound Publish moment used after (used_here r old at used c.requires.used) body
     (takes_found used after 0 body (found_none used) placing.placed.sets) lists
-    (publish_next old lists body moment made.header made.catalogue made.history made.published)
-    (publish_rules r.size r.root old lists body moment sound.whole sound.listable.header made.moment (later_here r old at moment c.requires.may.later)
-    (number_here r old at c.requires.may.number) made.header made.catalogue made.history made.published)
-    (all_unplaced old lists sound.whole.catalogue sound.whole.history made.catalogue made.history)
+    (publish_next old lists moment made.header made.catalogue made.history made.published law.dropped law.keeps none body)
+    (publish_rules r.size r.root old lists body moment sound.whole made.lawful sound.listable.header made.moment (may_here r old at moment c.requires.may) made.header
+    made.catalogue (first_is old lists moment made.header made.catalogue made.history made.published)
+    (changes_left old lists moment made.header made.catalogue made.history made.published law.dropped) made.published)
+    (publish_unplaced old lists moment made.header made.catalogue made.history made.published law.keeps none)
     c.in_ok-plan.plan placing.placed.placed
     (λ image. placing.reply ∙ ap (λ (n : ℕ). replies.Published n moment) (ap (λ (h : Header). h.number) made.header))
-    placing.catalogue placing.history placing.published (publish_frees old lists body made.catalogue made.history made.published refl) placing.taken
+    placing.catalogue placing.history placing.published
+    (publish_frees old lists moment made.header made.catalogue made.history made.published law.front body refl) placing.taken
     (placing.freed ∙ freed_here r old at Publish c.in_ok-freed.freed.items c.in_ok-freed.ensures))

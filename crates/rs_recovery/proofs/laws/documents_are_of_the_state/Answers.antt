@@ -26,6 +26,7 @@ shown_alike image c = record {
   published = sym (entries_stay (map entry_of (records_of c.published)));
   changes = refl;
   first = refl;
+  begin = refl;
 }
 
 pub returns : goal.returns

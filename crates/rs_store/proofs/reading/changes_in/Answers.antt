@@ -6,7 +6,7 @@ use Rattle.rs_store.proofs.reading.changes_in.Goals as goal
 
 pub loop-i-preserved : goal.loop-i-preserved
 loop-i-preserved c =
-    let all = changes_of c.args.history.now in
+    let all = changes_of c.args.history.now.pages in
     let i = c.loop-i.i in
     let next = c.at.result.now in
     let within : i < length all = omega (arith, c.len-len.ensures.value, c.loop-i-test.true) in

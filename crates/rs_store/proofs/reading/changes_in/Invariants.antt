@@ -3,4 +3,4 @@ use Rattle.rs_changes.specs.History.{changes_of}
 use Rattle.rs_store.proofs.reading.changes_in.Given as goal
 
 abbrev pub invariant-loop-i : goal.invariant-loop-i
-invariant-loop-i l = l.changes.items ≡ take l.i (changes_of l.history)
+invariant-loop-i l = l.changes.items ≡ take l.i (changes_of l.history.pages)

@@ -10,7 +10,7 @@ directory_bytes-requires-clause-catalogue c =
 pub directory_bytes-requires-clause-changes : goal.directory_bytes-requires-clause-changes
 directory_bytes-requires-clause-changes c =
     let lawful = c.in_ok-changes.ensures.lawful in
-    refs_fit c.args.contents.now.history c.deref-2.result.now lawful.some lawful.kept.room (c.deref-2.ensures.value ∙ c.in_ok-changes.ensures.pages)
+    refs_fit c.args.contents.now.history.pages c.deref-2.result.now lawful.some lawful.kept.room (c.deref-2.ensures.value ∙ c.in_ok-changes.ensures.pages)
 
 pub directory_bytes-requires-clause-published : goal.directory_bytes-requires-clause-published
 directory_bytes-requires-clause-published c =
@@ -26,7 +26,7 @@ returns-clause-fits c =
     (omega (
       arith,
       refs_fit c.args.contents.now.catalogue c.deref.result.now catalogue.some catalogue.held.room (c.deref.ensures.value ∙ c.in_ok-catalogue.ensures.pages),
-      refs_fit c.args.contents.now.history c.deref-2.result.now history.some history.kept.room (c.deref-2.ensures.value ∙ c.in_ok-changes.ensures.pages),
+      refs_fit c.args.contents.now.history.pages c.deref-2.result.now history.some history.kept.room (c.deref-2.ensures.value ∙ c.in_ok-changes.ensures.pages),
       refs_fit c.args.contents.now.published c.deref-3.result.now published.some published.held.room (c.deref-3.ensures.value ∙ c.in_ok-published.ensures.pages),
     ))
     c.directory_bytes.ensures.size c.directory_bytes.ensures.header

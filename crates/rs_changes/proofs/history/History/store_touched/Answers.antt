@@ -1,8 +1,6 @@
-use Rattle.std.proofs.Common.{List, Result, Ok, Err, ap, ◌∙◌}
+use Rattle.std.proofs.Common.{Result, Ok, Err, ap, ◌∙◌}
 use Rattle.std.specs.Prelude.{OnErr}
-use Rattle.rs_record.specs.declared.change.Change.{Change}
-use Rattle.rs_page.specs.Pages.{Page}
-use Rattle.rs_changes.specs.History.{changes_of}
+use Rattle.rs_changes.specs.History.{Numbered, changes_of}
 use Rattle.rs_changes.proofs.Kept.{same_kept, same_changes}
 use Rattle.rs_changes.proofs.history.History.store_touched.Goals as goal
 
@@ -12,8 +10,11 @@ on_err P (Err e) p = p
 
 pub invariant_of-self : goal.invariant_of-self
 invariant_of-self g c =
-    same_kept c.self.inside.pages c.store_touched.new.self c.store_touched.ensures.items c.self.invariant
+    record {
+      kept = same_kept c.self.inside.pages c.store_touched.new.self c.store_touched.ensures.items c.self.invariant.kept;
+      first = c.self.invariant.first;
+    }
 
 pub returns-clause-changes : goal.returns-clause-changes
 returns-clause-changes g c =
-    on_err _ c.store_touched.result (same_changes c.self.inside.pages c.store_touched.new.self c.store_touched.ensures.items ∙ ap (λ (pages : List (Page Change)). changes_of pages) c.self.view_is)
+    on_err _ c.store_touched.result (same_changes c.self.inside.pages c.store_touched.new.self c.store_touched.ensures.items ∙ ap (λ (now : Numbered). changes_of now.pages) c.self.view_is)

@@ -10,7 +10,7 @@ overflow_add-result c =
       c.page_count.ensures.value,
       few_catalogue lists.catalogue c.page_count.ensures.lawful,
       c.page_count-2.ensures.value,
-      few_history lists.history c.page_count-2.ensures.lawful,
+      few_history lists.history.pages c.page_count-2.ensures.lawful,
     )
 
 pub overflow_add-result-2 : goal.overflow_add-result-2
@@ -21,7 +21,7 @@ overflow_add-result-2 c =
       c.page_count.ensures.value,
       few_catalogue lists.catalogue c.page_count.ensures.lawful,
       c.page_count-2.ensures.value,
-      few_history lists.history c.page_count-2.ensures.lawful,
+      few_history lists.history.pages c.page_count-2.ensures.lawful,
       c.page_count-3.ensures.value,
       few_catalogue lists.published c.page_count-3.ensures.lawful,
     )

@@ -10,7 +10,7 @@ overflow_add-pages c =
       c.page_count.ensures.value,
       few_catalogue lists.catalogue c.page_count.ensures.lawful,
       c.page_count-2.ensures.value,
-      few_history lists.history c.page_count-2.ensures.lawful,
+      few_history lists.history.pages c.page_count-2.ensures.lawful,
     )
 
 pub overflow_add-pages-2 : goal.overflow_add-pages-2
@@ -21,5 +21,5 @@ overflow_add-pages-2 c =
       c.page_count.ensures.value,
       few_catalogue lists.catalogue c.page_count.ensures.lawful,
       c.page_count-2.ensures.value,
-      few_history lists.history c.page_count-2.ensures.lawful,
+      few_history lists.history.pages c.page_count-2.ensures.lawful,
     )

@@ -26,7 +26,7 @@ directory_size-length-requires c =
       arith,
       pages.pages,
       few_catalogue lists.catalogue pages.catalogue,
-      few_history lists.history pages.history,
+      few_history lists.history.pages pages.history,
       few_catalogue lists.published pages.published,
     )
 
@@ -35,26 +35,26 @@ returns-in_err-place_touched-clause-full c =
     let lists = c.args.lists.now in
     let rest : List ℕ = blocks_of (directory_bytes_of lists) ∷ [] in
     on_err (HasNoRoom c.args.used.now (lists_needed lists)) c.from_residual.result
-    (subst (HasNoRoom c.args.used.now) (sym (append_assoc (pages_needed record_format lists.catalogue) (pages_needed change_format lists.history) rest))
-    (room_none record_format c.args.used.now lists.catalogue (pages_needed change_format lists.history ++ rest) c.in_err-place_touched.ensures.full c.requires.unplaced.catalogue))
+    (subst (HasNoRoom c.args.used.now) (sym (append_assoc (pages_needed record_format lists.catalogue) (pages_needed change_format lists.history.pages) rest))
+    (room_none record_format c.args.used.now lists.catalogue (pages_needed change_format lists.history.pages ++ rest) c.in_err-place_touched.ensures.full c.requires.unplaced.catalogue))
 
 pub returns-in_err-place_touched-2-clause-full : goal.returns-in_err-place_touched-2-clause-full
 returns-in_err-place_touched-2-clause-full c =
     let lists = c.args.lists.now in
     let rest : List ℕ = blocks_of (directory_bytes_of lists) ∷ [] in
     on_err (HasNoRoom c.args.used.now (lists_needed lists)) c.from_residual-in_err-place_touched-2.result
-    (subst (HasNoRoom c.args.used.now) (sym (append_assoc (pages_needed record_format lists.catalogue) (pages_needed change_format lists.history) rest))
-    (room_after record_format c.args.used.now _ lists.catalogue _ (pages_needed change_format lists.history ++ rest) c.in_ok-place_touched.ensures.places c.requires.unplaced.catalogue
-    (room_none change_format _ lists.history rest c.in_err-place_touched-2.ensures.full c.requires.unplaced.history)))
+    (subst (HasNoRoom c.args.used.now) (sym (append_assoc (pages_needed record_format lists.catalogue) (pages_needed change_format lists.history.pages) rest))
+    (room_after record_format c.args.used.now _ lists.catalogue _ (pages_needed change_format lists.history.pages ++ rest) c.in_ok-place_touched.ensures.places c.requires.unplaced.catalogue
+    (room_none change_format _ lists.history.pages rest c.in_err-place_touched-2.ensures.full c.requires.unplaced.history)))
 
 pub returns-in_default-clause-full : goal.returns-in_default-clause-full
 returns-in_default-clause-full c =
     let lists = c.args.lists.now in
     let rest : List ℕ = blocks_of (directory_bytes_of lists) ∷ [] in
     let size = c.directory_size-length.ensures.size ∙ ap (directory_length lists.header) c.pages_of.ensures.pages in
-    subst (HasNoRoom c.args.used.now) (sym (append_assoc (pages_needed record_format lists.catalogue) (pages_needed change_format lists.history) rest))
-    (room_after record_format c.args.used.now _ lists.catalogue _ (pages_needed change_format lists.history ++ rest) c.in_ok-place_touched.ensures.places c.requires.unplaced.catalogue
-    (room_after change_format _ c.place_touched-2.new.used lists.history _ rest c.in_ok-place_touched-2.ensures.places c.requires.unplaced.history
+    subst (HasNoRoom c.args.used.now) (sym (append_assoc (pages_needed record_format lists.catalogue) (pages_needed change_format lists.history.pages) rest))
+    (room_after record_format c.args.used.now _ lists.catalogue _ (pages_needed change_format lists.history.pages ++ rest) c.in_ok-place_touched.ensures.places c.requires.unplaced.catalogue
+    (room_after change_format _ c.place_touched-2.new.used lists.history.pages _ rest c.in_ok-place_touched-2.ensures.places c.requires.unplaced.history
     (inl (subst (λ (n : ℕ). HasNoRun c.place_touched-2.new.used (blocks_of n)) size c.in_default.ensures.found))))
 
 pub list_placed-requires : goal.list_placed-requires
@@ -75,7 +75,7 @@ list_placed-requires-2 c =
       c.list_placed.ensures.len,
       c.list_placed.ensures.capacity,
       places_length record_format c.args.used.now c.place_touched.new.used lists.catalogue c.place_touched.new.self c.in_ok-place_touched.ensures.places,
-      places_length change_format c.place_touched.new.used c.place_touched-2.new.used lists.history c.place_touched-2.new.self c.in_ok-place_touched-2.ensures.places,
+      places_length change_format c.place_touched.new.used c.place_touched-2.new.used lists.history.pages c.place_touched-2.new.self.pages c.in_ok-place_touched-2.ensures.places,
     )
 
 pub unwrap-requires : goal.unwrap-requires
@@ -90,7 +90,7 @@ unwrap-requires c =
       c.list_placed-2.ensures.len,
       c.list_placed-2.ensures.capacity,
       places_length record_format c.args.used.now c.place_touched.new.used lists.catalogue c.place_touched.new.self c.in_ok-place_touched.ensures.places,
-      places_length change_format c.place_touched.new.used c.place_touched-2.new.used lists.history c.place_touched-2.new.self c.in_ok-place_touched-2.ensures.places,
+      places_length change_format c.place_touched.new.used c.place_touched-2.new.used lists.history.pages c.place_touched-2.new.self.pages c.in_ok-place_touched-2.ensures.places,
     )
     )
 
@@ -101,7 +101,7 @@ both_taken before mid after a b one other = other ∙ ap (λ (l : List Extent). 
 pub returns-in_default-clause-taken : goal.returns-in_default-clause-taken
 returns-in_default-clause-taken c =
     let a : List Extent = placed_extents c.place_touched.new.self in
-    let b : List Extent = placed_extents c.place_touched-2.new.self in (
+    let b : List Extent = placed_extents c.place_touched-2.new.self.pages in (
       a ++ b,
       both_taken c.args.taken.now.items c.list_placed.new.extents.items c.list_placed-2.new.extents.items a b c.list_placed.ensures.items c.list_placed-2.ensures.items,
       subst (λ (u : List Bool). AreTaken c.args.used.now u (a ++ b)) (sym c.in_default.ensures.none)
@@ -113,7 +113,7 @@ pub returns-clause-taken : goal.returns-clause-taken
 returns-clause-taken c =
     let lists = c.args.lists.now in
     let a : List Extent = placed_extents c.place_touched.new.self in
-    let b : List Extent = placed_extents c.place_touched-2.new.self in
+    let b : List Extent = placed_extents c.place_touched-2.new.self.pages in
     let d : List Extent = c.in-Some.directory ∷ [] in
     let before = c.list_placed-2.new.extents.items in
     let room : IsOk c.push.result = c.push.ensures.succeeds (
@@ -125,7 +125,7 @@ returns-clause-taken c =
       c.list_placed-2.ensures.len,
       c.list_placed-2.ensures.capacity,
       places_length record_format c.args.used.now c.place_touched.new.used lists.catalogue c.place_touched.new.self c.in_ok-place_touched.ensures.places,
-      places_length change_format c.place_touched.new.used c.place_touched-2.new.used lists.history c.place_touched-2.new.self c.in_ok-place_touched-2.ensures.places,
+      places_length change_format c.place_touched.new.used c.place_touched-2.new.used lists.history.pages c.place_touched-2.new.self.pages c.in_ok-place_touched-2.ensures.places,
     )
     ) in (
       (a ++ b) ++ d,

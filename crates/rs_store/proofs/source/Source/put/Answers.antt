@@ -1,6 +1,6 @@
 use Rattle.std.proofs.lemmas.Bool.{false≢true}
 use Rattle.std.specs.Prelude.{is_err, OnOk, OnErr}
-use Rattle.std.proofs.Common.{◌≡◌, ℕ, true, false, Result, Ok, length, refl, sym, ◌∙◌, ap, subst, Err, rules}
+use Rattle.std.proofs.Common.{◌≡◌, ℕ, true, false, Result, Ok, length, refl, sym, ◌∙◌, ap, subst, Err}
 use Rattle.rs_disk.specs.Leaves.{Advances, HasFailed}
 use Rattle.rs_body.specs.Blocks.{part}
 use Rattle.std.proofs.lemmas.Result.{err_from_is_err_and}
@@ -87,6 +87,7 @@ returns g c =
     let runs = c.write_body.ensures.runs in
     let goes : Advances (device o.disk) (device mid) = record { size = runs.size; keeps = c.write_body.ensures.keeps; calls = runs.calls; faults = runs.faults } in
     let unmet : (device mid).faults ≡ (device o.disk).faults = on_ok c.write_body.result (sym c.is_err.ensures.value ∙ c.if-is_err.false) runs.ok in
-    let stands : part p.body (length c.args.bytes.now) (device mid).now.seen ≡ c.args.bytes.now = search rules in
+    let stands : part p.body (length c.args.bytes.now) (device mid).now.seen ≡ c.args.bytes.now =
+    on_ok c.write_body.result (sym c.is_err.ensures.value ∙ c.if-is_err.false) c.write_body.ensures.reads in
     c.finish.ensures.answers old command c.args.now
     (begun device g.met.D.Disk.holds old o c.self.view_is p mid c.write_body.ensures.outside goes unmet c.args.bytes.now planned.free stands) is.0 planned

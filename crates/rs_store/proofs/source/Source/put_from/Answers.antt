@@ -11,7 +11,7 @@ use Rattle.rs_fixity.specs.Digests.{digests}
 use Rattle.rs_model.specs.Step.{moment_at}
 use Rattle.rs_model.specs.declared.command.Command.{Command}
 use Rattle.rs_model.specs.declared.command.Command.TheVariants.{Put}
-use Rattle.rs_image.specs.Rooted.{Rooted}
+use Rattle.rs_image.specs.Rooted.{Rooted, rooted}
 use Rattle.rs_plan.specs.declared.plan.Plan.{Plan}
 use Rattle.rs_plan.specs.declared.planning.PlanFault.{PlanFault}
 use Rattle.rs_plan.specs.Plans.{IsPlanned, LacksRoom}
@@ -189,6 +189,28 @@ returns-in_default-clause-ended g c e =
     short.1
 
 -- all of it came
+pub finish-requires-clause-planned : goal.finish-requires-clause-planned
+finish-requires-clause-planned g c =
+    let device = g.D.Disk.state in
+    let name = c.args.name.now in
+    let kind = c.args.kind.now in
+    let plan = c.in_ok-plan.plan in
+    let moment = c.in_ok-moment.moment in
+    let mid = c.receive.new.disk in
+    let here : Rooted = rooted (device mid).size c.self.inside.slots.root c.self.inside.contents in
+    let bytes = part plan.body c.args.body_length (device mid).now.seen in
+    let same : c.rooted_by-rooted.result ≡ here =
+    c.rooted_by-rooted.ensures ∙ ap (λ (n : ℕ). rooted n c.self.inside.slots.root c.self.inside.contents) (sym c.receive.ensures.advances.size) in
+    let filled : c.fill.new.self ≡ plan_filled name (digests bytes) plan =
+    c.fill.ensures ∙ ap (λ (d : Digests). plan_filled name d plan) c.in-Ok.ensures.digests in
+    record {
+      command = Put name kind bytes;
+      moment = moment;
+      planned = subst (λ (p : Plan). IsPlanned here (Put name kind bytes) moment p) (sym filled)
+          (subst (λ (r : Rooted). IsPlanned r (Put name kind bytes) moment (plan_filled name (digests bytes) plan)) same
+          (c.in_ok-plan.ensures.planned bytes c.in-Ok.ensures.whole));
+    }
+
 pub returns-clause-came : goal.returns-clause-came
 returns-clause-came g c =
     let device = g.D.Disk.state in

@@ -1,0 +1,5 @@
+use Rattle.rs_model.proofs.KeptLemmas.{fold_keeps}
+use Rattle.rs_model.proofs.laws.changes_are_kept.Goals as goal
+
+pub returns : goal.returns
+returns c = fold_keeps

@@ -1,6 +1,0 @@
-use Rattle.std.proofs.Common.{◌≡◌, ◌∷◌, take}
-use Rattle.rs_page.specs.Pages.{extents_of}
-use Rattle.rs_plan.proofs.planning.freeing.freed_by_publication.Given as goal
-
-abbrev pub invariant-loop-page : goal.invariant-loop-page
-invariant-loop-page l = l.freed.items ≡ l.old.root.directory ∷ extents_of (take l.page-index l.page-items)

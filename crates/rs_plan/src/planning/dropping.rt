@@ -1,0 +1,36 @@
+//! What a publication drops of the changes.
+
+ghost use Rattle.std.specs.Prelude.{◌≡◌, ◌≤◌, ◌*◌, length, take};
+ghost use Rattle.rs_record.specs.Changes.{last_moment};
+ghost use Rattle.rs_changes.specs.History.{changes_of};
+ghost use Rattle.rs_plan.specs.Allowed.{parts_dropped, changes_dropped};
+
+use rs_image::Contents;
+use rs_time::Moment;
+
+/// How many parts of the changes the next publication of these lists drops: the full ones whose last
+/// change is not after the latest publication.
+pub fn dropped_parts(contents: &Contents) -> u64
+    ensures value { result ≡ parts_dropped contents.now }
+    ensures full { changes_dropped contents.now
+        ≤ length (changes_of contents.now.history.pages) }
+{
+    let passed = contents.history.count_up_to(contents.header.at);
+    passed as u64 / u64::from(contents.header.limit.items())
+}
+
+/// The moment at which the history begins without its first parts, so many of them, all of which it
+/// has: that of their last change, or where it begins, if they are none.
+pub(crate) fn begin_without(contents: &Contents, parts: u64) -> Moment
+    requires { parts * contents.now.header.limit ≤ length (changes_of contents.now.history.pages) }
+    ensures { result ≡ last_moment contents.now.header.begin
+        (take (parts * contents.now.header.limit) (changes_of contents.now.history.pages)) }
+{
+    let limit = contents.header.limit.items();
+    let dropped = contents.history.part(parts, limit).start;
+    if dropped == 0 {
+        contents.header.begin
+    } else {
+        contents.history.at(dropped - 1).moment
+    }
+}
