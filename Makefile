@@ -58,6 +58,7 @@ bench: build
 	python3 bench/puts.py
 	python3 bench/used.py
 	python3 bench/many.py
+	python3 bench/dropping.py
 	python3 bench/loopback.py
 	/usr/bin/python3 bench/durable.py
 

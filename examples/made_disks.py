@@ -1,6 +1,9 @@
 """Disks of whole sources, for the sessions: one that commands lead to, and sources at a limit that commands would
 take too long to reach.
 """
+import base64
+import pathlib
+import zlib
 from itertools import accumulate
 
 import disk_parts as parts_of
@@ -71,7 +74,14 @@ ROOM = (2048, 2047, 3072, 3071, 3584, 3583)
 # body, within its block or behind it, with one block that is free, or with many.
 SIZES = (511, 512, 1023, 1024, 1536, 3071, 3583, 3584, 4096, 65536)
 
+def written_before():
+    """A file as the program wrote it that knew version 1 alone (rows/old_disks/version_1.b64: base64 of its zlib)."""
+    text = (pathlib.Path(__file__).resolve().parent / "rows/old_disks/version_1.b64").read_text()
+    return zlib.decompress(base64.b64decode(text))
+
+
 DISKS = {
+    "written_before": written_before,
     **{f"empty_{size}": lambda size=size: empty(size) for size in ROOM},
     **{f"two_puts_{size}": lambda size=size: two_puts(size) for size in SIZES},
     "lists_of_one_page": lists_of_one_page,
