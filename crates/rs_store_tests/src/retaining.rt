@@ -42,13 +42,23 @@ const ROWS: [Row; 9] = [
     (Put(b"a", b""), Created(1), (1, 1, 0, 0), NONE),
     (Put(b"b", b""), Created(2), (2, 1, 0, 0), NONE),
     (Publish, Published(1, 3), (2, 1, 0, 0), NONE),
-    (Put(b"c", b""), Created(4), (3, 2, 0, 0), [true, true, false]),
+    (
+        Put(b"c", b""),
+        Created(4),
+        (3, 2, 0, 0),
+        [true, true, false],
+    ),
     // `a` and `b` are not after the publication at 3.
     (Publish, Published(2, 5), (1, 1, 1, 2), NONE),
     (Put(b"d", b""), Created(6), (2, 1, 1, 2), NONE),
     // Nor is `c` after that at 5; but its part has `d` too, which is.
     (Publish, Published(3, 7), (2, 1, 1, 2), NONE),
-    (Put(b"e", b""), Created(8), (3, 2, 1, 2), [false, true, true]),
+    (
+        Put(b"e", b""),
+        Created(8),
+        (3, 2, 1, 2),
+        [false, true, true],
+    ),
     (Publish, Published(4, 9), (1, 1, 2, 6), NONE),
 ];
 
@@ -77,11 +87,17 @@ fn opened_from(rt: &(impl Abort + AllocGlobal), bytes: &[u8]) -> Source<MemoryDi
 #[test]
 fn the_second_publication_makes_room(rt: HostRuntime) {
     let mut source = opened_from(&rt, &with_all_changes(&rt));
-    assert_eq!(rt; ask(&rt, &mut source, Put(b"a", b"one")), Refused(TooManyChanges));
+    assert_eq!(rt;
+        ask(&rt, &mut source, Put(b"a", b"one")),
+        Refused(TooManyChanges)
+    );
     // No change is before the formatting.
     assert_eq!(rt; ask(&rt, &mut source, Publish), Published(1, 50_001));
     assert_eq!(rt; kept(&rt, &source), (50_000, 25_000, 0, 0));
-    assert_eq!(rt; ask(&rt, &mut source, Put(b"b", b"one")), Refused(TooManyChanges));
+    assert_eq!(rt;
+        ask(&rt, &mut source, Put(b"b", b"one")),
+        Refused(TooManyChanges)
+    );
     assert_eq!(rt; ask(&rt, &mut source, Publish), Published(2, 50_002));
     assert_eq!(rt; kept(&rt, &source).2, 25_000);
     assert_eq!(rt; source.status().expect(&rt, "a status").changes, 0);
@@ -95,7 +111,8 @@ fn the_second_publication_makes_room(rt: HostRuntime) {
 }
 
 // What is told of a disk of version 1.
-const OLD: &str = "held: a= b= c= d= e=; changes: Created a Created b Created c Created d Created e; \
+const OLD: &str =
+    "held: a= b= c= d= e=; changes: Created a Created b Created c Created d Created e; \
     published 3: a b c d";
 
 // A page of the changes and the directory; the commit makes six calls, since the spare is open.
