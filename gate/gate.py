@@ -72,8 +72,7 @@ class Parts:
 
 def toolchain(copy):
     """The toolchain's own run in the copy."""
-    environment = {"RT_JOBS": str(lanes()), **os.environ}
-    ran = subprocess.Popen(["rt", "ci"], cwd=copy, env=environment, stdout=subprocess.PIPE, stderr=subprocess.STDOUT, text=True, errors="replace")
+    ran = subprocess.Popen(["rt", "ci"], cwd=copy, stdout=subprocess.PIPE, stderr=subprocess.STDOUT, text=True, errors="replace")
     last = ""
     for line in ran.stdout:
         print(line, end="", flush=True)

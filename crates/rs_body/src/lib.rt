@@ -2,18 +2,21 @@
 //!
 //! A body is bytes of a known length and SHA-256. [`write_body`] puts one at the front of an
 //! extent, or [`write_piece`] does so piece by piece, and [`read_body`] reads it back, or finds it
-//! damaged. [`is_intact`] looks at it in memory that does not grow with it. What else the disk holds stays: the contracts say it of each set of blocks beside the
-//! extent, also where the device fails and of a crash in between. [`laws`] states what follows
-//! from their definitions alone.
+//! damaged; [`read_in_pieces`] does so piece by piece. [`read_piece`] reads a piece of it and asks for
+//! no digest, and [`is_intact`] looks at it in memory that does not grow with it. What else the disk
+//! holds stays: the contracts say it of each set of blocks beside the extent, also where the device
+//! fails and of a crash in between. [`laws`] states what follows from their definitions alone.
 #![tactic(auto)]
 
 mod blocks;
+mod by_pieces;
 mod intact;
 pub mod laws;
 mod read;
 mod write;
 
 pub use blocks::{blocks_for, is_on_disk, is_sized};
+pub use by_pieces::read_in_pieces;
 pub use intact::is_intact;
-pub use read::{BodyFault, read_body};
+pub use read::{BodyFault, read_body, read_piece};
 pub use write::{write_body, write_piece};

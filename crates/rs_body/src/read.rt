@@ -93,9 +93,16 @@ pub fn read_body<D: Disk>(
     }
 }
 
-// Fills the buffer with the bytes of the extent from byte `at` on, by one device call, or none where it
-// has no room.
-pub(crate) fn read_piece<D: Disk>(
+/// Reads a piece of a body from byte `at` of an extent on, as many bytes as the buffer has room for,
+/// by one device call. A piece of no bytes needs none.
+///
+/// The place is counted in bytes from the front of the extent. The blocks of the extent have to lie
+/// on the disk, and the piece has to end within them. Pieces that are read one after the other, each
+/// from where the last one ended, join to the body. The disk stays as it is.
+///
+/// # Errors
+/// [`Fault`] where the device fails. Nothing is known of what the buffer holds then.
+pub fn read_piece<D: Disk>(
     disk: &mut D,
     extent: Extent,
     at: u32,
@@ -103,6 +110,8 @@ pub(crate) fn read_piece<D: Disk>(
 ) -> Result<(), Fault>
     requires room { IsOnDisk extent (D.state disk.old).size }
     requires fits { at + length into.old ≤ block_size * extent.blocks }
+
+    // What was read is said of a device that has followed the model.
     ensures gives { OnOk result (IsTrue (D.state disk.new).honest
         → part extent (at + length into.old) (D.state disk.old).now.seen
         ≡ part extent at (D.state disk.old).now.seen ++ into.new) }

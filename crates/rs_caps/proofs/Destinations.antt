@@ -55,12 +55,13 @@ mirror_was_held laws base limit moment events when done last at start listed cha
     laws.passed s events (when (codes "/changelist.xml")) last m.n f.changes.by_last m.low m.high in
     let resources = same_pair (m.at, m.listed) (at, listed) (sym m.resources_gathered ∙ h) in
     let followed = same_pair (m.start, m.changes) (start, changes) (sym m.changes_gathered ∙ g) in
+    let mirrored : mirror_of (map listed_entry listed) at changes ≡ catalogue s events m.n =
+    (λ q. mirror_of (map listed_entry (sym resources.1 q)) (sym resources.0 q) (sym followed.1 q)) ∙ m.mirrored in
     record {
-      point = p.point;
-      after_head = p.after_first;
-      by_last = p.by_last;
-      held = (λ q. mirror_of (map listed_entry (sym resources.1 q)) (sym resources.0 q) (sym followed.1 q))
-          ∙ m.mirrored ∙ ap (catalogue s events) (sym p.count) ∙ sym (laws.held_then base limit moment events p.point);
+      n = m.n;
+      passed = p;
+      mirrored = mirrored;
+      held = λ same. mirrored ∙ ap (catalogue s events) (sym same) ∙ sym (laws.held_then base limit moment events p.point);
     }
 
 listed_stay : WalksAreFolds → (s : Source) (events : List Event) (i j : ℕ) (path x y : List ℕ) (publication k : ℕ) → i ≤ j

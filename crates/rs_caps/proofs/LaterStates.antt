@@ -1,11 +1,13 @@
 -- What a later state of a source keeps of an earlier one.
 use Rattle.std.proofs.Common.{◌≡◌, ℕ, ◌≤◌, List, [], ◌∷◌, ◌++◌, refl, ◌∙◌, sym, arith, Option, Some, None}
 use Rattle.rs_model.specs.declared.command.Command.{Command}
-use Rattle.rs_model.specs.declared.command.Command.TheVariants.{Put, Delete, Publish}
+use Rattle.rs_model.specs.declared.command.Command.TheVariants.{Put, Delete, Publish, Group}
+use Rattle.rs_model.specs.declared.command.Item.{Item}
+use Rattle.rs_model.specs.declared.command.Item.TheVariants as single
 use Rattle.rs_model.specs.declared.command.Refusal.{Refusal}
 use Rattle.rs_model.specs.declared.command.Reply.{Reply}
 use Rattle.rs_model.specs.State.{Source}
-use Rattle.rs_model.specs.Step.{step, state_after, next_state, accepted_unless, refusal_of, reply_to, moment_at, fold_of}
+use Rattle.rs_model.specs.Step.{step, state_after, next_state, accepted_unless, refusal_of, reply_to, moment_at, after_item as item_after, after_items, fold_of}
 
 -- The publication is the same where its number is.
 pub record IsLater (s t : Source) : Type 0 where
@@ -28,6 +30,14 @@ unpublished s t u h b m n at l =
       published = λ e. let same = h.published (sym n ∙ e) in (at ∙ same.0, l ∙ same.1);
     }
 
+after_item : (s t : Source) (item : Item) (m : ℕ) → IsLater s t → IsLater s (item_after t item m)
+after_item s t (single.Put name kind bytes) m h = unpublished s t (item_after t (single.Put name kind bytes) m) h refl refl refl refl refl
+after_item s t (single.Delete name) m h = unpublished s t (item_after t (single.Delete name) m) h refl refl refl refl refl
+
+after_group : (s t : Source) (items : List Item) (m : ℕ) → IsLater s t → IsLater s (after_items t items m)
+after_group s t [] m h = h
+after_group s t (item ∷ items) m h = after_group s (item_after t item (moment_at t m)) items m (after_item s t item (moment_at t m) h)
+
 after_command : (s t : Source) (command : Command) (m : ℕ) → IsLater s t → IsLater s (next_state t command m)
 after_command s t (Put name kind bytes) m h = unpublished s t (next_state t (Put name kind bytes) m) h refl refl refl refl refl
 after_command s t (Delete name) m h = unpublished s t (next_state t (Delete name) m) h refl refl refl refl refl
@@ -38,6 +48,7 @@ after_command s t Publish m h =
       number = omega (arith, h.number);
       published = λ e. absurd (omega (arith, h.number, e));
     }
+after_command s t (Group items) m h = after_group s t items m h
 
 unless_refused : (s t : Source) (o : Option Refusal) (next : Source × Reply) → IsLater s t → IsLater s next.0
     → IsLater s (state_after t (accepted_unless o next))
@@ -49,7 +60,7 @@ after_commands s t [] h = h
 after_commands s t (c ∷ commands) h =
     let m : ℕ = moment_at t c.1 in
     after_commands s (state_after t (step t c.0 c.1)) commands
-    (unless_refused s t (refusal_of t c.0) (next_state t c.0 m, reply_to t c.0 m) h (after_command s t c.0 m h))
+    (unless_refused s t (refusal_of t c.0 c.1) (next_state t c.0 m, reply_to t c.0 m) h (after_command s t c.0 m h))
 
 -- the state after commands is a later one
 pub later : (s : Source) (commands : List (Command × ℕ)) → IsLater s (fold_of s commands)

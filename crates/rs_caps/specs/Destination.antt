@@ -8,7 +8,7 @@ use Rattle.rs_model.specs.Names.{Names}
 use Rattle.rs_model.specs.State.{Source, start_of, entries}
 use Rattle.rs_model.specs.Step.{mirror_of}
 use Rattle.rs_model.specs.Lawful.{IsLawful}
-use Rattle.rs_model.specs.Walk.{state_at, IsLawfulEvent, count_at, catalogue}
+use Rattle.rs_model.specs.Walk.{state_at, IsLawfulEvent, count_at, catalogue, IsPassed}
 use Rattle.rs_lists.specs.declared.doc.Doc.TheVariants.{ResourcePart, ChangePart}
 use Rattle.rs_caps.specs.Paths.{doc_of}
 use Rattle.rs_caps.specs.Readings.{Listed, Document}
@@ -77,15 +77,18 @@ DestinationMirrors =
     → let s = start_of base limit moment in
     IsLawful s → AllByRecursion IsLawfulEvent events → IsFollowed s events when done last → Mirrors s events when last
 
--- A map is what was held at a point of a walk: after the events before the fetch of the Change List's head, and not after
--- those before the fetch of the last of its documents.
+-- A map is what was held at a point of a walk: after the events before the fetch of the Change List's head, and not after those
+-- before the fetch of the last of its documents. Where the next event there is a group, the map may be what was held, followed by
+-- the first changes of that.
+-- `passed`: the point, and the number of changes that the map is made of; `mirrored`: it is what these make.
+-- `held`: where the number is that of the point, it is what was held then.
 pub record WasHeld (s : Source) (events : List Event) (when : List ℕ → ℕ) (last : ℕ) (mirror : Names Entry) : Type 0 where
-  pub point : ℕ
-  pub after_head : when (codes "/changelist.xml") ≤ point
-  pub by_last : point ≤ last
-  pub held : mirror ≡ entries (state_at s events point).held
+  pub n : ℕ
+  pub passed : IsPassed s events (when (codes "/changelist.xml")) last n
+  pub mirrored : mirror ≡ catalogue s events n
+  pub held : count_at s events passed.point ≡ n → mirror ≡ entries (state_at s events passed.point).held
 
--- What it gathers makes what was held at such a point: each name with its facts and moment.
+-- What it gathers makes what was held so: each name with its facts and moment.
 abbrev pub MirrorWasHeld : Type 0
 MirrorWasHeld =
     (base : List ℕ) (limit moment : ℕ) (events : List Event) (when : List ℕ → ℕ) (done last : ℕ)

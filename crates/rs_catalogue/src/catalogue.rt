@@ -9,16 +9,17 @@ ghost use Rattle.rs_page.specs.Items.{record_filled};
 ghost use Rattle.rs_page.specs.Pages.{same_page, placed_extents, stored_refs};
 ghost use Rattle.rs_page.specs.SharedPages.{KeepsPages};
 ghost use Rattle.rs_pages.specs.Rule.{home, bound_in, unbound_in};
+ghost use Rattle.rs_pages.specs.Dropped.{full_pages};
 ghost use Rattle.rs_pages.specs.Entries.{entry_at};
 ghost use Rattle.rs_catalogue.specs.Filled.{pages_filled};
 ghost use Rattle.rs_catalogue.specs.Named.{named};
-ghost use Rattle.rs_catalogue.specs.Catalogue.{records_of, IsCatalogue, StandsUnstored};
+ghost use Rattle.rs_catalogue.specs.Catalogue.{records_of, AreHeld, IsCatalogue, StandsUnstored};
 
 use rs_fixity::Digests;
 use rs_page::PageRef;
 use rs_pages::Pages;
 use rs_pages::laws::{items_are_filled_as_one, one_page_is_touched, pages_are_one_map};
-use rs_record::{Name, Record};
+use rs_record::{Name, Record, duplicate_all};
 use std::alloc::{AllocError, Global};
 use std::marker::Model;
 
@@ -50,6 +51,24 @@ impl Catalogue {
         Catalogue {
             pages: Pages::empty(alloc),
         }
+    }
+
+    /// The catalogue of these records, whose names strictly ascend: in pages of 64, of which the last
+    /// has the rest. All of them are touched.
+    ///
+    /// # Errors
+    ///
+    /// [`AllocError`] where the memory is refused.
+    pub fn from_records(alloc: Global, records: &[Record]) -> Result<Catalogue, AllocError>
+        requires { AreHeld records.now }
+        ensures pages { IfOk result (λ made. made ≡ full_pages records.now) }
+        ensures records { IfOk result (λ made. records_of made ≡ records.now) }
+        ensures unplaced { IfOk result (λ made. placed_extents made ≡ []) }
+        ensures unstored { IfOk result (λ made. stored_refs made ≡ []) }
+    {
+        let records = duplicate_all(alloc, records)?;
+        let pages = Pages::of_items(alloc, records)?;
+        Ok(Catalogue { pages })
     }
 
     /// How many records there are.

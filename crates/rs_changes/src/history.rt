@@ -10,15 +10,15 @@ ghost use Rattle.rs_page.specs.Pages.{placed_extents, stored_refs};
 ghost use Rattle.rs_page.specs.SharedPages.{KeepsPages};
 ghost use Rattle.rs_pages.specs.Rule.{appended_to};
 ghost use Rattle.rs_pages.specs.Entries.{open_entry};
-ghost use Rattle.rs_pages.specs.Dropped.{dropped_front, front_pages, TouchesFew};
+ghost use Rattle.rs_pages.specs.Dropped.{dropped_front, front_pages, full_pages, TouchesFew};
 ghost use Rattle.rs_changes.specs.Filled.{history_filled};
-ghost use Rattle.rs_changes.specs.History.{Numbered, with_pages, without_parts, changes_of, last_of, IsHistory, EndsUnstored, part_start, part_end};
+ghost use Rattle.rs_changes.specs.History.{Numbered, AreKept, with_pages, without_parts, changes_of, last_of, IsHistory, EndsUnstored, part_start, part_end};
 
 use rs_fixity::Digests;
 use rs_page::PageRef;
 use rs_pages::Pages;
 use rs_pages::laws::{first_items_are_dropped_as_one, last_items_are_filled, pages_are_one_list};
-use rs_record::Change;
+use rs_record::{Change, duplicate_all};
 use rs_time::Moment;
 use std::alloc::{AllocError, Global};
 use std::marker::Model;
@@ -53,6 +53,31 @@ impl History {
             first: 0,
             pages: Pages::empty(alloc),
         }
+    }
+
+    /// The history of these changes, whose moments strictly rise: in pages of 64, of which the last
+    /// has the rest. All of them are touched. The number of its first part is `first`, at most
+    /// 253,402,300,799,999.
+    ///
+    /// # Errors
+    ///
+    /// [`AllocError`] where the memory is refused.
+    pub fn from_changes(
+        alloc: Global,
+        first: u64,
+        changes: &[Change],
+    ) -> Result<History, AllocError>
+        requires changes { AreKept changes.now }
+        requires number { first ≤ greatest }
+        ensures pages { IfOk result
+            (λ made. made ≡ record { first = first; pages = full_pages changes.now }) }
+        ensures changes { IfOk result (λ made. changes_of made.pages ≡ changes.now) }
+        ensures unplaced { IfOk result (λ made. placed_extents made.pages ≡ []) }
+        ensures unstored { IfOk result (λ made. stored_refs made.pages ≡ []) }
+    {
+        let changes = duplicate_all(alloc, changes)?;
+        let pages = Pages::of_items(alloc, changes)?;
+        Ok(History { first, pages })
     }
 
     /// How many changes there are.

@@ -48,7 +48,7 @@ gate_at image s =
     let same : offset s + 0 ≡ offset s = omega arith in
     get_or-take 512 (drop (offset s) image) 0 0 (omega arith) ∙ get_or-drop (offset s) image 0 0 ∙ ap (λ (k : ℕ). get_or image k 0) same
 
-behind_gate : (image : List ℕ) (s : Slot) → drop 1 (block image s) ≡ take 511 (drop (offset s + 1) image)
+pub behind_gate : (image : List ℕ) (s : Slot) → drop 1 (block image s) ≡ take 511 (drop (offset s + 1) image)
 behind_gate image s = drop-take 1 511 (drop (offset s) image) ∙ ap (λ (l : List ℕ). take 511 l) (drop-drop 1 (offset s) image)
 
 -- a change of the gate alone keeps the bytes behind it

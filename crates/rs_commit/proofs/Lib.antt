@@ -5,3 +5,4 @@ pub mod Ready
 pub mod Phases
 pub mod Runs
 pub mod Headers
+pub mod Closed

@@ -1,8 +1,10 @@
 -- The slots as they are made.
-use Rattle.std.specs.Prelude.{ℕ, ◌-◌, false, List, [], ◌∷◌, ◌++◌, length, replicate}
+use Rattle.std.specs.Prelude.{◌≡◌, ◌⊎◌, ℕ, ◌-◌, ◌≤◌, false, List, [], ◌∷◌, ◌++◌, length, replicate, None}
+use Rattle.rs_disk.specs.Medium.{Medium, over}
 use Rattle.rs_commit.specs.declared.root.Root.{Root}
-use Rattle.rs_commit.specs.declared.slot.Slot.TheVariants.{First}
-use Rattle.rs_commit.specs.Slots.{Standing, payload_of, written_version}
+use Rattle.rs_commit.specs.declared.slot.Slot.TheVariants.{First, Second}
+use Rattle.rs_commit.specs.Slots.{Standing, OpensTo, offset, block, gate, current, payload_of, written_version}
+use Rattle.rs_commit.specs.Commit.{AreSettled, OutsideOf, SameBehind}
 
 -- the block of a slot: its gate, its payload, and zeros
 unfoldable pub slot_bytes : ℕ → List ℕ → List ℕ
@@ -16,3 +18,23 @@ formatted root = slot_bytes 1 (payload_of root) ++ slot_bytes 0 (written_version
 -- how they stand
 abbrev pub fresh : Root → Standing
 fresh root = record { slot = First; root = root; spare_open = false }
+
+-- both slots with a closed gate, whatever else they hold
+abbrev pub with_closed_gates : List ℕ → List ℕ
+with_closed_gates bytes = over (over bytes (offset First) (0 ∷ [])) (offset Second) (0 ∷ [])
+
+-- the first slot open, with a root and zeros behind it, whatever the second one holds
+abbrev pub with_first_root : List ℕ → Root → List ℕ
+with_first_root bytes root = over bytes (offset First) (slot_bytes 1 (payload_of root))
+
+-- The disk has blocks 0 and 1, both gates are closed by what a read gives, and both blocks are settled. So each image tells no root.
+pub record AreShut (m : Medium) : Type 0 where
+  pub room : 1024 ≤ length m.seen
+  pub first : gate (block m.seen First) ≡ 0
+  pub second : gate (block m.seen Second) ≡ 0
+  pub settled : AreSettled m
+
+-- An image tells no root, and behind the slots it is as an image at entry; or it opens to this root, and there it is what a read
+-- gave at entry.
+abbrev pub NoneOrRoot : Medium → Root → List ℕ → Type 0
+NoneOrRoot entry root image = ((current image ≡ None) × OutsideOf entry image) ⊎ (OpensTo root image × SameBehind image entry.seen)

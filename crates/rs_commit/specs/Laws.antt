@@ -1,10 +1,10 @@
 -- What follows from the definitions of the slots alone.
-use Rattle.std.specs.Prelude.{◌≡◌, ℕ, ◌<◌, false, List, ◌∷◌, ◌++◌, take, get_or, Some}
+use Rattle.std.specs.Prelude.{◌≡◌, ℕ, ◌<◌, false, List, ◌∷◌, ◌++◌, take, get_or, Some, None}
 use Rattle.rs_disk.specs.Medium.{Medium, IsImage, IsMedium}
 use Rattle.rs_commit.specs.declared.root.Root.{Root}
 use Rattle.rs_commit.specs.Slots.{Standing, current, OpensTo, root_in, payload_of, IsLawfulRoot}
 use Rattle.rs_commit.specs.Commit.{IsReady}
-use Rattle.rs_commit.specs.Format.{formatted, fresh}
+use Rattle.rs_commit.specs.Format.{formatted, fresh, AreShut}
 
 -- An image opens to at most one root.
 abbrev pub OpensOnce : Type 0
@@ -36,3 +36,12 @@ PayloadsRead = (root : Root) (gate : ℕ) (rest : List ℕ) → IsLawfulRoot roo
 -- Slots that were made stand as made, whatever lies behind them.
 abbrev pub FormattedStands : Type 0
 FormattedStands = (root : Root) (rest : List ℕ) → IsLawfulRoot root → current (formatted root ++ rest) ≡ Some (fresh root)
+
+-- Where both slots are closed, each image tells no root.
+abbrev pub ShutTellsNone : Type 0
+ShutTellsNone = (m : Medium) (size : ℕ) → IsMedium size m → AreShut m → (image : List ℕ) → IsImage m image → current image ≡ None
+
+-- They stay so where blocks 0 and 1 are as they were by what a read gives, and as settled.
+abbrev pub ShutStays : Type 0
+ShutStays = (old new : Medium) → take 1024 new.seen ≡ take 1024 old.seen → ((i : ℕ) → i < 1024 → get_or new.unsettled i false ≡ get_or old.unsettled i false)
+    → AreShut old → AreShut new

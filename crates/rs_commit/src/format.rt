@@ -62,8 +62,8 @@ fn write_slots<D: Disk>(disk: &mut D, root: &Root) -> Result<(), Fault>
     write_settled(disk, Slot::First.offset(), &[OPEN])
 }
 
-// The block of a slot with a closed gate, these bytes behind it, and zeros.
-fn closed_slot(payload: &[u8]) -> [u8; BLOCK_SIZE]
+/// The block of a slot with a closed gate, these bytes behind it, and zeros.
+pub(crate) fn closed_slot(payload: &[u8]) -> [u8; BLOCK_SIZE]
     requires { length payload.now ≤ 511 }
     ensures { result ≡ slot_bytes 0 payload.now }
 {

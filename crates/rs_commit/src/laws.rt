@@ -1,8 +1,8 @@
 //! Laws of the root slots, over their definitions alone.
 //!
 //! Each function here does nothing: its contract is the law, which the check proves. Proofs cite
-//! the lemmas behind them, in `proofs/Ready.antt` and `proofs/Payloads.antt`.
-ghost use Rattle.rs_commit.specs.Laws.{OpensOnce, CurrentStays, OpensStays, ReadyStays, ReadyStands, ReadyOpens, PayloadsRead, FormattedStands};
+//! the lemmas behind them, in `proofs/Ready.antt`, `proofs/Payloads.antt` and `proofs/Closed.antt`.
+ghost use Rattle.rs_commit.specs.Laws.{OpensOnce, CurrentStays, OpensStays, ReadyStays, ReadyStands, ReadyOpens, PayloadsRead, FormattedStands, ShutTellsNone, ShutStays};
 
 /// An image opens to at most one root.
 pub fn opens_once()
@@ -35,4 +35,11 @@ pub fn payloads_read()
 /// Slots that were just made tell their root, whatever lies behind them.
 pub fn formatted_opens()
     ensures { FormattedStands }
+{}
+
+/// Where both slots are closed, each image tells no root, and they stay so where blocks 0 and 1
+/// stay as they are, by what a read gives and as settled.
+pub fn shut_tells_none()
+    ensures none { ShutTellsNone }
+    ensures stays { ShutStays }
 {}

@@ -7,6 +7,7 @@
 //! [`open_slots`] reads them, and [`laws`] states what follows from their definition alone.
 #![tactic(auto)]
 
+mod copying;
 mod faults;
 mod format;
 pub mod laws;
@@ -16,6 +17,7 @@ mod settled;
 mod slot;
 mod slots;
 
+pub use copying::{close_slots, open_first};
 pub use faults::{CommitFault, SlotFault};
 pub use format::format_slots;
 pub use reading::open_slots;

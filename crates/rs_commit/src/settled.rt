@@ -1,5 +1,5 @@
 //! A write that is settled at once.
-ghost use Rattle.std.specs.Prelude.{◌≡◌, ◌+◌, ◌≤◌, length, OnOk};
+ghost use Rattle.std.specs.Prelude.{◌≡◌, ◌+◌, ◌<◌, ◌≤◌, length, OnOk, OnErr};
 ghost use Rattle.rs_disk.specs.Medium.{over, resting};
 ghost use Rattle.rs_disk.specs.Leaves.{Leaves, Runs, Torn, TornFrom};
 
@@ -11,6 +11,9 @@ pub(crate) fn write_settled<D: Disk>(disk: &mut D, at: u64, bytes: &[u8]) -> Res
     ensures runs { Runs (D.state disk.old) (D.state disk.new) result }
     ensures keeps { (D.state disk.new).honest ≡ (D.state disk.old).honest }
     ensures calls { (D.state disk.new).calls ≤ (D.state disk.old).calls + 2 }
+    ensures all_calls { OnOk result ((D.state disk.new).calls ≡ (D.state disk.old).calls + 2) }
+    ensures cut_short { OnErr result ((D.state disk.new).faults ≡ (D.state disk.old).faults
+        → (D.state disk.new).calls < (D.state disk.old).calls + 2) }
     ensures any_moment { Leaves (D.state disk.old) (D.state disk.new)
         (λ _. TornFrom (D.state disk.old).now at (length bytes.now)) }
     ensures torn { Torn at (length bytes.now) (D.state disk.old).now.seen

@@ -1,5 +1,5 @@
 -- What the answers of the source come to.
-use Rattle.std.proofs.Common.{◌≡◌, ℕ, List, [], ◌++◌, append_assoc, append-nil, codes, Option, Some, None, Result, Ok, Err, Vec, Global, Bool, true, false, ◌↔◌, length, refl, ap, sym, subst, ◌∙◌, if◌then◌else◌, IsErrOf, IsTrue, IfOk, OnOk, option_map}
+use Rattle.std.proofs.Common.{◌≡◌, ℕ, List, [], ◌++◌, append_assoc, append-nil, codes, Option, Some, None, Result, Ok, Err, Vec, Global, Bool, true, false, ◌↔◌, length, refl, ap, sym, subst, ◌∙◌, if◌then◌else◌, IsErrOf, IsTrue, IfOk, option_map}
 use Rattle.rs_disk.specs.Medium.{DiskState}
 use Rattle.rs_model.specs.Step.{is_held}
 use Rattle.rs_lists.specs.declared.doc.Doc.{Doc}
@@ -23,6 +23,11 @@ pub answered : {E : Type 0} (framing : Framing) (Written : List ℕ → Type 0) 
     → comes outcome → IfOk result (λ status. status ≡ status_code outcome) → Written (response_text framing outcome)
     → Responds framing Written comes result
 answered framing Written comes result outcome c s w = record { outcome = outcome; comes_of_it = c; status = s; written = w }
+
+-- what comes of it may be told in other words
+pub answers_more : {E : Type 0} (framing : Framing) (Written : List ℕ → Type 0) (comes more : RequestOutcome → Type 0) (result : Result ℕ E)
+    → ((outcome : RequestOutcome) → comes outcome → more outcome) → Responds framing Written comes result → Responds framing Written more result
+answers_more framing Written comes more result is r = record { outcome = r.outcome; comes_of_it = is r.outcome r.comes_of_it; status = r.status; written = r.written }
 
 -- the source is open where it gives what it is asked
 opened : {T : Type 0} (given : T) (closed : Bool) → IsErrOf {E = stored.Refusal} (Ok given) Closed ↔ IsTrue closed → closed ≡ false

@@ -1,32 +1,35 @@
 -- What a stop within a request leaves.
-use Rattle.std.proofs.Common.{◌≡◌, ◌⊎◌, inl, inr, ℕ, List, [], ◌∷◌, length, take, Option, Result, Ok, Err, refl, ap, sym, ◌∙◌, subst, arith}
+use Rattle.std.proofs.Common.{◌≡◌, inl, inr, ℕ, List, [], length, take, Option, Result, Ok, Err, refl, ap, sym, ◌∙◌, subst}
 use Rattle.std.proofs.Math.Seq.{take-length}
 use Rattle.rs_disk.specs.Medium.{DiskState}
 use Rattle.rs_model.specs.declared.command.Command.{Command}
 use Rattle.rs_model.specs.declared.command.Command.TheVariants as commands
+use Rattle.rs_model.specs.declared.command.Item.{Item}
 use Rattle.rs_model.specs.declared.command.Reply.{Reply}
 use Rattle.rs_store.specs.Answered.{Answers}
-use Rattle.rs_store.specs.OnlyReads.{OnlyReads}
 use Rattle.rs_store.specs.Received.{IsBodyOf, AnswersFrom}
 use Rattle.rs_store.specs.Laws.{RestIsIdle}
 use Rattle.rs_store.specs.Runs.{IsIdle}
 use Rattle.rs_store.specs.Source.{Stored}
 use Rattle.rs_store.specs.declared.refusal.Refusal as stored
-use Rattle.rs_store.specs.declared.refusal.Refusal.TheVariants.{Closed, TooLong, NotHeld, TooManyResources, TooManyChanges, Exhausted, Full, ReadFault, ShortBody, Device, Damaged, NoMemory}
-use Rattle.rs_recovery.specs.Prefixes.{counted_as, IsRunOf, Recovers, RunsRecover, IdleIsRun, CommandIsRun}
+use Rattle.rs_store.specs.declared.refusal.Refusal.TheVariants.{Closed, BadGroup, TooLong, NotHeld, TooManyResources, TooManyChanges, Exhausted, Full, ReadFault, ShortBody, Device, Damaged, NoMemory}
+use Rattle.rs_recovery.specs.Prefixes.{counted_as, Recovers, RunsRecover, IdleIsRun, CommandIsRun}
 use Rattle.rs_recovery.specs.Turns.{ReadingsIdle, CutPutsIdle}
 use Rattle.rs_http.specs.declared.request.Plan.{Plan}
-use Rattle.rs_http.specs.declared.request.Plan.TheVariants.{ShowBody, ShowDocument, Put, Delete, Publish}
+use Rattle.rs_http.specs.declared.request.Plan.TheVariants.{ShowBody, ShowDocument, Put, Delete, Publish, Group}
 use Rattle.rs_http.specs.declared.request.NoPlan.{NoPlan}
-use Rattle.rs_http.specs.Outcomes.{RequestGives, outcome_replied}
+use Rattle.rs_http.specs.Groups.{items_asked}
+use Rattle.rs_http.specs.Outcomes.{GroupComesTo, RequestGives, outcome_replied}
 use Rattle.rs_http.specs.Responses.{RequestOutcome}
-use Rattle.rs_http.specs.Counted.{counted_with, Counts, RequestRecovers}
+use Rattle.rs_http.specs.Counted.{counted_with, counted_group, RequestRecovers}
 use Rattle.rs_http.specs.Serving.{IsBroken}
+use Rattle.rs_http.proofs.Groups.{asked_items, unasked_counts}
 
 -- what counts by the outcome counts by the answer of the source
 counts_alike : (command : Command) (now : ℕ) (result : Result Reply stored.Refusal) → counted_with command now (outcome_replied result) ≡ counted_as command now result
 counts_alike command now (Ok reply) = refl
 counts_alike command now (Err Closed) = refl
+counts_alike command now (Err BadGroup) = refl
 counts_alike command now (Err TooLong) = refl
 counts_alike command now (Err NotHeld) = refl
 counts_alike command now (Err TooManyResources) = refl
@@ -72,6 +75,7 @@ module _ {D : Type 0} (device : D → DiskState) (rest : RestIsIdle device) (rea
   put_recovers name kind n came body (Err ShortBody) outcome is a whole =
       subst (λ (l : List (Command × ℕ)). Recovers device old l new) (ap (counted_with (commands.Put name kind body) now) (sym is)) (idles (cut old new name kind n now came (inr a)))
   put_recovers name kind n came body (Err Closed) outcome is a whole = run_recovers (commands.Put name kind body) (Err Closed) outcome is (a.1 body whole)
+  put_recovers name kind n came body (Err BadGroup) outcome is a whole = run_recovers (commands.Put name kind body) (Err BadGroup) outcome is (a.1 body whole)
   put_recovers name kind n came body (Err TooLong) outcome is a whole = run_recovers (commands.Put name kind body) (Err TooLong) outcome is (a.1 body whole)
   put_recovers name kind n came body (Err NotHeld) outcome is a whole = run_recovers (commands.Put name kind body) (Err NotHeld) outcome is (a.1 body whole)
   put_recovers name kind n came body (Err TooManyResources) outcome is a whole = run_recovers (commands.Put name kind body) (Err TooManyResources) outcome is (a.1 body whole)
@@ -85,6 +89,15 @@ module _ {D : Type 0} (device : D → DiskState) (rest : RestIsIdle device) (rea
   recounted : (l k : List (Command × ℕ)) → l ≡ k → Recovers device old k new → Recovers device old l new
   recounted l k same r = subst (λ (x : List (Command × ℕ)). Recovers device old x new) (sym same) r
 
+  -- a group was read
+  group_recovers : (n : ℕ) (more : List ℕ) (left : Option (List ℕ)) (outcome : RequestOutcome) (counted : List (Command × ℕ)) → GroupComesTo device old new n now more left outcome
+      → counted ≡ counted_group (items_asked n more) now outcome → Recovers device old counted new
+  group_recovers n more left outcome counted (inl unasked) is = recounted counted [] (is ∙ unasked_counts n more left outcome now unasked.1) (same_recovers unasked.0)
+  group_recovers n more left outcome counted (inr asked) is =
+      let all = ap (λ (found : Option (List Item)). counted_group found now outcome) (asked_items n more asked.items asked.whole asked.are) in
+      recounted counted (counted_with (commands.Group asked.items) now outcome) (is ∙ all)
+      (run_recovers (commands.Group asked.items) asked.comes.result outcome asked.comes.outcome_is asked.comes.answers)
+
   -- what may come of a request
   pub request_recovers : (plan : Result Plan NoPlan) (more : List ℕ) (left : Option (List ℕ)) (outcome : RequestOutcome)
       → RequestGives device old now plan more left outcome new → RequestRecovers device old now plan more outcome new
@@ -96,11 +109,13 @@ module _ {D : Type 0} (device : D → DiskState) (rest : RestIsIdle device) (rea
       recounted counted (counted_with (commands.Delete name) now outcome) is (run_recovers (commands.Delete name) gives.1.result outcome gives.1.outcome_is gives.1.answers)
   request_recovers (Ok Publish) more left outcome gives counted is =
       recounted counted (counted_with commands.Publish now outcome) is (run_recovers commands.Publish gives.1.result outcome gives.1.outcome_is gives.1.answers)
+  request_recovers (Ok (Group n waits)) more left outcome gives counted is = group_recovers n more left outcome counted gives is
   request_recovers (Err reason) more left outcome gives counted is = recounted counted [] is (same_recovers gives.2)
 
-  -- a put whose reader failed
+  -- a put or a group whose reader failed
   pub broken_recovers : (plan : Result Plan NoPlan) (more : List ℕ) → IsBroken device old now plan more new → Recovers device old [] new
   broken_recovers (Ok (Put name kind n waits)) more broken = idles (cut old new name kind n now more (inl broken))
+  broken_recovers (Ok (Group n waits)) more broken = same_recovers broken.1
   broken_recovers (Ok (ShowBody name)) more broken = absurd broken
   broken_recovers (Ok (ShowDocument doc)) more broken = absurd broken
   broken_recovers (Ok (Delete name)) more broken = absurd broken

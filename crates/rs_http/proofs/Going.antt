@@ -17,14 +17,14 @@ use Rattle.rs_store.specs.Received.{IsBodyOf, IsLeft, AnswersFrom}
 use Rattle.rs_store.specs.Refusals.{decided, or_spent, is_spent}
 use Rattle.rs_store.specs.Source.{Stored, Holds, state_of}
 use Rattle.rs_store.specs.declared.refusal.Refusal as stored
-use Rattle.rs_store.specs.declared.refusal.Refusal.TheVariants.{Closed, TooLong, NotHeld, TooManyResources, TooManyChanges, Exhausted, Full, ReadFault, ShortBody, Device, Damaged, NoMemory}
+use Rattle.rs_store.specs.declared.refusal.Refusal.TheVariants.{Closed, BadGroup, TooLong, NotHeld, TooManyResources, TooManyChanges, Exhausted, Full, ReadFault, ShortBody, Device, Damaged, NoMemory}
 use Rattle.rs_http.specs.declared.fault.FrontFault.{FrontFault}
 use Rattle.rs_http.specs.declared.fault.FrontFault.TheVariants.{Read, Write}
 use Rattle.rs_http.specs.declared.request.Plan.{Plan}
-use Rattle.rs_http.specs.declared.request.Plan.TheVariants.{ShowBody, ShowDocument, Put, Delete, Publish}
+use Rattle.rs_http.specs.declared.request.Plan.TheVariants.{ShowBody, ShowDocument, Put, Delete, Publish, Group}
 use Rattle.rs_http.specs.declared.request.NoPlan.{NoPlan}
 use Rattle.rs_http.specs.declared.request.Request.{Request}
-use Rattle.rs_http.specs.Outcomes.{RequestGives}
+use Rattle.rs_http.specs.Outcomes.{GroupComesTo, RequestGives}
 use Rattle.rs_store.specs.Advancing.{GoesOnBy, GoesOnOnce}
 use Rattle.rs_http.specs.Responses.{RequestOutcome}
 use Rattle.rs_http.specs.Serving.{IsBroken, LeavesStanding, RequestEnds}
@@ -62,7 +62,7 @@ module _ {D : Type 0} (device : D → DiskState) (old new : Stored D) (now : ℕ
   Came command = command.1 ≡ now
 
   abbrev Accepted : Command × ℕ → Type 0
-  Accepted command = refusal_of (state_of device old) command.0 ≡ None
+  Accepted command = refusal_of (state_of device old) command.0 command.1 ≡ None
 
   -- no command was done
   none_done : new.is_closed ≡ old.is_closed → state_of device new ≡ state_of device old
@@ -77,13 +77,13 @@ module _ {D : Type 0} (device : D → DiskState) (old new : Stored D) (now : ℕ
   }
 
   -- one was
-  one_done : (command : Command) → decided old (state_of device old) command ≡ None → GoesOnBy device old new ((command, now) ∷ []) → GoesOnOnce device old now new
+  one_done : (command : Command) → decided old (state_of device old) command now ≡ None → GoesOnBy device old new ((command, now) ∷ []) → GoesOnOnce device old now new
   one_done command free by = record {
     commands = (command, now) ∷ [];
     few = omega arith;
     came = All-cons Came (command, now) [] refl (All-nil Came);
     accepted = All-cons Accepted (command, now) []
-        (unless_refused (refusal_of (state_of device old) command) (is_spent old) old.is_closed free) (All-nil Accepted);
+        (unless_refused (refusal_of (state_of device old) command now) (is_spent old) old.is_closed free) (All-nil Accepted);
     goes_on = by;
     kept = λ e. absurd cc;
   }
@@ -117,7 +117,7 @@ module _ {D : Type 0} (device : D → DiskState) (old new : Stored D) (now : ℕ
 
     -- a command was asked
     run_goes : (result : Result Reply stored.Refusal) → Answers device old new command now result → GoesOnOnce device old now new
-    run_goes (Ok reply) a = one_done command (undecided (decided old (state_of device old) command) (Ok reply) reply refl a.decides) (record {
+    run_goes (Ok reply) a = one_done command (undecided (decided old (state_of device old) command now) (Ok reply) reply refl a.decides) (record {
       opened = λ h. sym (a.stays_open (λ e. absurd cc)) ∙ h;
       tells = λ _. sym (ap (state_after (state_of device old)) a.accepted);
       holds = λ s held free.
@@ -128,6 +128,7 @@ module _ {D : Type 0} (device : D → DiskState) (old new : Stored D) (now : ℕ
         let shut : new.is_closed ≡ true = a.closes refl in
         one_done command (a.refused Device refl).0 (record { opened = λ h. absurd cc; tells = λ h. absurd cc; holds = λ s held h. absurd cc })
     run_goes (Err Closed) a = refused_goes Closed (λ e. absurd cc) a (λ s held. (a.leads s held).0)
+    run_goes (Err BadGroup) a = refused_goes BadGroup (λ e. absurd cc) a (λ s held. (a.leads s held).0)
     run_goes (Err TooLong) a = refused_goes TooLong (λ e. absurd cc) a (λ s held. (a.leads s held).0)
     run_goes (Err NotHeld) a = refused_goes NotHeld (λ e. absurd cc) a (λ s held. (a.leads s held).0)
     run_goes (Err TooManyResources) a = refused_goes TooManyResources (λ e. absurd cc) a (λ s held. (a.leads s held).0)
@@ -153,6 +154,7 @@ module _ {D : Type 0} (device : D → DiskState) (old new : Stored D) (now : ℕ
     put_goes (Err Device) a = put_refused Device a.0 a.1
     put_goes (Err NoMemory) a = put_refused NoMemory a.0 a.1
     put_goes (Err Closed) a = put_refused Closed (none_fit n came a.0) a.1
+    put_goes (Err BadGroup) a = put_refused BadGroup (none_fit n came a.0) a.1
     put_goes (Err TooLong) a = put_refused TooLong (none_fit n came a.0) a.1
     put_goes (Err NotHeld) a = put_refused NotHeld (none_fit n came a.0) a.1
     put_goes (Err TooManyResources) a = put_refused TooManyResources (none_fit n came a.0) a.1
@@ -160,6 +162,11 @@ module _ {D : Type 0} (device : D → DiskState) (old new : Stored D) (now : ℕ
     put_goes (Err Exhausted) a = put_refused Exhausted (none_fit n came a.0) a.1
     put_goes (Err Full) a = put_refused Full (none_fit n came a.0) a.1
     put_goes (Err Damaged) a = put_refused Damaged (none_fit n came a.0) a.1
+
+  -- a group was read
+  group_goes : (n : ℕ) (more : List ℕ) (rest : Option (List ℕ)) (outcome : RequestOutcome) → GroupComesTo device old new n now more rest outcome → GoesOnOnce device old now new
+  group_goes n more rest outcome (inl unasked) = same_goes unasked.0
+  group_goes n more rest outcome (inr asked) = run_goes (commands.Group asked.items) asked.comes.result asked.comes.answers
 
   -- what may come of a request
   gives_goes : (plan : Result Plan NoPlan) (more : List ℕ) (rest : Option (List ℕ)) (outcome : RequestOutcome)
@@ -169,11 +176,13 @@ module _ {D : Type 0} (device : D → DiskState) (old new : Stored D) (now : ℕ
   gives_goes (Ok (Put name kind n waits)) more rest outcome gives = put_goes name kind n more gives.result gives.answers
   gives_goes (Ok (Delete name)) more rest outcome gives = run_goes (commands.Delete name) gives.1.result gives.1.answers
   gives_goes (Ok Publish) more rest outcome gives = run_goes commands.Publish gives.1.result gives.1.answers
+  gives_goes (Ok (Group n waits)) more rest outcome gives = group_goes n more rest outcome gives
   gives_goes (Err reason) more rest outcome gives = same_goes gives.2
 
-  -- a put whose reader failed
+  -- a put or a group whose reader failed
   broken_goes : (plan : Result Plan NoPlan) (more : List ℕ) → IsBroken device old now plan more new → GoesOnOnce device old now new
   broken_goes (Ok (Put name kind n waits)) more broken = left_goes broken.left
+  broken_goes (Ok (Group n waits)) more broken = same_goes broken.1
   broken_goes (Ok (ShowBody name)) more broken = absurd broken
   broken_goes (Ok (ShowDocument doc)) more broken = absurd broken
   broken_goes (Ok (Delete name)) more broken = absurd broken

@@ -3,6 +3,8 @@ pub mod Chains
 pub mod Endings
 pub mod Ends
 pub mod Going
+pub mod Groups
+pub mod Lines
 pub mod Plans
 pub mod Room
 pub mod Counting

@@ -7,7 +7,7 @@ use Rattle.rs_lists.specs.declared.doc.Doc.{Doc}
 use Rattle.rs_caps.specs.Paths.{doc_of, HasCounts}
 use Rattle.rs_caps.proofs.PathsRead.{doc_of-exact}
 use Rattle.rs_http.specs.declared.target.Place.{Place}
-use Rattle.rs_http.specs.declared.target.Place.TheVariants.{Resource, Unlawful, Document, Publishing, Nowhere}
+use Rattle.rs_http.specs.declared.target.Place.TheVariants.{Resource, Unlawful, Document, Publishing, Grouping, Nowhere}
 use Rattle.rs_http.specs.declared.head.HeadRead.{HeadRead}
 use Rattle.rs_http.specs.declared.head.HeadRead.TheVariants.{Whole, TooLong, Ended}
 use Rattle.rs_http.specs.declared.request.Plan.{Plan}
@@ -15,7 +15,7 @@ use Rattle.rs_http.specs.declared.request.Plan.TheVariants.{ShowBody, ShowDocume
 use Rattle.rs_http.specs.declared.request.NoPlan.{NoPlan}
 use Rattle.rs_http.specs.declared.request.Request.{Request}
 use Rattle.rs_http.specs.Fields.{Parts, head_parts, values_of}
-use Rattle.rs_http.specs.Checks.{is_put, is_delete, stated_in, expects_word, put_plan, resource_plan, plan_at, place_in, causes_of}
+use Rattle.rs_http.specs.Checks.{is_put, is_delete, stated_in, expects_word, put_plan, group_plan, resource_plan, plan_at, place_in, causes_of}
 use Rattle.rs_http.specs.Requests.{IsPlanFor, Asks}
 use Rattle.rs_http.specs.Targets.{path_of_target, resource_place, document_place, place_of}
 
@@ -38,10 +38,12 @@ document_has path (Some doc) is = (doc_of-exact path doc is).1
 
 place_has : (path : List ℕ) → PlaceHas (place_of path)
 place_has path =
-    let other : Place = cond (bytes_eq path (codes "/publish")) Publishing (document_place (doc_of path)) in
+    let last : Place = cond (bytes_eq path (codes "/group")) Grouping (document_place (doc_of path)) in
+    let other : Place = cond (bytes_eq path (codes "/publish")) Publishing last in
     place_either (starts_with nat_eq path (codes "/resource/")) (resource_place (drop 10 path)) other
     (place_either (is_name (drop 10 path)) (Resource (drop 10 path)) Unlawful tt tt)
-    (place_either (bytes_eq path (codes "/publish")) Publishing (document_place (doc_of path)) tt (document_has path (doc_of path) refl))
+    (place_either (bytes_eq path (codes "/publish")) Publishing last tt
+    (place_either (bytes_eq path (codes "/group")) Grouping (document_place (doc_of path)) tt (document_has path (doc_of path) refl)))
 
 -- what is asked of a resource is no document
 resource_has : (b c : Bool) (put : Plan) (name : List ℕ) → HasPath (Ok put) → HasPath (Ok (cond b put (cond c (Delete name) (ShowBody name))))
@@ -57,6 +59,8 @@ asked_at (Resource name) p plan h is =
     (resource_has (is_put p.method) (is_delete p.method)
     (put_plan name (values_of (codes "content-type") p.fields) (unwrap_or (stated_in p) 0) (expects_word p)) name tt)
 asked_at Publishing p plan h is = let same : Publish ≡ plan = cc in subst (λ (q : Plan). HasPath (Ok q)) same tt
+asked_at Grouping p plan h is =
+    let same : group_plan (unwrap_or (stated_in p) 0) (expects_word p) ≡ plan = cc in subst (λ (q : Plan). HasPath (Ok q)) same tt
 asked_at Unlawful p plan h is = absurd cc
 asked_at Nowhere p plan h is = absurd cc
 

@@ -1,5 +1,5 @@
 -- A request makes a walk.
-use Rattle.std.proofs.Common.{◌≡◌, ◌≤◌, ◌-◌, ℕ, Bool, true, false, List, [], ◌∷◌, ◌++◌, length, take, refl, sym, ◌∙◌, ap, subst, arith, cond, Option, Some, None, Result, Ok, Err, Vec, Global, IsTrue, length-append}
+use Rattle.std.proofs.Common.{◌≡◌, inl, inr, ◌≤◌, ◌-◌, ℕ, Bool, true, false, List, [], ◌∷◌, ◌++◌, length, take, refl, sym, ◌∙◌, ap, subst, arith, cond, Option, Some, None, Result, Ok, Err, Vec, Global, IsTrue, length-append}
 use Rattle.std.proofs.Math.Seq.{take-length, take-append_seam}
 use Rattle.std.proofs.lemmas.List.{length-replicate}
 use Rattle.std.specs.Prelude.{replicate, codes}
@@ -7,9 +7,12 @@ use Rattle.rs_disk.specs.Medium.{DiskState, IsMedium}
 use Rattle.rs_model.specs.State.{Source, body_of}
 use Rattle.rs_model.specs.declared.command.Command.{Command}
 use Rattle.rs_model.specs.declared.command.Command.TheVariants as commands
+use Rattle.rs_model.specs.declared.command.Item.{Item}
+use Rattle.rs_model.specs.declared.command.Refusal as model
+use Rattle.rs_model.specs.declared.command.Refusal.TheVariants as decides
 use Rattle.rs_model.specs.declared.command.Reply.{Reply}
 use Rattle.rs_model.specs.declared.event.Event.{Event}
-use Rattle.rs_model.specs.declared.event.Event.TheVariants.{Fetch}
+use Rattle.rs_model.specs.declared.event.Event.TheVariants.{Fetch, Refused}
 use Rattle.rs_lists.specs.declared.doc.Doc.{Doc}
 use Rattle.rs_caps.specs.Answer.{answer}
 use Rattle.rs_caps.specs.DocumentTexts.{document_text}
@@ -20,24 +23,36 @@ use Rattle.rs_store.specs.Answered.{Answers}
 use Rattle.rs_store.specs.AnswersBody.{AnswersBody}
 use Rattle.rs_store.specs.Laws.{HeldStands}
 use Rattle.rs_store.specs.Received.{IsBodyOf, AnswersFrom}
+use Rattle.rs_store.specs.Refusals.{named_as}
 use Rattle.rs_store.specs.Source.{Stored, Holds, state_of}
 use Rattle.rs_store.specs.declared.refusal.Refusal as stored
-use Rattle.rs_store.specs.declared.refusal.Refusal.TheVariants.{Closed, TooLong, NotHeld, TooManyResources, TooManyChanges, Exhausted, Full, ReadFault, ShortBody, Device, Damaged, NoMemory}
+use Rattle.rs_store.specs.declared.refusal.Refusal.TheVariants.{Closed, BadGroup, TooLong, NotHeld, TooManyResources, TooManyChanges, Exhausted, Full, ReadFault, ShortBody, Device, Damaged, NoMemory}
 use Rattle.rs_recovery.specs.Turns.{ReadingsIdle}
 use Rattle.rs_recovery.specs.Walked.{CommandEvents, LeavesWalk, CommandsMakeWalks}
 use Rattle.rs_recovery.proofs.Walked.{told, walked}
 use Rattle.rs_http.specs.declared.request.Plan.{Plan}
-use Rattle.rs_http.specs.declared.request.Plan.TheVariants.{ShowBody, ShowDocument, Put, Delete, Publish}
+use Rattle.rs_http.specs.declared.request.Plan.TheVariants.{ShowBody, ShowDocument, Put, Delete, Publish, Group}
 use Rattle.rs_http.specs.declared.request.NoPlan.{NoPlan}
-use Rattle.rs_http.specs.Outcomes.{outcome_replied, IsShownAs, RunComesTo, document_or_none, document_shown, RequestGives}
+use Rattle.rs_http.specs.Groups.{items_asked}
+use Rattle.rs_http.specs.Outcomes.{outcome_replied, IsShownAs, RunComesTo, UnaskedGroup, GroupComesTo, document_or_none, document_shown, RequestGives}
 use Rattle.rs_http.specs.Responses.{RequestOutcome, shown, refused}
 use Rattle.rs_http.specs.Serving.{IsBroken}
-use Rattle.rs_http.specs.Walked.{RunEvents, PutEvents, ShowEvents, PlanEvents, IsBodyFor}
-use Rattle.rs_http.specs.Laws.{RequestsMakeWalks, BrokenPutsMakeNoEvent}
+use Rattle.rs_http.specs.Walked.{RunEvents, PutEvents, GroupEvents, ShowEvents, PlanEvents, IsBodyFor}
+use Rattle.rs_http.specs.Laws.{RequestsMakeWalks, BrokenBodiesMakeNoEvent}
+use Rattle.rs_http.proofs.Groups.{asked_items, asked_faulty, asked_short}
 use Rattle.rs_http.proofs.NamedDocuments.{HasPath, asked_has}
 
 abbrev Kind : Type 1
 Kind = List Event → Type 0
+
+-- the model refuses nothing for memory
+never_named : (reason : model.Refusal) → named_as reason ≡ NoMemory → ⊥
+never_named decides.BadGroup e = absurd cc
+never_named decides.TooLong e = absurd cc
+never_named decides.NotHeld e = absurd cc
+never_named decides.TooManyResources e = absurd cc
+never_named decides.TooManyChanges e = absurd cc
+never_named decides.Exhausted e = absurd cc
 
 -- no more came than the body has: there is a body that begins so
 begins_one : (n : ℕ) (came : List ℕ) → length came ≤ n → (body : List ℕ) × IsBodyOf n came body
@@ -63,6 +78,7 @@ module _ {D : Type 0} (device : D → DiskState) (old new : Stored D) (now : ℕ
   some_of name kind n came (Err Device) a = a.0
   some_of name kind n came (Err NoMemory) a = a.0
   some_of name kind n came (Err Closed) a = rw a.0 (omega arith)
+  some_of name kind n came (Err BadGroup) a = rw a.0 (omega arith)
   some_of name kind n came (Err TooLong) a = rw a.0 (omega arith)
   some_of name kind n came (Err NotHeld) a = rw a.0 (omega arith)
   some_of name kind n came (Err TooManyResources) a = rw a.0 (omega arith)
@@ -78,6 +94,7 @@ module _ {D : Type 0} (device : D → DiskState) (old new : Stored D) (now : ℕ
   some_body (Ok (ShowDocument doc)) more rest outcome gives = ([], tt)
   some_body (Ok (Delete name)) more rest outcome gives = ([], tt)
   some_body (Ok Publish) more rest outcome gives = ([], tt)
+  some_body (Ok (Group n waits)) more rest outcome gives = (more, refl)
   some_body (Err reason) more rest outcome gives = ([], tt)
 
 module _ {D : Type 0} (device : D → DiskState) (sound : (disk : D) → IsMedium (device disk).size (device disk).now) (stands : HeldStands device)
@@ -121,6 +138,7 @@ module _ {D : Type 0} (device : D → DiskState) (sound : (disk : D) → IsMediu
     put_walk (Err Device) a = was_put (Err Device) (a.1 body whole)
     put_walk (Err NoMemory) a = was_put (Err NoMemory) (a.1 body whole)
     put_walk (Err Closed) a = was_put (Err Closed) (a.1 body whole)
+    put_walk (Err BadGroup) a = was_put (Err BadGroup) (a.1 body whole)
     put_walk (Err TooLong) a = was_put (Err TooLong) (a.1 body whole)
     put_walk (Err NotHeld) a = was_put (Err NotHeld) (a.1 body whole)
     put_walk (Err TooManyResources) a = was_put (Err TooManyResources) (a.1 body whole)
@@ -128,6 +146,28 @@ module _ {D : Type 0} (device : D → DiskState) (sound : (disk : D) → IsMediu
     put_walk (Err Exhausted) a = was_put (Err Exhausted) (a.1 body whole)
     put_walk (Err Full) a = was_put (Err Full) (a.1 body whole)
     put_walk (Err Damaged) a = was_put (Err Damaged) (a.1 body whole)
+
+  -- a group, by the items that it asks for
+  abbrev Grouped : RequestOutcome → Option (List Item) → Type 0
+  Grouped outcome asked = LeavesWalk device s (GroupEvents s asked now outcome) new
+
+  lacking_walk : (asked : Option (List Item)) → Holds device new s → Grouped (refused NoMemory) asked
+  lacking_walk None held = nothing (GroupEvents s None now (refused NoMemory)) refl held
+  lacking_walk (Some items) held =
+      let group : Command = commands.Group items in
+      walked device stands s (RunEvents s group now (refused NoMemory)) new (Refused group ∷ []) (inr (λ refuses. never_named refuses.0 refuses.2, refl)) held
+
+  unasked_walk : (n : ℕ) (came : List ℕ) (rest : Option (List ℕ)) (outcome : RequestOutcome) → UnaskedGroup n came rest outcome → Holds device new s → Grouped outcome (items_asked n came)
+  unasked_walk n came rest outcome (inl short) held = subst (Grouped outcome) (sym (asked_short n came short.0)) (nothing (GroupEvents s None now outcome) refl held)
+  unasked_walk n came rest outcome (inr (inl faulty)) held =
+      subst (Grouped outcome) (sym (asked_faulty n came faulty.1 faulty.0 faulty.2)) (nothing (GroupEvents s None now outcome) refl held)
+  unasked_walk n came rest outcome (inr (inr lacking)) held =
+      subst (λ (o : RequestOutcome). Grouped o (items_asked n came)) (sym lacking.1) (lacking_walk (items_asked n came) held)
+
+  group_walk : (n : ℕ) (came : List ℕ) (rest : Option (List ℕ)) (outcome : RequestOutcome) → GroupComesTo device old new n now came rest outcome → Grouped outcome (items_asked n came)
+  group_walk n came rest outcome (inl unasked) = unasked_walk n came rest outcome unasked.1 (same_held unasked.0)
+  group_walk n came rest outcome (inr asked) =
+      subst (Grouped outcome) (sym (asked_items n came asked.items asked.whole asked.are)) (run_walk (commands.Group asked.items) outcome asked.comes)
 
   -- what is shown
   shown_walk : (is_head : Bool) (path kind bytes : List ℕ) → answer s path ≡ Some bytes → Holds device new s
@@ -176,11 +216,14 @@ module _ {D : Type 0} (device : D → DiskState) (sound : (disk : D) → IsMediu
       subst P (sym gives.outcome_is) (put_walk name kind n more body is gives.result gives.answers)
   plan_walk is_head (Ok (Delete name)) more rest outcome body has gives honest is = run_walk (commands.Delete name) outcome gives.1
   plan_walk is_head (Ok Publish) more rest outcome body has gives honest is = run_walk commands.Publish outcome gives.1
+  plan_walk is_head (Ok (Group n waits)) more rest outcome body has gives honest is =
+      subst (λ (b : List ℕ). Grouped outcome (items_asked n b)) (sym is) (group_walk n more rest outcome gives)
   plan_walk is_head (Err reason) more rest outcome body has gives honest is =
       nothing (PlanEvents is_head s now (Err reason) body outcome) refl (same_held gives.2)
 
   broken_walk : (plan : Result Plan NoPlan) (more : List ℕ) → IsBroken device old now plan more new → LeavesWalk device s (λ events. events ≡ []) new
   broken_walk (Ok (Put name kind n waits)) more broken = nothing (λ events. events ≡ []) refl (broken.left.holds s holds).0
+  broken_walk (Ok (Group n waits)) more broken = nothing (λ events. events ≡ []) refl (same_held broken.1)
   broken_walk (Ok (ShowBody name)) more broken = absurd broken
   broken_walk (Ok (ShowDocument doc)) more broken = absurd broken
   broken_walk (Ok (Delete name)) more broken = absurd broken
@@ -197,6 +240,6 @@ module _ {D : Type 0} (device : D → DiskState) (sound : (disk : D) → IsMediu
         (asked_has bytes read request asks) gives honest is;
   }
 
-  pub broken_puts_walk : BrokenPutsMakeNoEvent device
-  broken_puts_walk old new now plan more broken s holds =
+  pub broken_bodies_walk : BrokenBodiesMakeNoEvent device
+  broken_bodies_walk old new now plan more broken s holds =
       broken_walk device sound stands reading walking documents bodies old new s now holds plan more broken

@@ -6,12 +6,12 @@ use Rattle.rs_record.specs.Decimal.{number_in}
 use Rattle.rs_record.specs.MediaType.{is_media_type}
 use Rattle.rs_record.specs.Limits.{longest_body}
 use Rattle.rs_http.specs.declared.target.Place.{Place}
-use Rattle.rs_http.specs.declared.target.Place.TheVariants.{Resource, Unlawful, Document, Publishing, Nowhere}
-use Rattle.rs_http.specs.declared.target.Methods.TheVariants.{OfResources, OfDocuments, OfPublications}
+use Rattle.rs_http.specs.declared.target.Place.TheVariants.{Resource, Unlawful, Document, Publishing, Grouping, Nowhere}
+use Rattle.rs_http.specs.declared.target.Methods.TheVariants.{OfResources, OfDocuments, OfPosts}
 use Rattle.rs_http.specs.declared.request.RequestFault.{RequestFault}
 use Rattle.rs_http.specs.declared.request.RequestFault.TheVariants.{ManyFields, BadHost, TransferEncoding, BadLength, BadName, NoSuchDocument, BadMethod, NoLength, BadType, TooLong}
 use Rattle.rs_http.specs.declared.request.Plan.{Plan}
-use Rattle.rs_http.specs.declared.request.Plan.TheVariants.{ShowBody, ShowDocument, Put, Delete, Publish}
+use Rattle.rs_http.specs.declared.request.Plan.TheVariants.{ShowBody, ShowDocument, Put, Delete, Publish, Group}
 use Rattle.rs_http.specs.Fields.{Parts, values_of}
 use Rattle.rs_http.specs.Targets.{path_of_target, place_of}
 
@@ -106,13 +106,18 @@ put_causes stated kinds = (is_none stated, NoLength) ∷ (is_bad_type kinds, Bad
 abbrev pub put_causes_in : Parts → Causes
 put_causes_in p = put_causes (stated_in p) (values_of (codes "content-type") p.fields)
 
--- Those that lie in what the target names and in the method, and then those of a PUT, which resources alone allow.
+-- Those of a group, in their order: no length, and too long a body.
+abbrev pub group_causes : Option ℕ → Causes
+group_causes stated = (is_none stated, NoLength) ∷ (is_too_long stated, TooLong) ∷ []
+
+-- Those that lie in what the target names and in the method; and then those of a PUT, which resources alone allow, and of a group.
 abbrev pub place_causes : Place → Parts → Causes
 place_causes (Resource name) p =
     (not (is_get p.method || is_put p.method || is_delete p.method), BadMethod OfResources) ∷ (if is_put p.method then put_causes_in p else [])
 place_causes Unlawful p = (true, BadName) ∷ []
 place_causes (Document doc) p = (not (is_get p.method), BadMethod OfDocuments) ∷ []
-place_causes Publishing p = (not (is_post p.method), BadMethod OfPublications) ∷ []
+place_causes Publishing p = (not (is_post p.method), BadMethod OfPosts) ∷ []
+place_causes Grouping p = (not (is_post p.method), BadMethod OfPosts) ∷ group_causes (stated_in p)
 place_causes Nowhere p = (true, NoSuchDocument) ∷ []
 
 -- all of them
@@ -127,9 +132,17 @@ is_continue values = list_any (λ value. str_eq_ignore_ascii_case value (codes "
 abbrev pub expects_word : Parts → Bool
 expects_word p = (p.minor == 1) && is_continue (values_of (codes "expect") p.fields)
 
--- A put: its type, its length, and whether it waits for the word to go on before it sends a body that has bytes.
+-- a body of n bytes is sent after the word to go on alone: it is expected, and there are bytes
+abbrev pub is_waited : Bool → ℕ → Bool
+is_waited expects n = expects && nat_lt 0 n
+
+-- A put: its type, its length, and whether it waits for the word to go on before it sends its body.
 abbrev pub put_plan : List ℕ → List (List ℕ) → ℕ → Bool → Plan
-put_plan name kinds n expects = Put name (stated_type kinds) n (expects && nat_lt 0 n)
+put_plan name kinds n expects = Put name (stated_type kinds) n (is_waited expects n)
+
+-- a group: the length of its body, and whether it waits so
+abbrev pub group_plan : ℕ → Bool → Plan
+group_plan n expects = Group n (is_waited expects n)
 
 -- what is asked of a resource
 abbrev pub resource_plan : List ℕ → Parts → Plan
@@ -146,4 +159,5 @@ abbrev pub plan_at : Place → Parts → Option Plan
 plan_at (Resource name) p = Some (resource_plan name p)
 plan_at (Document doc) p = Some (ShowDocument doc)
 plan_at Publishing p = Some Publish
+plan_at Grouping p = Some (group_plan (unwrap_or (stated_in p) 0) (expects_word p))
 plan_at place p = None

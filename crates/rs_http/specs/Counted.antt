@@ -1,15 +1,17 @@
 -- Which command of a request counts, and what a stop within the request leaves.
-use Rattle.std.specs.Prelude.{◌≡◌, ℕ, List, [], ◌∷◌, Result, Ok, Err}
+use Rattle.std.specs.Prelude.{◌≡◌, ℕ, List, [], ◌∷◌, Option, Some, None, Result, Ok, Err}
 use Rattle.rs_disk.specs.Medium.{DiskState}
 use Rattle.rs_model.specs.declared.command.Command.{Command}
 use Rattle.rs_model.specs.declared.command.Command.TheVariants as commands
+use Rattle.rs_model.specs.declared.command.Item.{Item}
 use Rattle.rs_store.specs.Received.{IsBodyOf}
 use Rattle.rs_store.specs.Source.{Stored}
 use Rattle.rs_store.specs.declared.refusal.Refusal.TheVariants.{Device}
 use Rattle.rs_recovery.specs.Prefixes.{Recovers}
 use Rattle.rs_http.specs.declared.request.Plan.{Plan}
-use Rattle.rs_http.specs.declared.request.Plan.TheVariants.{ShowBody, ShowDocument, Put, Delete, Publish}
+use Rattle.rs_http.specs.declared.request.Plan.TheVariants.{ShowBody, ShowDocument, Put, Delete, Publish, Group}
 use Rattle.rs_http.specs.declared.request.NoPlan.{NoPlan}
+use Rattle.rs_http.specs.Groups.{items_asked}
 use Rattle.rs_http.specs.Responses.{RequestOutcome, replied, refused}
 
 -- A command counts where it was accepted, and where the device failed in it, since its step may stand then.
@@ -18,6 +20,11 @@ counted_with command now (replied reply) = (command, now) ∷ []
 counted_with command now (refused Device) = (command, now) ∷ []
 counted_with command now outcome = []
 
+-- A group counts as one command, of all its items; none counts where it asks for none.
+abbrev pub counted_group : Option (List Item) → ℕ → RequestOutcome → List (Command × ℕ)
+counted_group None now outcome = []
+counted_group (Some items) now outcome = counted_with (commands.Group items) now outcome
+
 -- These are the commands of a request that count, one or none. A put that was answered before its body was read whole counts as
 -- one of any body that begins so.
 abbrev pub Counts : ℕ → Result Plan NoPlan → List ℕ → RequestOutcome → List (Command × ℕ) → Type 0
@@ -25,6 +32,7 @@ Counts now (Ok (Put name kind n waits)) more outcome counted =
     (body : List ℕ) × IsBodyOf n more body × (counted ≡ counted_with (commands.Put name kind body) now outcome)
 Counts now (Ok (Delete name)) more outcome counted = counted ≡ counted_with (commands.Delete name) now outcome
 Counts now (Ok Publish) more outcome counted = counted ≡ counted_with commands.Publish now outcome
+Counts now (Ok (Group n waits)) more outcome counted = counted ≡ counted_group (items_asked n more) now outcome
 Counts now (Ok (ShowBody name)) more outcome counted = counted ≡ []
 Counts now (Ok (ShowDocument doc)) more outcome counted = counted ≡ []
 Counts now (Err reason) more outcome counted = counted ≡ []

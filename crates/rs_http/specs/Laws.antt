@@ -19,9 +19,9 @@ abbrev pub RequestsRecover : {D : Type 0} → (D → DiskState) → Type 0
 RequestsRecover {D} device = (old new : Stored D) (now : ℕ) (plan : Result Plan NoPlan) (more : List ℕ) (rest : Option (List ℕ)) (outcome : RequestOutcome)
     → RequestGives device old now plan more rest outcome new → RequestRecovers device old now plan more outcome new
 
--- A put whose reader failed is not done, whenever a stop comes.
-abbrev pub BrokenPutsRecover : {D : Type 0} → (D → DiskState) → Type 0
-BrokenPutsRecover {D} device = (old new : Stored D) (now : ℕ) (plan : Result Plan NoPlan) (more : List ℕ)
+-- A put or a group whose reader failed is not done, whenever a stop comes.
+abbrev pub BrokenBodiesRecover : {D : Type 0} → (D → DiskState) → Type 0
+BrokenBodiesRecover {D} device = (old new : Stored D) (now : ℕ) (plan : Result Plan NoPlan) (more : List ℕ)
     → IsBroken device old now plan more new → Recovers device old [] new
 
 -- Each request that the bytes of a head ask for makes a walk, whatever comes of it.
@@ -30,7 +30,7 @@ RequestsMakeWalks {D} device = (old new : Stored D) (now : ℕ) (bytes : List �
     → Asks bytes read (Some request) → RequestGives device old now request.plan more rest outcome new
     → MakesWalk device old now request more outcome new
 
--- A put whose reader failed leaves a walk of no event.
-abbrev pub BrokenPutsMakeNoEvent : {D : Type 0} → (D → DiskState) → Type 0
-BrokenPutsMakeNoEvent {D} device = (old new : Stored D) (now : ℕ) (plan : Result Plan NoPlan) (more : List ℕ)
+-- A put or a group whose reader failed leaves a walk of no event.
+abbrev pub BrokenBodiesMakeNoEvent : {D : Type 0} → (D → DiskState) → Type 0
+BrokenBodiesMakeNoEvent {D} device = (old new : Stored D) (now : ℕ) (plan : Result Plan NoPlan) (more : List ℕ)
     → IsBroken device old now plan more new → MakesNoEvent device old new

@@ -2,6 +2,7 @@ pub mod Head
 pub mod Fields
 pub mod Targets
 pub mod Checks
+pub mod Groups
 pub mod Requests
 pub mod Responses
 pub mod Outcomes

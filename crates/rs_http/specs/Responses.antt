@@ -4,14 +4,14 @@ use Rattle.std.specs.Fmt.{decimal}
 use Rattle.httpdate.specs.Date.{date_text}
 use Rattle.rs_time.specs.Moment.{moment_text}
 use Rattle.rs_model.specs.declared.command.Reply.{Reply}
-use Rattle.rs_model.specs.declared.command.Reply.TheVariants.{Created, Updated, Deleted, Published}
+use Rattle.rs_model.specs.declared.command.Reply.TheVariants.{Created, Updated, Deleted, Published, Grouped}
 use Rattle.rs_store.specs.declared.refusal.Refusal as stored
 use Rattle.rs_store.specs.declared.refusal.Refusal.TheVariants as refusals
 use Rattle.rs_store.specs.Refusals.{refusal_word}
 use Rattle.rs_http.specs.declared.target.Methods.{Methods}
-use Rattle.rs_http.specs.declared.target.Methods.TheVariants.{OfResources, OfDocuments, OfPublications}
+use Rattle.rs_http.specs.declared.target.Methods.TheVariants.{OfResources, OfDocuments, OfPosts}
 use Rattle.rs_http.specs.declared.request.RequestFault.{RequestFault}
-use Rattle.rs_http.specs.declared.request.RequestFault.TheVariants.{HeadTooLong, BadHead, ManyFields, BadHost, TransferEncoding, BadLength, BadName, NoSuchDocument, BadMethod, NoLength, BadType, TooLong}
+use Rattle.rs_http.specs.declared.request.RequestFault.TheVariants.{HeadTooLong, BadHead, ManyFields, BadHost, TransferEncoding, BadLength, BadName, NoSuchDocument, BadMethod, NoLength, BadType, TooLong, BadLine, BadHex}
 use Rattle.rs_http.specs.declared.response.Framing.{Framing}
 
 -- what comes of a request
@@ -38,9 +38,12 @@ fault_status (BadMethod methods) = 405
 fault_status NoLength = 411
 fault_status BadType = 400
 fault_status TooLong = 413
+fault_status BadLine = 400
+fault_status BadHex = 400
 
 -- where a reader fails no response is sent, so that the status and the name of that refusal go nowhere
 abbrev pub refusal_status : stored.Refusal → ℕ
+refusal_status refusals.BadGroup = 400
 refusal_status refusals.NotHeld = 404
 refusal_status refusals.TooLong = 413
 refusal_status refusals.TooManyResources = 507
@@ -59,6 +62,7 @@ reply_status (Created moment) = 201
 reply_status (Updated moment) = 204
 reply_status (Deleted moment) = 204
 reply_status (Published number moment) = 200
+reply_status (Grouped count moment) = 200
 
 abbrev pub status_code : RequestOutcome → ℕ
 status_code (faulted fault) = fault_status fault
@@ -97,17 +101,28 @@ fault_word (BadMethod methods) = codes "BadMethod"
 fault_word NoLength = codes "NoLength"
 fault_word BadType = codes "BadType"
 fault_word TooLong = codes "TooLong"
+fault_word BadLine = codes "BadLine"
+fault_word BadHex = codes "BadHex"
 
 -- the body of a refusal: its word, and a line feed
 abbrev pub refusal_line : List ℕ → List ℕ
 refusal_line word = word ++ codes "\n"
 
--- the body of the answer to a publication: `published`, its number and its moment, and a line feed (10)
+-- a word with a space behind it, a number and a moment, and a line feed (10)
+abbrev pub reply_line : List ℕ → ℕ → ℕ → List ℕ
+reply_line word number moment = word ++ (decimal number ++ (codes " " ++ (moment_text moment ++ 10 ∷ [])))
+
+-- the body of the answer to a publication: its number and its moment
 abbrev pub published_text : ℕ → ℕ → List ℕ
-published_text number moment = codes "published " ++ (decimal number ++ (codes " " ++ (moment_text moment ++ 10 ∷ [])))
+published_text number moment = reply_line (codes "published ") number moment
+
+-- that of the answer to a group: how many items it has, and the moment of the first
+abbrev pub grouped_text : ℕ → ℕ → List ℕ
+grouped_text count moment = reply_line (codes "grouped ") count moment
 
 abbrev pub reply_content : Reply → List ℕ
 reply_content (Published number moment) = published_text number moment
+reply_content (Grouped count moment) = grouped_text count moment
 reply_content reply = []
 
 abbrev pub content_of : RequestOutcome → List ℕ
@@ -120,7 +135,7 @@ content_of (refused refusal) = refusal_line (refusal_word refusal)
 abbrev pub methods_text : Methods → List ℕ
 methods_text OfResources = codes "Allow: GET, HEAD, PUT, DELETE\r\n"
 methods_text OfDocuments = codes "Allow: GET, HEAD\r\n"
-methods_text OfPublications = codes "Allow: POST\r\n"
+methods_text OfPosts = codes "Allow: POST\r\n"
 
 abbrev pub allow_of : RequestFault → List ℕ
 allow_of (BadMethod methods) = methods_text methods
@@ -139,6 +154,7 @@ reply_lines (Created moment) = codes "Content-Length: 0\r\n\r\n"
 reply_lines (Updated moment) = codes "\r\n"
 reply_lines (Deleted moment) = codes "\r\n"
 reply_lines (Published number moment) = content_lines plain (length (published_text number moment))
+reply_lines (Grouped count moment) = content_lines plain (length (grouped_text count moment))
 
 abbrev pub header_lines : RequestOutcome → List ℕ
 header_lines (faulted fault) = allow_of fault ++ content_lines plain (length (refusal_line (fault_word fault)))

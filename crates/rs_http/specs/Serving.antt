@@ -1,5 +1,5 @@
 -- One request to a source: what was read, what was written, and what the source is then.
-use Rattle.std.specs.Prelude.{◌≡◌, ◌⊎◌, ◌/◌, ℕ, true, List, [], ◌++◌, Option, Some, Result, Ok, Err}
+use Rattle.std.specs.Prelude.{◌≡◌, ◌⊎◌, ◌/◌, ◌<◌, ℕ, true, List, [], length, ◌++◌, Option, Some, Result, Ok, Err}
 use Rattle.std.specs.Io.KnownBytes.{Consumes, Appends, IsAtEnd}
 use Rattle.httpdate.specs.Date.{unix_secs}
 use Rattle.httpdate.specs.declared.date.HttpDate.{HttpDate}
@@ -14,7 +14,7 @@ use Rattle.rs_http.specs.declared.fault.FrontFault.TheVariants.{Read, Write}
 use Rattle.rs_http.specs.declared.head.HeadRead.{HeadRead}
 use Rattle.rs_http.specs.declared.head.HeadRead.TheVariants.{Ended}
 use Rattle.rs_http.specs.declared.request.Plan.{Plan}
-use Rattle.rs_http.specs.declared.request.Plan.TheVariants.{Put}
+use Rattle.rs_http.specs.declared.request.Plan.TheVariants.{Put, Group}
 use Rattle.rs_http.specs.declared.request.NoPlan.{NoPlan}
 use Rattle.rs_http.specs.declared.request.Request.{Request}
 use Rattle.rs_http.specs.declared.response.Framing.{Framing}
@@ -35,14 +35,16 @@ NoneFailed reader left writer after = (failures left ≡ failures reader) × (fa
 abbrev pub FailedAlone : {A B : Type 0} → Watched A → Watched A → Watched B → Watched B → Type 0
 FailedAlone old new other after = EndFailed old new × (failures after ≡ failures other)
 
--- what goes out before the source is asked: the word to go on, where a put waits for it
+-- what goes out before the source is asked: the word to go on, where a put or a group waits for it
 abbrev pub preface_of : Result Plan NoPlan → List ℕ
 preface_of (Ok (Put name kind n true)) = go_on
+preface_of (Ok (Group n true)) = go_on
 preface_of plan = []
 
--- A put was not done, since the reader failed within its body, of which these bytes came.
+-- A put or a group was not done, since the reader failed within its body, of which these bytes came.
 abbrev pub IsBroken : {D : Type 0} → (D → DiskState) → Stored D → ℕ → Result Plan NoPlan → List ℕ → Stored D → Type 0
 IsBroken device old now (Ok (Put name kind n waits)) came new = IsCutShort device old new name kind n now came
+IsBroken device old now (Ok (Group n waits)) came new = (length came < n) × (new ≡ old)
 IsBroken device old now plan came new = ⊥
 
 -- A writer that held `before` took the first bytes whole, and a beginning of the text.
@@ -53,7 +55,7 @@ pub record TakesPart (before after : Option (List ℕ)) (first text : List ℕ) 
   pub took : Appends before after (first ++ part)
 
 -- How the answer to a plan ends, between what the reader had left and what the writer held before and after. Either the
--- reader failed in the body of a put, and nothing is written. Or what came of the plan is answered, and the response is
+-- reader failed in the body of a put or of a group, and nothing is written. Or what came of the plan is answered, and the response is
 -- written, or a beginning of it, where the writer failed.
 abbrev pub PlanEnds : {D : Type 0} → (D → DiskState) → Stored D → ℕ → Result Plan NoPlan → Framing
     → Option (List ℕ) → Option (List ℕ) → Option (List ℕ) → Option (List ℕ) → Stored D → Result ℕ FrontFault → Type 0
@@ -128,7 +130,7 @@ Serves device old now left input rest output (Answered status) new =
     × RequestRecovers device old now request.plan more answered.outcome new × MakesWalk device old now request more answered.outcome new
 
 -- What was written and done where the reader failed within an input: nothing before the head had ended; and in the body of
--- a put no more than the word to go on, and the put is not done, whenever a stop comes, and is no event.
+-- a put or of a group no more than the word to go on, and it is not done, whenever a stop comes, and is no event.
 abbrev pub Breaks : {D : Type 0} → (D → DiskState) → Stored D → ℕ → Option (List ℕ) → List ℕ → Option (List ℕ) → List ℕ → Stored D → Type 0
 Breaks device old now left input rest output new =
     (HasNoEnd input × (output ≡ []) × (new ≡ old))

@@ -6,7 +6,7 @@ use Rattle.rs_record.specs.Name.{is_name}
 use Rattle.rs_lists.specs.declared.doc.Doc.{Doc}
 use Rattle.rs_caps.specs.Paths.{doc_of}
 use Rattle.rs_http.specs.declared.target.Place.{Place}
-use Rattle.rs_http.specs.declared.target.Place.TheVariants.{Resource, Unlawful, Document, Publishing, Nowhere}
+use Rattle.rs_http.specs.declared.target.Place.TheVariants.{Resource, Unlawful, Document, Publishing, Grouping, Nowhere}
 
 -- how long the scheme is with which a target begins: `http://` or `https://`, in any case
 abbrev pub scheme_length : List ℕ → ℕ
@@ -40,4 +40,5 @@ abbrev pub place_of : List ℕ → Place
 place_of path =
     if starts_with nat_eq path (codes "/resource/") then resource_place (drop 10 path)
     else if bytes_eq path (codes "/publish") then Publishing
+    else if bytes_eq path (codes "/group") then Grouping
     else document_place (doc_of path)

@@ -1,9 +1,10 @@
 -- The walk that a request makes of a source.
-use Rattle.std.specs.Prelude.{◌≡◌, ℕ, Bool, false, List, [], ◌∷◌, Some, Result, Ok, Err, IsTrue}
+use Rattle.std.specs.Prelude.{◌≡◌, ℕ, Bool, false, List, [], ◌∷◌, Option, Some, None, Result, Ok, Err, IsTrue}
 use Rattle.rs_disk.specs.Medium.{DiskState}
 use Rattle.rs_model.specs.State.{Source}
 use Rattle.rs_model.specs.declared.command.Command.{Command}
 use Rattle.rs_model.specs.declared.command.Command.TheVariants as commands
+use Rattle.rs_model.specs.declared.command.Item.{Item}
 use Rattle.rs_model.specs.declared.event.Event.{Event}
 use Rattle.rs_model.specs.declared.event.Event.TheVariants.{Fetch}
 use Rattle.rs_store.specs.Received.{IsBodyOf}
@@ -14,9 +15,10 @@ use Rattle.rs_caps.specs.Answer.{answer}
 use Rattle.rs_caps.specs.PathAnswers.{body_path}
 use Rattle.rs_caps.specs.Paths.{path_of}
 use Rattle.rs_http.specs.declared.request.Plan.{Plan}
-use Rattle.rs_http.specs.declared.request.Plan.TheVariants.{ShowBody, ShowDocument, Put, Delete, Publish}
+use Rattle.rs_http.specs.declared.request.Plan.TheVariants.{ShowBody, ShowDocument, Put, Delete, Publish, Group}
 use Rattle.rs_http.specs.declared.request.NoPlan.{NoPlan}
 use Rattle.rs_http.specs.declared.request.Request.{Request}
+use Rattle.rs_http.specs.Groups.{items_asked}
 use Rattle.rs_http.specs.Responses.{RequestOutcome, replied, shown, refused}
 
 -- the event of a command, by what came of it
@@ -31,23 +33,30 @@ PutEvents s command now (refused ReadFault) events = events ≡ []
 PutEvents s command now (refused ShortBody) events = events ≡ []
 PutEvents s command now outcome events = RunEvents s command now outcome events
 
+-- the event of a group, one for all its items: where it asks for none, nothing was done
+abbrev pub GroupEvents : Source → Option (List Item) → ℕ → RequestOutcome → List Event → Type 0
+GroupEvents s None now outcome events = events ≡ []
+GroupEvents s (Some items) now outcome events = RunEvents s (commands.Group items) now outcome events
+
 -- What the response to a GET shows was fetched: the bytes are those that are answered at its path. A HEAD fetches nothing.
 abbrev pub ShowEvents : Bool → Source → List ℕ → RequestOutcome → List Event → Type 0
 ShowEvents false s path (shown kind bytes) events = (answer s path ≡ Some bytes) × (events ≡ Fetch ∷ [])
 ShowEvents is_head s path outcome events = events ≡ []
 
--- The events of a plan in a state and at a moment, where a put has this body: one, or none.
+-- The events of a plan in a state and at a moment, where a put has this body, and of a group these bytes came: one, or none.
 abbrev pub PlanEvents : Bool → Source → ℕ → Result Plan NoPlan → List ℕ → RequestOutcome → List Event → Type 0
 PlanEvents is_head s now (Ok (Put name kind n waits)) body outcome events = PutEvents s (commands.Put name kind body) now outcome events
 PlanEvents is_head s now (Ok (Delete name)) body outcome events = RunEvents s (commands.Delete name) now outcome events
 PlanEvents is_head s now (Ok Publish) body outcome events = RunEvents s commands.Publish now outcome events
+PlanEvents is_head s now (Ok (Group n waits)) body outcome events = GroupEvents s (items_asked n body) now outcome events
 PlanEvents is_head s now (Ok (ShowBody name)) body outcome events = ShowEvents is_head s (body_path name) outcome events
 PlanEvents is_head s now (Ok (ShowDocument doc)) body outcome events = ShowEvents is_head s (path_of doc) outcome events
 PlanEvents is_head s now (Err reason) body outcome events = events ≡ []
 
--- what a put may have for its body, of which these bytes came
+-- what a put may have for its body, of which these bytes came; a group has those that came
 abbrev pub IsBodyFor : Result Plan NoPlan → List ℕ → List ℕ → Type 0
 IsBodyFor (Ok (Put name kind n waits)) more body = IsBodyOf n more body
+IsBodyFor (Ok (Group n waits)) more body = body ≡ more
 IsBodyFor plan more body = Unit {0}
 
 -- What came of a request to a source that held a state, of a device that has followed the model, leaves a walk of its one event or

@@ -1,15 +1,17 @@
 //! The answer to a request that was read.
 
-ghost use Rattle.std.specs.Prelude.{◌≡◌, ◌/◌, Bool, true, Ok, Err, IfOk, OnOk, OnErr, IsErrOf, MatchResult};
+ghost use Rattle.std.specs.Prelude.{◌≡◌, ◌/◌, ℕ, List, length, Option, Bool, true, Ok, Err, IfOk, OnOk, OnErr, IsErrOf, MatchResult};
 ghost use Rattle.std.specs.Io.KnownBytes.{Keeps};
 ghost use Rattle.httpdate.specs.Date.{unix_secs};
 ghost use Rattle.rs_io.specs.Watch.{watched, failures, is_flushed, StaysFlushed, EndFailed, FailedWithin, Wrote, WritesOut};
 ghost use Rattle.rs_http.specs.Serving.{PlanEnds, RequestEnds, preface_of, NoneFailed, FailedAlone};
 ghost use Rattle.rs_http.specs.Responses.{go_on, response_text, status_code};
-ghost use Rattle.rs_http.specs.Outcomes.{unplanned};
+ghost use Rattle.rs_http.specs.Outcomes.{unplanned, GroupComesTo, Responds};
 
-use crate::ask::{delete, publish, show_body, show_document};
+use crate::ask::{self, delete, publish, show_body, show_document};
+use crate::body::read_body;
 use crate::fault::FrontFault;
+use crate::group::first_items;
 use crate::outcome::{write_fault, write_refusal, write_reply};
 use crate::request::{NoPlan, Plan, Request};
 use crate::response::Framing;
@@ -19,6 +21,7 @@ use rs_io::{Watched, WriteFault};
 use rs_record::{MediaType, Name};
 use rs_store::{Refusal, Source};
 use rs_time::Moment;
+use std::alloc::Global;
 use std::io::{Read, Write};
 
 // What came of writing a response; a fault of the writer ends the connection.
@@ -80,8 +83,62 @@ fn put<D: Disk, R: Read, W: Write>(
     }
 }
 
+// Does what the lines of a body ask for, in one command, and writes the response.
+fn ask_group<D: Disk, W: Write>(
+    alloc: Global,
+    source: &mut Source<D>,
+    body: &[u8],
+    writer: &mut Watched<W>,
+    framing: Framing,
+    now: Moment,
+) -> Result<u16, WriteFault>
+    ensures answered { (rest : Option (List ℕ)) → Responds framing
+        (WritesOut W.contents writer.old writer.new result)
+        (λ outcome. GroupComesTo D.state source.old source.new
+        (length body.now) now body.now rest outcome) result }
+    ensures sound { OnOk result (failures writer.new ≡ failures writer.old) }
+    ensures failed { OnErr result (EndFailed writer.old writer.new) }
+{
+    match first_items(alloc, body) {
+        Ok(items) => ask::group(source, items.as_slice(), now, writer, framing),
+        Err(reason) => write_unplanned(writer, framing, reason),
+    }
+}
+
+// Reads the next bytes of the input, as many as `body_length`, does what their lines ask for, and
+// writes the response.
+fn group<D: Disk, R: Read, W: Write>(
+    alloc: Global,
+    source: &mut Source<D>,
+    body_length: u64,
+    reader: &mut Watched<R>,
+    writer: &mut Watched<W>,
+    framing: Framing,
+    now: Moment,
+) -> Result<u16, FrontFault>
+    ensures ends { (waits : Bool) → PlanEnds D.state source.old now
+        (Ok (Plan.Group body_length waits)) framing
+        (R.remaining (watched reader.old)) (R.remaining (watched reader.new))
+        (W.contents (watched writer.old)) (W.contents (watched writer.new)) source.new result }
+    ensures sound { OnOk result (NoneFailed reader.old reader.new writer.old writer.new) }
+    ensures read { IsErrOf result FrontFault.Read
+        → FailedAlone reader.old reader.new writer.old writer.new }
+    ensures write { IsErrOf result FrontFault.Write
+        → FailedAlone writer.old writer.new reader.old reader.new }
+    ensures silent { IsErrOf result FrontFault.Read → writer.new ≡ writer.old }
+{
+    match read_body(alloc, reader, body_length) {
+        Ok(body) => sent(ask_group(alloc, source, body.as_slice(), writer, framing, now)),
+        Err(refusal) => match refusal {
+            Refusal::ReadFault => Err(FrontFault::Read),
+            _ => sent(write_refusal(writer, framing, refusal)),
+        },
+    }
+}
+
 // Does what a request asks for, and writes the response.
 fn respond<D: Disk, R: Read, W: Write>(
+    alloc: Global,
     source: &mut Source<D>,
     reader: &mut Watched<R>,
     writer: &mut Watched<W>,
@@ -113,6 +170,9 @@ fn respond<D: Disk, R: Read, W: Write>(
                 ..
             },
         ) => put(source, &name, &kind, length, reader, writer, framing, now),
+        Ok(Plan::Group { length, .. }) => {
+            group(alloc, source, length, reader, writer, framing, now)
+        }
     }
 }
 
@@ -127,7 +187,7 @@ fn write_preface<W: Write>(
     ensures flushed { OnOk result (StaysFlushed writer.old writer.new) }
 {
     match plan {
-        Ok(Plan::Put { waits: true, .. }) => {
+        Ok(Plan::Put { waits: true, .. }) | Ok(Plan::Group { waits: true, .. }) => {
             writer.put(b"HTTP/1.1 100 Continue\r\n\r\n")?;
             writer.flush()
         }
@@ -164,9 +224,11 @@ fn finish<W: Write>(writer: &mut Watched<W>, status: u16) -> Result<u16, FrontFa
 ///
 /// # Errors
 ///
-/// - [`FrontFault::Read`] where a read of the body of a put failed. It is not done then.
+/// - [`FrontFault::Read`] where a read of the body of a put or of a group failed. It is not done
+///   then.
 /// - [`FrontFault::Write`] where a call of the writer failed. What was done stands.
 pub(crate) fn answer<D: Disk, R: Read, W: Write>(
+    alloc: Global,
     source: &mut Source<D>,
     reader: &mut Watched<R>,
     writer: &mut Watched<W>,
@@ -191,7 +253,7 @@ pub(crate) fn answer<D: Disk, R: Read, W: Write>(
     if let Err(_) = write_preface(writer, &request.plan) {
         return Err(FrontFault::Write);
     }
-    match respond(source, reader, writer, framing, request.plan, now) {
+    match respond(alloc, source, reader, writer, framing, request.plan, now) {
         Ok(status) => finish(writer, status),
         Err(fault) => Err(fault),
     }

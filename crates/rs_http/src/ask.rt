@@ -2,7 +2,7 @@
 
 ghost use Rattle.std.specs.Prelude.{◌≡◌, Some, IfOk, OnErr, option_map, length, ℕ, List, codes};
 ghost use Rattle.rs_io.specs.Watch.{EndFailed, WritesOut};
-ghost use Rattle.rs_model.specs.declared.command.Command.TheVariants.{Delete, Publish};
+ghost use Rattle.rs_model.specs.declared.command.Command.TheVariants.{Delete, Publish, Group};
 ghost use Rattle.rs_caps.specs.DocumentTexts.{document_text};
 ghost use Rattle.rs_http.specs.Responses.{shown, response_text};
 ghost use Rattle.rs_http.specs.Outcomes.{RunComesTo, ReadComesTo, document_shown, Responds};
@@ -14,6 +14,7 @@ use rs_caps::{document_length, write_document};
 use rs_disk::Disk;
 use rs_io::{Watched, WriteFault};
 use rs_lists::{Doc, ListError, View};
+use rs_model::Item;
 use rs_record::Name;
 use rs_recovery::laws::documents_are_of_the_state;
 use rs_store::Source;
@@ -50,6 +51,24 @@ pub(crate) fn publish<D: Disk, W: Write>(
     ensures failed { OnErr result (EndFailed writer.old writer.new) }
 {
     match source.publish(now) {
+        Ok(reply) => write_reply(writer, framing, reply),
+        Err(refusal) => write_refusal(writer, framing, refusal),
+    }
+}
+
+/// Does what these items ask for, in one command, and writes the response.
+pub(crate) fn group<D: Disk, W: Write>(
+    source: &mut Source<D>,
+    items: &[Item],
+    now: Moment,
+    writer: &mut Watched<W>,
+    framing: Framing,
+) -> Result<u16, WriteFault>
+    ensures answered { Responds framing (WritesOut W.contents writer.old writer.new result)
+        (RunComesTo D.state source.old source.new (Group items.now) now) result }
+    ensures failed { OnErr result (EndFailed writer.old writer.new) }
+{
+    match source.group(items, now) {
         Ok(reply) => write_reply(writer, framing, reply),
         Err(refusal) => write_refusal(writer, framing, refusal),
     }

@@ -1,8 +1,8 @@
 //! The fields of a head, by name.
 
-ghost use Rattle.std.specs.Prelude.{◌≡◌, ◌≤◌, ◌<◌, length, All, map, filter};
+ghost use Rattle.std.specs.Prelude.{◌≡◌, length, All, map};
 ghost use Rattle.std.specs.Str.{str_eq_ignore_ascii_case};
-ghost use Rattle.httparse.specs.Spans.{header_bytes, IsHeaderWithin, IsWithin, span_bytes};
+ghost use Rattle.httparse.specs.Spans.{header_bytes, IsHeaderWithin, span_bytes};
 ghost use Rattle.rs_http.specs.Fields.{values_of, LoneIs};
 
 use httparse::spans::{HeaderSpan, Span};

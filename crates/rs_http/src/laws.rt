@@ -2,7 +2,7 @@
 //!
 //! Each function here does nothing: its contract is the law, which the check proves.
 
-ghost use Rattle.rs_http.specs.Laws.{RequestsRecover, BrokenPutsRecover, RequestsMakeWalks, BrokenPutsMakeNoEvent};
+ghost use Rattle.rs_http.specs.Laws.{RequestsRecover, BrokenBodiesRecover, RequestsMakeWalks, BrokenBodiesMakeNoEvent};
 
 use rs_caps::laws::answered::paths_are_answered;
 use rs_disk::Disk;
@@ -11,10 +11,10 @@ use rs_recovery::walking::commands_make_walks;
 use rs_store::laws::held_sources_rest;
 
 /// Whenever a stop comes within a request, it leaves what was held, or what the command of the request makes
-/// of it that counts; and of a put whose reader failed, what was held.
+/// of it that counts; and of a put or a group whose reader failed, what was held.
 pub fn requests_recover<D: Disk>()
     ensures answered { RequestsRecover D.state }
-    ensures broken { BrokenPutsRecover D.state }
+    ensures broken { BrokenBodiesRecover D.state }
 {
     held_sources_rest::<D>();
     runs_go_on::<D>();
@@ -23,11 +23,11 @@ pub fn requests_recover<D: Disk>()
 
 /// A request makes a walk of one event or none: a command is tried where the model decides the answer, refused where
 /// the machine does, and stopped where the device failed in it; what a GET is shown is fetched, and is what is answered
-/// at its path. At the end each image of the disk stands for the state after it. A put whose reader failed is no
-/// event.
+/// at its path. At the end each image of the disk stands for the state after it. A put or a group whose reader failed
+/// is no event.
 pub fn requests_make_walks<D: Disk>()
     ensures answered { RequestsMakeWalks D.state }
-    ensures broken { BrokenPutsMakeNoEvent D.state }
+    ensures broken { BrokenBodiesMakeNoEvent D.state }
 {
     held_sources_rest::<D>();
     runs_go_on::<D>();

@@ -3,9 +3,11 @@
 
 mod answer;
 mod ask;
+mod body;
 mod checks;
 mod fault;
 mod fields;
+mod group;
 mod head;
 pub mod laws;
 mod outcome;
@@ -16,4 +18,5 @@ mod serve;
 mod target;
 
 pub use fault::FrontFault;
+pub use rs_items::{ItemFault, item_of};
 pub use serve::{Served, serve_one};

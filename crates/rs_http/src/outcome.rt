@@ -1,8 +1,8 @@
 //! The responses to what came of requests.
 
-ghost use Rattle.std.specs.Prelude.{◌≡◌, length, IfOk, OnErr};
+ghost use Rattle.std.specs.Prelude.{◌≡◌, ◌≤◌, length, IfOk, OnErr};
 ghost use Rattle.rs_io.specs.Watch.{EndFailed, WritesOut};
-ghost use Rattle.rs_http.specs.Responses.{fault_status as status_of_fault, fault_word as word_of_fault, refusal_status as status_of_refusal, allow_of, published_text, content_lines, framed, response_text, status_code, plain};
+ghost use Rattle.rs_http.specs.Responses.{fault_status as status_of_fault, fault_word as word_of_fault, refusal_status as status_of_refusal, allow_of, reply_line, content_lines, framed, response_text, status_code, plain};
 ghost use Rattle.rs_http.specs.Responses.{faulted, replied, shown, refused};
 
 use crate::request::RequestFault;
@@ -25,6 +25,8 @@ fn fault_status(fault: RequestFault) -> u16
         RequestFault::BadLength => 400,
         RequestFault::BadName => 400,
         RequestFault::BadType => 400,
+        RequestFault::BadLine => 400,
+        RequestFault::BadHex => 400,
         RequestFault::NoSuchDocument => 404,
         RequestFault::BadMethod(_) => 405,
         RequestFault::NoLength => 411,
@@ -52,6 +54,8 @@ fn fault_word(fault: RequestFault) -> &'static str
         RequestFault::NoLength => "NoLength",
         RequestFault::BadType => "BadType",
         RequestFault::TooLong => "TooLong",
+        RequestFault::BadLine => "BadLine",
+        RequestFault::BadHex => "BadHex",
     }
 }
 
@@ -62,7 +66,7 @@ fn allow_text(fault: RequestFault) -> &'static str
     match fault {
         RequestFault::BadMethod(Methods::OfResources) => "Allow: GET, HEAD, PUT, DELETE\r\n",
         RequestFault::BadMethod(Methods::OfDocuments) => "Allow: GET, HEAD\r\n",
-        RequestFault::BadMethod(Methods::OfPublications) => "Allow: POST\r\n",
+        RequestFault::BadMethod(Methods::OfPosts) => "Allow: POST\r\n",
         _ => "",
     }
 }
@@ -72,6 +76,7 @@ fn refusal_status(refusal: Refusal) -> u16
     ensures { result ≡ status_of_refusal refusal }
 {
     match refusal {
+        Refusal::BadGroup => 400,
         Refusal::NotHeld => 404,
         Refusal::TooLong => 413,
         Refusal::Exhausted => 500,
@@ -138,26 +143,30 @@ pub(crate) fn write_shown<W: Write>(
     Ok(200)
 }
 
-// Writes the response to an accepted publication.
+// Writes the response to an accepted command whose reply is this word, with a space behind it, a
+// number and a moment.
 #[tactic(auto, unfolding(crate::specs::Responses::content_lines))]
-fn write_published<W: Write>(
+fn write_line<W: Write>(
     writer: &mut Watched<W>,
     framing: Framing,
+    word: &str,
     number: u64,
     moment: Moment,
 ) -> Result<(), WriteFault>
+    requires { length word.now ≤ 10 }
     ensures written { WritesOut W.contents writer.old writer.new result (framed framing 200
-        (content_lines plain (length (published_text number moment))) (published_text number moment)) }
+        (content_lines plain (length (reply_line word.now number moment)))
+        (reply_line word.now number moment)) }
     ensures failed { OnErr result (EndFailed writer.old writer.new) }
 {
     let (mut digits, mut count) = (Buffer::new(), Buffer::new());
     let number = digits.format(number).as_bytes();
     let lines: [&[u8]; 3] = [
         b"Content-Type: text/plain\r\nContent-Length: ",
-        count.format(number.len() + 36).as_bytes(),
+        count.format(word.len() + number.len() + 26).as_bytes(),
         b"\r\n\r\n",
     ];
-    let body: [&[u8]; 5] = [b"published ", number, b" ", &moment.text(), b"\n"];
+    let body: [&[u8]; 5] = [word.as_bytes(), number, b" ", &moment.text(), b"\n"];
     write_response(writer, framing, 200, &lines, &body)
 }
 
@@ -182,7 +191,11 @@ pub(crate) fn write_reply<W: Write>(
             Ok(204)
         }
         Reply::Published(number, moment) => {
-            write_published(writer, framing, number, moment)?;
+            write_line(writer, framing, "published ", number, moment)?;
+            Ok(200)
+        }
+        Reply::Grouped(count, moment) => {
+            write_line(writer, framing, "grouped ", count as u64, moment)?;
             Ok(200)
         }
     }

@@ -2,9 +2,9 @@
 
 ghost use Rattle.std.specs.Prelude.{◌≡◌, ◌≤◌, ◌∷◌, [], ℕ, List, length, map, All, IfSome, IfNone, Some, codes, bytes_eq, unwrap_or};
 ghost use Rattle.httparse.specs.Grammar.{HasNoRequest};
-ghost use Rattle.httparse.specs.Spans.{IsHeaderWithin, IsWithin, IsRequestWithin, IsRequestOf, header_bytes, span_bytes};
+ghost use Rattle.httparse.specs.Spans.{IsHeaderWithin, IsWithin, IsRequestWithin, IsRequestOf, header_bytes};
 ghost use Rattle.rs_http.specs.Fields.{LoneIs, values_of, head_parts_at};
-ghost use Rattle.rs_http.specs.Checks.{is_get as gets, stated_in, put_causes, put_plan as plan_of_put, place_causes, causes_of, plan_at as plan_there, place_in};
+ghost use Rattle.rs_http.specs.Checks.{is_get as gets, is_post as posts, stated_in, put_causes, put_plan as plan_of_put, group_causes, group_plan as plan_of_group, place_causes, causes_of, plan_at as plan_there, place_in};
 ghost use Rattle.rs_http.specs.Requests.{TypeIs, IsPlanFor, AsksFor, Asks, refused_for};
 
 use crate::checks::{check_fields, expects_word};
@@ -70,6 +70,30 @@ fn put_plan(
     })
 }
 
+// The plan of a group, with the length that the fields state.
+fn group_plan(stated: Option<u64>, expects: bool) -> Result<Plan, NoPlan>
+    ensures { IsPlanFor (group_causes stated)
+        (Some (plan_of_group (unwrap_or stated 0) expects)) result }
+{
+    let Some(length) = stated else {
+        return Err(NoPlan::Refused(RequestFault::NoLength));
+    };
+    if length > LONGEST_BODY as u64 {
+        return Err(NoPlan::Refused(RequestFault::TooLong));
+    }
+    Ok(Plan::Group {
+        length,
+        waits: expects && length > 0,
+    })
+}
+
+// Whether a method is `POST`.
+fn is_post(method: &[u8]) -> bool
+    ensures { result ≡ posts method.now }
+{
+    method == b"POST".as_slice()
+}
+
 // Whether a method gives what is there, with a body or without.
 fn is_get(method: &[u8]) -> bool
     ensures { result ≡ gets method.now }
@@ -133,10 +157,16 @@ fn plan_at(
             Err(NoPlan::Refused(RequestFault::BadMethod(Methods::OfDocuments)))
         }
         Place::Publishing => {
-            if method == b"POST".as_slice() {
+            if is_post(method) {
                 return Ok(Plan::Publish);
             }
-            Err(NoPlan::Refused(RequestFault::BadMethod(Methods::OfPublications)))
+            Err(NoPlan::Refused(RequestFault::BadMethod(Methods::OfPosts)))
+        }
+        Place::Grouping => {
+            if is_post(method) {
+                return group_plan(stated, expects_word(head, spans, headers));
+            }
+            Err(NoPlan::Refused(RequestFault::BadMethod(Methods::OfPosts)))
         }
         Place::Nowhere => Err(NoPlan::Refused(RequestFault::NoSuchDocument)),
     }

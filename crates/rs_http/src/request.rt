@@ -3,11 +3,13 @@
 ghost use Rattle.std.specs.Prelude.{◌≡◌};
 
 use crate::target::Methods;
+use rs_items::ItemFault;
 use rs_lists::Doc;
 use rs_record::{MediaType, Name};
 use std::alloc::AllocError;
 
-/// Why a request is refused before the source is asked, in the order in which the causes count.
+/// Why a request is refused before the source is asked, in the order in which the causes count. Those
+/// of the lines of a group come behind all that lie in a head; there the first line with one counts.
 #[derive(Clone, Copy, Debug, PartialEq, Eq)]
 pub(crate) enum RequestFault {
     /// The head has not ended in 8,192 bytes.
@@ -22,18 +24,22 @@ pub(crate) enum RequestFault {
     TransferEncoding,
     /// There is more than one Content-Length, or it is not 1 to 18 digits.
     BadLength,
-    /// The name of a resource is not lawful.
+    /// The name of a resource is not lawful, in the target or in a line of a group.
     BadName,
     /// No document has the path, at any time.
     NoSuchDocument,
     /// The method is not allowed there; these are.
     BadMethod(Methods),
-    /// A PUT states no length.
+    /// A PUT or a group states no length.
     NoLength,
-    /// A PUT has an unlawful type, or a second one.
+    /// A PUT has an unlawful type, or a second one; or the type of a line of a group is not lawful.
     BadType,
-    /// A PUT of more than 16,777,216 bytes.
+    /// A PUT or a group of more than 16,777,216 bytes.
     TooLong,
+    /// A line of a group is neither `put NAME HEX TYPE` nor `delete NAME`.
+    BadLine,
+    /// The bytes of a line of a group are neither `-` nor pairs of hexadecimal digits.
+    BadHex,
 }
 
 /// What a request asks for.
@@ -54,6 +60,11 @@ pub(crate) enum Plan {
     Delete(Name),
     /// A publish.
     Publish,
+    /// A group, whose lines come in a body of so many bytes; whether it waits as a put does.
+    Group {
+        length: u64,
+        waits: bool,
+    },
 }
 
 /// Why nothing is asked of the source.
@@ -72,6 +83,22 @@ impl From<RequestFault> for NoPlan {
 
     fn from(fault: RequestFault) -> NoPlan {
         NoPlan::Refused(fault)
+    }
+}
+
+impl From<ItemFault> for NoPlan {
+    ghost use Rattle.rs_http.specs.Outcomes.{reason_of_fault};
+
+    ghost from_gives = { λ fault made. made ≡ reason_of_fault fault };
+
+    fn from(fault: ItemFault) -> NoPlan {
+        match fault {
+            ItemFault::BadLine => NoPlan::Refused(RequestFault::BadLine),
+            ItemFault::BadName => NoPlan::Refused(RequestFault::BadName),
+            ItemFault::BadHex => NoPlan::Refused(RequestFault::BadHex),
+            ItemFault::BadType => NoPlan::Refused(RequestFault::BadType),
+            ItemFault::NoMemory => NoPlan::NoMemory,
+        }
     }
 }
 

@@ -30,7 +30,8 @@ pub enum Served {
 /// Reads one request, does what it asks for, and writes the response, which bears the date of `now`, cut to its
 /// second (RFC 9110 and RFC 9112). A command comes at `now`.
 ///
-/// The head is read byte by byte, so that no byte after the request is taken: give it a buffered reader. The writer
+/// The head is read byte by byte, so that no byte after the request is taken: give it a buffered reader. The lines of a
+/// group are read into memory before one of them is looked at, at most 16,777,216 bytes. The writer
 /// is flushed after the word to go on, and at the end.
 ///
 /// # Errors
@@ -93,7 +94,7 @@ pub fn serve_one<D: Disk, R: Read, W: Write>(
     let Some(request) = read_request(alloc, &buf[..came], read) else {
         return Ok(Served::Nothing);
     };
-    match answer(source, reader, writer, request, now) {
+    match answer(alloc, source, reader, writer, request, now) {
         Ok(status) => Ok(Served::Answered(status)),
         Err(fault) => Err(fault),
     }

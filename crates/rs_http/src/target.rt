@@ -21,6 +21,8 @@ pub(crate) enum Place {
     Document(Doc),
     /// Where a publication is asked for.
     Publishing,
+    /// Where a group is asked for.
+    Grouping,
     /// Nothing.
     Nowhere,
 }
@@ -32,8 +34,8 @@ pub(crate) enum Methods {
     OfResources,
     /// `GET` and `HEAD`.
     OfDocuments,
-    /// `POST`.
-    OfPublications,
+    /// `POST`: where publications and groups are asked for.
+    OfPosts,
 }
 
 // How long the scheme is with which a target begins, `http://` or `https://` in any case.
@@ -102,6 +104,9 @@ pub(crate) fn place_of(alloc: Global, path: &[u8]) -> Result<Place, AllocError>
     }
     if path == b"/publish".as_slice() {
         return Ok(Place::Publishing);
+    }
+    if path == b"/group".as_slice() {
+        return Ok(Place::Grouping);
     }
     match doc_of(path) {
         Some(doc) => Ok(Place::Document(doc)),

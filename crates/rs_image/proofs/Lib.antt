@@ -1,3 +1,5 @@
+pub mod Counts
+pub mod Bounds
 pub mod Taken
 pub mod Reached
 pub mod Reaching

@@ -1,5 +1,5 @@
 -- What an image of a disk stands for.
-use Rattle.std.specs.Prelude.{◌≡◌, ℕ, List, length, map}
+use Rattle.std.specs.Prelude.{◌≡◌, ◌+◌, ℕ, List, length, map, All}
 use Rattle.rs_fixity.specs.Digests.{digests}
 use Rattle.rs_body.specs.Blocks.{part}
 use Rattle.rs_commit.specs.declared.root.Root.{Root}
@@ -8,10 +8,10 @@ use Rattle.rs_record.specs.declared.record.Record.{Record}
 use Rattle.rs_model.specs.declared.value.Held.{Held}
 use Rattle.rs_model.specs.State.{Source}
 use Rattle.rs_model.specs.Listed.{entry_of}
-use Rattle.rs_page.specs.Pages.{stored_refs}
-use Rattle.rs_catalogue.specs.Catalogue.{records_of, HoldsCatalogue}
-use Rattle.rs_changes.specs.History.{changes_of, HoldsHistory}
-use Rattle.rs_directory.specs.Directory.{directory_bytes, IsLawfulHeader, AreLawfulRefs}
+use Rattle.rs_page.specs.Pages.{IsStored, stored_refs}
+use Rattle.rs_catalogue.specs.Catalogue.{records_of, HoldsCatalogue, IsCatalogue}
+use Rattle.rs_changes.specs.History.{changes_of, HoldsHistory, IsHistory}
+use Rattle.rs_directory.specs.Directory.{directory_bytes, directory_length, IsLawfulHeader, AreLawfulRefs}
 use Rattle.rs_image.specs.declared.contents.Contents.{Contents}
 use Rattle.rs_image.specs.Whole.{IsWhole}
 
@@ -39,6 +39,26 @@ state_in image c =
 -- the bytes of the directory of these lists, in a version of the format
 abbrev pub listing : ℕ → Contents → List ℕ
 listing version c = directory_bytes version c.header (stored_refs c.catalogue) (stored_refs c.history.pages) (stored_refs c.published)
+
+-- how many pages the lists have
+abbrev pub pages_in_all : Contents → ℕ
+pages_in_all c = length c.catalogue + length c.history.pages + length c.published
+
+-- how many bytes the directory of these lists has, once all pages are stored
+abbrev pub directory_bytes_of : Contents → ℕ
+directory_bytes_of c = directory_length c.header (pages_in_all c)
+
+-- each page is stored
+pub record AreAllStored (c : Contents) : Type 0 where
+  pub catalogue : All IsStored c.catalogue
+  pub history : All IsStored c.history.pages
+  pub published : All IsStored c.published
+
+-- The lists are those of a catalogue, of a history and of what a catalogue had when it was published.
+pub record AreLists (c : Contents) : Type 0 where
+  pub catalogue : IsCatalogue c.catalogue
+  pub history : IsHistory c.history.pages
+  pub published : IsCatalogue c.published
 
 -- entries of pages and a header that a directory of a version can have
 pub record AreListable (version : ℕ) (c : Contents) : Type 0 where

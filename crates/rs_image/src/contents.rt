@@ -1,9 +1,15 @@
 //! What stands behind a root, as a program holds it.
 
+ghost use Rattle.std.specs.Prelude.{◌≡◌, ◌<◌, ◌≤◌, ◌*◌, ◌^◌, vec_len, IfOk, OnOk};
+ghost use Rattle.rs_record.specs.Limits.{most_items};
+ghost use Rattle.rs_directory.specs.Directory.{written_format};
+ghost use Rattle.rs_image.specs.StateOfImage.{AreAllStored, AreListable, AreLists, directory_bytes_of, listing, pages_in_all};
+
 use rs_catalogue::Catalogue;
 use rs_changes::History;
-use rs_directory::Header;
+use rs_directory::{Header, directory_bytes};
 use rs_extent::Used;
+use std::alloc::{AllocError, Global};
 
 /// What stands behind a root: the directory's header, and the lists that its pages hold.
 #[derive(Debug, Drop)]
@@ -16,6 +22,37 @@ pub struct Contents {
     pub history: History,
     /// The resources of the latest publication, in the ascending order of their names.
     pub published: Catalogue,
+}
+
+impl Contents {
+    /// How many pages the lists have in all: at most 150,000.
+    pub fn page_count(&self) -> usize
+        ensures pages { result ≡ pages_in_all self.now }
+        ensures most { result ≤ 3 * most_items }
+        ensures lists { AreLists self.now }
+    {
+        self.catalogue.page_count() + self.history.page_count() + self.published.page_count()
+    }
+
+    /// The bytes of the directory of these lists, in version 2 of the disk's format. It names the
+    /// pages that are stored, in their order.
+    ///
+    /// # Errors
+    ///
+    /// [`AllocError`] where the memory for them is refused.
+    pub fn directory(&self, alloc: Global) -> Result<Vec<u8>, AllocError>
+        ensures bytes { IfOk result (λ bytes. bytes.items ≡ listing written_format self.now) }
+        ensures size { IfOk result (λ bytes. AreAllStored self.now
+            → vec_len bytes ≡ directory_bytes_of self.now) }
+        ensures fits { IfOk result (λ bytes. vec_len bytes < 2 ^ 32) }
+        ensures listable { OnOk result (AreListable written_format self.now) }
+        ensures lists { OnOk result (AreLists self.now) }
+    {
+        let catalogue = self.catalogue.pages(alloc)?;
+        let changes = self.history.pages(alloc)?;
+        let published = self.published.pages(alloc)?;
+        directory_bytes(alloc, &self.header, &catalogue, &changes, &published)
+    }
 }
 
 /// What was read behind a root: the lists, and which blocks of the disk are in use.

@@ -8,6 +8,9 @@ use itoa::Buffer;
 use std::io;
 use std::io::{ErrorKind, Read, Write};
 
+// The most bytes of one write. A socket takes a large body sooner in pieces of this size than in one.
+const LARGEST_WRITE: usize = 262_144;
+
 // How often an interrupted write is tried again in one call.
 const MOST_INTERRUPTIONS: u32 = 100;
 
@@ -160,8 +163,8 @@ impl<W: Write> Watched<W> {
         Ok(())
     }
 
-    // Writes once, and says how many of the bytes the writer took, or nothing where the write was
-    // interrupted.
+    // Writes once, the first bytes where they are more than one write has, and says how many of them the
+    // writer took, or nothing where the write was interrupted.
     fn put_some(&mut self, bytes: &[u8]) -> Result<Option<usize>, WriteFault>
         requires { 0 < length bytes.now }
         ensures some { IfOk result (λ took. IfSome took (λ count. 0 < count)) }
@@ -173,7 +176,8 @@ impl<W: Write> Watched<W> {
         ensures once { failures self.new ≤ failures self.old + 1 }
         ensures flushed { is_flushed self.new ≡ is_flushed self.old }
     {
-        match self.inner.write(bytes) {
+        let first = &bytes[..bytes.len().min(LARGEST_WRITE)];
+        match self.inner.write(first) {
             Ok(count) if count > 0 => return Ok(Some(count)),
             Err(error) if error.kind() == ErrorKind::Interrupted => return Ok(None),
             _ => {}

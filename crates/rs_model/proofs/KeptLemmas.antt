@@ -2,16 +2,19 @@
 use Rattle.std.proofs.Common.{◌≡◌, ℕ, ◌+◌, ◌-◌, ◌*◌, ◌≤◌, List, [], ◌∷◌, ◌++◌, length, take, drop, refl, sym, ap, ◌∙◌, arith, Option, Some, None, append_assoc, append-nil, zero-mul, length-append, length-drop}
 use Rattle.std.proofs.lemmas.List.{drop-append-le, take-append-le, drop-drop, drop_all}
 use Rattle.std.proofs.Math.Seq.{drop-append_seam, take-add}
-use Rattle.rs_record.specs.Changes.{deleted, last_moment}
+use Rattle.rs_record.specs.Changes.{last_moment}
 use Rattle.rs_record.specs.declared.change.Change.{Change}
 use Rattle.rs_model.specs.declared.command.Command.{Command}
-use Rattle.rs_model.specs.declared.command.Command.TheVariants.{Put, Delete, Publish}
+use Rattle.rs_model.specs.declared.command.Command.TheVariants.{Put, Delete, Publish, Group}
+use Rattle.rs_model.specs.declared.command.Item.{Item}
+use Rattle.rs_model.specs.declared.command.Item.TheVariants as single
 use Rattle.rs_model.specs.declared.command.Refusal.{Refusal}
 use Rattle.rs_model.specs.declared.command.Reply.{Reply}
 use Rattle.rs_model.specs.Kept.{gone_between, KeepsChanges}
-use Rattle.rs_model.specs.State.{Source, facts_of}
-use Rattle.rs_model.specs.Step.{step, state_after, fold_of, next_state, accepted_unless, refusal_of, reply_to, moment_at, put_change, dropped_parts, dropped_changes}
+use Rattle.rs_model.specs.State.{Source}
+use Rattle.rs_model.specs.Step.{step, state_after, fold_of, next_state, accepted_unless, refusal_of, reply_to, moment_at, after_items, dropped_parts, dropped_changes}
 use Rattle.rs_model.proofs.DropLemmas.{last_joined, dropped_within}
+use Rattle.rs_model.proofs.ItemLemmas.{AppendTo, items_append}
 
 -- by how many changes are gone
 keeps_by : (n : ℕ) (s : Source) (more : List Change) (t : Source) → t.limit ≡ s.limit → s.first ≤ t.first → gone_between s t ≡ n
@@ -63,23 +66,23 @@ joined s t u a b h k =
     ∙ sym (last_joined s.begin (take m (all ++ b)) (take n (drop m (all ++ b))))
     ∙ ap (last_moment s.begin) (sym (take-add m n (all ++ b)) ∙ ap (take (m + n)) same))
 
--- A state and the one after a command or none: at most one change more, which is what comes past the changes before.
+-- A state and the one after a command or none, with what comes past the changes before.
 pub record IsNext (s t : Source) : Type 0 where
   pub more : List Change
-  pub few : length more ≤ 1
   pub recorded : drop (length s.changes) t.changes ≡ more
   pub kept : KeepsChanges s more t
 
 pub none_more : (s : Source) → IsNext s s
-none_more s = record { more = []; few = omega arith; recorded = drop_all (length s.changes) s.changes (omega arith); kept = itself s }
+none_more s = record { more = []; recorded = drop_all (length s.changes) s.changes (omega arith); kept = itself s }
 
-one_more : (s t : Source) (c : Change) → t.limit ≡ s.limit → t.first ≡ s.first → t.changes ≡ s.changes ++ c ∷ [] → t.begin ≡ s.begin → IsNext s t
-one_more s t c limit first changes begin =
+-- items in turn
+items_more : (s : Source) (items : List Item) (now : ℕ) → IsNext s (after_items s items now)
+items_more s items now =
+    let all : AppendTo s items (after_items s items now) = items_append s items now in
     record {
-      more = c ∷ [];
-      few = omega arith;
-      recorded = ap (drop (length s.changes)) changes ∙ drop-append_seam s.changes (c ∷ []);
-      kept = adds s (c ∷ []) t limit first changes begin;
+      more = all.made;
+      recorded = ap (drop (length s.changes)) all.changes ∙ drop-append_seam s.changes all.made;
+      kept = adds s all.made (after_items s items now) all.limit all.first all.changes all.begin;
     }
 
 -- a publish records nothing
@@ -96,17 +99,17 @@ publish_more s t =
     let same : s.changes ≡ s.changes ++ [] = sym (append-nil s.changes) in
     record {
       more = [];
-      few = omega arith;
       recorded = none_published s t;
       kept = keeps_by n s [] next refl (omega arith) (ap (λ k. k * s.limit) grown) (omega (arith, dropped_within s, ap length same))
           (ap (drop n) same) (ap (λ l. last_moment s.begin (take n l)) same);
     }
 
-next_more : (s : Source) (command : Command) (t : ℕ) → IsNext s (next_state s command t)
-next_more s (Put name kind bytes) t =
-    one_more s (next_state s (Put name kind bytes) t) (put_change s name (facts_of kind bytes) t) refl refl refl refl
-next_more s (Delete name) t = one_more s (next_state s (Delete name) t) (deleted name t) refl refl refl refl
-next_more s Publish t = publish_more s t
+-- a command: a put or a delete is one item at its moment
+next_more : (s : Source) (command : Command) (now : ℕ) → IsNext s (next_state s command (moment_at s now))
+next_more s (Put name kind bytes) now = items_more s (single.Put name kind bytes ∷ []) now
+next_more s (Delete name) now = items_more s (single.Delete name ∷ []) now
+next_more s Publish now = publish_more s (moment_at s now)
+next_more s (Group items) now = items_more s items (moment_at s now)
 
 unless_refused : (s : Source) (o : Option Refusal) (next : Source × Reply) → IsNext s next.0 → IsNext s (state_after s (accepted_unless o next))
 unless_refused s None next h = h
@@ -115,7 +118,7 @@ unless_refused s (Some refusal) next h = none_more s
 pub step_more : (s : Source) (command : Command) (now : ℕ) → IsNext s (state_after s (step s command now))
 step_more s command now =
     let t : ℕ = moment_at s now in
-    unless_refused s (refusal_of s command) (next_state s command t, reply_to s command t) (next_more s command t)
+    unless_refused s (refusal_of s command now) (next_state s command t, reply_to s command t) (next_more s command now)
 
 pub fold_keeps : (s : Source) (commands : List (Command × ℕ)) → (more : List Change) × KeepsChanges s more (fold_of s commands)
 fold_keeps s [] = ([], itself s)

@@ -1,5 +1,5 @@
 -- Steps of lawful commands keep states lawful.
-use Rattle.std.proofs.Common.{◌≡◌, ℕ, ◌+◌, ◌<◌, ◌≤◌, ◌^◌, List, [], ◌∷◌, ◌++◌, length, refl, sym, subst, arith, Option, Some, None, nat_le, length-append, length-drop, take}
+use Rattle.std.proofs.Common.{◌≡◌, ℕ, ◌+◌, ◌<◌, ◌≤◌, ◌^◌, List, [], ◌∷◌, ◌++◌, length, refl, sym, subst, ◌∙◌, arith, Option, Some, None, nat_le, length-append, length-drop, take}
 use Rattle.std.specs.Prelude.{IsTrue, false}
 use Rattle.std.specs.List.{AllByRecursion}
 use Rattle.std.specs.declared.cmp.Ordering.{Ordering}
@@ -9,15 +9,18 @@ use Rattle.rs_record.specs.MediaType.{is_media_type}
 use Rattle.rs_record.specs.Changes.{deleted}
 use Rattle.rs_record.specs.declared.change.Change.{Change}
 use Rattle.rs_model.specs.declared.command.Command.{Command}
-use Rattle.rs_model.specs.declared.command.Command.TheVariants.{Put, Delete, Publish}
+use Rattle.rs_model.specs.declared.command.Command.TheVariants.{Put, Delete, Publish, Group}
+use Rattle.rs_model.specs.declared.command.Item.{Item}
+use Rattle.rs_model.specs.declared.command.Item.TheVariants as single
 use Rattle.rs_model.specs.declared.command.Refusal.{Refusal}
 use Rattle.rs_model.specs.declared.value.Held.{Held}
 use Rattle.rs_model.specs.Names.{Names, by_bytes, by_order, bind, unbind}
 use Rattle.rs_model.specs.State.{Source, facts_of, entries}
-use Rattle.rs_model.specs.Step.{step, state_after, fold_of, accepted_unless, next_state, reply_to, refusal_of, causes, moment_at, put_change, dropped_parts, dropped_changes}
-use Rattle.rs_model.specs.Lawful.{AreFacts, IsEntry, IsHeld, IsChange, IsLawful, IsLawfulCommand, IsLawfulTimed}
+use Rattle.rs_model.specs.Step.{step, state_after, fold_of, accepted_unless, next_state, reply_to, refusal_of, first_cause, causes, put_causes, delete_causes, item_causes, items_causes, moment_at, after_put, after_delete, after_item, after_items, put_change, dropped_parts, dropped_changes}
+use Rattle.rs_model.specs.Lawful.{AreFacts, IsEntry, IsHeld, IsChange, IsLawful, IsLawfulItem, IsLawfulCommand, IsLawfulTimed}
 use Rattle.rs_fixity.proofs.DigestBytes.{md5-bytes, sha256-bytes}
 use Rattle.rs_model.proofs.DropLemmas.{all_taken, all_dropped, last_exists}
+use Rattle.rs_model.proofs.GroupLemmas.{item_accepted, group_accepted, refused_alike}
 use Rattle.rs_model.proofs.OrderLemmas.{ordered-bind, ordered-unbind, ordered-entries}
 use Rattle.rs_model.proofs.RoomLemmas.{no_causes, below_if, at_most_if, length-bind, length-unbind, length-entries, room_to_put, change_to_put, change_to_delete}
 
@@ -54,13 +57,14 @@ all_entries : (held : Names Held) → AllByRecursion IsHeld held → AllByRecurs
 all_entries [] h = tt
 all_entries (e ∷ held) h = (h.0, all_entries held h.1)
 
-after_put : (s : Source) (name kind bytes : List ℕ) (t : ℕ) → IsLawful s → IsLawfulCommand (Put name kind bytes) → IsMoment t → refusal_of s (Put name kind bytes) ≡ None → IsLawful (next_state s (Put name kind bytes) t)
-after_put s name kind bytes t l c m none =
-    let cause = no_causes (causes s (Put name kind bytes)) none in
+put_lawful : (s : Source) (name kind bytes : List ℕ) (t : ℕ) → IsLawful s → IsLawfulItem (single.Put name kind bytes) → IsMoment t → first_cause (put_causes s name bytes) ≡ None
+    → IsLawful (after_put s name kind bytes t)
+put_lawful s name kind bytes t l c m none =
+    let cause = no_causes (put_causes s name bytes) none in
     let facts : AreFacts (facts_of kind bytes) = facts_lawful kind bytes c.1 (at_most_if 16777216 (length bytes) cause.0) in
     let held : Held = record { bytes = bytes; entry = record { facts = facts_of kind bytes; moment = t } } in
     let change : Change = put_change s name (facts_of kind bytes) t in
-    let fewer : length s.changes < 50000 = change_to_put name kind bytes s none in
+    let fewer : length s.changes < 50000 = change_to_put name bytes s none in
     record {
       base = l.base;
       low = l.low;
@@ -71,7 +75,7 @@ after_put s name kind bytes t l c m none =
       number = l.number;
       held = all_bound IsHeld name held s.held (record { name = c.0; facts = facts; moment = m }) l.held;
       held_order = ordered-bind name held s.held l.held_order;
-      held_room = omega (arith, length-bind name held s.held, room_to_put name kind bytes s none l.held_room);
+      held_room = omega (arith, length-bind name held s.held, room_to_put name bytes s none l.held_room);
       listed = l.listed;
       listed_order = l.listed_order;
       listed_room = l.listed_room;
@@ -81,8 +85,9 @@ after_put s name kind bytes t l c m none =
       begin = l.begin;
     }
 
-after_delete : (s : Source) (name : List ℕ) (t : ℕ) → IsLawful s → IsLawfulCommand (Delete name) → IsMoment t → refusal_of s (Delete name) ≡ None → IsLawful (next_state s (Delete name) t)
-after_delete s name t l c m none =
+delete_lawful : (s : Source) (name : List ℕ) (t : ℕ) → IsLawful s → IsLawfulItem (single.Delete name) → IsMoment t → first_cause (delete_causes s name) ≡ None
+    → IsLawful (after_delete s name t)
+delete_lawful s name t l c m none =
     let change : Change = deleted name t in
     let fewer : length s.changes < 50000 = change_to_delete name s none in
     record {
@@ -105,8 +110,8 @@ after_delete s name t l c m none =
       begin = l.begin;
     }
 
-after_publish : (s : Source) (t : ℕ) → IsLawful s → IsMoment t → refusal_of s Publish ≡ None → IsLawful (next_state s Publish t)
-after_publish s t l m none =
+publish_lawful : (s : Source) (t : ℕ) → IsLawful s → IsMoment t → refusal_of s Publish t ≡ None → IsLawful (next_state s Publish t)
+publish_lawful s t l m none =
     record {
       base = l.base;
       low = l.low;
@@ -114,7 +119,7 @@ after_publish s t l m none =
       start = l.start;
       last = m;
       at = m;
-      number = below_if (2 ^ 64) (s.number + 1) (no_causes (causes s Publish) none).1.0;
+      number = below_if (2 ^ 64) (s.number + 1) (no_causes (causes s Publish t) none).1.0;
       held = l.held;
       held_order = l.held_order;
       held_room = l.held_room;
@@ -123,41 +128,70 @@ after_publish s t l m none =
       listed_room = omega (arith, length-entries s.held, l.held_room);
       changes = all_dropped IsChange (dropped_changes s) s.changes l.changes;
       changes_room = omega (arith, length-drop (dropped_changes s) s.changes, l.changes_room);
-      first = at_most_if 253402300799999 (s.first + dropped_parts s) (no_causes (causes s Publish) none).1.1.0;
+      first = at_most_if 253402300799999 (s.first + dropped_parts s) (no_causes (causes s Publish t) none).1.1.0;
       begin = last_exists s.begin (take (dropped_changes s) s.changes) l.begin (all_taken IsChange (dropped_changes s) s.changes l.changes);
     }
 
+pub item_lawful : (s : Source) (item : Item) (t : ℕ) → IsLawful s → IsLawfulItem item → IsMoment t → first_cause (item_causes s item) ≡ None
+    → IsLawful (after_item s item t)
+item_lawful s (single.Put name kind bytes) t l c m none = put_lawful s name kind bytes t l c m none
+item_lawful s (single.Delete name) t l c m none = delete_lawful s name t l c m none
+
+-- the last cause of an item: no moment is left
+item_left : (s : Source) (item : Item) → first_cause (item_causes s item) ≡ None → nat_le 253402300799999 s.last ≡ false
+item_left s (single.Put name kind bytes) none = (no_causes (put_causes s name bytes) none).1.1.1.0
+item_left s (single.Delete name) none = (no_causes (delete_causes s name) none).1.1.0
+
+pub item_below : (s : Source) (item : Item) → first_cause (item_causes s item) ≡ None → s.last < 253402300799999
+item_below s item none = below_if 253402300799999 s.last (item_left s item none)
+
+-- accepted items
+items_lawful : (s : Source) (items : List Item) (now : ℕ) → IsLawful s → AllByRecursion IsLawfulItem items → IsMoment now → first_cause (items_causes s items now) ≡ None
+    → IsLawful (after_items s items now)
+items_lawful s [] now l c m none = l
+items_lawful s (item ∷ items) now l c m none =
+    let t : ℕ = moment_at s now in
+    let both = item_accepted s item items now none in
+    let below : s.last < 253402300799999 = item_below s item both.0 in
+    items_lawful (after_item s item t) items now (item_lawful s item t l c.0 (omega arith) both.0) c.1 m both.1
+
 -- an accepted command
-pub next_lawful : (s : Source) (command : Command) (t : ℕ) → IsLawful s → IsLawfulCommand command → IsMoment t → refusal_of s command ≡ None → IsLawful (next_state s command t)
-next_lawful s (Put name kind bytes) t l c m none = after_put s name kind bytes t l c m none
-next_lawful s (Delete name) t l c m none = after_delete s name t l c m none
-next_lawful s Publish t l c m none = after_publish s t l m none
+pub next_lawful : (s : Source) (command : Command) (t : ℕ) → IsLawful s → IsLawfulCommand command → IsMoment t → refusal_of s command t ≡ None → IsLawful (next_state s command t)
+next_lawful s (Put name kind bytes) t l c m none = put_lawful s name kind bytes t l c m none
+next_lawful s (Delete name) t l c m none = delete_lawful s name t l c m none
+next_lawful s Publish t l c m none = publish_lawful s t l m none
+next_lawful s (Group items) t l c m none = items_lawful s items t l c m (group_accepted s items t none).1
 
 -- the fields of a state, which was u and is now new
-pub kept_lawful : (s u new : Source) (command : Command) (t : ℕ) → s ≡ u → IsLawful s → IsLawfulCommand command → IsMoment t → refusal_of u command ≡ None → new ≡ next_state u command t → IsLawful new
+pub kept_lawful : (s u new : Source) (command : Command) (t : ℕ) → s ≡ u → IsLawful s → IsLawfulCommand command → IsMoment t → refusal_of u command t ≡ None → new ≡ next_state u command t → IsLawful new
 kept_lawful s u new command t same l c m none next =
     let lawful : IsLawful u = subst IsLawful same l in
     subst IsLawful (sym next) (next_lawful u command t lawful c m none)
 
--- the last cause in each list: no moment is left
-moment_left : (s : Source) (command : Command) → refusal_of s command ≡ None → nat_le 253402300799999 s.last ≡ false
-moment_left s (Put name kind bytes) none = (no_causes (causes s (Put name kind bytes)) none).1.1.1.0
-moment_left s (Delete name) none = (no_causes (causes s (Delete name)) none).1.1.0
-moment_left s Publish none = (no_causes (causes s Publish) none).0
+items_left : (s : Source) (items : List Item) (now : ℕ) → refusal_of s (Group items) now ≡ None → nat_le 253402300799999 s.last ≡ false
+items_left s [] now none = cc
+items_left s (item ∷ items) now none = item_left s item (item_accepted s item items now (group_accepted s (item ∷ items) now none).1).0
 
-pub below_greatest : (s : Source) (command : Command) → refusal_of s command ≡ None → s.last < 253402300799999
-below_greatest s command none = below_if 253402300799999 s.last (moment_left s command none)
+-- the last cause of each command, or of its first item: no moment is left
+moment_left : (s : Source) (command : Command) (now : ℕ) → refusal_of s command now ≡ None → nat_le 253402300799999 s.last ≡ false
+moment_left s (Put name kind bytes) now none = (no_causes (put_causes s name bytes) none).1.1.1.0
+moment_left s (Delete name) now none = (no_causes (delete_causes s name) none).1.1.0
+moment_left s Publish now none = (no_causes (causes s Publish now) none).0
+moment_left s (Group items) now none = items_left s items now none
 
-pub moment_fits : (s : Source) (command : Command) (now : ℕ) → refusal_of s command ≡ None → IsMoment now → IsMoment (moment_at s now)
-moment_fits s command now none h = let below = below_greatest s command none in omega arith
+pub below_greatest : (s : Source) (command : Command) (now : ℕ) → refusal_of s command now ≡ None → s.last < 253402300799999
+below_greatest s command now none = below_if 253402300799999 s.last (moment_left s command now none)
 
-after_lawful : (s : Source) (command : Command) (now : ℕ) (o : Option Refusal) → refusal_of s command ≡ o → IsLawful s → IsLawfulCommand command → IsMoment now
+pub moment_fits : (s : Source) (command : Command) (now : ℕ) → refusal_of s command now ≡ None → IsMoment now → IsMoment (moment_at s now)
+moment_fits s command now none h = let below = below_greatest s command now none in omega arith
+
+after_lawful : (s : Source) (command : Command) (now : ℕ) (o : Option Refusal) → refusal_of s command now ≡ o → IsLawful s → IsLawfulCommand command → IsMoment now
     → IsLawful (state_after s (accepted_unless o (next_state s command (moment_at s now), reply_to s command (moment_at s now))))
-after_lawful s command now None e l c n = next_lawful s command (moment_at s now) l c (moment_fits s command now e n) e
+after_lawful s command now None e l c n = next_lawful s command (moment_at s now) l c (moment_fits s command now e n) (refused_alike s command now ∙ e)
 after_lawful s command now (Some refusal) e l c n = l
 
 pub step_lawful : (s : Source) (command : Command) (now : ℕ) → IsLawful s → IsLawfulCommand command → IsMoment now → IsLawful (state_after s (step s command now))
-step_lawful s command now l c n = after_lawful s command now (refusal_of s command) refl l c n
+step_lawful s command now l c n = after_lawful s command now (refusal_of s command now) refl l c n
 
 pub fold_lawful : (s : Source) (commands : List (Command × ℕ)) → IsLawful s → AllByRecursion IsLawfulTimed commands → IsLawful (fold_of s commands)
 fold_lawful s [] l h = l

@@ -1,4 +1,7 @@
 pub mod DropLemmas
+pub mod ItemLemmas
+pub mod GroupLemmas
+pub mod DecidedLemmas
 pub mod KeptLemmas
 pub mod MirrorLemmas
 pub mod RegularLemmas

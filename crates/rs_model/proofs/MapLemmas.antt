@@ -15,12 +15,12 @@ use Rattle.rs_model.proofs.OrderLemmas.{is_less, tail_ordered}
 pub same_name : (x y : List ℕ) → by_bytes x y ≡ Equal → x ≡ y
 same_name x y h = (bytes_eq-Decides x y).0 (sym (is_eq-slice_cmp x y) ∙ ap is_eq h)
 
-is_equal : (r : Ordering) → is_eq r ≡ true → r ≡ Equal
+pub is_equal : (r : Ordering) → is_eq r ≡ true → r ≡ Equal
 is_equal Less h = cc
 is_equal Equal h = refl
 is_equal Greater h = cc
 
-itself : (name : List ℕ) → by_bytes name name ≡ Equal
+pub itself : (name : List ℕ) → by_bytes name name ≡ Equal
 itself name = is_equal (by_bytes name name) (is_eq-slice_cmp name name ∙ (bytes_eq-Decides name name).1 refl)
 
 -- the bound name

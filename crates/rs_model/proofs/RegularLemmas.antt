@@ -4,7 +4,9 @@ use Rattle.std.specs.Prelude.{IfOk, IsTrue}
 use Rattle.std.specs.List.{AllByRecursion}
 use Rattle.rs_model.specs.declared.value.Held.{Held}
 use Rattle.rs_model.specs.declared.command.Command.{Command}
-use Rattle.rs_model.specs.declared.command.Command.TheVariants.{Put, Delete, Publish}
+use Rattle.rs_model.specs.declared.command.Command.TheVariants.{Put, Delete, Publish, Group}
+use Rattle.rs_model.specs.declared.command.Item.{Item}
+use Rattle.rs_model.specs.declared.command.Item.TheVariants as single
 use Rattle.rs_model.specs.declared.command.Reply.{Reply}
 use Rattle.rs_model.specs.declared.command.Refusal.{Refusal}
 use Rattle.std.proofs.lemmas.Bool.Decides.{nat_tests}
@@ -12,11 +14,12 @@ use Rattle.rs_time.specs.Moment.{IsMoment}
 use Rattle.rs_record.specs.Changes.{deleted, last_moment}
 use Rattle.rs_model.specs.Names.{Names, bind, unbind}
 use Rattle.rs_model.specs.State.{Source, start_of, facts_of, entries}
-use Rattle.rs_model.specs.Step.{step, state_after, fold_of, next_state, reply_to, accepted_unless, moment_at, refusal_of, put_change, passed_by, dropped_parts, dropped_changes, is_out_of_parts}
+use Rattle.rs_model.specs.Step.{step, state_after, fold_of, next_state, reply_to, accepted_unless, moment_at, refusal_of, after_put, after_delete, after_item, put_change, passed_by, dropped_parts, dropped_changes, is_out_of_parts}
 use Rattle.rs_model.specs.declared.value.Entry.{Entry}
 use Rattle.rs_record.specs.declared.change.Change.{Change}
 use Rattle.rs_model.specs.Regular.{IsSound, IsUpTo, IsChangeUpTo, IsAfter, rises_from, IsRegular, IsTimely}
 use Rattle.rs_model.proofs.DropLemmas.{all_dropped, rises_after, is_rising_from, all_after, rest_rises, last_later, last_passed, passed_within, parts_passed, changes_passed, dropped_within, few_parts}
+use Rattle.rs_model.proofs.ItemLemmas.{kept_in_turn}
 use Rattle.rs_model.proofs.LawfulLemmas.{all_appended, all_bound, all_unbound}
 use Rattle.rs_model.proofs.MirrorLemmas.{rising-append, mirror-append, mirror_before, entries-bind, entries-unbind}
 
@@ -49,9 +52,9 @@ start_regular base limit moment =
       mirrored = refl;
     }
 
--- an accepted command at a later moment
-pub next_regular : (s : Source) (command : Command) (t : ℕ) → IsRegular s → s.last < t → IsRegular (next_state s command t)
-next_regular s (Put name kind bytes) t r after =
+-- a put, a delete and a publish at a later moment
+put_regular : (s : Source) (name kind bytes : List ℕ) (t : ℕ) → IsRegular s → s.last < t → IsRegular (after_put s name kind bytes t)
+put_regular s name kind bytes t r after =
     let entry : Entry = record { facts = facts_of kind bytes; moment = t } in
     let held : Names Held = bind name (record { bytes = bytes; entry = entry }) s.held in
     let bound : entries held ≡ bind name entry (entries s.held) = entries-bind name (record { bytes = bytes; entry = entry }) s.held in
@@ -76,7 +79,9 @@ next_regular s (Put name kind bytes) t r after =
           mirror-append s.listed s.at s.changes (put_change s name (facts_of kind bytes) t) (omega (arith, r.last))
           ∙ ap (bind name entry) r.mirrored ∙ sym bound;
     }
-next_regular s (Delete name) t r after =
+
+delete_regular : (s : Source) (name : List ℕ) (t : ℕ) → IsRegular s → s.last < t → IsRegular (after_delete s name t)
+delete_regular s name t r after =
     let unbound : entries (unbind name s.held) ≡ unbind name (entries s.held) = entries-unbind name s.held in
     let no_later : s.last ≤ t = omega (arith, after) in
     record {
@@ -99,7 +104,9 @@ next_regular s (Delete name) t r after =
           mirror-append s.listed s.at s.changes (deleted name t) (omega (arith, r.last))
           ∙ ap (unbind name) r.mirrored ∙ sym unbound;
     }
-next_regular s Publish t r after =
+
+publish_regular : (s : Source) (t : ℕ) → IsRegular s → s.last < t → IsRegular (next_state s Publish t)
+publish_regular s t r after =
     let no_later : s.last ≤ t = omega (arith, after) in
     let held : AreAllUpTo t (entries s.held) = later s.last t (entries s.held) no_later r.latest.held in
     let n : ℕ = dropped_changes s in
@@ -123,6 +130,17 @@ next_regular s Publish t r after =
       mirrored = mirror_before (entries s.held) t (drop n s.changes) changes;
     }
 
+item_regular : (s : Source) (item : Item) (t : ℕ) → IsRegular s → s.last < t → IsRegular (after_item s item t)
+item_regular s (single.Put name kind bytes) t r after = put_regular s name kind bytes t r after
+item_regular s (single.Delete name) t r after = delete_regular s name t r after
+
+-- an accepted command at a later moment
+pub next_regular : (s : Source) (command : Command) (t : ℕ) → IsRegular s → s.last < t → IsRegular (next_state s command t)
+next_regular s (Put name kind bytes) t r after = put_regular s name kind bytes t r after
+next_regular s (Delete name) t r after = delete_regular s name t r after
+next_regular s Publish t r after = publish_regular s t r after
+next_regular s (Group items) t r after = kept_in_turn IsRegular item_regular s items t r
+
 -- a regular state has a number for each part that a publication keeps
 pub parts_left : (s : Source) → IsRegular s → IsMoment s.at → is_out_of_parts s ≡ false
 parts_left s r m =
@@ -136,18 +154,23 @@ parts_left s r m =
 pub start_timely : (base : List ℕ) (limit moment : ℕ) → IsTimely (start_of base limit moment)
 start_timely base limit moment = record { listed = tt }
 
+item_timely : (s : Source) (item : Item) (t : ℕ) → IsTimely s → s.last < t → IsTimely (after_item s item t)
+item_timely s (single.Put name kind bytes) t timely after = record { listed = timely.listed }
+item_timely s (single.Delete name) t timely after = record { listed = timely.listed }
+
 -- what is listed is what was held, of moments up to the last one
 pub next_timely : (s : Source) (command : Command) (t : ℕ) → IsRegular s → IsTimely s → s.last < t → IsTimely (next_state s command t)
-next_timely s (Put name kind bytes) t r timely after = record { listed = timely.listed }
-next_timely s (Delete name) t r timely after = record { listed = timely.listed }
+next_timely s (Put name kind bytes) t r timely after = item_timely s (single.Put name kind bytes) t timely after
+next_timely s (Delete name) t r timely after = item_timely s (single.Delete name) t timely after
 next_timely s Publish t r timely after = record { listed = later s.last t (entries s.held) (omega (arith, after)) r.latest.held }
+next_timely s (Group items) t r timely after = kept_in_turn IsTimely item_timely s items t timely
 
 if_accepted : (o : Option Refusal) (next : Source × Reply) → IsRegular next.0 → IfOk (accepted_unless o next) (λ n. IsRegular n.0)
 if_accepted None next h = h
 if_accepted (Some refusal) next h = tt
 
 pub step_regular : (s : Source) (command : Command) (now : ℕ) → IsRegular s → IfOk (step s command now) (λ next. IsRegular next.0)
-step_regular s command now r = if_accepted (refusal_of s command) _ (next_regular s command (moment_at s now) r (omega arith))
+step_regular s command now r = if_accepted (refusal_of s command now) _ (next_regular s command (moment_at s now) r (omega arith))
 
 -- a refused command changes nothing
 after_regular : (s : Source) (command : Command) (now : ℕ) (o : Option Refusal) → IsRegular s
@@ -157,7 +180,7 @@ after_regular s command now (Some refusal) r = r
 
 pub fold_regular : (s : Source) (commands : List (Command × ℕ)) → IsRegular s → IsRegular (fold_of s commands)
 fold_regular s [] r = r
-fold_regular s (c ∷ commands) r = fold_regular (state_after s (step s c.0 c.1)) commands (after_regular s c.0 c.1 (refusal_of s c.0) r)
+fold_regular s (c ∷ commands) r = fold_regular (state_after s (step s c.0 c.1)) commands (after_regular s c.0 c.1 (refusal_of s c.0 c.1) r)
 
 timely_if_accepted : (o : Option Refusal) (next : Source × Reply) → IsTimely next.0 → IfOk (accepted_unless o next) (λ n. IsTimely n.0)
 timely_if_accepted None next h = h
@@ -165,7 +188,7 @@ timely_if_accepted (Some refusal) next h = tt
 
 pub step_timely : (s : Source) (command : Command) (now : ℕ) → IsRegular s → IsTimely s → IfOk (step s command now) (λ next. IsTimely next.0)
 step_timely s command now r timely =
-    timely_if_accepted (refusal_of s command) _ (next_timely s command (moment_at s now) r timely (omega arith))
+    timely_if_accepted (refusal_of s command now) _ (next_timely s command (moment_at s now) r timely (omega arith))
 
 timely_after : (s : Source) (command : Command) (now : ℕ) (o : Option Refusal) → IsRegular s → IsTimely s
     → IsTimely (state_after s (accepted_unless o (next_state s command (moment_at s now), reply_to s command (moment_at s now))))
@@ -175,5 +198,5 @@ timely_after s command now (Some refusal) r timely = timely
 pub fold_timely : (s : Source) (commands : List (Command × ℕ)) → IsRegular s → IsTimely s → IsTimely (fold_of s commands)
 fold_timely s [] r timely = timely
 fold_timely s (c ∷ commands) r timely =
-    fold_timely (state_after s (step s c.0 c.1)) commands (after_regular s c.0 c.1 (refusal_of s c.0) r)
-    (timely_after s c.0 c.1 (refusal_of s c.0) r timely)
+    fold_timely (state_after s (step s c.0 c.1)) commands (after_regular s c.0 c.1 (refusal_of s c.0 c.1) r)
+    (timely_after s c.0 c.1 (refusal_of s c.0 c.1) r timely)

@@ -1,16 +1,15 @@
 -- Room for what an accepted command adds.
 use Rattle.std.proofs.Common.{◌≡◌, ℕ, suc, ◌+◌, ◌≤◌, ◌<◌, List, [], ◌∷◌, length, Bool, true, false, cond, refl, ap, arith, Option, Some, None, nat_le, nat_lt}
-use Rattle.std.specs.Prelude.{is_none, ◌&&◌}
+use Rattle.std.specs.Prelude.{is_some, is_none, ◌&&◌}
 use Rattle.std.specs.List.{AllByRecursion}
 use Rattle.std.proofs.lemmas.Bool.Decides.{nat_tests}
 use Rattle.std.specs.declared.cmp.Ordering.{Ordering}
 use Rattle.std.specs.declared.cmp.Ordering.TheVariants.{Less, Equal, Greater}
-use Rattle.rs_model.specs.declared.command.Command.TheVariants.{Put, Delete}
 use Rattle.rs_model.specs.declared.command.Refusal.{Refusal}
 use Rattle.rs_model.specs.Names.{Names, by_bytes, by_order, value_of, bind, unbind}
 use Rattle.rs_model.specs.declared.value.Held.{Held}
 use Rattle.rs_model.specs.State.{Source, entries}
-use Rattle.rs_model.specs.Step.{first_cause, refusal_of, causes}
+use Rattle.rs_model.specs.Step.{first_cause, put_causes, delete_causes}
 
 one_false : (b : Bool) (x : Refusal) (rest : Option Refusal) → cond b (Some x) rest ≡ None → (b ≡ false) × (rest ≡ None)
 one_false true x rest h = cc
@@ -51,18 +50,29 @@ pub length-unbind : {V : Type 0} (name : List ℕ) (m : Names V) → length (unb
 length-unbind name [] = omega arith
 length-unbind name (e ∷ m) = one_less (by_bytes name e.0) name e m (length-unbind name m)
 
+one_gone : {V : Type 0} (r : Ordering) (name : List ℕ) (e : List ℕ × V) (m : Names V) → is_some (by_order r None (Some e.1) (value_of name m)) ≡ true
+    → (is_some (value_of name m) ≡ true → length (unbind name m) + 1 ≡ length m) → length (by_order r (e ∷ m) m (e ∷ unbind name m)) + 1 ≡ length (e ∷ m)
+one_gone Less name e m h next = cc
+one_gone Equal name e m h next = omega arith
+one_gone Greater name e m h next = omega (arith, next h)
+
+-- a name that is bound
+pub length-unbound : {V : Type 0} (name : List ℕ) (m : Names V) → is_some (value_of name m) ≡ true → length (unbind name m) + 1 ≡ length m
+length-unbound name [] h = cc
+length-unbound name (e ∷ m) h = one_gone (by_bytes name e.0) name e m h (length-unbound name m)
+
 room : (b : Bool) (n : ℕ) → (b && nat_le 50000 n) ≡ false → n ≤ 50000 → cond b (n + 1) n ≤ 50000
 room true n h k = let below = below_if 50000 n h in omega arith
 room false n h k = k
 
-pub room_to_put : (name kind bytes : List ℕ) (s : Source) → refusal_of s (Put name kind bytes) ≡ None → length s.held ≤ 50000 → cond (is_none (value_of name s.held)) (length s.held + 1) (length s.held) ≤ 50000
-room_to_put name kind bytes s h k = room (is_none (value_of name s.held)) (length s.held) (no_causes (causes s (Put name kind bytes)) h).1.0 k
+pub room_to_put : (name bytes : List ℕ) (s : Source) → first_cause (put_causes s name bytes) ≡ None → length s.held ≤ 50000 → cond (is_none (value_of name s.held)) (length s.held + 1) (length s.held) ≤ 50000
+room_to_put name bytes s h k = room (is_none (value_of name s.held)) (length s.held) (no_causes (put_causes s name bytes) h).1.0 k
 
-pub change_to_put : (name kind bytes : List ℕ) (s : Source) → refusal_of s (Put name kind bytes) ≡ None → length s.changes < 50000
-change_to_put name kind bytes s h = below_if 50000 (length s.changes) (no_causes (causes s (Put name kind bytes)) h).1.1.0
+pub change_to_put : (name bytes : List ℕ) (s : Source) → first_cause (put_causes s name bytes) ≡ None → length s.changes < 50000
+change_to_put name bytes s h = below_if 50000 (length s.changes) (no_causes (put_causes s name bytes) h).1.1.0
 
-pub change_to_delete : (name : List ℕ) (s : Source) → refusal_of s (Delete name) ≡ None → length s.changes < 50000
-change_to_delete name s h = below_if 50000 (length s.changes) (no_causes (causes s (Delete name)) h).1.0
+pub change_to_delete : (name : List ℕ) (s : Source) → first_cause (delete_causes s name) ≡ None → length s.changes < 50000
+change_to_delete name s h = below_if 50000 (length s.changes) (no_causes (delete_causes s name) h).1.0
 
 pub length-entries : (held : Names Held) → length (entries held) ≡ length held
 length-entries [] = refl

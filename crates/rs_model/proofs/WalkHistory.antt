@@ -8,7 +8,9 @@ use Rattle.std.proofs.Math.Seq.{take-length, drop-append_seam}
 use Rattle.rs_record.specs.Changes.{deleted}
 use Rattle.rs_record.specs.declared.change.Change.{Change}
 use Rattle.rs_model.specs.declared.command.Command.{Command}
-use Rattle.rs_model.specs.declared.command.Command.TheVariants.{Put, Delete, Publish}
+use Rattle.rs_model.specs.declared.command.Command.TheVariants.{Put, Delete, Publish, Group}
+use Rattle.rs_model.specs.declared.command.Item.{Item}
+use Rattle.rs_model.specs.declared.command.Item.TheVariants as single
 use Rattle.rs_model.specs.declared.command.Refusal.{Refusal}
 use Rattle.rs_model.specs.declared.command.Reply.{Reply}
 use Rattle.rs_model.specs.declared.event.Event.{Event}
@@ -17,10 +19,11 @@ use Rattle.rs_model.specs.declared.value.Entry.{Entry}
 use Rattle.rs_model.specs.Kept.{gone_between, KeepsChanges}
 use Rattle.rs_model.specs.Names.{Names, bind, unbind}
 use Rattle.rs_model.specs.State.{Source, start_of, facts_of, entries}
-use Rattle.rs_model.specs.Step.{step, state_after, next_state, accepted_unless, refusal_of, reply_to, moment_at, mirror_of, mirror_step, applied, put_change}
+use Rattle.rs_model.specs.Step.{step, state_after, next_state, accepted_unless, refusal_of, reply_to, moment_at, after_item, after_items, mirror_of, mirror_step, applied, put_change}
 use Rattle.rs_model.specs.Regular.{rises_from, IsAfter, IsChangeUpTo}
 use Rattle.rs_model.specs.Walk.{after_event, walk_of, state_at, recorded_by, recorded, count_at, catalogue}
 use Rattle.rs_model.proofs.DropLemmas.{all_taken, all_after, up_to_last}
+use Rattle.rs_model.proofs.ItemLemmas.{change_of, item_changes, item_last, change_moment, AppendTo, items_append}
 use Rattle.rs_model.proofs.KeptLemmas.{none_published}
 use Rattle.rs_model.proofs.LawfulLemmas.{all_appended}
 use Rattle.rs_model.proofs.MirrorLemmas.{rises-append, mirror-append, mirror_before, entries-bind, entries-unbind}
@@ -31,13 +34,47 @@ use Rattle.rs_model.proofs.WalkLemmas.{recorded-append, recorded_first, walk_rec
 abbrev past : Source → Source → List Change
 past s t = drop (length s.changes) t.changes
 
--- What each accepted command at a later moment keeps of all changes that were recorded and the state, each walk keeps.
-abbrev IsKept : (List Change → Source → Type 0) → Type 0
-IsKept P = (h : List Change) (s : Source) (command : Command) (t : ℕ) → P h s → s.last < t → P (h ++ past s (next_state s command t)) (next_state s command t)
+-- What each item and each publish at a later moment keeps of all changes that were recorded and the state, each walk keeps.
+record IsKept (P : List Change → Source → Type 0) : Type 0 where
+  by_item : (h : List Change) (s : Source) (item : Item) (t : ℕ) → P h s → s.last < t → P (h ++ change_of s item t ∷ []) (after_item s item t)
+  by_publish : (h : List Change) (s : Source) (t : ℕ) → P h s → s.last < t → P h (next_state s Publish t)
 
 none_past : (P : List Change → Source → Type 0) (h : List Change) (s : Source) → P h s → P (h ++ past s s) s
 none_past P h s p =
     subst (λ l. P l s) (sym (ap (λ l. h ++ l) (drop_all (length s.changes) s.changes (omega arith)) ∙ append-nil h)) p
+
+past_joined : (s next u : Source) (c : Change) (made : List Change) → next.changes ≡ s.changes ++ c ∷ [] → u.changes ≡ next.changes ++ made
+    → past s u ≡ c ∷ past next u
+past_joined s next u c made one rest =
+    let whole : u.changes ≡ s.changes ++ c ∷ made = rest ∙ ap (λ l. l ++ made) one ∙ append_assoc s.changes (c ∷ []) made in
+    let last : past next u ≡ made = ap (drop (length next.changes)) rest ∙ drop-append_seam next.changes made in
+    ap (drop (length s.changes)) whole ∙ drop-append_seam s.changes (c ∷ made) ∙ ap (λ l. c ∷ l) (sym last)
+
+kept_by_items : (P : List Change → Source → Type 0) → IsKept P → (h : List Change) (s : Source) (items : List Item) (now : ℕ) → P h s
+    → P (h ++ past s (after_items s items now)) (after_items s items now)
+kept_by_items P keeps h s [] now p = none_past P h s p
+kept_by_items P keeps h s (item ∷ items) now p =
+    let t : ℕ = moment_at s now in
+    let next : Source = after_item s item t in
+    let c : Change = change_of s item t in
+    let u : Source = after_items next items now in
+    let rest : AppendTo next items u = items_append next items now in
+    let all : (h ++ c ∷ []) ++ past next u ≡ h ++ past s u =
+    append_assoc h (c ∷ []) (past next u) ∙ ap (λ l. h ++ l) (sym (past_joined s next u c rest.made (item_changes s item t) rest.changes)) in
+    subst (λ l. P l u) all (kept_by_items P keeps (h ++ c ∷ []) next items now (keeps.by_item h s item t p (omega arith)))
+
+published : (P : List Change → Source → Type 0) (h : List Change) (s : Source) (t : ℕ) → P h (next_state s Publish t)
+    → P (h ++ past s (next_state s Publish t)) (next_state s Publish t)
+published P h s t p =
+    subst (λ l. P l (next_state s Publish t)) (sym (ap (λ l. h ++ l) (none_published s t) ∙ append-nil h)) p
+
+-- an accepted command: a put or a delete is one item at its moment
+kept_by_next : (P : List Change → Source → Type 0) → IsKept P → (h : List Change) (s : Source) (command : Command) (now : ℕ) → P h s
+    → P (h ++ past s (next_state s command (moment_at s now))) (next_state s command (moment_at s now))
+kept_by_next P keeps h s (Put name kind bytes) now p = kept_by_items P keeps h s (single.Put name kind bytes ∷ []) now p
+kept_by_next P keeps h s (Delete name) now p = kept_by_items P keeps h s (single.Delete name ∷ []) now p
+kept_by_next P keeps h s Publish now p = published P h s (moment_at s now) (keeps.by_publish h s (moment_at s now) p (omega arith))
+kept_by_next P keeps h s (Group items) now p = kept_by_items P keeps h s items (moment_at s now) p
 
 unless_refused : (P : List Change → Source → Type 0) (h : List Change) (s : Source) (o : Option Refusal) (next : Source × Reply) → P h s
     → P (h ++ past s next.0) next.0 → P (h ++ past s (state_after s (accepted_unless o next))) (state_after s (accepted_unless o next))
@@ -48,7 +85,7 @@ kept_by_step : (P : List Change → Source → Type 0) → IsKept P → (h : Lis
     → P (h ++ past s (state_after s (step s command now))) (state_after s (step s command now))
 kept_by_step P keeps h s command now p =
     let t : ℕ = moment_at s now in
-    unless_refused P h s (refusal_of s command) (next_state s command t, reply_to s command t) p (keeps h s command t p (omega arith))
+    unless_refused P h s (refusal_of s command now) (next_state s command t, reply_to s command t) p (kept_by_next P keeps h s command now p)
 
 kept_by_event : (P : List Change → Source → Type 0) → IsKept P → (h : List Change) (s : Source) (event : Event) → P h s
     → P (h ++ recorded_by s event) (after_event s event)
@@ -81,16 +118,6 @@ record AreAll (from : ℕ) (h : List Change) (s : Source) : Type 0 where
   all : mirror_of [] from h ≡ entries s.held
   listed : mirror_of s.listed s.at h ≡ entries s.held
 
--- a put or a delete is past the changes before, and a publish is not
-changed : (P : List Change → Source → Type 0) (h : List Change) (s t : Source) (c : Change) → t.changes ≡ s.changes ++ c ∷ [] → P (h ++ c ∷ []) t
-    → P (h ++ past s t) t
-changed P h s t c e p = subst (λ l. P (h ++ l) t) (sym (ap (drop (length s.changes)) e ∙ drop-append_seam s.changes (c ∷ []))) p
-
-published : (P : List Change → Source → Type 0) (h : List Change) (s : Source) (t : ℕ) → P h (next_state s Publish t)
-    → P (h ++ past s (next_state s Publish t)) (next_state s Publish t)
-published P h s t p =
-    subst (λ l. P l (next_state s Publish t)) (sym (ap (λ l. h ++ l) (none_published s t) ∙ append-nil h)) p
-
 one_later : (low : ℕ) (h : List Change) (s t : Source) (c : Change) → AreInOrder low h s → s.last < c.moment → t.last ≡ c.moment → AreInOrder low (h ++ c ∷ []) t
 one_later low h s t c o later e =
     record {
@@ -99,54 +126,57 @@ one_later low h s t c o later e =
       latest = all_appended (IsChangeUpTo t.last) h c (changes_later s.last t.last h (omega (arith, later, e)) o.latest) (omega (arith, e));
     }
 
-order_kept : (low : ℕ) → IsKept (AreInOrder low)
-order_kept low h s (Put name kind bytes) t o later =
-    let c : Change = put_change s name (facts_of kind bytes) t in
-    let next : Source = next_state s (Put name kind bytes) t in
-    changed (AreInOrder low) h s next c refl (one_later low h s next c o later refl)
-order_kept low h s (Delete name) t o later =
-    let c : Change = deleted name t in
-    let next : Source = next_state s (Delete name) t in
-    changed (AreInOrder low) h s next c refl (one_later low h s next c o later refl)
-order_kept low h s Publish t o later =
-    published (AreInOrder low) h s t
-    (record { low = omega (arith, o.low, later); rises = o.rises; latest = changes_later s.last t h (omega (arith, later)) o.latest })
+order_item : (low : ℕ) (h : List Change) (s : Source) (item : Item) (t : ℕ) → AreInOrder low h s → s.last < t
+    → AreInOrder low (h ++ change_of s item t ∷ []) (after_item s item t)
+order_item low h s item t o later =
+    let moment : (change_of s item t).moment ≡ t = change_moment s item t in
+    one_later low h s (after_item s item t) (change_of s item t) o (omega (arith, later, moment)) (item_last s item t ∙ sym moment)
 
-all_kept : (start : ℕ) → IsKept (AreAll start)
-all_kept start h s (Put name kind bytes) t a later =
+order_kept : (low : ℕ) → IsKept (AreInOrder low)
+order_kept low =
+    record {
+      by_item = order_item low;
+      by_publish = λ h s t o later. record { low = omega (arith, o.low, later); rises = o.rises; latest = changes_later s.last t h (omega (arith, later)) o.latest };
+    }
+
+all_item : (start : ℕ) (h : List Change) (s : Source) (item : Item) (t : ℕ) → AreAll start h s → s.last < t
+    → AreAll start (h ++ change_of s item t ∷ []) (after_item s item t)
+all_item start h s (single.Put name kind bytes) t a later =
     let c : Change = put_change s name (facts_of kind bytes) t in
     let entry : Entry = record { facts = facts_of kind bytes; moment = t } in
     let bound : bind name entry (entries s.held) ≡ entries (bind name (record { bytes = bytes; entry = entry }) s.held) =
     sym (entries-bind name (record { bytes = bytes; entry = entry }) s.held) in
-    changed (AreAll start) h s (next_state s (Put name kind bytes) t) c refl
-    (record {
+    record {
       start = omega (arith, a.start, later);
       at = omega (arith, a.at, later);
       latest = all_appended (IsChangeUpTo t) h c (changes_later s.last t h (omega (arith, later)) a.latest) (omega arith);
       all = mirror-append [] start h c (omega (arith, a.start, later)) ∙ ap (bind name entry) a.all ∙ bound;
       listed = mirror-append s.listed s.at h c (omega (arith, a.at, later)) ∙ ap (bind name entry) a.listed ∙ bound;
-    })
-all_kept start h s (Delete name) t a later =
+    }
+all_item start h s (single.Delete name) t a later =
     let c : Change = deleted name t in
     let unbound : unbind name (entries s.held) ≡ entries (unbind name s.held) = sym (entries-unbind name s.held) in
-    changed (AreAll start) h s (next_state s (Delete name) t) c refl
-    (record {
+    record {
       start = omega (arith, a.start, later);
       at = omega (arith, a.at, later);
       latest = all_appended (IsChangeUpTo t) h c (changes_later s.last t h (omega (arith, later)) a.latest) (omega arith);
       all = mirror-append [] start h c (omega (arith, a.start, later)) ∙ ap (unbind name) a.all ∙ unbound;
       listed = mirror-append s.listed s.at h c (omega (arith, a.at, later)) ∙ ap (unbind name) a.listed ∙ unbound;
-    })
-all_kept start h s Publish t a later =
+    }
+
+all_publish : (start : ℕ) (h : List Change) (s : Source) (t : ℕ) → AreAll start h s → s.last < t → AreAll start h (next_state s Publish t)
+all_publish start h s t a later =
     let latest : AllByRecursion (IsChangeUpTo t) h = changes_later s.last t h (omega (arith, later)) a.latest in
-    published (AreAll start) h s t
-    (record {
+    record {
       start = omega (arith, a.start, later);
       at = omega arith;
       latest = latest;
       all = a.all;
       listed = mirror_before (entries s.held) t h latest;
-    })
+    }
+
+all_kept : (start : ℕ) → IsKept (AreAll start)
+all_kept start = record { by_item = all_item start; by_publish = all_publish start }
 
 order_after : (s : Source) (events : List Event) → AreInOrder s.last (recorded s events) (walk_of s events)
 order_after s events = kept_by_walk (AreInOrder s.last) (order_kept s.last) [] s events (record { low = omega arith; rises = refl; latest = tt })

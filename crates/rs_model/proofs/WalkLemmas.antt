@@ -1,5 +1,5 @@
 -- Walks event by event: the commands done, and the changes recorded.
-use Rattle.std.proofs.Common.{◌≡◌, ℕ, suc, zero, ◌+◌, ◌-◌, ◌≤◌, ◌<◌, List, [], ◌∷◌, ◌++◌, length, take, drop, refl, sym, ap, ◌∙◌, subst, arith, Bool, true, false, nat_le, append_assoc, length-append}
+use Rattle.std.proofs.Common.{◌≡◌, ◌⊎◌, inl, inr, ℕ, suc, zero, ◌+◌, ◌-◌, ◌≤◌, ◌<◌, List, [], ◌∷◌, ◌++◌, take, drop, refl, sym, ap, ◌∙◌, subst, arith, Bool, true, false, nat_le, append_assoc}
 use Rattle.std.specs.List.{AllByRecursion}
 use Rattle.std.proofs.lemmas.Bool.Decides.{nat_tests}
 use Rattle.std.proofs.lemmas.List.{take-append-drop, take-take}
@@ -68,9 +68,6 @@ event_records s event =
     let next : IsNext s (after_event s event) = event_more s event in
     subst (λ more. KeepsChanges s more (after_event s event)) (sym next.recorded) next.kept
 
-one_recorded : (s : Source) (event : Event) → length (recorded_by s event) ≤ 1
-one_recorded s event = omega (arith, ap length (event_more s event).recorded, (event_more s event).few)
-
 pub walk_records : (s : Source) (events : List Event) → KeepsChanges s (recorded s events) (walk_of s events)
 walk_records s [] = itself s
 walk_records s (event ∷ events) =
@@ -89,35 +86,45 @@ recorded_first s events i =
     ap (take (count_at s events i)) (ap (recorded s) (sym (take-append-drop i events)) ∙ recorded-append s (take i events) (drop i events))
     ∙ take-append_seam (recorded s (take i events)) (recorded (state_at s events i) (drop i events))
 
--- one event more records one change more at most
-one_more : (s : Source) (events : List Event) (i : ℕ) → count_at s events (suc i) ≤ count_at s events i + 1
-one_more s [] i = omega arith
-one_more s (event ∷ events) zero = omega (arith, one_recorded s event, length-append (recorded_by s event) [])
-one_more s (event ∷ events) (suc i) =
-    let t : Source = after_event s event in
-    omega (arith, one_more t events i, length-append (recorded_by s event) (recorded t (take (suc i) events)), length-append (recorded_by s event) (recorded t (take i events)))
+-- Past a point before which a number is not reached: it is reached right there, or within the event between.
+record IsCrossed (s : Source) (events : List Event) (i n : ℕ) : Type 0 where
+  above : count_at s events i < n
+  within : n ≤ count_at s events (suc i)
+
+crossed : (b : Bool) (s : Source) (events : List Event) (first d n : ℕ) → nat_le (count_at s events (suc (first + d))) n ≡ b
+    → IsCrossed s events (first + d) n → IsPassed s events first (suc (first + d)) n
+crossed true s events first d n e h =
+    let same : count_at s events (suc (first + d)) ≡ n = grind (arith, nat_tests, h.within) in
+    record { point = suc (first + d); after_first = omega arith; by_last = omega arith; reached = omega arith; passed = inl same }
+crossed false s events first d n e h =
+    let more : n < count_at s events (suc (first + d)) = grind (arith, nat_tests) in
+    record { point = first + d; after_first = omega arith; by_last = omega arith; reached = omega (arith, h.above); passed = inr (omega arith, more) }
+
+before : (s : Source) (events : List Event) (first last n : ℕ) (p : IsPassed s events first last n)
+    → (count_at s events p.point ≡ n) ⊎ ((p.point < last) × (n < count_at s events (suc p.point)))
+    → IsPassed s events first (suc last) n
+before s events first last n p (inl same) =
+    record { point = p.point; after_first = p.after_first; by_last = omega (arith, p.by_last); reached = p.reached; passed = inl same }
+before s events first last n p (inr more) =
+    record { point = p.point; after_first = p.after_first; by_last = omega (arith, p.by_last); reached = p.reached; passed = inr (omega (arith, more.0), more.1) }
 
 passed_by : (b : Bool) (s : Source) (events : List Event) (first d n : ℕ) → nat_le n (count_at s events (first + d)) ≡ b
     → n ≤ count_at s events (suc (first + d))
     → (n ≤ count_at s events (first + d) → IsPassed s events first (first + d) n) → IsPassed s events first (suc (first + d)) n
-passed_by true s events first d n e h before =
-    let p : IsPassed s events first (first + d) n = before (grind (arith, nat_tests)) in
-    record { point = p.point; after_first = p.after_first; by_last = omega (arith, p.by_last); count = p.count }
-passed_by false s events first d n e h before =
+passed_by true s events first d n e h earlier =
+    let p : IsPassed s events first (first + d) n = earlier (grind (arith, nat_tests)) in
+    before s events first (first + d) n p p.passed
+passed_by false s events first d n e h earlier =
     let above : count_at s events (first + d) < n = grind (arith, nat_tests) in
-    record {
-      point = suc (first + d);
-      after_first = omega arith;
-      by_last = omega arith;
-      count = omega (arith, above, h, one_more s events (first + d));
-    }
+    crossed (nat_le (count_at s events (suc (first + d))) n) s events first d n refl (record { above = above; within = h })
 
 passed_after : (s : Source) (events : List Event) (first d n : ℕ) → count_at s events first ≤ n → n ≤ count_at s events (first + d)
     → IsPassed s events first (first + d) n
 passed_after s events first zero n low high =
     let e : first + 0 ≡ first = omega arith in
     let h : n ≤ count_at s events first = rw e at high in
-    record { point = first; after_first = omega arith; by_last = omega arith; count = omega arith }
+    let same : count_at s events first ≡ n = omega (arith, low, h) in
+    record { point = first; after_first = omega arith; by_last = omega arith; reached = low; passed = inl same }
 passed_after s events first (suc d) n low high =
     let e : first + suc d ≡ suc (first + d) = omega arith in
     let h : n ≤ count_at s events (suc (first + d)) = rw e at high in

@@ -8,8 +8,10 @@ use Rattle.rs_record.specs.MediaType.{is_media_type}
 use Rattle.rs_record.specs.Base.{is_base}
 use Rattle.rs_record.specs.declared.facts.Facts.{Facts}
 use Rattle.rs_record.specs.declared.change.Change.{Change}
+use Rattle.rs_model.specs.declared.command.Item.{Item}
+use Rattle.rs_model.specs.declared.command.Item.TheVariants as single
 use Rattle.rs_model.specs.declared.command.Command.{Command}
-use Rattle.rs_model.specs.declared.command.Command.TheVariants.{Put, Delete, Publish}
+use Rattle.rs_model.specs.declared.command.Command.TheVariants.{Put, Delete, Publish, Group}
 use Rattle.rs_model.specs.declared.value.Entry.{Entry}
 use Rattle.rs_model.specs.declared.value.Held.{Held}
 use Rattle.rs_model.specs.Names.{is_ordered}
@@ -58,11 +60,17 @@ pub record IsLawful (s : Source) : Type 0 where
   pub first : s.first ≤ greatest
   pub begin : IsMoment s.begin
 
--- a command of a lawful name and type
+-- an item of a lawful name and type
+abbrev pub IsLawfulItem : Item → Type 0
+IsLawfulItem (single.Put name kind bytes) = IsTrue (is_name name) × IsTrue (is_media_type kind)
+IsLawfulItem (single.Delete name) = IsTrue (is_name name)
+
+-- a command of lawful names and types
 abbrev pub IsLawfulCommand : Command → Type 0
 IsLawfulCommand (Put name kind bytes) = IsTrue (is_name name) × IsTrue (is_media_type kind)
 IsLawfulCommand (Delete name) = IsTrue (is_name name)
 IsLawfulCommand Publish = Unit {0}
+IsLawfulCommand (Group items) = AllByRecursion IsLawfulItem items
 
 -- such a command at a moment
 abbrev pub IsLawfulTimed : Command × ℕ → Type 0

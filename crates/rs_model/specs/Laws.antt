@@ -1,16 +1,23 @@
 -- What follows from the definitions of a source alone.
-use Rattle.std.specs.Prelude.{◌≡◌, ◌≢◌, ℕ, ◌≤◌, List, Some, None, IfOk, IsTrue, false}
+use Rattle.std.specs.Prelude.{◌≡◌, ◌≢◌, ℕ, ◌+◌, ◌≤◌, List, [], ◌∷◌, ◌++◌, length, take, Some, None, Result, Ok, Err, IfOk, IsTrue, true, false}
 use Rattle.std.specs.List.{AllByRecursion}
 use Rattle.rs_time.specs.Moment.{IsMoment}
 use Rattle.rs_record.specs.Base.{is_base}
 use Rattle.rs_record.specs.declared.change.Change.{Change}
 use Rattle.rs_model.specs.State.{Source, start_of}
-use Rattle.rs_model.specs.Step.{step, state_after, fold_of, mirror_of, is_out_of_parts}
+use Rattle.rs_model.specs.Step.{step, state_after, fold_of, mirror_of, is_out_of_parts, is_bad_group, refusal_of, moment_at, after_items}
 use Rattle.rs_model.specs.Kept.{KeepsChanges}
 use Rattle.rs_model.specs.Regular.{IsRegular, IsTimely}
 use Rattle.rs_model.specs.Lawful.{IsLawful, IsLawfulCommand, IsLawfulTimed}
 use Rattle.rs_model.specs.Names.{Names, value_of, bind, unbind, is_ordered}
+use Rattle.rs_model.specs.declared.command.Item.{Item}
+use Rattle.rs_model.specs.declared.command.Item.TheVariants as single
 use Rattle.rs_model.specs.declared.command.Command.{Command}
+use Rattle.rs_model.specs.declared.command.Command.TheVariants.{Put, Delete, Group}
+use Rattle.rs_model.specs.declared.command.Reply.{Reply}
+use Rattle.rs_model.specs.declared.command.Reply.TheVariants.{Grouped}
+use Rattle.rs_model.specs.declared.command.Refusal.{Refusal}
+use Rattle.rs_model.specs.declared.command.Refusal.TheVariants.{BadGroup}
 use Rattle.rs_model.specs.declared.value.Entry.{Entry}
 
 -- An accepted command leaves a regular state regular, ..
@@ -83,3 +90,54 @@ StepIsLawful = (s : Source) (command : Command) (now : ℕ) → IsLawful s → I
 abbrev pub FoldIsLawful : Type 0
 FoldIsLawful = (s : Source) (commands : List (Command × ℕ)) → IsLawful s → AllByRecursion IsLawfulTimed commands
     → IsLawful (fold_of s commands)
+
+-- the command that an item would be alone
+abbrev pub command_of : Item → Command
+command_of (single.Put name kind bytes) = Put name kind bytes
+command_of (single.Delete name) = Delete name
+
+-- the answer to a group of n items at this moment, by what its items did in turn
+abbrev pub grouped_as : ℕ → ℕ → Result Source Refusal → Result (Source × Reply) Refusal
+grouped_as n moment (Ok next) = Ok (next, Grouped n moment)
+grouped_as n moment (Err refusal) = Err refusal
+
+-- what follows an accepted command
+abbrev pub after_step : (Source → Result Source Refusal) → Result (Source × Reply) Refusal → Result Source Refusal
+after_step then (Ok next) = then next.0
+after_step then (Err refusal) = Err refusal
+
+-- the items as commands in turn, all of which come at `now`, until one is refused
+abbrev pub stepped_in_turn : Source → List Item → ℕ → Result Source Refusal
+stepped_in_turn s [] now = Ok s
+stepped_in_turn s (item ∷ items) now = after_step (λ t. stepped_in_turn t items now) (step s (command_of item) now)
+
+-- A group of 1 to 16 items does what its items do as commands in turn, all at the same moment; or it is refused as the first of them
+-- is that is refused.
+abbrev pub GroupsStepInTurn : Type 0
+GroupsStepInTurn = (s : Source) (items : List Item) (now : ℕ) → is_bad_group items ≡ false
+    → step s (Group items) now ≡ grouped_as (length items) (moment_at s now) (stepped_in_turn s items now)
+
+-- Any other is refused as no group.
+abbrev pub BadGroupsAreRefused : Type 0
+BadGroupsAreRefused = (s : Source) (items : List Item) (now : ℕ) → is_bad_group items ≡ true → step s (Group items) now ≡ Err BadGroup
+
+-- The first items of a group that is accepted are one that is, ..
+abbrev pub FrontsAreAccepted : Type 0
+FrontsAreAccepted = (s : Source) (items : List Item) (now k : ℕ) → refusal_of s (Group items) now ≡ None
+    → 1 ≤ k → k ≤ length items → refusal_of s (Group (take k items)) now ≡ None
+
+-- .. and make the first of its changes.
+abbrev pub FrontsMakeTheFirst : Type 0
+FrontsMakeTheFirst = (s : Source) (items : List Item) (now k : ℕ)
+    → (after_items s (take k items) now).changes ≡ take (length s.changes + k) (after_items s items now).changes
+
+-- Each item makes one change.
+abbrev pub ItemsMakeChanges : Type 0
+ItemsMakeChanges = (s : Source) (items : List Item) (now : ℕ)
+    → (made : List Change) × (length made ≡ length items) × ((after_items s items now).changes ≡ s.changes ++ made)
+
+-- A group that comes at the moment at which it is accepted does what it does now.
+abbrev pub GroupsComeAtTheirMoment : Type 0
+GroupsComeAtTheirMoment = (s : Source) (items : List Item) (now : ℕ)
+    → (refusal_of s (Group items) (moment_at s now) ≡ refusal_of s (Group items) now)
+    × (after_items s items (moment_at s now) ≡ after_items s items now)

@@ -4,6 +4,7 @@ pub mod Listed
 pub mod Lawful
 pub mod StateFields
 pub mod Step
+pub mod Grouping
 pub mod Regular
 pub mod Kept
 pub mod Laws

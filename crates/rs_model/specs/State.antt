@@ -16,6 +16,10 @@ most_resources = most_items
 abbrev pub most_changes : ℕ
 most_changes = most_items
 
+-- the greatest number of items of a group
+abbrev pub most_grouped : ℕ
+most_grouped = 16
+
 -- A source: its base and item limit, the moments of its formatting and of its latest accepted command, what is
 -- held, the changes that are kept in the order in which they came, its latest publication, and where the kept history begins:
 -- the number of its first part, and the moment of the last change before it, or of formatting.

@@ -1,5 +1,5 @@
 -- Walks: what may happen to a source while its documents are read, and what is recorded on the way.
-use Rattle.std.specs.Prelude.{ℕ, ◌≤◌, ◌≡◌, if◌then◌else◌, List, [], ◌∷◌, ◌++◌, length, take, drop}
+use Rattle.std.specs.Prelude.{ℕ, suc, ◌<◌, ◌≤◌, ◌≡◌, ◌⊎◌, if◌then◌else◌, List, [], ◌∷◌, ◌++◌, length, take, drop}
 use Rattle.std.specs.List.{AllByRecursion}
 use Rattle.rs_record.specs.declared.change.Change.{Change}
 use Rattle.rs_model.specs.declared.command.Command.{Command}
@@ -64,9 +64,11 @@ count_at s events i = length (recorded s (take i events))
 abbrev pub catalogue : Source → List Event → ℕ → Names Entry
 catalogue s events n = mirror_of [] s.start (take n (recorded s events))
 
--- A point of a walk, after this many of its events and after no more than that many, by which n changes are recorded.
+-- A point of a walk, not before `first` of its events and not after `last` of them, at which a number of changes is reached: as many
+-- are recorded by then; or the next event, a group, records that many and more.
 pub record IsPassed (s : Source) (events : List Event) (first last n : ℕ) : Type 0 where
   pub point : ℕ
   pub after_first : first ≤ point
   pub by_last : point ≤ last
-  pub count : count_at s events point ≡ n
+  pub reached : count_at s events point ≤ n
+  pub passed : (count_at s events point ≡ n) ⊎ ((point < last) × (n < count_at s events (suc point)))

@@ -55,7 +55,7 @@ KeptListIsFollowed =
     count_at s events i ≤ n → kept.begin ≤ list.at
     → mirror_of list.listed list.at (drop (kept.first * limit) (take n (recorded s events))) ≡ catalogue s events n
 
--- Between two points of a walk each number of changes from that of the first to that of the second is passed.
+-- Between two points of a walk each number of changes from that of the first to that of the second is passed, if only within a group.
 abbrev pub EachCountIsPassed : Type 0
 EachCountIsPassed =
     (s : Source) (events : List Event) (first last n : ℕ) → first ≤ last

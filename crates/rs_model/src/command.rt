@@ -1,13 +1,105 @@
 //! Commands, the replies to them, and why a command is not accepted.
 
 ghost use Rattle.std.specs.Prelude.{◌≡◌};
+ghost use Rattle.rs_model.specs.Grouping.{name_of};
 ghost use Rattle.rs_model.specs.declared.command.StepError.TheVariants.{NoMemory};
 
 use crate::Body;
-use rs_record::{Duplicate, MediaType, Name};
+use rs_record::{Duplicate, MediaType, Name, duplicate_all};
 use rs_time::Moment;
 use std::alloc::{AllocError, Global};
+use std::marker::Model;
 use thiserror::Error;
+
+/// The greatest number of items of a group.
+pub const MOST_GROUPED: usize = 16;
+
+/// One of the changes that a group asks for.
+#[derive(Debug, Drop)]
+pub enum Item {
+    /// Bind the name to these bytes, of this media type.
+    Put {
+        name: Name,
+        kind: MediaType,
+        bytes: Body,
+    },
+    /// Unbind the name.
+    Delete {
+        name: Name,
+    },
+}
+
+impl Item {
+    /// The name that it binds or unbinds.
+    pub fn name(&self) -> &Name
+        ensures { result.now ≡ name_of self.now }
+    {
+        match self {
+            Item::Put { name, .. } => name,
+            Item::Delete { name } => name,
+        }
+    }
+}
+
+impl Duplicate for Item {
+    fn duplicate(&self, alloc: Global) -> Result<Item, AllocError> {
+        match self {
+            Item::Put { name, kind, bytes } => Ok(Item::Put {
+                name: name.copy(alloc)?,
+                kind: kind.copy(alloc)?,
+                bytes: bytes.duplicate(alloc)?,
+            }),
+            Item::Delete { name } => Ok(Item::Delete {
+                name: name.copy(alloc)?,
+            }),
+        }
+    }
+}
+
+/// The items of a group, of any number. A source accepts 1 to 16. Contracts see their list.
+#[derive(Debug, Drop)]
+pub struct Group {
+    items: Vec<Item>,
+}
+
+impl Model for Group {
+    ghost use Rattle.std.specs.Prelude.{List};
+    ghost use Rattle.rs_model.specs.declared.command.Item.{Item};
+
+    ghost Value = { List Item };
+
+    ghost view = { λ g. g.items.items };
+}
+
+impl Group {
+    /// The group of these items, in this order.
+    pub fn new(items: Vec<Item>) -> Group
+        ensures { result ≡ items.items }
+    {
+        Group { items }
+    }
+
+    /// Its items, in their order.
+    pub fn items(&self) -> &[Item]
+        ensures { result.now ≡ self.now }
+    {
+        self.items.as_slice()
+    }
+
+    // The items themselves.
+    pub(crate) fn into_items(self) -> Vec<Item>
+        ensures { result.items ≡ self }
+    {
+        self.items
+    }
+}
+
+impl Duplicate for Group {
+    fn duplicate(&self, alloc: Global) -> Result<Group, AllocError> {
+        let items = duplicate_all(alloc, self.items())?;
+        Ok(Group { items })
+    }
+}
 
 /// What a depositor asks of a source.
 #[derive(Debug, Drop)]
@@ -25,6 +117,8 @@ pub enum Command {
     },
     /// List all resources that are held, as the next publication.
     Publish,
+    /// Bind and unbind names, in one step: of 1 to 16 items, in their order, all or none.
+    Group(Group),
 }
 
 impl Duplicate for Command {
@@ -39,6 +133,7 @@ impl Duplicate for Command {
                 name: name.copy(alloc)?,
             }),
             Command::Publish => Ok(Command::Publish),
+            Command::Group(group) => Ok(Command::Group(group.duplicate(alloc)?)),
         }
     }
 }
@@ -54,12 +149,17 @@ pub enum Reply {
     Deleted(Moment),
     /// The publication of this number lists what is held.
     Published(u64, Moment),
+    /// So many items of a group are done, the first of them at this moment.
+    Grouped(u8, Moment),
 }
 
 /// Why a source does not accept a command, in the order in which the causes count: of several the first
 /// is answered. A refused command changes nothing and uses up no moment.
 #[derive(Clone, Copy, Debug, PartialEq, Eq, Error)]
 pub enum Refusal {
+    /// A group of no items, or of more than 16.
+    #[error("a group has 1 to 16 items")]
+    BadGroup,
     /// A put of a body of more than 16,777,216 bytes.
     #[error("the body is longer than 16777216 bytes")]
     TooLong,

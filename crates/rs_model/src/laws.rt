@@ -5,7 +5,7 @@
 ghost use Rattle.std.specs.Prelude.{ℕ, List};
 ghost use Rattle.rs_model.specs.State.{start_of};
 ghost use Rattle.rs_model.specs.Regular.{IsRegular, IsTimely};
-ghost use Rattle.rs_model.specs.Laws.{StepIsRegular, StepIsTimely, FoldIsRegular, FoldIsTimely, ChangesAreKept, PartsDoNotRunOut, OrderedWhenBound, OrderedWhenUnbound, OrderedWhenMirrored, BoundIsFound, OthersStayBound, UnboundIsGone, OthersStayUnbound, StartIsLawful, StepIsLawful, FoldIsLawful};
+ghost use Rattle.rs_model.specs.Laws.{GroupsStepInTurn, BadGroupsAreRefused, ItemsMakeChanges, FrontsAreAccepted, FrontsMakeTheFirst, GroupsComeAtTheirMoment, StepIsRegular, StepIsTimely, FoldIsRegular, FoldIsTimely, ChangesAreKept, PartsDoNotRunOut, OrderedWhenBound, OrderedWhenUnbound, OrderedWhenMirrored, BoundIsFound, OthersStayBound, UnboundIsGone, OthersStayUnbound, StartIsLawful, StepIsLawful, FoldIsLawful};
 
 /// The starting state is regular, and no moment of it is out of its place.
 pub fn start_is_regular()
@@ -17,6 +17,19 @@ pub fn start_is_regular()
 pub fn step_is_regular()
     ensures regular { StepIsRegular }
     ensures timely { StepIsTimely }
+{}
+
+/// A group of 1 to 16 items does what its items do one by one where all come at the same moment, and is
+/// refused as the first of them that is refused; any other is refused as no group. Each item makes one
+/// change. The first items of a group that is accepted are one that is accepted too, and make the first of
+/// its changes.
+pub fn groups_step_in_turn()
+    ensures steps { GroupsStepInTurn }
+    ensures bad { BadGroupsAreRefused }
+    ensures changes { ItemsMakeChanges }
+    ensures fronts { FrontsAreAccepted }
+    ensures first { FrontsMakeTheFirst }
+    ensures moment { GroupsComeAtTheirMoment }
 {}
 
 /// Any run of commands leaves a regular state regular.

@@ -1,26 +1,26 @@
 //! The state of a source, and the steps that commands make.
 
-ghost use Rattle.std.specs.Prelude.{◌≡◌, ℕ, ◌<◌, ◌≤◌, ◌↔◌, length, map, None, IfOk, OnOk, OnErr, IsErrOf};
+ghost use Rattle.std.specs.Prelude.{◌≡◌, ◌≤◌, ◌↔◌, IsTrue, length, map, None, IfOk, OnOk, OnErr, IsErrOf};
 ghost use Rattle.rs_record.specs.Limits.{longest_body};
+ghost use Rattle.rs_model.specs.Names.{is_ordered};
 ghost use Rattle.rs_model.specs.State.{start_of, facts_of, entries};
 ghost use Rattle.rs_model.specs.Listed.{record_of};
-ghost use Rattle.rs_model.specs.Step.{step as step_of, state_after, fold_of, refusal_of, change_refusal, next_state, reply_to, moment_at, is_held};
-ghost use Rattle.rs_time.specs.Moment.{IsMoment, greatest};
+ghost use Rattle.rs_model.specs.Step.{step as step_of, state_after, fold_of, refusal_of, next_state, reply_to, is_held};
+ghost use Rattle.rs_time.specs.Moment.{IsMoment};
 ghost use Rattle.rs_model.specs.Lawful.{AreFacts};
 ghost use Rattle.rs_model.specs.declared.command.Command.TheVariants.{Put, Delete, Publish};
 
 mod dropped;
+mod grouped;
 mod shown;
 
 use self::dropped::last_moment;
+use crate::grouping::next_moment;
 use crate::names::{bind, place_in_order, unbind};
-use crate::{Body, Command, Entry, Held, Refusal, Reply, StepError};
+use crate::{Body, Command, Counts, Entry, Held, Refusal, Reply, StepError};
 use rs_extent::Extent;
 use rs_fixity::digests_of;
-use rs_record::{
-    Base, Change, Duplicate, Facts, LONGEST_BODY, MOST_ITEMS, MediaType, Name, Record,
-    duplicate_all,
-};
+use rs_record::{Base, Change, Duplicate, Facts, MediaType, Name, Record, duplicate_all};
 use rs_time::Moment;
 use std::alloc::{AllocError, Global};
 use std::marker::Model;
@@ -121,7 +121,7 @@ impl State {
         ensures refused { (r : Refusal) →
             IsErrOf result (StepError.Refused r) ↔ (step_of self.now command.now now ≡ Err r) }
     {
-        if let Some(refusal) = self.refusal(command) {
+        if let Some(refusal) = self.refusal(command, now) {
             return Err(StepError::Refused(refusal));
         }
         let mut next = self.copy(alloc)?;
@@ -143,14 +143,15 @@ impl State {
             IsErrOf result (StepError.Refused r) ↔ (step_of self.old command now ≡ Err r) }
         ensures unchanged { OnErr result (self.new ≡ self.old) }
     {
-        if let Some(refusal) = self.refusal(&command) {
+        if let Some(refusal) = self.refusal(&command, now) {
             return Err(StepError::Refused(refusal));
         }
-        let moment = self.next_moment(now);
+        let moment = next_moment(self.last, now);
         let accepted = match command {
             Command::Put { name, kind, bytes } => self.put(alloc, name, kind, bytes, moment),
             Command::Delete { name } => self.delete(name, moment),
             Command::Publish => self.publish(alloc, moment),
+            Command::Group(group) => self.group(alloc, group, now),
         };
         Ok(accepted?)
     }
@@ -190,27 +191,29 @@ impl State {
         place_in_order(self.held.as_slice(), name).is_ok()
     }
 
+    // What is to be known of it to decide a put, a delete or a group, beside which names it holds.
+    fn counts(&self) -> Counts
+        ensures resources { result.resources ≡ length self.now.held }
+        ensures changes { result.changes ≡ length self.now.changes }
+        ensures last { result.last ≡ self.now.last }
+        ensures ordered { IsTrue (is_ordered self.now.held) }
+    {
+        Counts {
+            resources: self.resources(),
+            changes: self.changes.len(),
+            last: self.last(),
+        }
+    }
+
     // The refusal of a command, if there is one.
-    fn refusal(&self, command: &Command) -> Option<Refusal>
-        ensures { result ≡ refusal_of self.now command.now }
+    fn refusal(&self, command: &Command, now: Moment) -> Option<Refusal>
+        ensures { result ≡ refusal_of self.now command.now now }
     {
         match command {
             Command::Put { name, bytes, .. } => {
-                if bytes.bytes().len() > LONGEST_BODY as usize {
-                    Some(Refusal::TooLong)
-                } else if !self.holds(name) && self.held.len() >= MOST_ITEMS {
-                    Some(Refusal::TooManyResources)
-                } else {
-                    self.change_refusal()
-                }
+                self.counts().put_refusal(bytes, self.holds(name))
             }
-            Command::Delete { name } => {
-                if self.holds(name) {
-                    self.change_refusal()
-                } else {
-                    Some(Refusal::NotHeld)
-                }
-            }
+            Command::Delete { name } => self.counts().delete_refusal(self.holds(name)),
             Command::Publish => {
                 if self.last.ms() >= Moment::GREATEST
                     || self.number == u64::MAX
@@ -221,35 +224,8 @@ impl State {
                     None
                 }
             }
+            Command::Group(group) => self.group_refusal(group, now),
         }
-    }
-
-    // The refusal of a change of any kind, if there is no room or no moment for it.
-    fn change_refusal(&self) -> Option<Refusal>
-        ensures { result ≡ change_refusal self.now }
-    {
-        if self.changes.len() >= MOST_ITEMS {
-            Some(Refusal::TooManyChanges)
-        } else if self.last.ms() >= Moment::GREATEST {
-            Some(Refusal::Exhausted)
-        } else {
-            None
-        }
-    }
-
-    // The moment of a command that is accepted and comes at `now`.
-    fn next_moment(&self, now: Moment) -> Moment
-        requires { self.now.last < greatest }
-        ensures value { result ≡ moment_at self.now now }
-        ensures bound { IsMoment result }
-    {
-        let moment = match Moment::after(self.last, now) {
-            Some(moment) => moment,
-            None => unreachable!(),
-        };
-        // Reading it shows what its type keeps.
-        let _ms = moment.ms();
-        moment
     }
 
     // Binds the name and appends the change.
@@ -261,7 +237,7 @@ impl State {
         bytes: Body,
         moment: Moment,
     ) -> Result<Reply, AllocError>
-        requires accepted { refusal_of self.old (Put name kind bytes) ≡ None }
+        requires accepted { refusal_of self.old (Put name kind bytes) moment ≡ None }
         requires moment { IsMoment moment }
         ensures state { IfOk result (λ reply.
             self.new ≡ next_state self.old (Put name kind bytes) moment) }
@@ -286,7 +262,7 @@ impl State {
 
     // Unbinds the name and appends the change.
     fn delete(&mut self, name: Name, moment: Moment) -> Result<Reply, AllocError>
-        requires accepted { refusal_of self.old (Delete name) ≡ None }
+        requires accepted { refusal_of self.old (Delete name) moment ≡ None }
         requires moment { IsMoment moment }
         ensures state { IfOk result (λ reply. self.new ≡ next_state self.old (Delete name) moment) }
         ensures reply { IfOk result (λ reply. reply ≡ reply_to self.old (Delete name) moment) }
@@ -302,7 +278,7 @@ impl State {
     // Lists what is held, and drops the full parts that are not after the publication before. Once the list
     // is made nothing fails.
     fn publish(&mut self, alloc: Global, moment: Moment) -> Result<Reply, AllocError>
-        requires accepted { refusal_of self.old Publish ≡ None }
+        requires accepted { refusal_of self.old Publish moment ≡ None }
         requires moment { IsMoment moment }
         ensures state { IfOk result (λ reply. self.new ≡ next_state self.old Publish moment) }
         ensures reply { IfOk result (λ reply. reply ≡ reply_to self.old Publish moment) }

@@ -27,7 +27,7 @@ pub fn walks_are_catalogued()
     ensures kept_followed { KeptListIsFollowed }
 {}
 
-/// No event records more than one change, so a walk passes each number of changes between two of its states.
+/// A walk passes each number of changes between two of its states, if only within a group.
 pub fn walks_pass_each_count()
     ensures { EachCountIsPassed }
 {}

@@ -2,6 +2,7 @@ mod Examples
 pub mod InOrder
 pub mod Home
 pub mod Flat
+pub mod Full
 pub mod Cut
 pub mod AtHome
 pub mod Touched

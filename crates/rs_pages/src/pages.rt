@@ -2,12 +2,13 @@
 ghost use Rattle.std.specs.Prelude.{◌≡◌, ◌↔◌, ◌<◌, ◌≤◌, ◌+◌, ◌-◌, [], length, drop, slice_get, Some, IfOk, IsTrue};
 ghost use Rattle.std.specs.Option.{option_copied};
 ghost use Rattle.rs_model.specs.Names.{value_of, is_ordered};
-ghost use Rattle.rs_page.specs.Pages.{items_of};
+ghost use Rattle.rs_page.specs.Pages.{items_of, placed_extents, stored_refs};
+ghost use Rattle.rs_pages.specs.Dropped.{full_pages};
 ghost use Rattle.rs_pages.specs.Items.{keyed};
 ghost use Rattle.rs_pages.specs.Rule.{HaveItems, items_at, with_page, begins_by, home, bound_in, unbound_in, appended_to};
 
 use crate::Named;
-use crate::making::{MOST, copy_into, cut_into, spliced};
+use crate::making::{MOST, copy_into, cut_into, cut_into_pieces, spliced};
 use crate::within::{place_of, with_item, without_place};
 use rs_page::{Page, PageItem};
 use rs_record::{Duplicate, Name, duplicate_all};
@@ -49,6 +50,23 @@ impl<T: PageItem> Pages<T> {
             starts: Vec::new(alloc),
             len: 0,
         }
+    }
+
+    /// The list of these items, cut into pages of 64, of which the last has the rest. All of them are
+    /// touched.
+    ///
+    /// # Errors
+    ///
+    /// [`AllocError`] where the memory is refused.
+    pub fn of_items(alloc: Global, items: Vec<T>) -> Result<Pages<T>, AllocError>
+        ensures pages { IfOk result (λ made. made ≡ full_pages items.items) }
+        ensures items { IfOk result (λ made. items_of made ≡ items.items) }
+        ensures unplaced { IfOk result (λ made. placed_extents made ≡ []) }
+        ensures unstored { IfOk result (λ made. stored_refs made ≡ []) }
+    {
+        let mut pages = Vec::new(alloc);
+        cut_into_pieces(&mut pages, items, MOST)?;
+        Pages::of_pages(alloc, pages)
     }
 
     /// How many items there are.

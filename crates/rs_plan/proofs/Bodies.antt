@@ -135,6 +135,3 @@ bodies_unbound body name old new is =
     (subst (λ (m : Names Record). AreBodies body old (values m)) (sym is)
     (subst (λ (o : List Record). AreBodies body o (values (unbind name (named old)))) (values_named old)
     (part_bodies body (values (named old)) (values (unbind name (named old))) (mapped (λ e. e.1) (unbind name (named old)) (named old) (unbound_part name (named old))))))
-
-pub bodies_same : (body : Extent) (old : List Record) → AreBodies body old old
-bodies_same body old = part_bodies body old old (itself old)

@@ -6,7 +6,7 @@ use Rattle.rs_fixity.specs.declared.Digests.{Digests}
 use Rattle.rs_fixity.specs.Digests.{digests}
 use Rattle.rs_fixity.proofs.DigestBytes.{md5-bytes, sha256-bytes}
 use Rattle.rs_extent.specs.declared.Extent.{Extent}
-use Rattle.rs_extent.specs.Extents.{AreTaken}
+use Rattle.rs_extent.specs.Extents.{in_some, AreApart, AreDisjoint, AreTaken}
 use Rattle.rs_body.specs.Blocks.{blocks_of}
 use Rattle.rs_record.specs.declared.record.Record.{Record}
 use Rattle.rs_record.specs.declared.change.Change.{Change}
@@ -32,14 +32,19 @@ use Rattle.rs_model.specs.State.{facts_of}
 use Rattle.rs_model.specs.declared.command.Command.TheVariants.{Put}
 use Rattle.rs_model.proofs.MapLemmas.{value-bind}
 use Rattle.rs_image.specs.declared.contents.Contents.{Contents}
+use Rattle.rs_image.specs.StateOfImage.{directory_bytes_of}
 use Rattle.rs_plan.specs.declared.plan.Plan.{Plan}
 use Rattle.rs_plan.specs.Room.{Takes, lists_needed}
-use Rattle.rs_plan.specs.Plans.{MayHavePlaces, change_put, IsNext, places}
-use Rattle.rs_plan.specs.Placed.{AreUnplaced, HasItsPlaces, directory_bytes_of, record_of_body, record_made, facts_of_body}
-use Rattle.rs_plan.specs.Freed.{entry_of_name}
+use Rattle.rs_plan.specs.Plans.{MayHavePlaces, IsNext, places}
+use Rattle.rs_plan.specs.Turned.{change_put}
+use Rattle.rs_plan.specs.Placed.{AreUnplaced, HasItsPlaces, record_of_body, record_made, facts_of_body}
+use Rattle.rs_plan.specs.Freed.{entry_of_name, extent_of_body, freed_page, freed_history_page}
 use Rattle.rs_plan.proofs.FreedPages.{LosesOne, bind_takes, append_takes}
 use Rattle.rs_plan.proofs.FreedBodies.{body_bound}
+use Rattle.rs_plan.proofs.Bodies.{bodies_bound}
+use Rattle.rs_plan.proofs.Parts.{bodies_in}
 use Rattle.rs_plan.proofs.GivenBack.{Frees}
+use Rattle.rs_plan.proofs.OneName.{frees_one}
 use Rattle.rs_plan.specs.Drafts.{IsPageRuleKept, lists_filled, plan_filled}
 use Rattle.rs_plan.proofs.Following.{put_next}
 use Rattle.rs_plan.proofs.Placing.{places_items, ruled_itself}
@@ -151,7 +156,7 @@ module _ (law : IsPageRuleKept) (old c : Contents) (name kind bytes : List ℕ) 
     history = same_extents change_format c.history.pages filled.history.pages history_is ∙ draft.unplaced.history;
   }
 
-  pub next_is : IsNext old (Put name kind bytes) moment body filled
+  pub next_is : IsNext old (Put name kind bytes) moment (body ∷ []) filled
   next_is =
       put_next old filled name kind bytes body moment draft.header records_are changes_are draft.published
       (subst (KeepsPages old.catalogue) (sym catalogue_ruled)
@@ -184,7 +189,7 @@ module _ (law : IsPageRuleKept) (old c : Contents) (name kind bytes : List ℕ) 
   }
 
   -- so are those of a plan of the draft
-  placed_catalogue_is : (used : List Bool) (p : Plan) → HasItsPlaces used body c p
+  placed_catalogue_is : (used : List Bool) (p : Plan) → HasItsPlaces used (body ∷ []) c p
       → AreRefilled record_format p.contents.catalogue (pages_filled name (digests bytes) p.contents.catalogue)
   placed_catalogue_is used p placed =
       let same_records : records_of p.contents.catalogue ≡ records_of c.catalogue =
@@ -192,7 +197,7 @@ module _ (law : IsPageRuleKept) (old c : Contents) (name kind bytes : List ℕ) 
       each_refilled record_format (filling name (digests bytes) (digests_long bytes)) p.contents.catalogue
       (subst (AllByRecursion (StaysAsLong name (digests bytes) (digests_long bytes))) (sym same_records) stay_long)
 
-  placed_history_is : (used : List Bool) (p : Plan) → HasItsPlaces used body c p
+  placed_history_is : (used : List Bool) (p : Plan) → HasItsPlaces used (body ∷ []) c p
       → AreRefilled change_format p.contents.history.pages (history_filled (digests bytes) p.contents.history.pages)
   placed_history_is used p placed =
       let same_changes : changes_of p.contents.history.pages ≡ changes_of c.history.pages =
@@ -200,25 +205,26 @@ module _ (law : IsPageRuleKept) (old c : Contents) (name kind bytes : List ℕ) 
       last_refilled change_format (change_filled (digests bytes)) p.contents.history.pages (subst LastStaysLong (sym same_changes) last_stays_long)
 
   -- and it has the same places
-  pub places_are : (used : List Bool) (p : Plan) → HasItsPlaces used body c p → places p ≡ places (plan_filled name (digests bytes) p)
+  pub places_are : (used : List Bool) (p : Plan) → HasItsPlaces used (body ∷ []) c p → places p ≡ places (plan_filled name (digests bytes) p)
   places_are used p placed =
-      ap₂ (λ (a b : List Extent). p.body ∷ a ++ b ++ p.directory ∷ [])
+      ap₂ (λ (a b : List Extent). p.bodies.items ++ a ++ b ++ p.directory ∷ [])
       (sym (same_extents record_format p.contents.catalogue (pages_filled name (digests bytes) p.contents.catalogue) (placed_catalogue_is used p placed)))
       (sym (same_extents change_format p.contents.history.pages (history_filled (digests bytes) p.contents.history.pages) (placed_history_is used p placed)))
 
   -- what goes from the old lists
-  pub frees_is : Frees (Put name kind bytes) old body filled
-  frees_is = record {
-    catalogue = subst (λ (pages : List (Page Record)). LosesOne (entry_of_name old name) (stored_refs old.catalogue) (stored_refs pages)) (sym catalogue_ruled)
-        (bind_takes (λ (r : Record). r.name) made old.catalogue);
-    history = subst (λ (pages : List (Page Change)). LosesOne (open_entry old.history.pages) (stored_refs old.history.pages) (stored_refs pages)) (sym history_ruled)
-        (append_takes (change_put old name kind bytes moment) old.history.pages);
-    bodies = body_bound name made (records_of old.catalogue) (records_of filled.catalogue) records_are;
-    published = draft.published;
-  }
+  pub frees_is : (d : Extent) (freed : List Extent) → freed ≡ d ∷ freed_page old name ++ freed_history_page old name ++ extent_of_body old name → AreApart (bodies_in old)
+      → AreDisjoint (in_some (body ∷ [])) (in_some (bodies_in old)) → Frees d old (body ∷ []) filled freed
+  frees_is d freed freed_is apart beside =
+      frees_one d old filled name (body ∷ []) freed freed_is
+      (subst (λ (pages : List (Page Record)). LosesOne (entry_of_name old name) (stored_refs old.catalogue) (stored_refs pages)) (sym catalogue_ruled)
+      (bind_takes (λ (r : Record). r.name) made old.catalogue))
+      (subst (λ (pages : List (Page Change)). LosesOne (open_entry old.history.pages) (stored_refs old.history.pages) (stored_refs pages)) (sym history_ruled)
+      (append_takes (change_put old name kind bytes moment) old.history.pages))
+      (body_bound name made (records_of old.catalogue) (records_of filled.catalogue) records_are) draft.published apart
+      ((bodies_bound name made (records_of old.catalogue) (records_of filled.catalogue) records_are).apart apart beside)
 
   -- a plan of the draft, once it is filled, is a plan of the filled lists
-  pub placed_is : (used : List Bool) (p : Plan) → HasItsPlaces used body c p → HasItsPlaces used body filled (plan_filled name (digests bytes) p)
+  pub placed_is : (used : List Bool) (p : Plan) → HasItsPlaces used (body ∷ []) c p → HasItsPlaces used (body ∷ []) filled (plan_filled name (digests bytes) p)
   placed_is used p placed =
       let of_catalogue = placed_catalogue_is used p placed in
       let of_history = placed_history_is used p placed in
@@ -244,5 +250,5 @@ module _ (law : IsPageRuleKept) (old c : Contents) (name kind bytes : List ℕ) 
         header = placed.header;
         first = placed.first;
         published = placed.published;
-        body_is = placed.body_is;
+        bodies_are = placed.bodies_are;
       }

@@ -33,7 +33,7 @@ use Rattle.rs_model.specs.Regular.{is_rising, rises_from}
 use Rattle.rs_model.proofs.OrderLemmas.{is_less, tail_ordered}
 use Rattle.rs_pages.proofs.Home.{above_lower}
 use Rattle.rs_plan.specs.Room.{pages_needed}
-use Rattle.rs_plan.proofs.Pages.{HasItems}
+use Rattle.rs_image.proofs.Counts.{HasItems}
 
 -- digests are as long as all digests are
 pub record AreLong (digests : Digests) : Type 0 where
@@ -110,7 +110,7 @@ placed_ends format used used' (x ∷ next ∷ pages) (y ∷ []) p h = absurd p.2
 placed_ends format used used' (x ∷ next ∷ pages) (y ∷ z ∷ placed) p h = placed_ends format p.0 used' (next ∷ pages) (z ∷ placed) p.2 h
 
 -- What holds of each item of two lists holds of each item of both.
-split : {T : Type 0} (P : T → Type 0) (xs ys : List T) → AllByRecursion P (xs ++ ys) → AllByRecursion P xs × AllByRecursion P ys
+pub split : {T : Type 0} (P : T → Type 0) (xs ys : List T) → AllByRecursion P (xs ++ ys) → AllByRecursion P xs × AllByRecursion P ys
 split P [] ys h = (tt, h)
 split P (x ∷ xs) ys h = let both = split P xs ys h.1 in ((h.0, both.0), both.1)
 

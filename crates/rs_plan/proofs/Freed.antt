@@ -62,8 +62,8 @@ assembled false old freed next new inside to stays made =
     still true h = sym h
     still false h = refl
 
-module _ (d d' body : Extent) (a b c e ga gb gc ge a' b' c' e' pa pb : List Extent) (was : AreSeparate d a b c e)
-    (pages : PagesTurn a c ga gc a' c' pa) (changes : PartTurns b gb b' pb) (bodies : PartTurns e ge e' (body ∷ [])) where
+module _ (d d' : Extent) (made_bodies a b c e ga gb gc ge a' b' c' e' pa pb : List Extent) (was : AreSeparate d a b c e)
+    (pages : PagesTurn a c ga gc a' c' pa) (changes : PartTurns b gb b' pb) (bodies : PartTurns e ge e' made_bodies) where
   -- two parts that are freed are apart
   pub freed_apart : AreApart (joined d ga gb gc ge)
   freed_apart =
@@ -114,22 +114,22 @@ module _ (d d' body : Extent) (a b c e ga gb gc ge a' b' c' e' pa pb : List Exte
       (λ h. not_both (in_some ge k) h none))
 
   abbrev new : List Extent
-  new = body ∷ pa ++ pb ++ d' ∷ []
+  new = made_bodies ++ pa ++ pb ++ d' ∷ []
 
   abbrev IsLeftOrNew : ℕ → Type 0
   IsLeftOrNew k = ((in_some (joined d a b c e) k ≡ true) × (in_some (joined d ga gb gc ge) k ≡ false)) ⊎ (in_some new k ≡ true)
 
-  body_new : IsSubset (in_some (body ∷ [])) (in_some new)
-  body_new k is = some_front (body ∷ pa ++ pb) (d' ∷ []) k (some_front (body ∷ pa) pb k (some_front (body ∷ []) pa k is))
+  body_new : IsSubset (in_some made_bodies) (in_some new)
+  body_new k is = some_front (made_bodies ++ pa ++ pb) (d' ∷ []) k (some_front (made_bodies ++ pa) pb k (some_front made_bodies pa k is))
 
   pa_new : IsSubset (in_some pa) (in_some new)
-  pa_new k is = some_front (body ∷ pa ++ pb) (d' ∷ []) k (some_front (body ∷ pa) pb k (some_behind (body ∷ []) pa k is))
+  pa_new k is = some_front (made_bodies ++ pa ++ pb) (d' ∷ []) k (some_front (made_bodies ++ pa) pb k (some_behind made_bodies pa k is))
 
   pb_new : IsSubset (in_some pb) (in_some new)
-  pb_new k is = some_front (body ∷ pa ++ pb) (d' ∷ []) k (some_behind (body ∷ pa) pb k is)
+  pb_new k is = some_front (made_bodies ++ pa ++ pb) (d' ∷ []) k (some_behind (made_bodies ++ pa) pb k is)
 
   d_new : IsSubset (in_some (d' ∷ [])) (in_some new)
-  d_new k is = some_behind (body ∷ pa ++ pb) (d' ∷ []) k is
+  d_new k is = some_behind (made_bodies ++ pa ++ pb) (d' ∷ []) k is
 
   -- what the next root reaches is left, or new
   to : (k : ℕ) → in_some (joined d' a' b' c' e') k ≡ true → IsLeftOrNew k
@@ -161,11 +161,11 @@ module _ (d d' body : Extent) (a b c e ga gb gc ge a' b' c' e' pa pb : List Exte
 
   -- and so is what is new
   made : (k : ℕ) → in_some new k ≡ true → in_some (joined d' a' b' c' e') k ≡ true
-  made k is = elim (some_of_both (body ∷ pa ++ pb) (d' ∷ []) k is) [
+  made k is = elim (some_of_both (made_bodies ++ pa ++ pb) (d' ∷ []) k is) [
     | inr last ↦ d_in d' a' b' c' e' k last
-    | inl three ↦ elim (some_of_both (body ∷ pa) pb k three) [
+    | inl three ↦ elim (some_of_both (made_bodies ++ pa) pb k three) [
       | inr third ↦ b_in d' a' b' c' e' k (changes.written k third)
-      | inl two ↦ elim (some_of_both (body ∷ []) pa k two) [
+      | inl two ↦ elim (some_of_both made_bodies pa k two) [
         | inr second ↦ a_in d' a' b' c' e' k (pages.written k second)
         | inl first ↦ e_in d' a' b' c' e' k (bodies.written k first)
       ]

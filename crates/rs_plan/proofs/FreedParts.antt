@@ -82,7 +82,7 @@ grown old gone kept after made turns comes stays written = record {
 }
 
 -- the extents of entries of which one is lost
-one_extent : (entry : Option PageRef) (back : List PageRef) → extents_of (cons_option entry back) ≡ extent_of_page entry ++ extents_of back
+pub one_extent : (entry : Option PageRef) (back : List PageRef) → extents_of (cons_option entry back) ≡ extent_of_page entry ++ extents_of back
 one_extent None back = refl
 one_extent (Some e) back = refl
 

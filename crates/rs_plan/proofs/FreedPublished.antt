@@ -1,28 +1,31 @@
 -- What becomes of the pages of the catalogue and of those that are only published.
-use Rattle.std.proofs.Common.{◌≡◌, ◌⊎◌, inl, inr, ℕ, Bool, true, false, cond, List, [], ◌∷◌, ◌++◌, Option, Some, None, refl, sym, subst}
+use Rattle.std.proofs.Common.{◌≡◌, ◌⊎◌, inl, inr, ℕ, Bool, true, false, cond, List, [], ◌∷◌, ◌++◌, refl, sym, subst}
+use Rattle.std.specs.Prelude.{All, not}
 use Rattle.std.specs.List.{list_any}
+use Rattle.std.proofs.lemmas.List.{map-append}
+use Rattle.std.proofs.lemmas.List.Elements.{All-head, All-tail}
 use Rattle.rs_extent.specs.declared.Extent.{Extent}
-use Rattle.rs_extent.specs.Extents.{in_some, AreApart, AreDisjoint, IsSubset}
-use Rattle.rs_extent.proofs.Sets.{not_true, not_both, in_one}
+use Rattle.rs_extent.specs.Extents.{within, in_some, AreApart, AreDisjoint, IsSubset}
+use Rattle.rs_extent.proofs.Sets.{not_true, not_both, some_first, some_split, some_behind}
 use Rattle.rs_page.specs.declared.place.PageRef.{PageRef}
 use Rattle.rs_page.specs.Pages.{same_page, extents_of}
+use Rattle.rs_page.specs.SharedPages.{IsSublist}
 use Rattle.rs_pages.specs.Storing.{unshared}
-use Rattle.rs_plan.specs.Freed.{unpublished, extent_of_page}
-use Rattle.rs_plan.proofs.Unshared.{shared_some, published_some, unshared_some}
+use Rattle.rs_plan.proofs.Unshared.{published_some, unshared_some, unshared_apart}
 use Rattle.rs_plan.proofs.Freed.{PartTurns, PagesTurn}
-use Rattle.rs_plan.proofs.FreedPages.{LosesOne}
-use Rattle.rs_plan.proofs.FreedParts.{none_in, page_replaced, replaced, beside_published}
+use Rattle.rs_plan.proofs.FreedParts.{none_in, beside_published}
+use Rattle.rs_plan.proofs.Losing.{LosesAll, stands_in}
 
--- The pages of the catalogue, of which one is touched: it is freed where no published page has its entry.
-module _ (entry : Option PageRef) (old kept after published : List PageRef) (made : List Extent) (loses : LosesOne entry old kept) (apart : AreApart (extents_of old))
+-- The pages of the catalogue, of which some are touched: those are freed whose entry no published page has.
+module _ (gone old kept after published : List PageRef) (made : List Extent) (loses : LosesAll gone old kept) (apart : AreApart (extents_of old))
     (beside : AreDisjoint (in_some (extents_of old)) (in_some (extents_of (unshared published old))))
     (comes : (k : ℕ) → in_some (extents_of after) k ≡ true → (in_some (extents_of kept) k ≡ true) ⊎ (in_some made k ≡ true))
     (stay : IsSubset (in_some (extents_of kept)) (in_some (extents_of after))) (written : IsSubset (in_some made) (in_some (extents_of after))) where
-  turns : PartTurns (extents_of old) (extent_of_page entry) (extents_of kept) []
-  turns = replaced (extents_of old) (extents_of kept) (extent_of_page entry) [] (page_replaced entry old kept loses) apart
+  turns : PartTurns (extents_of old) (extents_of gone) (extents_of kept) []
+  turns = loses.turns apart
 
   abbrev freed : List Extent
-  freed = extent_of_page (unpublished entry published)
+  freed = extents_of (unshared gone published)
 
   abbrev IsShown : ℕ → Type 0
   IsShown k = (in_some (extents_of after) k ≡ true) ⊎ (in_some (extents_of (unshared published after)) k ≡ true)
@@ -31,60 +34,47 @@ module _ (entry : Option PageRef) (old kept after published : List PageRef) (mad
   shown : (k : ℕ) → in_some (extents_of published) k ≡ true → IsShown k
   shown k is = published_some published after k is
 
-  -- what is freed is the touched page or nothing
-  freed_is : (o : Option PageRef) (k : ℕ) → in_some (extent_of_page (unpublished o published)) k ≡ true → in_some (extent_of_page o) k ≡ true
-  freed_is None k is = is
-  freed_is (Some e) k is = one (list_any (same_page e) published) is
-    where
-      one : (t : Bool) → in_some (extent_of_page (cond t None (Some e))) k ≡ true → in_some (extent_of_page (Some e)) k ≡ true
-      one true is = none_in k _ is
-      one false is = is
+  -- what is freed is a touched page
+  freed_is : (k : ℕ) → in_some freed k ≡ true → in_some (extents_of gone) k ≡ true
+  freed_is k is = unshared_some gone published k is
 
-  -- a touched page is freed, or published
-  freed_or : (o : Option PageRef) (k : ℕ) → in_some (extent_of_page o) k ≡ true
-      → (in_some (extent_of_page (unpublished o published)) k ≡ true) ⊎ (in_some (extents_of published) k ≡ true)
-  freed_or None k is = none_in k _ is
-  freed_or (Some e) k is = one (list_any (same_page e) published) refl
-    where
-      one : (t : Bool) → list_any (same_page e) published ≡ t
-          → (in_some (extent_of_page (cond t None (Some e))) k ≡ true) ⊎ (in_some (extents_of published) k ≡ true)
-      one true shared = inr (shared_some e published k shared (in_one e.extent k is))
-      one false alone = inl is
+  -- an entry of the old pages that no published page has shares no block with one
+  entry_alone : (e : PageRef) (k : ℕ) → IsSublist (e ∷ []) old → list_any (same_page e) published ≡ false → within e.extent k ≡ true
+      → in_some (extents_of published) k ≡ true → ⊥
+  entry_alone e k one alone here there =
+      let at = stands_in e old one in
+      let refs : List PageRef = at.front ++ e ∷ at.back in
+      let reached : in_some (extents_of old) k ≡ true =
+      subst (λ (l : List PageRef). in_some (extents_of l) k ≡ true) (sym at.is)
+      (subst (λ (l : List Extent). in_some l k ≡ true) (sym (map-append (λ (r : PageRef). r.extent) at.front (e ∷ at.back)))
+      (some_behind (extents_of at.front) (extents_of (e ∷ at.back)) k (some_first e.extent (extents_of at.back) k here))) in
+      beside_published e at.front at.back k (subst (λ (r : List PageRef). AreApart (extents_of r)) at.is apart) here published alone
+      (subst (λ (r : List PageRef). in_some (extents_of (unshared published r)) k ≡ false) at.is (beside k reached)) there
 
   -- what is freed is not published
-  freed_alone : (o : Option PageRef) (l : LosesOne o old kept) (k : ℕ) → in_some (extent_of_page (unpublished o published)) k ≡ true
+  freed_alone : (entries : List PageRef) → All (λ e. IsSublist (e ∷ []) old) entries → (k : ℕ) → in_some (extents_of (unshared entries published)) k ≡ true
       → in_some (extents_of published) k ≡ true → ⊥
-  freed_alone None l k is there = none_in k _ is
-  freed_alone (Some e) l k is there = one (list_any (same_page e) published) refl is
+  freed_alone [] all k is there = none_in k _ is
+  freed_alone (e ∷ entries) all k is there =
+      one (list_any (same_page e) published) refl is (λ here. freed_alone entries (All-tail (λ e. IsSublist (e ∷ []) old) e entries all) k here there)
     where
-      in_old : in_some (extents_of (l.front ++ e ∷ l.back)) k ≡ true → in_some (extents_of old) k ≡ true
-      in_old here = subst (λ (refs : List PageRef). in_some (extents_of refs) k ≡ true) (sym l.was) here
+      one : (t : Bool) → list_any (same_page e) published ≡ t
+          → in_some (extents_of (cond (not t) (e ∷ unshared entries published) (unshared entries published))) k ≡ true
+          → (in_some (extents_of (unshared entries published)) k ≡ true → ⊥) → ⊥
+      one true shared here later = later here
+      one false alone here later = elim (some_split e.extent (extents_of (unshared entries published)) k here) [
+        | inl first ↦ entry_alone e k (All-head (λ e. IsSublist (e ∷ []) old) e entries all) alone first there
+        | inr rest ↦ later rest
+      ]
 
-      one : (t : Bool) → list_any (same_page e) published ≡ t → in_some (extent_of_page (cond t None (Some e))) k ≡ true → ⊥
-      one true shared here = none_in k _ here
-      one false alone here =
-          let refs : List PageRef = l.front ++ e ∷ l.back in
-          let reached : in_some (extents_of old) k ≡ true =
-          (replaced (extents_of old) (extents_of kept) (extent_of_page (Some e)) [] (page_replaced (Some e) old kept l) apart).reached k here in
-          beside_published e l.front l.back k (subst (λ (r : List PageRef). AreApart (extents_of r)) l.was apart) (in_one e.extent k here) published alone
-          (subst (λ (r : List PageRef). in_some (extents_of (unshared published r)) k ≡ false) l.was (beside k reached)) there
-
-  not_freed : (k : ℕ) → in_some (extent_of_page entry) k ≡ false → in_some freed k ≡ false
-  not_freed k none = not_true (in_some freed k) (λ is. not_both (in_some (extent_of_page entry) k) (freed_is entry k is) none)
-
-  freed_apart : (o : Option PageRef) → AreApart (extent_of_page (unpublished o published))
-  freed_apart None = tt
-  freed_apart (Some e) = one (list_any (same_page e) published)
-    where
-      one : (t : Bool) → AreApart (extent_of_page (cond t None (Some e)))
-      one true = tt
-      one false = (λ k is. refl, tt)
+  not_freed : (k : ℕ) → in_some (extents_of gone) k ≡ false → in_some freed k ≡ false
+  not_freed k none = not_true (in_some freed k) (λ is. not_both (in_some (extents_of gone) k) (freed_is k is) none)
 
   pub pages_turn : PagesTurn (extents_of old) (extents_of (unshared published old)) freed [] (extents_of after) (extents_of (unshared published after)) made
   pages_turn = record {
-    reached_a = λ k is. turns.reached k (freed_is entry k is);
+    reached_a = λ k is. turns.reached k (freed_is k is);
     reached_c = λ k is. none_in k _ is;
-    apart_a = freed_apart entry;
+    apart_a = unshared_apart gone published turns.apart;
     apart_c = tt;
     comes_a = λ k is. elim (comes k is) [
       | inl here ↦ elim (turns.comes k here) [ inl left ↦ inl (left.0, not_freed k left.1) | inr none ↦ none_in k _ none ]
@@ -93,11 +83,11 @@ module _ (entry : Option PageRef) (old kept after published : List PageRef) (mad
     comes_c = λ k is.
         let there = unshared_some published after k is in
         elim (published_some published old k there) [
-          | inl held ↦ inl (held, not_true (in_some freed k) (λ gone. freed_alone entry loses k gone there))
+          | inl held ↦ inl (held, not_true (in_some freed k) (λ lost. freed_alone gone loses.each k lost there))
           | inr alone ↦ inr (alone, refl)
         ];
     stays_a = λ k is. elim (turns.stays k is) [
-      | inl lost ↦ elim (freed_or entry k lost) [ inl gone ↦ inl gone | inr there ↦ inr (shown k there) ]
+      | inl lost ↦ elim (published_some gone published k lost) [ inl there ↦ inr (shown k there) | inr free ↦ inl free ]
       | inr left ↦ inr (inl (stay k left))
     ];
     stays_c = λ k is. inr (shown k (unshared_some published old k is));

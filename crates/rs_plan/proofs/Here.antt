@@ -5,7 +5,6 @@ use Rattle.rs_image.specs.Rooted.{Rooted, rooted, IsRooted, AreUsed}
 use Rattle.rs_model.specs.declared.command.Command.{Command}
 use Rattle.rs_extent.specs.declared.Extent.{Extent}
 use Rattle.rs_plan.specs.Allowed.{MayPublish}
-use Rattle.rs_plan.specs.Freed.{freed_by}
 use Rattle.rs_model.specs.Names.{value_of}
 use Rattle.rs_catalogue.specs.Catalogue.{records_of}
 use Rattle.rs_catalogue.specs.Named.{named}
@@ -36,8 +35,8 @@ module _ (r : Rooted) (c : Contents) (at : c ≡ r.contents) where
   pub may_here : (moment : ℕ) → MayPublish r.contents moment → MayPublish c moment
   may_here moment may = subst (λ (x : Contents). MayPublish x moment) (sym at) may
 
-  pub freed_here : (command : Command) (freed : List Extent) → freed ≡ freed_by command r → freed ≡ freed_by command (rooted r.size r.root c)
-  freed_here command freed is = subst (λ (x : Contents). freed ≡ freed_by command (rooted r.size r.root x)) (sym at) is
+  pub freed_here : (frees : Rooted → List Extent) (freed : List Extent) → freed ≡ frees r → freed ≡ frees (rooted r.size r.root c)
+  freed_here frees freed is = subst (λ (x : Contents). freed ≡ frees (rooted r.size r.root x)) (sym at) is
 
   pub held_here : (name : List ℕ) → IsSome (value_of name (named (records_of r.contents.catalogue))) → IsSome (value_of name (named (records_of c.catalogue)))
   held_here name held = subst (λ (x : Contents). IsSome (value_of name (named (records_of x.catalogue)))) (sym at) held

@@ -1,7 +1,6 @@
 pub mod Extents
 pub mod Sublists
 pub mod Placing
-pub mod Pages
 pub mod Stored
 pub mod Listing
 pub mod Separate
@@ -21,6 +20,16 @@ pub mod Drafted
 pub mod Freed
 pub mod FreedPages
 pub mod FreedParts
+pub mod Losing
 pub mod FreedBodies
 pub mod FreedPublished
 pub mod GivenBack
+pub mod OneName
+pub mod Alike
+pub mod ItemSteps
+pub mod GroupStates
+pub mod GroupPages
+pub mod GroupBodies
+pub mod GroupRules
+pub mod Grouped
+pub mod MadeLists

@@ -1,6 +1,7 @@
 -- The parts of what a root reaches, and what is known of the pages after a command.
-use Rattle.std.proofs.Common.{true≢false, ◌≡◌, ◌⊎◌, inl, inr, ℕ, Bool, true, List, [], length, refl, sym, ◌∙◌, ap, subst}
-use Rattle.std.specs.Prelude.{All}
+use Rattle.std.proofs.Common.{true≢false, ◌≡◌, ◌⊎◌, inl, inr, ℕ, true, List, [], ◌∷◌, ◌++◌, length, sym, ◌∙◌, ap, subst}
+use Rattle.std.specs.Prelude.{All, Bool}
+use Rattle.std.specs.List.{AllZip}
 use Rattle.rs_extent.specs.declared.Extent.{Extent}
 use Rattle.rs_extent.specs.Extents.{in_some, AreApart}
 use Rattle.rs_body.specs.Blocks.{blocks_of, IsSized}
@@ -13,14 +14,15 @@ use Rattle.rs_page.specs.Pages.{Page, IsStored, placed_extents, stored_ref, stor
 use Rattle.rs_page.specs.SharedPages.{IsSublist, KeepsPages, stored_pages}
 use Rattle.rs_catalogue.specs.Catalogue.{records_of}
 use Rattle.rs_model.specs.declared.command.Command.{Command}
-use Rattle.rs_model.specs.declared.command.Command.TheVariants.{Put, Delete, Publish}
+use Rattle.rs_model.specs.declared.command.Command.TheVariants.{Put, Delete, Publish, Group}
 use Rattle.rs_image.specs.declared.contents.Contents.{Contents}
 use Rattle.rs_pages.specs.Storing.{unshared}
 use Rattle.rs_image.specs.Reach.{bodies_of}
 use Rattle.rs_plan.specs.declared.plan.Plan.{Plan}
-use Rattle.rs_plan.specs.Room.{Takes, body_needed}
-use Rattle.rs_plan.specs.Plans.{body_of_command, MayHavePlaces, ArePagesAfter, once_stored, places}
-use Rattle.rs_extent.specs.Extents.{AreDisjoint}
+use Rattle.rs_plan.specs.Room.{TakesEach, bodies_needed}
+use Rattle.rs_plan.specs.Plans.{MayHavePlaces, ArePagesAfter, once_stored, places}
+use Rattle.rs_extent.specs.Extents.{AreDisjoint, IsSubset}
+use Rattle.rs_extent.proofs.Sets.{some_front, some_behind}
 use Rattle.rs_plan.proofs.Sublists.{filter_mapped}
 use Rattle.rs_plan.proofs.Placing.{places_stored}
 use Rattle.rs_plan.proofs.Stored.{refs_kept}
@@ -48,16 +50,34 @@ given_pages p = placed_extents p.contents.catalogue
 abbrev pub given_changes : Plan → List Extent
 given_changes p = placed_extents p.contents.history.pages
 
--- the body of a command has its blocks
-needed_blocks : (command : Command) → body_needed command ≡ blocks_of (length (body_of_command command))
-needed_blocks (Put name kind bytes) = refl
-needed_blocks (Delete name) = refl
-needed_blocks Publish = refl
+-- The parts of what a plan writes to.
+pub in_bodies : (p : Plan) → IsSubset (in_some p.bodies.items) (in_some (places p))
+in_bodies p b is =
+    some_front (p.bodies.items ++ given_pages p ++ given_changes p) (p.directory ∷ []) b
+    (some_front (p.bodies.items ++ given_pages p) (given_changes p) b (some_front p.bodies.items (given_pages p) b is))
 
-pub sized_body : (command : Command) (used used' : List Bool) (body : Extent) → Takes used (body_needed command) body used' → IsSized body (length (body_of_command command))
-sized_body command used used' body takes =
-    let n = needed_blocks command in
-    (takes.blocks ∙ n, λ none. takes.nowhere (n ∙ ap blocks_of none))
+pub in_catalogue : (p : Plan) → IsSubset (in_some (given_pages p)) (in_some (places p))
+in_catalogue p b is =
+    some_front (p.bodies.items ++ given_pages p ++ given_changes p) (p.directory ∷ []) b
+    (some_front (p.bodies.items ++ given_pages p) (given_changes p) b (some_behind p.bodies.items (given_pages p) b is))
+
+pub in_history : (p : Plan) → IsSubset (in_some (given_changes p)) (in_some (places p))
+in_history p b is =
+    some_front (p.bodies.items ++ given_pages p ++ given_changes p) (p.directory ∷ []) b (some_behind (p.bodies.items ++ given_pages p) (given_changes p) b is)
+
+pub in_directory : (p : Plan) → IsSubset (in_some (p.directory ∷ [])) (in_some (places p))
+in_directory p b is = some_behind (p.bodies.items ++ given_pages p ++ given_changes p) (p.directory ∷ []) b is
+
+-- each body has its blocks
+pub sized_each : (bodies : List (List ℕ)) (used after : List Bool) (extents : List Extent) → TakesEach used (bodies_needed bodies) extents after
+    → AllZip (λ extent bytes. IsSized extent (length bytes)) extents bodies
+sized_each [] used after [] takes = tt
+sized_each [] used after (e ∷ extents) takes = absurd takes
+sized_each (bytes ∷ bodies) used after [] takes = absurd takes
+sized_each (bytes ∷ bodies) used after (e ∷ extents) takes = (
+  (takes.1.blocks, λ none. takes.1.nowhere (ap blocks_of none)),
+  sized_each bodies takes.0 after extents takes.2,
+)
 
 -- stored pages that are kept, as references
 pub kept_part : {T : Type 0} (format : ItemFormat T) (used used' : List Bool) (old xs ys : List (Page T)) → KeepsPages old xs → Places format used xs used' ys
@@ -86,17 +106,19 @@ unshared_none before kept after published old none = record {
 abbrev pub IsPublished : Contents → Contents → Type 0
 IsPublished old c = (c.published ≡ old.published) ⊎ ((c.published ≡ old.catalogue) × (c.catalogue ≡ old.catalogue))
 
-pub published_is : (old c : Contents) (command : Command) (moment : ℕ) (body : Extent) → ArePagesAfter old command moment body c → IsPublished old c
-published_is old c (Put name kind bytes) moment body pages = inl pages.2
-published_is old c (Delete name) moment body pages = inl pages.2
-published_is old c Publish moment body pages = inr (pages.2, pages.0)
+pub published_is : (old c : Contents) (command : Command) (moment : ℕ) (bodies : List Extent) → ArePagesAfter old command moment bodies c → IsPublished old c
+published_is old c (Put name kind bytes) moment bodies pages = inl pages.2
+published_is old c (Delete name) moment bodies pages = inl pages.2
+published_is old c Publish moment bodies pages = inr (pages.2, pages.0)
+published_is old c (Group items) moment bodies pages = inl pages.2
 
 -- the pages after a command, once they are placed
-pub pages_placed : (old c next : Contents) (command : Command) (moment : ℕ) (body : Extent) → ArePagesAfter old command moment body c
+pub pages_placed : (old c next : Contents) (command : Command) (moment : ℕ) (bodies : List Extent) → ArePagesAfter old command moment bodies c
     → ((pages : List (Page Record)) → MayHavePlaces pages c.catalogue → MayHavePlaces pages next.catalogue)
     → ((pages : List (Page Change)) → MayHavePlaces pages c.history.pages → MayHavePlaces pages next.history.pages) → next.published ≡ c.published
-    → (All IsStored c.catalogue → next.catalogue ≡ c.catalogue) → All IsStored old.catalogue → ArePagesAfter old command moment body next
-pages_placed old c next (Put name kind bytes) moment body pages ruled ruled' published catalogue of_old = (ruled _ pages.0, ruled' _ pages.1, published ∙ pages.2)
-pages_placed old c next (Delete name) moment body pages ruled ruled' published catalogue of_old = (ruled _ pages.0, ruled' _ pages.1, published ∙ pages.2)
-pages_placed old c next Publish moment body pages ruled ruled' published catalogue of_old =
+    → (All IsStored c.catalogue → next.catalogue ≡ c.catalogue) → All IsStored old.catalogue → ArePagesAfter old command moment bodies next
+pages_placed old c next (Put name kind bytes) moment bodies pages ruled ruled' published catalogue of_old = (ruled _ pages.0, ruled' _ pages.1, published ∙ pages.2)
+pages_placed old c next (Delete name) moment bodies pages ruled ruled' published catalogue of_old = (ruled _ pages.0, ruled' _ pages.1, published ∙ pages.2)
+pages_placed old c next Publish moment bodies pages ruled ruled' published catalogue of_old =
     (catalogue (subst (All IsStored) (sym pages.0) of_old) ∙ pages.0, ruled' _ pages.1, published ∙ pages.2)
+pages_placed old c next (Group items) moment bodies pages ruled ruled' published catalogue of_old = (ruled _ pages.0, ruled' _ pages.1, published ∙ pages.2)

@@ -1,11 +1,12 @@
 -- What a command plans keeps all rules.
-use Rattle.std.proofs.Common.{◌≡◌, inl, inr, ℕ, ◌+◌, ◌<◌, ◌≤◌, Bool, true, false, nat_lt, List, [], ◌∷◌, ◌++◌, length, map, max, sym, ◌∙◌, ap, subst, arith}
+use Rattle.std.proofs.Common.{◌≡◌, ◌⊎◌, inl, inr, ℕ, ◌+◌, ◌<◌, ◌≤◌, Bool, true, false, nat_lt, List, [], ◌∷◌, ◌++◌, length, map, max, refl, sym, ◌∙◌, ap, subst, arith}
 use Rattle.std.specs.Prelude.{All, MatchOption}
+use Rattle.std.specs.List.{AllZip}
 use Rattle.std.proofs.lemmas.Bool.{or_parts, or_right}
 use Rattle.std.proofs.lemmas.Bool.Decides.{nat_tests}
 use Rattle.rs_extent.specs.declared.Extent.{Extent}
 use Rattle.rs_extent.specs.Extents.{in_some, AreBeside, AreApart, AreTaken, AreDisjoint, IsSubset}
-use Rattle.rs_body.specs.Blocks.{blocks_of, part, IsSized}
+use Rattle.rs_body.specs.Blocks.{blocks_of, IsSized}
 use Rattle.rs_commit.specs.declared.root.Root.{Root}
 use Rattle.rs_record.specs.declared.record.Record.{Record}
 use Rattle.rs_record.specs.declared.change.Change.{Change}
@@ -22,50 +23,50 @@ use Rattle.rs_model.specs.Step.{next_state, reply_to}
 use Rattle.rs_model.specs.Listed.{entry_of}
 use Rattle.rs_image.specs.declared.contents.Contents.{Contents}
 use Rattle.rs_pages.specs.Storing.{unshared}
-use Rattle.rs_image.specs.Reach.{blocks_of_disk, reach, is_kept, AreInside}
+use Rattle.rs_image.specs.Reach.{blocks_of_disk, bodies_of, reach, is_kept, AreInside}
 use Rattle.rs_image.specs.Whole.{IsWhole, AreMoments, IsSoundRecord, IsSoundChange}
-use Rattle.rs_image.specs.StateOfImage.{held_in, state_in, AreListable}
+use Rattle.rs_image.specs.StateOfImage.{held_in, state_in, AreListable, directory_bytes_of}
 use Rattle.rs_plan.specs.declared.plan.Plan.{Plan}
 use Rattle.rs_image.specs.Rooted.{rooted, AreUsed, IsRooted}
-use Rattle.rs_plan.specs.Room.{Takes, body_needed}
-use Rattle.rs_plan.specs.Plans.{body_of_command, ArePagesAfter, IsNext, places, planned_listing, planned_root, TakesInTurn, TakesAndGives, IsPlanned}
-use Rattle.rs_plan.specs.Placed.{AreUnplaced, HasItsPlaces, directory_bytes_of}
-use Rattle.rs_plan.specs.Freed.{freed_by}
-use Rattle.rs_extent.proofs.Sets.{not_true, not_both, turned, some_front, some_behind}
+use Rattle.rs_plan.specs.Room.{TakesEach, bodies_needed, bodies_of_command}
+use Rattle.rs_plan.specs.Plans.{AreBodies, ArePagesAfter, IsNext, places, planned_listing, planned_root, TakesInTurn, TakesAndGives, IsPlanned}
+use Rattle.rs_plan.specs.Placed.{AreUnplaced, HasItsPlaces}
+use Rattle.rs_extent.proofs.Sets.{not_true, not_both, turned}
 use Rattle.rs_extent.proofs.Taken.{taken_both}
-use Rattle.rs_plan.proofs.Extents.{taken_lowest}
+use Rattle.rs_plan.proofs.Extents.{taken_lowest, taken_each}
 use Rattle.rs_plan.proofs.Sublists.{mapped, all_of, some_of, apart_of}
 use Rattle.rs_plan.proofs.Placing.{places_items, places_length, places_stored, places_fitted, places_same, places_ruled}
-use Rattle.rs_plan.proofs.Pages.{few_catalogue, few_history}
-use Rattle.rs_plan.proofs.Stored.{stored_items, all_stored, count_refs, length_stored, same_refs, stored_some, stored_apart, lawful_refs, kept_refs}
+use Rattle.rs_image.proofs.Counts.{few_catalogue, few_history, count_refs}
+use Rattle.rs_plan.proofs.Stored.{stored_items, all_stored, length_stored, same_refs, stored_some, stored_apart, lawful_refs, kept_refs}
 use Rattle.rs_plan.proofs.Listing.{length-directory}
 use Rattle.rs_plan.proofs.Separate.{AreSeparate, separated, apart_again, five_of, a_in, b_in, c_in, e_in, AreNew, separate_next}
 use Rattle.rs_plan.proofs.Unshared.{published_some, unshared_some, unshared_apart, unshared_itself, beside_kept}
 use Rattle.rs_plan.proofs.Turns.{same_state}
-use Rattle.rs_plan.proofs.Bodies.{AreBodies}
 use Rattle.rs_plan.proofs.Rules.{KeepsRules}
-use Rattle.rs_plan.proofs.Parts.{pages_in, changes_in, shown_in, bodies_in, written, given_pages, given_changes, sized_body, kept_part, IsUnshared, unshared_none, IsPublished, published_is, pages_placed}
-use Rattle.rs_plan.proofs.GivenBack.{Frees, placed_refs, gives_parts, takes_and_gives}
+use Rattle.rs_plan.proofs.Parts.{in_bodies, in_catalogue, in_history, in_directory, pages_in, changes_in, shown_in, bodies_in, written, given_pages, given_changes, sized_each, kept_part, IsUnshared, unshared_none, IsPublished, published_is, pages_placed}
+use Rattle.rs_plan.proofs.GivenBack.{Frees, bodies_apart, bodies_come, placed_refs, gives_parts, takes_and_gives}
 
 not_low : (b : ℕ) → nat_lt b 2 ≡ false → 2 ≤ b
 not_low b is = grind (arith, nat_tests)
 
 module _ (size : ℕ) (root : Root) (old : Contents) (sound : IsRooted (rooted size root old)) (command : Command) (moment : ℕ)
-    (used used₁ : List Bool) (are_used : AreUsed (rooted size root old) used) (body : Extent) (takes : Takes used (body_needed command) body used₁)
-    (c : Contents) (next : IsNext old command moment body c) (rules : KeepsRules old body c) (unplaced : AreUnplaced c) (p : Plan) (placed : HasItsPlaces used₁ body c p)
+    (used used₁ : List Bool) (are_used : AreUsed (rooted size root old) used) (extents : List Extent) (takes : TakesEach used (bodies_needed (bodies_of_command command)) extents used₁)
+    (c : Contents) (next : IsNext old command moment extents c) (rules : KeepsRules c) (records : All (IsSoundRecord c.header.start c.header.last) (records_of c.catalogue))
+    (unplaced : AreUnplaced c) (p : Plan) (placed : HasItsPlaces used₁ extents c p)
     (reply : (image : List ℕ) → p.reply ≡ reply_to (state_in image old) command moment)
-    (of_catalogue : IsCatalogue c.catalogue) (of_history : IsHistory c.history.pages) (of_published : IsCatalogue c.published) (frees : Frees command old body c)
-    (taken_is : p.taken.items ≡ places p) (freed_is : p.freed.items ≡ freed_by command (rooted size root old)) where
+    (of_catalogue : IsCatalogue c.catalogue) (of_history : IsHistory c.history.pages) (of_published : IsCatalogue c.published)
+    (frees : AreApart extents → AreApart (bodies_in old) → AreDisjoint (in_some extents) (in_some (bodies_in old)) → Frees root.directory old extents c p.freed.items)
+    (taken_is : p.taken.items ≡ places p) where
   whole : IsWhole size root old
   whole = sound.whole
 
   -- what the plan writes to was taken
   taken : AreTaken used placed.after (places p)
   taken =
-      subst (λ (e : Extent). AreTaken used placed.after (e ∷ given_pages p ++ given_changes p ++ p.directory ∷ [])) (sym placed.body_is)
-      (taken_both used placed.after_history placed.after (body ∷ given_pages p ++ given_changes p) (p.directory ∷ [])
-      (taken_both used placed.after_catalogue placed.after_history (body ∷ given_pages p) (given_changes p)
-      (taken_both used used₁ placed.after_catalogue (body ∷ []) (given_pages p) (taken_lowest used used₁ (body_needed command) body takes) placed.takes_catalogue)
+      subst (λ (l : List Extent). AreTaken used placed.after (l ++ given_pages p ++ given_changes p ++ p.directory ∷ [])) (sym placed.bodies_are)
+      (taken_both used placed.after_history placed.after (extents ++ given_pages p ++ given_changes p) (p.directory ∷ [])
+      (taken_both used placed.after_catalogue placed.after_history (extents ++ given_pages p) (given_changes p)
+      (taken_both used used₁ placed.after_catalogue extents (given_pages p) (taken_each used used₁ (bodies_needed (bodies_of_command command)) extents takes) placed.takes_catalogue)
       placed.takes_history)
       (taken_lowest placed.after_history placed.after (blocks_of (directory_bytes_of c)) p.directory placed.directory))
 
@@ -82,24 +83,6 @@ module _ (size : ℕ) (root : Root) (old : Contents) (sound : IsRooted (rooted s
   reached : IsSubset (in_some (reach root old)) (is_kept root old)
   reached b is = or_right (nat_lt b 2) (in_some (reach root old) b) is
 
-  -- the parts of the plan
-  in_body : IsSubset (in_some (p.body ∷ [])) (in_some (places p))
-  in_body b is =
-      some_front (p.body ∷ given_pages p ++ given_changes p) (p.directory ∷ []) b
-      (some_front (p.body ∷ given_pages p) (given_changes p) b (some_front (p.body ∷ []) (given_pages p) b is))
-
-  in_catalogue : IsSubset (in_some (given_pages p)) (in_some (places p))
-  in_catalogue b is =
-      some_front (p.body ∷ given_pages p ++ given_changes p) (p.directory ∷ []) b
-      (some_front (p.body ∷ given_pages p) (given_changes p) b (some_behind (p.body ∷ []) (given_pages p) b is))
-
-  in_history : IsSubset (in_some (given_changes p)) (in_some (places p))
-  in_history b is =
-      some_front (p.body ∷ given_pages p ++ given_changes p) (p.directory ∷ []) b (some_behind (p.body ∷ given_pages p) (given_changes p) b is)
-
-  in_directory : IsSubset (in_some (p.directory ∷ [])) (in_some (places p))
-  in_directory b is = some_behind (p.body ∷ given_pages p ++ given_changes p) (p.directory ∷ []) b is
-
   -- the pages that are kept
   kept_catalogue : IsSublist (stored_refs p.contents.catalogue) (stored_refs old.catalogue)
   kept_catalogue = kept_part record_format used₁ placed.after_catalogue old.catalogue c.catalogue p.contents.catalogue next.catalogue placed.catalogue
@@ -115,16 +98,16 @@ module _ (size : ℕ) (root : Root) (old : Contents) (sound : IsRooted (rooted s
   long_history = places_length change_format placed.after_catalogue placed.after_history c.history.pages p.contents.history.pages placed.history
 
   -- the pages after the command
-  pages : ArePagesAfter old command moment p.body p.contents
+  pages : ArePagesAfter old command moment p.bodies.items p.contents
   pages =
-      subst (λ (e : Extent). ArePagesAfter old command moment e p.contents) (sym placed.body_is)
-      (pages_placed old c p.contents command moment body next.pages
+      subst (λ (l : List Extent). ArePagesAfter old command moment l p.contents) (sym placed.bodies_are)
+      (pages_placed old c p.contents command moment extents next.pages
       (λ ruled. places_ruled record_format used₁ placed.after_catalogue ruled c.catalogue p.contents.catalogue placed.catalogue)
       (λ ruled. places_ruled change_format placed.after_catalogue placed.after_history ruled c.history.pages p.contents.history.pages placed.history) placed.published
       (λ all. places_same record_format used₁ placed.after_catalogue c.catalogue p.contents.catalogue all placed.catalogue) whole.catalogue)
 
   published : IsPublished old p.contents
-  published = published_is old p.contents command moment p.body pages
+  published = published_is old p.contents command moment p.bodies.items pages
 
   -- the items
   same_records : records_of p.contents.catalogue ≡ records_of c.catalogue
@@ -140,16 +123,16 @@ module _ (size : ℕ) (root : Root) (old : Contents) (sound : IsRooted (rooted s
   same_stored_changes = stored_items change_format p.contents.history.pages ∙ same_changes
 
   -- the state that the lists tell
-  turns : (image : List ℕ) → part p.body (length (body_of_command command)) image ≡ body_of_command command
+  turns : (image : List ℕ) → AreBodies image p.bodies.items (bodies_of_command command)
       → state_in image p.contents ≡ next_state (state_in image old) command moment
   turns image there =
       same_state p.contents.header c.header (map (held_in image) (records_of p.contents.catalogue)) (map (held_in image) (records_of c.catalogue))
       (changes_of p.contents.history.pages) (changes_of c.history.pages) (map entry_of (records_of p.contents.published)) (map entry_of (records_of c.published))
       placed.header (ap (λ (rs : List Record). map (held_in image) rs) same_records) same_changes
       (ap (λ (pages : List (Page Record)). map entry_of (records_of pages)) placed.published)
-      ∙ next.turns image (subst (λ (e : Extent). part e (length (body_of_command command)) image ≡ body_of_command command) placed.body_is there)
+      ∙ next.turns image (subst (λ (l : List Extent). AreBodies image l (bodies_of_command command)) placed.bodies_are there)
 
-  next_placed : IsNext old command moment p.body p.contents
+  next_placed : IsNext old command moment p.bodies.items p.contents
   next_placed = record {
     turns = turns;
     catalogue = subst (λ (l : List (Page Record)). IsSublist l (stored_pages old.catalogue))
@@ -190,14 +173,14 @@ module _ (size : ℕ) (root : Root) (old : Contents) (sound : IsRooted (rooted s
       lawful_refs record_format p.contents.catalogue (blocks_of_disk size) small_disk
       (places_fitted record_format used₁ placed.after_catalogue c.catalogue p.contents.catalogue placed.catalogue unplaced.catalogue)
       (all_of IsLawfulRef (stored_refs p.contents.catalogue) (stored_refs old.catalogue) kept_catalogue sound.listable.catalogue.each)
-      (λ b is. inside b (in_catalogue b is))
+      (λ b is. inside b (in_catalogue p b is))
 
   lawful_history : All IsLawfulRef (stored_refs (written p).history.pages)
   lawful_history =
       lawful_refs change_format p.contents.history.pages (blocks_of_disk size) small_disk
       (places_fitted change_format placed.after_catalogue placed.after_history c.history.pages p.contents.history.pages placed.history unplaced.history)
       (all_of IsLawfulRef (stored_refs p.contents.history.pages) (stored_refs old.history.pages) kept_history sound.listable.history.each)
-      (λ b is. inside b (in_history b is))
+      (λ b is. inside b (in_history p b is))
 
   lawful_published : AreLawfulRefs (stored_refs p.contents.published)
   lawful_published = elim published [
@@ -253,13 +236,8 @@ module _ (size : ℕ) (root : Root) (old : Contents) (sound : IsRooted (rooted s
         ∙ ap (λ (l : List PageRef). unshared (stored_refs old.catalogue) l) held ∙ unshared_itself (stored_refs old.catalogue))
   ]
 
-  new : AreNew (is_kept root old) p.body (given_pages p) (given_changes p) p.directory
+  new : AreNew (is_kept root old) p.bodies.items (given_pages p) (given_changes p) p.directory
   new = record { apart = taken.apart; beside = free }
-
-  bodies : AreBodies p.body (records_of old.catalogue) (records_of (stored record_format p.contents.catalogue))
-  bodies =
-      subst (λ (e : Extent). AreBodies e (records_of old.catalogue) (records_of (stored record_format p.contents.catalogue))) (sym placed.body_is)
-      (subst (λ (rs : List Record). AreBodies body (records_of old.catalogue) rs) (sym same_stored_records) rules.bodies)
 
   -- no block of an old part is written
   unwritten : (xs ys : List Extent) → IsSubset (in_some xs) (in_some (reach root old)) → IsSubset (in_some ys) (in_some (places p)) → AreDisjoint (in_some xs) (in_some ys)
@@ -285,6 +263,21 @@ module _ (size : ℕ) (root : Root) (old : Contents) (sound : IsRooted (rooted s
   some_kept_history =
       some_of (changes_in p.contents) (changes_in old) (mapped (λ ref. ref.extent) (stored_refs p.contents.history.pages) (stored_refs old.history.pages) kept_history)
 
+  -- what goes from the old lists
+  free_bodies : AreDisjoint (in_some extents) (in_some (bodies_in old))
+  free_bodies =
+      subst (λ (l : List Extent). AreDisjoint (in_some l) (in_some (bodies_in old))) placed.bodies_are
+      (turned (in_some (bodies_in old)) (in_some p.bodies.items) (unwritten (bodies_in old) p.bodies.items old_bodies_in (in_bodies p)))
+
+  gone : Frees root.directory old p.bodies.items c p.freed.items
+  gone =
+      subst (λ (l : List Extent). Frees root.directory old l c p.freed.items) (sym placed.bodies_are)
+      (frees (taken_each used used₁ (bodies_needed (bodies_of_command command)) extents takes).apart was.in_e free_bodies)
+
+  bodies_comes : (b : ℕ) → in_some (bodies_in (written p)) b ≡ true → (in_some (bodies_in old) b ≡ true) ⊎ (in_some p.bodies.items b ≡ true)
+  bodies_comes b is =
+      bodies_come root.directory old p.bodies.items c p.freed.items gone b (subst (λ (rs : List Record). in_some (bodies_of rs) b ≡ true) same_stored_records is)
+
   -- each list is apart
   apart_catalogue : AreApart (pages_in (written p))
   apart_catalogue =
@@ -292,7 +285,7 @@ module _ (size : ℕ) (root : Root) (old : Contents) (sound : IsRooted (rooted s
       (apart_of (pages_in p.contents) (pages_in old)
       (mapped (λ ref. ref.extent) (stored_refs p.contents.catalogue) (stored_refs old.catalogue) kept_catalogue) was.in_a)
       placed.takes_catalogue.apart
-      (unwritten (pages_in p.contents) (given_pages p) (λ b is. old_catalogue_in b (some_kept_catalogue b is)) in_catalogue)
+      (unwritten (pages_in p.contents) (given_pages p) (λ b is. old_catalogue_in b (some_kept_catalogue b is)) (in_catalogue p))
 
   apart_history : AreApart (changes_in (written p))
   apart_history =
@@ -300,7 +293,7 @@ module _ (size : ℕ) (root : Root) (old : Contents) (sound : IsRooted (rooted s
       (apart_of (changes_in p.contents) (changes_in old)
       (mapped (λ ref. ref.extent) (stored_refs p.contents.history.pages) (stored_refs old.history.pages) kept_history) was.in_b)
       placed.takes_history.apart
-      (unwritten (changes_in p.contents) (given_changes p) (λ b is. old_history_in b (some_kept_history b is)) in_history)
+      (unwritten (changes_in p.contents) (given_changes p) (λ b is. old_history_in b (some_kept_history b is)) (in_history p))
 
   apart_published : AreApart (extents_of (stored_refs p.contents.published))
   apart_published = elim published [
@@ -309,27 +302,29 @@ module _ (size : ℕ) (root : Root) (old : Contents) (sound : IsRooted (rooted s
   ]
 
   apart_bodies : AreApart (bodies_in (written p))
-  apart_bodies = bodies.apart was.in_e (turned (in_some (bodies_in old)) (in_some (p.body ∷ [])) (unwritten (bodies_in old) (p.body ∷ []) old_bodies_in in_body))
+  apart_bodies =
+      subst (λ (rs : List Record). AreApart (bodies_of rs)) (sym same_stored_records)
+      (bodies_apart root.directory old p.bodies.items c p.freed.items was.in_e gone)
 
   separate : AreSeparate p.directory (pages_in (written p)) (changes_in (written p)) (shown_in (written p)) (bodies_in (written p))
   separate =
-      separate_next (is_kept root old) root.directory p.directory p.body
+      separate_next (is_kept root old) root.directory p.directory p.bodies.items
       (pages_in old) (changes_in old) (shown_in old) (bodies_in old)
       (pages_in (written p)) (changes_in (written p)) (shown_in (written p)) (bodies_in (written p))
       (given_pages p) (given_changes p) (pages_in p.contents) (changes_in p.contents)
       was reached new some_kept_catalogue some_kept_history
-      (stored_some record_format p.contents.catalogue) (stored_some change_format p.contents.history.pages) alone.comes bodies.comes alone.beside
+      (stored_some record_format p.contents.catalogue) (stored_some change_format p.contents.history.pages) alone.comes bodies_comes alone.beside
       apart_catalogue apart_history alone.apart apart_bodies
 
   inside_next : AreInside size (reach (planned_root root p) (written p))
   inside_next b is =
       five_of p.directory (pages_in (written p)) (changes_in (written p)) (shown_in (written p)) (bodies_in (written p))
       ((2 ≤ b) × (b < blocks_of_disk size)) b is
-      (λ here. inside b (in_directory b here))
-      (λ here. elim (stored_some record_format p.contents.catalogue b here) [ inl was ↦ whole.inside b (old_catalogue_in b (some_kept_catalogue b was)) | inr is_new ↦ inside b (in_catalogue b is_new) ])
-      (λ here. elim (stored_some change_format p.contents.history.pages b here) [ inl was ↦ whole.inside b (old_history_in b (some_kept_history b was)) | inr is_new ↦ inside b (in_history b is_new) ])
+      (λ here. inside b (in_directory p b here))
+      (λ here. elim (stored_some record_format p.contents.catalogue b here) [ inl was ↦ whole.inside b (old_catalogue_in b (some_kept_catalogue b was)) | inr is_new ↦ inside b (in_catalogue p b is_new) ])
+      (λ here. elim (stored_some change_format p.contents.history.pages b here) [ inl was ↦ whole.inside b (old_history_in b (some_kept_history b was)) | inr is_new ↦ inside b (in_history p b is_new) ])
       (λ here. elim (alone.comes b here) [ inl was ↦ whole.inside b (old_catalogue_in b was) | inr shown ↦ whole.inside b (old_published_in b shown) ])
-      (λ here. elim (bodies.comes b here) [ inl was ↦ whole.inside b (old_bodies_in b was) | inr is_new ↦ inside b (in_body b is_new) ])
+      (λ here. elim (bodies_comes b here) [ inl was ↦ whole.inside b (old_bodies_in b was) | inr is_new ↦ inside b (in_bodies p b is_new) ])
 
   -- the rules of the lists
   moments_next : AreMoments p.contents.header (written p)
@@ -351,7 +346,7 @@ module _ (size : ℕ) (root : Root) (old : Contents) (sound : IsRooted (rooted s
     moments = moments_next;
     number = placed.first ∙ rules.number ∙ sym (ap (λ (h : Header). h.first) placed.header);
     records = subst (λ (h : Header). All (IsSoundRecord h.start h.last) (records_of (stored record_format p.contents.catalogue))) (sym placed.header)
-        (subst (All (IsSoundRecord c.header.start c.header.last)) (sym same_stored_records) rules.records);
+        (subst (All (IsSoundRecord c.header.start c.header.last)) (sym same_stored_records) records);
     changes = subst (λ (h : Header). All (IsSoundChange h.begin h.last) (changes_of (stored change_format p.contents.history.pages))) (sym placed.header)
         (subst (All (IsSoundChange c.header.begin c.header.last)) (sym same_stored_changes) rules.changes);
     listed = subst (λ (h : Header). All (IsSoundRecord h.start h.at) (records_of p.contents.published)) (sym placed.header)
@@ -366,21 +361,21 @@ module _ (size : ℕ) (root : Root) (old : Contents) (sound : IsRooted (rooted s
   in_turn : TakesInTurn (rooted size root old) command p
   in_turn = record {
     used = used;
-    after_body = used₁;
+    after_bodies = used₁;
     lists = c;
     are_used = are_used;
-    body = subst (λ (e : Extent). Takes used (body_needed command) e used₁) (sym placed.body_is) takes;
+    bodies = subst (λ (l : List Extent). TakesEach used (bodies_needed (bodies_of_command command)) l used₁) (sym placed.bodies_are) takes;
     unplaced = unplaced;
-    placed = subst (λ (e : Extent). HasItsPlaces used₁ e c p) (sym placed.body_is) placed;
+    placed = subst (λ (l : List Extent). HasItsPlaces used₁ l c p) (sym placed.bodies_are) placed;
   }
 
   -- what it takes and gives back
   blocks : TakesAndGives (rooted size root old) p
   blocks =
-      takes_and_gives size root old p (freed_by command (rooted size root old)) was (λ k is. (whole.inside k is).0)
+      takes_and_gives size root old p p.freed.items was (λ k is. (whole.inside k is).0)
       (gives_parts root old c p was (placed_refs record_format used₁ placed.after_catalogue c.catalogue p.contents.catalogue placed.catalogue)
       (placed_refs change_format placed.after_catalogue placed.after_history c.history.pages p.contents.history.pages placed.history) same_stored_records placed.published
-      size body command placed.body_is frees) taken_is freed_is
+      p.bodies.items p.freed.items gone) taken_is refl
 
   pub planned : IsPlanned (rooted size root old) command moment p
   planned = record {
@@ -392,7 +387,8 @@ module _ (size : ℕ) (root : Root) (old : Contents) (sound : IsRooted (rooted s
     inside = inside;
     catalogue = placed.untouched_catalogue;
     history = placed.untouched_history;
-    body = subst (λ (e : Extent). IsSized e (length (body_of_command command))) (sym placed.body_is) (sized_body command used used₁ body takes);
+    bodies = subst (λ (l : List Extent). AllZip (λ extent bytes. IsSized extent (length bytes)) l (bodies_of_command command)) (sym placed.bodies_are)
+        (sized_each (bodies_of_command command) used used₁ extents takes);
     directory = sized_directory;
     listable = listable_next;
     whole = whole_next;

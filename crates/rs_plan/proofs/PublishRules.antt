@@ -4,7 +4,6 @@ use Rattle.std.specs.Prelude.{All, IsTrue, MatchOption, slice_get, take, drop}
 use Rattle.std.specs.List.{AllByRecursion}
 use Rattle.std.proofs.lemmas.List.Elements.{All-nil, All-cons, All-head, All-tail, All-take, All-drop}
 use Rattle.rs_time.specs.Moment.{IsMoment}
-use Rattle.rs_extent.specs.declared.Extent.{Extent}
 use Rattle.rs_commit.specs.declared.root.Root.{Root}
 use Rattle.rs_record.specs.declared.record.Record.{Record}
 use Rattle.rs_record.specs.declared.change.Change.{Change}
@@ -21,7 +20,6 @@ use Rattle.rs_image.specs.StateOfImage.{state_in}
 use Rattle.rs_image.specs.Whole.{IsWhole, IsSoundRecord, IsSoundChange, HasFirstPart, AreMoments}
 use Rattle.rs_plan.specs.Allowed.{parts_dropped, changes_dropped, MayPublish}
 use Rattle.rs_plan.specs.Published.{published_header}
-use Rattle.rs_plan.proofs.Bodies.{AreBodies, bodies_same}
 use Rattle.rs_plan.proofs.Rules.{KeepsRules, later_records, later_changes}
 
 -- changes within two moments are after the first one
@@ -54,7 +52,7 @@ within_more low more high (c ∷ cs) all after =
     All-cons (IsSoundChange more high) c cs (record { moment = record { after = after.0; up_to = first.moment.up_to }; body = first.body })
     (within_more low more high cs (All-tail (IsSoundChange low high) c cs all) after.1)
 
-module _ (size : ℕ) (root : Root) (old c : Contents) (body : Extent) (moment : ℕ) (whole : IsWhole size root old)
+module _ (size : ℕ) (root : Root) (old c : Contents) (moment : ℕ) (whole : IsWhole size root old)
     (is_history : IsHistory old.history.pages) (lawful : IsLawfulHeader root.version old.header) (is_moment : IsMoment moment)
     (may : MayPublish old moment) (header : c.header ≡ published_header old moment) (catalogue : c.catalogue ≡ old.catalogue)
     (first : c.history.first ≡ old.history.first + parts_dropped old)
@@ -129,18 +127,19 @@ module _ (size : ℕ) (root : Root) (old c : Contents) (body : Extent) (moment :
   records : All (IsSoundRecord was.start moment) (records_of old.catalogue)
   records = later_records was.start was.last moment (records_of old.catalogue) (omega (arith, may.later)) whole.records
 
-  pub publish_rules : KeepsRules old body c
+  pub publish_rules : KeepsRules c
   publish_rules = record {
     header = subst (IsLawfulHeader written_format) (sym header) lawful_next;
     moments = subst (λ (h : Header). AreMoments h c) (sym header) moments_next;
     number = first ∙ ap (λ (k : ℕ). k + parts_dropped old) whole.number ∙ sym (ap (λ (h : Header). h.first) header);
-    records = subst (λ (h : Header). All (IsSoundRecord h.start h.last) (records_of c.catalogue)) (sym header)
-        (subst (λ (pages : List (Page Record)). All (IsSoundRecord was.start moment) (records_of pages)) (sym catalogue) records);
     changes = subst (λ (h : Header). All (IsSoundChange h.begin h.last) (changes_of c.history.pages)) (sym header)
         (subst (All (IsSoundChange next.begin moment)) (sym changes)
         (later_changes next.begin was.last moment (drop n cs) (omega (arith, may.later)) kept));
     listed = subst (λ (h : Header). All (IsSoundRecord h.start h.at) (records_of c.published)) (sym header)
         (subst (λ (pages : List (Page Record)). All (IsSoundRecord was.start moment) (records_of pages)) (sym published) records);
-    bodies = subst (λ (pages : List (Page Record)). AreBodies body (records_of old.catalogue) (records_of pages)) (sym catalogue)
-        (bodies_same body (records_of old.catalogue));
   }
+
+  pub publish_records : All (IsSoundRecord c.header.start c.header.last) (records_of c.catalogue)
+  publish_records =
+      subst (λ (h : Header). All (IsSoundRecord h.start h.last) (records_of c.catalogue)) (sym header)
+      (subst (λ (pages : List (Page Record)). All (IsSoundRecord was.start moment) (records_of pages)) (sym catalogue) records)

@@ -1,12 +1,13 @@
 -- The lists after a publication.
-use Rattle.std.proofs.Common.{◌≡◌, ℕ, ◌+◌, List, [], sym, ◌∙◌, ap, subst}
+use Rattle.std.proofs.Common.{◌≡◌, inr, ℕ, ◌+◌, List, [], ◌∷◌, ◌++◌, refl, sym, ◌∙◌, ap, subst}
 use Rattle.std.specs.Prelude.{drop}
+use Rattle.std.proofs.lemmas.List.{append-nil}
 use Rattle.rs_extent.specs.declared.Extent.{Extent}
 use Rattle.rs_record.specs.declared.record.Record.{Record}
 use Rattle.rs_record.specs.declared.change.Change.{Change}
-use Rattle.rs_page.specs.Pages.{Page, placed_extents}
+use Rattle.rs_page.specs.Pages.{Page, placed_extents, stored_refs, extents_of}
 use Rattle.rs_page.specs.SharedPages.{KeepsPages, IsSublist, stored_pages}
-use Rattle.rs_pages.specs.Dropped.{dropped_front, ReplacesFront, DropsAsOne, DroppingKeeps, DroppingReplacesFront}
+use Rattle.rs_pages.specs.Dropped.{dropped_front, front_pages, ReplacesFront, DropsAsOne, DroppingKeeps, DroppingReplacesFront}
 use Rattle.rs_changes.specs.History.{Numbered, changes_of, without_parts}
 use Rattle.rs_model.specs.declared.command.Command.TheVariants.{Publish}
 use Rattle.rs_image.specs.declared.contents.Contents.{Contents}
@@ -15,6 +16,7 @@ use Rattle.rs_plan.specs.Placed.{AreUnplaced}
 use Rattle.rs_plan.specs.Plans.{MayHavePlaces, IsNext}
 use Rattle.rs_plan.specs.Published.{published_header}
 use Rattle.rs_plan.proofs.Bodies.{itself}
+use Rattle.rs_plan.proofs.Parts.{shown_in}
 use Rattle.rs_plan.proofs.GivenBack.{Frees}
 use Rattle.rs_plan.proofs.Placing.{ruled_itself}
 use Rattle.rs_plan.proofs.Turns.{publish_turns}
@@ -41,8 +43,8 @@ module _ (old c : Contents) (moment : ℕ) (header : c.header ≡ published_head
         ((keeps (changes_dropped old) old.history.pages).1 none.history);
   }
 
-  pub publish_next : DropsAsOne Change → DroppingKeeps Change → AreUnplaced old → (body : Extent) → IsNext old Publish moment body c
-  publish_next drops keeps none body = record {
+  pub publish_next : DropsAsOne Change → DroppingKeeps Change → AreUnplaced old → IsNext old Publish moment [] c
+  publish_next drops keeps none = record {
     turns = λ image there. publish_turns old c moment header catalogue (changes_left drops) published image;
     catalogue = subst (λ (pages : List (Page Record)). IsSublist (stored_pages pages) (stored_pages old.catalogue)) (sym catalogue)
         (itself (stored_pages old.catalogue));
@@ -56,13 +58,14 @@ module _ (old c : Contents) (moment : ℕ) (header : c.header ≡ published_head
   }
 
   -- what goes from the old lists
-  pub publish_frees : DroppingReplacesFront Change → (body : Extent) → body.blocks ≡ 0 → Frees Publish old body c
-  publish_frees front body none = (
-    record {
-      catalogue = catalogue;
-      history = subst (ReplacesFront (changes_dropped old) old.history.pages) (sym pages_left)
-          (front (changes_dropped old) old.history.pages);
-      published = published;
-    },
-    none,
-  )
+  pub publish_frees : DroppingReplacesFront Change → (d : Extent) (freed : List Extent)
+      → freed ≡ d ∷ extents_of (stored_refs (front_pages (changes_dropped old) old.history.pages)) ++ shown_in old → Frees d old [] c freed
+  publish_frees front d freed freed_is =
+      inr (record {
+        parts = freed_is ∙ sym (append-nil (d ∷ extents_of (stored_refs (front_pages (changes_dropped old) old.history.pages)) ++ shown_in old));
+        catalogue = catalogue;
+        history = subst (ReplacesFront (changes_dropped old) old.history.pages) (sym pages_left)
+            (front (changes_dropped old) old.history.pages);
+        published = published;
+        none = refl;
+      })

@@ -1,6 +1,6 @@
 -- The rules that lists keep after a command, but for where their pages are.
 use Rattle.std.proofs.Common.{◌≡◌, ℕ, ◌-◌, ◌<◌, ◌≤◌, List, [], ◌∷◌, ◌++◌, length, max, Option, Some, refl, sym, ◌∙◌, ap, subst, arith}
-use Rattle.std.specs.Prelude.{All, MatchOption, IfSome, is_some, slice_get}
+use Rattle.std.specs.Prelude.{All, MatchOption, IfSome, slice_get}
 use Rattle.std.proofs.lemmas.List.{length-append}
 use Rattle.std.proofs.lemmas.List.Elements.{All-push, All-weaker}
 use Rattle.rs_time.specs.Moment.{IsMoment}
@@ -9,29 +9,26 @@ use Rattle.rs_body.specs.Blocks.{IsSized}
 use Rattle.rs_commit.specs.declared.root.Root.{Root}
 use Rattle.rs_record.specs.declared.record.Record.{Record}
 use Rattle.rs_record.specs.declared.change.Change.{Change}
-use Rattle.rs_record.specs.Changes.{bound, deleted}
 use Rattle.rs_catalogue.specs.Catalogue.{records_of}
 use Rattle.rs_catalogue.specs.Named.{named}
 use Rattle.rs_changes.specs.History.{changes_of, last_of}
-use Rattle.rs_model.specs.Names.{value_of, bind, unbind}
+use Rattle.rs_model.specs.Names.{bind, unbind}
 use Rattle.rs_record.specs.Limits.{longest_body}
-use Rattle.rs_model.specs.State.{facts_of}
 use Rattle.rs_page.specs.Pages.{Page}
 use Rattle.rs_directory.specs.declared.header.Header.{Header}
 use Rattle.rs_directory.specs.Directory.{IsLawfulHeader, written_format}
 use Rattle.rs_image.specs.declared.contents.Contents.{Contents}
 use Rattle.rs_image.specs.Whole.{IsWhole, IsSoundRecord, IsSoundChange, AreMoments}
 use Rattle.rs_plan.specs.Placed.{record_made}
-use Rattle.rs_plan.proofs.Bodies.{AreBodies, all_bound, all_unbound, bodies_bound, bodies_unbound}
+use Rattle.rs_plan.proofs.Bodies.{all_bound, all_unbound}
 
-pub record KeepsRules (old : Contents) (body : Extent) (c : Contents) : Type 0 where
+-- What lists keep whose records are looked at elsewhere.
+pub record KeepsRules (c : Contents) : Type 0 where
   pub header : IsLawfulHeader written_format c.header
   pub moments : AreMoments c.header c
   pub number : c.history.first ≡ c.header.first
-  pub records : All (IsSoundRecord c.header.start c.header.last) (records_of c.catalogue)
   pub changes : All (IsSoundChange c.header.begin c.header.last) (changes_of c.history.pages)
   pub listed : All (IsSoundRecord c.header.start c.header.at) (records_of c.published)
-  pub bodies : AreBodies body (records_of old.catalogue) (records_of c.catalogue)
 
 -- up to a later moment
 pub later_record : (low high more : ℕ) (r : Record) → high ≤ more → IsSoundRecord low high r → IsSoundRecord low more r
@@ -83,52 +80,56 @@ lawful_at h version moment lawful is = record {
   untold = λ one. absurd (omega arith);
 }
 
+-- what the lists of a root keep
+pub rules_of : (size : ℕ) (root : Root) (old : Contents) → IsWhole size root old → IsLawfulHeader root.version old.header → KeepsRules old
+rules_of size root old whole lawful = record {
+  header = lawful_at old.header root.version old.header.last lawful lawful.last;
+  moments = whole.moments;
+  number = whole.number;
+  changes = whole.changes;
+  listed = whole.listed;
+}
+
 -- The rules after a change of one name.
-changed : (size : ℕ) (root : Root) (old c : Contents) (body : Extent) (change : Change) (moment : ℕ) → IsWhole size root old → IsLawfulHeader root.version old.header → IsMoment moment
-    → old.header.last < moment → change.moment ≡ moment → IfSome change.facts (λ facts. facts.length ≤ longest_body)
-    → c.header ≡ record old.header { last = moment } → c.history.first ≡ old.history.first
-    → changes_of c.history.pages ≡ changes_of old.history.pages ++ change ∷ [] → c.published ≡ old.published
-    → All (IsSoundRecord old.header.start moment) (records_of c.catalogue) → AreBodies body (records_of old.catalogue) (records_of c.catalogue) → KeepsRules old body c
-changed size root old c body change moment whole lawful is later here long header first changes published records bodies =
+pub changed : (old c : Contents) (change : Change) (moment : ℕ) → KeepsRules old → IsMoment moment → old.header.last < moment → change.moment ≡ moment
+    → IfSome change.facts (λ facts. facts.length ≤ longest_body) → c.header ≡ record old.header { last = moment } → c.history.first ≡ old.history.first
+    → changes_of c.history.pages ≡ changes_of old.history.pages ++ change ∷ [] → c.published ≡ old.published → KeepsRules c
+changed old c change moment rules is later here long header first changes published =
     let h : Header = record old.header { last = moment } in
-    let begin : old.header.begin < moment = omega (arith, whole.moments.kept, whole.moments.at) in
+    let begin : old.header.begin < moment = omega (arith, rules.moments.kept, rules.moments.at) in
     let sound : IsSoundChange old.header.begin moment change = record { moment = record { after = omega (arith, here); up_to = omega (arith, here) }; body = long } in
     let all : All (IsSoundChange old.header.begin moment) (changes_of c.history.pages) =
     subst (All (IsSoundChange old.header.begin moment)) (sym changes)
-    (All-push (IsSoundChange old.header.begin moment) (changes_of old.history.pages) change (later_changes old.header.begin old.header.last moment (changes_of old.history.pages) (omega arith) whole.changes) sound) in
+    (All-push (IsSoundChange old.header.begin moment) (changes_of old.history.pages) change
+    (later_changes old.header.begin old.header.last moment (changes_of old.history.pages) (omega arith) rules.changes) sound) in
     let listed : All (IsSoundRecord old.header.start old.header.at) (records_of c.published) =
-    subst (λ (pages : List (Page Record)). All (IsSoundRecord old.header.start old.header.at) (records_of pages)) (sym published) whole.listed in
+    subst (λ (pages : List (Page Record)). All (IsSoundRecord old.header.start old.header.at) (records_of pages)) (sym published) rules.listed in
     record {
-      header = subst (IsLawfulHeader written_format) (sym header) (lawful_at old.header root.version moment lawful is);
-      moments = subst (λ (h : Header). AreMoments h c) (sym header) (moments_after old c change moment whole.moments later here changes);
-      number = first ∙ whole.number ∙ sym (ap (λ (h : Header). h.first) header);
-      records = subst (λ (h : Header). All (IsSoundRecord h.start h.last) (records_of c.catalogue)) (sym header) records;
+      header = subst (IsLawfulHeader written_format) (sym header) (lawful_at old.header written_format moment rules.header is);
+      moments = subst (λ (h : Header). AreMoments h c) (sym header) (moments_after old c change moment rules.moments later here changes);
+      number = first ∙ rules.number ∙ sym (ap (λ (h : Header). h.first) header);
       changes = subst (λ (h : Header). All (IsSoundChange h.begin h.last) (changes_of c.history.pages)) (sym header) all;
       listed = subst (λ (h : Header). All (IsSoundRecord h.start h.at) (records_of c.published)) (sym header) listed;
-      bodies = bodies;
     }
 
-pub put_rules : (size : ℕ) (root : Root) (old c : Contents) (name kind bytes : List ℕ) (body : Extent) (moment : ℕ) → IsWhole size root old
-    → IsLawfulHeader root.version old.header → IsMoment moment
-    → old.header.last < moment → length bytes ≤ longest_body → IsSized body (length bytes) → c.header ≡ record old.header { last = moment } → c.history.first ≡ old.history.first
+-- the records after a put
+pub put_records : (size : ℕ) (root : Root) (old c : Contents) (name kind bytes : List ℕ) (body : Extent) (moment : ℕ) → IsWhole size root old
+    → old.header.last < moment → length bytes ≤ longest_body → IsSized body (length bytes) → c.header ≡ record old.header { last = moment }
     → named (records_of c.catalogue) ≡ bind name (record_made name kind bytes body moment) (named (records_of old.catalogue))
-    → changes_of c.history.pages ≡ changes_of old.history.pages ++ bound name (is_some (value_of name (named (records_of old.catalogue)))) moment (facts_of kind bytes) ∷ []
-    → c.published ≡ old.published → KeepsRules old body c
-put_rules size root old c name kind bytes body moment whole lawful is later long sized header first records changes published =
+    → All (IsSoundRecord c.header.start c.header.last) (records_of c.catalogue)
+put_records size root old c name kind bytes body moment whole later long sized header records =
     let made : Record = record_made name kind bytes body moment in
     let start : old.header.start < moment = omega (arith, whole.moments.start, whole.moments.at) in
     let sound : IsSoundRecord old.header.start moment made = record { moment = record { after = start; up_to = omega arith }; body = long; sized = sized } in
-    changed size root old c body (bound name (is_some (value_of name (named (records_of old.catalogue)))) moment (facts_of kind bytes)) moment whole lawful is later refl long header first changes published
+    subst (λ (h : Header). All (IsSoundRecord h.start h.last) (records_of c.catalogue)) (sym header)
     (all_bound (IsSoundRecord old.header.start moment) name made (records_of old.catalogue) (records_of c.catalogue) records sound
     (later_records old.header.start old.header.last moment (records_of old.catalogue) (omega arith) whole.records))
-    (bodies_bound name made (records_of old.catalogue) (records_of c.catalogue) records)
 
-pub delete_rules : (size : ℕ) (root : Root) (old c : Contents) (name : List ℕ) (body : Extent) (moment : ℕ) → IsWhole size root old
-    → IsLawfulHeader root.version old.header → IsMoment moment
-    → old.header.last < moment → c.header ≡ record old.header { last = moment } → c.history.first ≡ old.history.first → named (records_of c.catalogue) ≡ unbind name (named (records_of old.catalogue))
-    → changes_of c.history.pages ≡ changes_of old.history.pages ++ deleted name moment ∷ [] → c.published ≡ old.published → KeepsRules old body c
-delete_rules size root old c name body moment whole lawful is later header first records changes published =
-    changed size root old c body (deleted name moment) moment whole lawful is later refl tt header first changes published
+-- and after a delete
+pub delete_records : (size : ℕ) (root : Root) (old c : Contents) (name : List ℕ) (moment : ℕ) → IsWhole size root old
+    → old.header.last < moment → c.header ≡ record old.header { last = moment }
+    → named (records_of c.catalogue) ≡ unbind name (named (records_of old.catalogue)) → All (IsSoundRecord c.header.start c.header.last) (records_of c.catalogue)
+delete_records size root old c name moment whole later header records =
+    subst (λ (h : Header). All (IsSoundRecord h.start h.last) (records_of c.catalogue)) (sym header)
     (all_unbound (IsSoundRecord old.header.start moment) name (records_of old.catalogue) (records_of c.catalogue) records
     (later_records old.header.start old.header.last moment (records_of old.catalogue) (omega arith) whole.records))
-    (bodies_unbound body name (records_of old.catalogue) (records_of c.catalogue) records)

@@ -123,38 +123,38 @@ mixed_apart kept xs ys old new old' new' one other olds news b is = not_true (in
   | inr n ↦ elim (other.comes b is') [ inl o' ↦ not_both (kept b) (other.olds b o') (one.news b n) | inr n' ↦ not_both (new' b) n' (news b n) ]
 ])
 
--- What is written: a body, catalogue pages, change pages and a directory, in free blocks and apart from one another.
-pub record AreNew (kept : ℕ → Bool) (body : Extent) (pa pb : List Extent) (d : Extent) : Type 0 where
-  pub apart : AreApart (body ∷ pa ++ pb ++ d ∷ [])
-  pub beside : (b : ℕ) → in_some (body ∷ pa ++ pb ++ d ∷ []) b ≡ true → kept b ≡ false
+-- What is written: bodies, catalogue pages, change pages and a directory, in free blocks and apart from one another.
+pub record AreNew (kept : ℕ → Bool) (bodies pa pb : List Extent) (d : Extent) : Type 0 where
+  pub apart : AreApart (bodies ++ pa ++ pb ++ d ∷ [])
+  pub beside : (b : ℕ) → in_some (bodies ++ pa ++ pb ++ d ∷ []) b ≡ true → kept b ≡ false
 
 -- What a command leaves of the old parts and of what it writes is apart.
-pub separate_next : (kept : ℕ → Bool) (d d' body : Extent) (a b c e a' b' c' e' pa pb : List Extent) (ka kb : List Extent)
-    → AreSeparate d a b c e → IsSubset (in_some (joined d a b c e)) kept → AreNew kept body pa pb d'
+pub separate_next : (kept : ℕ → Bool) (d d' : Extent) (bodies a b c e a' b' c' e' pa pb : List Extent) (ka kb : List Extent)
+    → AreSeparate d a b c e → IsSubset (in_some (joined d a b c e)) kept → AreNew kept bodies pa pb d'
     → IsSubset (in_some ka) (in_some a) → IsSubset (in_some kb) (in_some b)
     → ((k : ℕ) → in_some a' k ≡ true → (in_some ka k ≡ true) ⊎ (in_some pa k ≡ true))
     → ((k : ℕ) → in_some b' k ≡ true → (in_some kb k ≡ true) ⊎ (in_some pb k ≡ true))
     → ((k : ℕ) → in_some c' k ≡ true → (in_some a k ≡ true) ⊎ (in_some c k ≡ true))
-    → ((k : ℕ) → in_some e' k ≡ true → (in_some e k ≡ true) ⊎ (in_some (body ∷ []) k ≡ true))
+    → ((k : ℕ) → in_some e' k ≡ true → (in_some e k ≡ true) ⊎ (in_some bodies k ≡ true))
     → AreDisjoint (in_some ka) (in_some c')
     → AreApart a' → AreApart b' → AreApart c' → AreApart e' → AreSeparate d' a' b' c' e'
-separate_next kept d d' body a b c e a' b' c' e' pa pb ka kb was reached new in_a in_b of_a of_b of_c of_e beside apart_a apart_b apart_c apart_e =
+separate_next kept d d' bodies a b c e a' b' c' e' pa pb ka kb was reached new in_a in_b of_a of_b of_c of_e beside apart_a apart_b apart_c apart_e =
     let all = new.apart in
-    let three = apart_front (body ∷ pa ++ pb) (d' ∷ []) all in
-    let two = apart_front (body ∷ pa) pb three in
-    let last = apart_between (body ∷ pa ++ pb) (d' ∷ []) all in
-    let last_two = front (body ∷ pa) pb (in_some (d' ∷ [])) last in
-    let second = apart_between (body ∷ pa) pb three in
-    let pa_pb = behind (body ∷ []) pa (in_some pb) second in
-    let body_pa = apart_between (body ∷ []) pa two in
-    let body_pb = front (body ∷ []) pa (in_some pb) second in
-    let body_d = front (body ∷ []) pa (in_some (d' ∷ [])) last_two in
-    let pa_d = behind (body ∷ []) pa (in_some (d' ∷ [])) last_two in
-    let pb_d = behind (body ∷ pa) pb (in_some (d' ∷ [])) last in
-    let free_body : (k : ℕ) → in_some (body ∷ []) k ≡ true → kept k ≡ false = λ k is. new.beside k (some_front (body ∷ pa ++ pb) (d' ∷ []) k (some_front (body ∷ pa) pb k (some_front (body ∷ []) pa k is))) in
-    let free_pa : (k : ℕ) → in_some pa k ≡ true → kept k ≡ false = λ k is. new.beside k (some_front (body ∷ pa ++ pb) (d' ∷ []) k (some_front (body ∷ pa) pb k (some_behind (body ∷ []) pa k is))) in
-    let free_pb : (k : ℕ) → in_some pb k ≡ true → kept k ≡ false = λ k is. new.beside k (some_front (body ∷ pa ++ pb) (d' ∷ []) k (some_behind (body ∷ pa) pb k is)) in
-    let free_d : (k : ℕ) → in_some (d' ∷ []) k ≡ true → kept k ≡ false = λ k is. new.beside k (some_behind (body ∷ pa ++ pb) (d' ∷ []) k is) in
+    let three = apart_front (bodies ++ pa ++ pb) (d' ∷ []) all in
+    let two = apart_front (bodies ++ pa) pb three in
+    let last = apart_between (bodies ++ pa ++ pb) (d' ∷ []) all in
+    let last_two = front (bodies ++ pa) pb (in_some (d' ∷ [])) last in
+    let second = apart_between (bodies ++ pa) pb three in
+    let pa_pb = behind bodies pa (in_some pb) second in
+    let body_pa = apart_between bodies pa two in
+    let body_pb = front bodies pa (in_some pb) second in
+    let body_d = front bodies pa (in_some (d' ∷ [])) last_two in
+    let pa_d = behind bodies pa (in_some (d' ∷ [])) last_two in
+    let pb_d = behind (bodies ++ pa) pb (in_some (d' ∷ [])) last in
+    let free_body : (k : ℕ) → in_some bodies k ≡ true → kept k ≡ false = λ k is. new.beside k (some_front (bodies ++ pa ++ pb) (d' ∷ []) k (some_front (bodies ++ pa) pb k (some_front bodies pa k is))) in
+    let free_pa : (k : ℕ) → in_some pa k ≡ true → kept k ≡ false = λ k is. new.beside k (some_front (bodies ++ pa ++ pb) (d' ∷ []) k (some_front (bodies ++ pa) pb k (some_behind bodies pa k is))) in
+    let free_pb : (k : ℕ) → in_some pb k ≡ true → kept k ≡ false = λ k is. new.beside k (some_front (bodies ++ pa ++ pb) (d' ∷ []) k (some_behind (bodies ++ pa) pb k is)) in
+    let free_d : (k : ℕ) → in_some (d' ∷ []) k ≡ true → kept k ≡ false = λ k is. new.beside k (some_behind (bodies ++ pa ++ pb) (d' ∷ []) k is) in
     let c_a_c : (other : ℕ → Bool) → AreDisjoint (in_some a) other → AreDisjoint (in_some c) other → AreDisjoint (in_some c') other =
     λ other one two k is. elim (of_c k is) [ inl here ↦ one k here | inr there ↦ two k there ] in
     let mixed_d : IsMixed kept (d' ∷ []) none (in_some (d' ∷ [])) = record { comes = λ k is. inr is; olds = λ k is. absurd (true≢false (sym is)); news = free_d } in
@@ -165,7 +165,7 @@ separate_next kept d d' body a b c e a' b' c' e' pa pb ka kb was reached new in_
       olds = λ k is. reached k (elim (of_c k is) [ inl here ↦ a_in d a b c e k here | inr there ↦ c_in d a b c e k there ]);
       news = λ k is. absurd (true≢false (sym is));
     } in
-    let mixed_e : IsMixed kept e' (in_some e) (in_some (body ∷ [])) = record { comes = of_e; olds = λ k is. reached k (e_in d a b c e k is); news = free_body } in
+    let mixed_e : IsMixed kept e' (in_some e) (in_some bodies) = record { comes = of_e; olds = λ k is. reached k (e_in d a b c e k is); news = free_body } in
     record {
       in_a = apart_a;
       in_b = apart_b;
@@ -174,13 +174,13 @@ separate_next kept d d' body a b c e a' b' c' e' pa pb ka kb was reached new in_
       da = mixed_apart kept (d' ∷ []) a' none (in_some (d' ∷ [])) (in_some ka) (in_some pa) mixed_d mixed_a (none_left (in_some ka)) (turned (in_some pa) (in_some (d' ∷ [])) pa_d);
       db = mixed_apart kept (d' ∷ []) b' none (in_some (d' ∷ [])) (in_some kb) (in_some pb) mixed_d mixed_b (none_left (in_some kb)) (turned (in_some pb) (in_some (d' ∷ [])) pb_d);
       dc = mixed_apart kept (d' ∷ []) c' none (in_some (d' ∷ [])) (in_some c') none mixed_d mixed_c (none_left (in_some c')) (none_right (in_some (d' ∷ [])));
-      de = mixed_apart kept (d' ∷ []) e' none (in_some (d' ∷ [])) (in_some e) (in_some (body ∷ [])) mixed_d mixed_e (none_left (in_some e)) (turned (in_some (body ∷ [])) (in_some (d' ∷ [])) body_d);
+      de = mixed_apart kept (d' ∷ []) e' none (in_some (d' ∷ [])) (in_some e) (in_some bodies) mixed_d mixed_e (none_left (in_some e)) (turned (in_some bodies) (in_some (d' ∷ [])) body_d);
       ab = mixed_apart kept a' b' (in_some ka) (in_some pa) (in_some kb) (in_some pb) mixed_a mixed_b (narrowed (in_some ka) (in_some a) (in_some kb) (in_some b) in_a in_b was.ab) pa_pb;
       ac = mixed_apart kept a' c' (in_some ka) (in_some pa) (in_some c') none mixed_a mixed_c beside (none_right (in_some pa));
-      ae = mixed_apart kept a' e' (in_some ka) (in_some pa) (in_some e) (in_some (body ∷ [])) mixed_a mixed_e (λ k is. was.ae k (in_a k is)) (turned (in_some (body ∷ [])) (in_some pa) body_pa);
+      ae = mixed_apart kept a' e' (in_some ka) (in_some pa) (in_some e) (in_some bodies) mixed_a mixed_e (λ k is. was.ae k (in_a k is)) (turned (in_some bodies) (in_some pa) body_pa);
       bc = mixed_apart kept b' c' (in_some kb) (in_some pb) (in_some c') none mixed_b mixed_c
           (turned (in_some c') (in_some kb) (c_a_c (in_some kb) (λ k is. not_true (in_some kb k) (λ here. not_both (in_some b k) (in_b k here) (was.ab k is)))
           (λ k is. not_true (in_some kb k) (λ here. not_both (in_some c k) is (was.bc k (in_b k here)))))) (none_right (in_some pb));
-      be = mixed_apart kept b' e' (in_some kb) (in_some pb) (in_some e) (in_some (body ∷ [])) mixed_b mixed_e (λ k is. was.be k (in_b k is)) (turned (in_some (body ∷ [])) (in_some pb) body_pb);
-      ce = mixed_apart kept c' e' (in_some c') none (in_some e) (in_some (body ∷ [])) mixed_c mixed_e (c_a_c (in_some e) was.ae was.ce) (none_left (in_some (body ∷ [])));
+      be = mixed_apart kept b' e' (in_some kb) (in_some pb) (in_some e) (in_some bodies) mixed_b mixed_e (λ k is. was.be k (in_b k is)) (turned (in_some bodies) (in_some pb) body_pb);
+      ce = mixed_apart kept c' e' (in_some c') none (in_some e) (in_some bodies) mixed_c mixed_e (c_a_c (in_some e) was.ae was.ce) (none_left (in_some bodies));
     }

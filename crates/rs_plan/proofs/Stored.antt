@@ -37,16 +37,6 @@ all_stored format (page ∷ pages) h =
     (is_stored_one format page.items page.place (All-head (λ page. ¬ IsTouched page.place) page pages h))
     (all_stored format pages (All-tail (λ page. ¬ IsTouched page.place) page pages h))
 
-count_one : (o : Option PageRef) (refs : List PageRef) → IsSome o → length (cons_option o refs) ≡ 1 + length refs
-count_one None refs h = cc
-count_one (Some ref) refs h = omega arith
-
--- as many references as pages
-pub count_refs : {T : Type 0} (pages : List (Page T)) → All IsStored pages → length (stored_refs pages) ≡ length pages
-count_refs [] h = refl
-count_refs (page ∷ pages) h =
-    omega (arith, count_one (stored_ref page.place) (stored_refs pages) (All-head IsStored page pages h), count_refs pages (All-tail IsStored page pages h))
-
 pub length_stored : {T : Type 0} (format : ItemFormat T) (pages : List (Page T)) → length (stored format pages) ≡ length pages
 length_stored format [] = refl
 length_stored format (page ∷ pages) = omega (arith, length_stored format pages)

@@ -1,5 +1,5 @@
 -- Lists of which another one has some elements, in their order.
-use Rattle.std.proofs.Common.{true≢false, ◌≡◌, inl, inr, ℕ, Bool, true, false, ◌||◌, cond, List, [], ◌∷◌, map, Option, Some, None, refl, sym, ap, subst}
+use Rattle.std.proofs.Common.{true≢false, ◌≡◌, inl, inr, ℕ, Bool, true, false, ◌||◌, cond, List, [], ◌∷◌, map, Option, Some, None, refl, sym, ◌∙◌, ap, subst}
 use Rattle.std.specs.Prelude.{All, filter, filter_map}
 use Rattle.std.specs.List.{cons_option, list_any}
 use Rattle.std.proofs.lemmas.Bool.{or_left, or_right}
@@ -67,6 +67,19 @@ any_of p (x ∷ xs) [] h is = absurd h
 any_of p (x ∷ xs) (y ∷ ys) h is = elim h [
   | inl both ↦ any_split (p x) (p y) (list_any p xs) (list_any p ys) (ap p both.0) (any_of p xs ys both.1) is
   | inr later ↦ or_right (p y) (list_any p ys) (any_of p (x ∷ xs) ys later is)
+]
+
+-- some elements of some elements of a list are some of its own
+pub among : {A : Type 0} (xs ys zs : List A) → IsSublist xs ys → IsSublist ys zs → IsSublist xs zs
+among [] ys zs h k = tt
+among (x ∷ xs) [] zs h k = absurd h
+among (x ∷ xs) (y ∷ ys) [] h k = absurd k
+among {A} (x ∷ xs) (y ∷ ys) (z ∷ zs) h k = elim k [
+  | inl both ↦ elim h [
+    | inl first ↦ inl (first.0 ∙ both.0, among xs ys zs first.1 both.1)
+    | inr later ↦ inr (among (x ∷ xs) ys zs later both.1)
+  ]
+  | inr skips ↦ inr (among (x ∷ xs) (y ∷ ys) zs h skips)
 ]
 
 -- blocks of extents

@@ -35,7 +35,7 @@ held_shown image [] = refl
 held_shown image (r ∷ records) = ap (λ rest. held_in image r ∷ rest) (held_shown image records)
 
 -- a name is held in an image where a record has it
-some_mapped : {A B : Type 0} (f : A → B) (o : Option A) → is_some (option_map f o) ≡ is_some o
+pub some_mapped : {A B : Type 0} (f : A → B) (o : Option A) → is_some (option_map f o) ≡ is_some o
 some_mapped f None = refl
 some_mapped f (Some x) = refl
 

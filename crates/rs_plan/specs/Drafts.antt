@@ -3,7 +3,7 @@ use Rattle.std.specs.Prelude.{ℕ, List}
 use Rattle.rs_fixity.specs.declared.Digests.{Digests}
 use Rattle.rs_record.specs.declared.record.Record.{Record}
 use Rattle.rs_record.specs.declared.change.Change.{Change}
-use Rattle.rs_pages.specs.Laws.{BindsAsOne, AppendsAsOne, FillingBound, FillingAppended, BindingTouchesOne, UnbindingTouchesOne, AppendingTouchesOne}
+use Rattle.rs_pages.specs.Laws.{BindsAsOne, UnbindsAsOne, AppendsAsOne, FillingBound, FillingAppended, BindingTouchesOne, UnbindingTouchesOne, AppendingTouchesOne}
 use Rattle.rs_catalogue.specs.Catalogue.{StandsUnstored}
 use Rattle.rs_catalogue.specs.Filled.{pages_filled}
 use Rattle.rs_changes.specs.History.{EndsUnstored, with_pages}
@@ -26,7 +26,7 @@ abbrev pub plan_filled : List ℕ → Digests → Plan → Plan
 plan_filled name digests p =
     record {
       contents = lists_filled name digests p.contents;
-      body = p.body;
+      bodies = p.bodies;
       directory = p.directory;
       reply = p.reply;
       taken = p.taken;
@@ -38,10 +38,11 @@ pub record AwaitsBody (name : List ℕ) (p : Plan) : Type 0 where
   pub catalogue : StandsUnstored name p.contents.catalogue
   pub history : EndsUnstored p.contents.history.pages
 
--- What the page rule keeps of the lists of a draft: the item that is bound or appended stands in a page that is not stored, and filling it
+-- What the page rule keeps of the lists of a draft, and of a group: the item that is bound or appended stands in a page that is not stored, and filling it
 -- gives the pages that have it filled from the start.
 pub record IsPageRuleKept : Type 0 where
   pub bound : BindsAsOne (λ (r : Record). r.name)
+  pub unbound : UnbindsAsOne (λ (r : Record). r.name)
   pub appended : AppendsAsOne Change
   pub filled : FillingBound (λ (r : Record). r.name)
   pub filled_last : FillingAppended Change

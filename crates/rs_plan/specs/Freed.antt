@@ -11,13 +11,13 @@ use Rattle.rs_pages.specs.Entries.{entry_at, open_entry}
 use Rattle.rs_catalogue.specs.Catalogue.{records_of}
 use Rattle.rs_catalogue.specs.Named.{named}
 use Rattle.rs_model.specs.Names.{value_of}
-use Rattle.rs_model.specs.declared.command.Command.{Command}
-use Rattle.rs_model.specs.declared.command.Command.TheVariants.{Put, Delete, Publish}
+use Rattle.rs_model.specs.declared.command.Item.{Item}
 use Rattle.rs_image.specs.declared.contents.Contents.{Contents}
 use Rattle.rs_pages.specs.Storing.{unshared}
 use Rattle.rs_image.specs.Reach.{bodies_of}
 use Rattle.rs_image.specs.Rooted.{Rooted}
 use Rattle.rs_plan.specs.Allowed.{changes_dropped}
+use Rattle.rs_plan.specs.Turned.{of_each_item}
 
 -- an entry, unless one of the published pages has it
 abbrev pub unpublished : Option PageRef → List PageRef → Option PageRef
@@ -36,13 +36,26 @@ extent_of_page page = extents_of (cons_option page [])
 abbrev pub extent_of_body : Contents → List ℕ → List Extent
 extent_of_body c name = bodies_of (cons_option (value_of name (named (records_of c.catalogue))) [])
 
--- What a change of a name frees: the directory, the touched page of the catalogue where it is not published, the touched page of the
--- history, and the body that the name had.
+-- What a change of a name frees beside the directory: the touched page of the catalogue where it is not published, ..
+abbrev pub freed_page : Contents → List ℕ → List Extent
+freed_page c name = extent_of_page (unpublished (entry_of_name c name) (stored_refs c.published))
+
+-- .. the touched page of the history, whatever the name is, and the body that the name had.
+abbrev pub freed_history_page : Contents → List ℕ → List Extent
+freed_history_page c name = extent_of_page (open_entry c.history.pages)
+
+-- what it frees in all
 abbrev pub freed_by_change : Rooted → List ℕ → List Extent
 freed_by_change old name =
+    old.root.directory ∷ freed_page old.contents name ++ freed_history_page old.contents name ++ extent_of_body old.contents name
+
+-- What a group frees, whose first item comes at this moment, and whose bodies stand in these extents: the directory, and what each of its items
+-- does in the lists before it.
+abbrev pub freed_by_group : Rooted → List Item → ℕ → List Extent → List Extent
+freed_by_group old items moment bodies =
     old.root.directory
-    ∷ extent_of_page (unpublished (entry_of_name old.contents name) (stored_refs old.contents.published))
-    ++ extent_of_page (open_entry old.contents.history.pages) ++ extent_of_body old.contents name
+    ∷ of_each_item freed_page old.contents items moment bodies ++ of_each_item freed_history_page old.contents items moment bodies
+    ++ of_each_item extent_of_body old.contents items moment bodies
 
 -- What a publication frees: the directory, the pages of the history that have a change that it drops, and the published pages that are
 -- no pages of the catalogue.
@@ -51,9 +64,3 @@ freed_by_publication old =
     old.root.directory
     ∷ extents_of (stored_refs (front_pages (changes_dropped old.contents) old.contents.history.pages))
     ++ extents_of (unshared (stored_refs old.contents.published) (stored_refs old.contents.catalogue))
-
--- what a command frees
-abbrev pub freed_by : Command → Rooted → List Extent
-freed_by (Put name kind bytes) old = freed_by_change old name
-freed_by (Delete name) old = freed_by_change old name
-freed_by Publish old = freed_by_publication old

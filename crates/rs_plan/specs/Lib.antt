@@ -1,8 +1,9 @@
 pub mod Allowed
 pub mod Replies
 pub mod Room
-pub mod Plans
 pub mod Placed
+pub mod Turned
+pub mod Plans
 pub mod Published
 pub mod Freed
 pub mod Drafts

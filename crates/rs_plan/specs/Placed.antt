@@ -1,5 +1,5 @@
 -- How the lists after a command are given blocks.
-use Rattle.std.specs.Prelude.{◌≡◌, ℕ, ◌+◌, Bool, true, List, [], length, All}
+use Rattle.std.specs.Prelude.{◌≡◌, ℕ, ◌+◌, Bool, List, [], length, All}
 use Rattle.rs_extent.specs.declared.Extent.{Extent}
 use Rattle.rs_fixity.specs.Digests.{digests}
 use Rattle.rs_fixity.specs.declared.Digests.{Digests}
@@ -9,10 +9,9 @@ use Rattle.rs_body.specs.Blocks.{blocks_of}
 use Rattle.rs_page.specs.Items.{record_format, change_format}
 use Rattle.rs_page.specs.Pages.{IsTouched, placed_extents}
 use Rattle.rs_page.specs.Placing.{Places}
-use Rattle.rs_extent.specs.Blocks.{Sets}
 use Rattle.rs_extent.specs.Extents.{AreTaken}
-use Rattle.rs_directory.specs.Directory.{directory_length}
 use Rattle.rs_image.specs.declared.contents.Contents.{Contents}
+use Rattle.rs_image.specs.StateOfImage.{directory_bytes_of}
 use Rattle.rs_plan.specs.declared.plan.Plan.{Plan}
 use Rattle.rs_plan.specs.Room.{Takes, HasNoRoom, lists_needed}
 
@@ -34,13 +33,9 @@ pub record AreUnplaced (c : Contents) : Type 0 where
   pub catalogue : placed_extents c.catalogue ≡ []
   pub history : placed_extents c.history.pages ≡ []
 
--- how many bytes the directory of these lists has, once all pages are stored
-abbrev pub directory_bytes_of : Contents → ℕ
-directory_bytes_of c = directory_length c.header (length c.catalogue + length c.history.pages + length c.published)
-
 -- The pages of these lists, and then their directory, took blocks of a disk: first those of the catalogue, then those of
 -- the history. Nothing else of the lists changed.
-pub record HasItsPlaces (used : List Bool) (body : Extent) (c : Contents) (p : Plan) : Type 0 where
+pub record HasItsPlaces (used : List Bool) (bodies : List Extent) (c : Contents) (p : Plan) : Type 0 where
   pub after_catalogue : List Bool
   pub after_history : List Bool
   pub after : List Bool
@@ -54,7 +49,7 @@ pub record HasItsPlaces (used : List Bool) (body : Extent) (c : Contents) (p : P
   pub header : p.contents.header ≡ c.header
   pub first : p.contents.history.first ≡ c.history.first
   pub published : p.contents.published ≡ c.published
-  pub body_is : p.body ≡ body
+  pub bodies_are : p.bodies.items ≡ bodies
 
 -- Touched pages of lists, and then a directory, took blocks of a disk, and nothing else of the lists changed.
 pub record HaveTheirPlaces (used : List Bool) (c placed : Contents) (found : Extent) (after : List Bool) : Type 0 where
@@ -71,14 +66,14 @@ pub record HaveTheirPlaces (used : List Bool) (c placed : Contents) (found : Ext
   pub first : placed.history.first ≡ c.history.first
   pub published : placed.published ≡ c.published
 
--- A plan has a body that is free, and then its pages and its directory take blocks.
-pub record IsPlacedFrom (used : List Bool) (body : Extent) (c : Contents) (p : Plan) : Type 0 where
-  pub after_body : List Bool
-  pub sets : Sets used after_body body true
-  pub placed : HasItsPlaces after_body body c p
+-- A plan has bodies that are free, and then its pages and its directory take blocks.
+pub record IsPlacedFrom (used : List Bool) (bodies : List Extent) (c : Contents) (p : Plan) : Type 0 where
+  pub after_bodies : List Bool
+  pub takes : AreTaken used after_bodies bodies
+  pub placed : HasItsPlaces after_bodies bodies c p
 
--- With a body taken that is free, there is no room for lists.
-pub record HasNoRoomFrom (used : List Bool) (body : Extent) (c : Contents) : Type 0 where
-  pub after_body : List Bool
-  pub sets : Sets used after_body body true
-  pub fails : HasNoRoom after_body (lists_needed c)
+-- With bodies taken that are free, there is no room for lists.
+pub record HasNoRoomFrom (used : List Bool) (bodies : List Extent) (c : Contents) : Type 0 where
+  pub after_bodies : List Bool
+  pub takes : AreTaken used after_bodies bodies
+  pub fails : HasNoRoom after_bodies (lists_needed c)

@@ -1,5 +1,5 @@
 -- What a command is about to write.
-use Rattle.std.specs.Prelude.{◌≡◌, ◌⊎◌, ℕ, Bool, true, not, ◌&&◌, ◌||◌, List, [], ◌∷◌, ◌++◌, length, All, None, is_some}
+use Rattle.std.specs.Prelude.{◌≡◌, ◌⊎◌, ℕ, Bool, true, not, ◌&&◌, ◌||◌, List, [], ◌∷◌, ◌++◌, length, All, None}
 use Rattle.std.specs.List.{AllZip}
 use Rattle.rs_extent.specs.declared.Extent.{Extent}
 use Rattle.rs_fixity.specs.Digests.{digests}
@@ -7,24 +7,17 @@ use Rattle.rs_body.specs.Blocks.{part, IsSized}
 use Rattle.rs_extent.specs.Extents.{in_some, AreBeside, AreApart}
 use Rattle.rs_commit.specs.declared.root.Root.{Root}
 use Rattle.rs_commit.specs.Commit.{next}
-use Rattle.rs_record.specs.declared.record.Record.{Record}
-use Rattle.rs_record.specs.declared.change.Change.{Change}
-use Rattle.rs_record.specs.Changes.{bound, deleted}
-use Rattle.rs_model.specs.Names.{value_of}
-use Rattle.rs_model.specs.State.{facts_of}
 use Rattle.rs_model.specs.Step.{next_state, reply_to}
 use Rattle.rs_model.specs.declared.command.Command.{Command}
-use Rattle.rs_model.specs.declared.command.Command.TheVariants.{Put, Delete, Publish}
+use Rattle.rs_model.specs.declared.command.Command.TheVariants.{Put, Delete, Publish, Group}
+use Rattle.rs_model.specs.declared.command.Item.TheVariants as single
 use Rattle.rs_page.specs.Items.{record_format, change_format}
 use Rattle.rs_page.specs.Pages.{Page, IsTouched, WhereTouched, placed_extents, stored, stored_ref}
 use Rattle.rs_page.specs.DiskPages.{IsWritten}
 use Rattle.rs_page.specs.SharedPages.{KeepsPages}
-use Rattle.rs_pages.specs.Rule.{bound_in, unbound_in, appended_to}
 use Rattle.rs_pages.specs.Dropped.{dropped_front}
 use Rattle.rs_changes.specs.History.{with_pages}
 use Rattle.rs_directory.specs.Directory.{written_format}
-use Rattle.rs_catalogue.specs.Catalogue.{records_of}
-use Rattle.rs_catalogue.specs.Named.{named}
 use Rattle.rs_image.specs.declared.contents.Contents.{Contents}
 use Rattle.rs_image.specs.Reach.{reach, is_kept, AreInside}
 use Rattle.rs_image.specs.Whole.{IsWhole}
@@ -32,14 +25,13 @@ use Rattle.rs_image.specs.StateOfImage.{state_in, listing, AreListable}
 use Rattle.rs_image.specs.Rooted.{Rooted, AreUsed}
 use Rattle.rs_plan.specs.declared.plan.Plan.{Plan}
 use Rattle.rs_plan.specs.Allowed.{changes_dropped}
-use Rattle.rs_plan.specs.Room.{Takes, HasNoRun, HasNoRoom, lists_needed, body_needed}
-use Rattle.rs_plan.specs.Placed.{AreUnplaced, HasItsPlaces, record_made}
+use Rattle.rs_plan.specs.Room.{HasNoRoom, TakesEach, lists_needed, bodies_needed, bodies_of_command}
+use Rattle.rs_plan.specs.Placed.{AreUnplaced, HasItsPlaces}
+use Rattle.rs_plan.specs.Turned.{no_body, first_of, lists_after_item, lists_after_items}
 
--- the body that a command writes
-abbrev pub body_of_command : Command → List ℕ
-body_of_command (Put name kind bytes) = bytes
-body_of_command (Delete name) = []
-body_of_command Publish = []
+-- these bodies stand in these extents, each in its own
+abbrev pub AreBodies : List ℕ → List Extent → List (List ℕ) → Type 0
+AreBodies image extents bodies = AllZip (λ extent bytes. part extent (length bytes) image ≡ bytes) extents bodies
 
 -- a page that is touched may have been given blocks; any other stays as it is
 abbrev pub MayHavePlace : {T : Type 0} → Page T → Page T → Type 0
@@ -49,41 +41,40 @@ MayHavePlace page placed = (placed.items ≡ page.items) × WhereTouched page.pl
 abbrev pub MayHavePlaces : {T : Type 0} → List (Page T) → List (Page T) → Type 0
 MayHavePlaces pages placed = AllZip MayHavePlace pages placed
 
--- the change that a put of these bytes makes, where these are the lists before it
-abbrev pub change_put : Contents → List ℕ → List ℕ → List ℕ → ℕ → Change
-change_put old name kind bytes moment = bound name (is_some (value_of name (named (records_of old.catalogue)))) moment (facts_of kind bytes)
+-- the pages of these lists, each of which that is touched may have been given blocks; what is published stays
+abbrev pub AreChanged : Contents → Contents → Contents → Type 0
+AreChanged next old c =
+    MayHavePlaces next.catalogue c.catalogue × MayHavePlaces next.history.pages c.history.pages × (c.published ≡ old.published)
 
--- The pages after a command at its moment, whose body stands in an extent, are those of the page rule: a record is bound or unbound in
--- the pages of the catalogue, and a change is appended to those of the history. A publication lists the pages of the catalogue,
--- touches none of them, and drops the first changes of the history; any other command leaves what is published.
-abbrev pub ArePagesAfter : Contents → Command → ℕ → Extent → Contents → Type 0
-ArePagesAfter old (Put name kind bytes) moment body c =
-    MayHavePlaces (bound_in (λ (r : Record). r.name) (record_made name kind bytes body moment) old.catalogue) c.catalogue
-    × MayHavePlaces (appended_to (change_put old name kind bytes moment) old.history.pages) c.history.pages × (c.published ≡ old.published)
-ArePagesAfter old (Delete name) moment body c =
-    MayHavePlaces (unbound_in (λ (r : Record). r.name) name old.catalogue) c.catalogue
-    × MayHavePlaces (appended_to (deleted name moment) old.history.pages) c.history.pages × (c.published ≡ old.published)
-ArePagesAfter old Publish moment body c =
+-- The pages after a command at its moment, whose bodies stand in these extents, are those of the page rule: a record is bound or unbound
+-- in the pages of the catalogue, and a change is appended to those of the history; by a group so for each of its items. A
+-- publication lists the pages of the catalogue, touches none of them, and drops the first changes of the history; any other command
+-- leaves what is published.
+abbrev pub ArePagesAfter : Contents → Command → ℕ → List Extent → Contents → Type 0
+ArePagesAfter old (Put name kind bytes) moment bodies c = AreChanged (lists_after_item old (single.Put name kind bytes) moment (first_of bodies)) old c
+ArePagesAfter old (Delete name) moment bodies c = AreChanged (lists_after_item old (single.Delete name) moment no_body) old c
+ArePagesAfter old Publish moment bodies c =
     (c.catalogue ≡ old.catalogue) × MayHavePlaces (dropped_front (changes_dropped old) old.history.pages) c.history.pages
     × (c.published ≡ old.catalogue)
+ArePagesAfter old (Group items) moment bodies c = AreChanged (lists_after_items old items moment bodies) old c
 
--- The lists after a command at its moment: where its body stands in an extent, they tell the next state, of whatever the old
+-- The lists after a command at its moment: where its bodies stand in these extents, they tell the next state, of whatever the old
 -- lists tell; and their stored pages are pages of the old ones.
-pub record IsNext (old : Contents) (command : Command) (moment : ℕ) (body : Extent) (c : Contents) : Type 0 where
-  pub turns : (image : List ℕ) → part body (length (body_of_command command)) image ≡ body_of_command command
+pub record IsNext (old : Contents) (command : Command) (moment : ℕ) (bodies : List Extent) (c : Contents) : Type 0 where
+  pub turns : (image : List ℕ) → AreBodies image bodies (bodies_of_command command)
       → state_in image c ≡ next_state (state_in image old) command moment
   pub catalogue : KeepsPages old.catalogue c.catalogue
   pub history : KeepsPages old.history.pages c.history.pages
-  pub pages : ArePagesAfter old command moment body c
+  pub pages : ArePagesAfter old command moment bodies c
 
--- A command lacks room: with those blocks used that the root reaches, its body has no run; or it takes the lowest, and then
--- the pages that it touches and its directory have not all one, each being given the lowest of its own size in turn.
+-- A command lacks room: with those blocks used that the root reaches, one of its bodies has no run, each being given the lowest of its
+-- own size in turn; or they have, and then the pages that it touches and its directory have not all one.
 pub record LacksRoom (old : Rooted) (command : Command) (moment : ℕ) : Type 0 where
   pub used : List Bool
   pub are_used : AreUsed old used
-  pub fails : HasNoRun used (body_needed command)
-      ⊎ ((used' : List Bool) × (body : Extent) × (c : Contents) × Takes used (body_needed command) body used'
-      × IsNext old.contents command moment body c × HasNoRoom used' (lists_needed c))
+  pub fails : HasNoRoom used (bodies_needed (bodies_of_command command))
+      ⊎ ((used' : List Bool) × (bodies : List Extent) × (c : Contents) × TakesEach used (bodies_needed (bodies_of_command command)) bodies used'
+      × IsNext old.contents command moment bodies c × HasNoRoom used' (lists_needed c))
 
 -- the lists once their pages are stored
 abbrev pub once_stored : Contents → Contents
@@ -95,10 +86,10 @@ once_stored c =
       published = c.published;
     }
 
--- what a plan writes to, in the order in which it was found: the body, the catalogue pages, the change pages, the directory
+-- what a plan writes to, in the order in which it was found: the bodies, the catalogue pages, the change pages, the directory
 abbrev pub places : Plan → List Extent
 places p =
-    p.body ∷ placed_extents p.contents.catalogue ++ placed_extents p.contents.history.pages ++ p.directory ∷ []
+    p.bodies.items ++ placed_extents p.contents.catalogue ++ placed_extents p.contents.history.pages ++ p.directory ∷ []
 
 -- the bytes of the directory that it writes, in the version that is written
 abbrev pub planned_listing : Plan → List ℕ
@@ -109,16 +100,16 @@ abbrev pub planned_root : Root → Plan → Root
 planned_root root p = next root p.directory (length (planned_listing p)) (digests (planned_listing p)).sha256
 
 -- Each part of a plan is given the lowest run of its size, in the order of `places`: with those blocks used that the root
--- reaches, first its body; then, of lists whose touched pages have no place yet, the catalogue pages and the change pages;
+-- reaches, first its bodies; then, of lists whose touched pages have no place yet, the catalogue pages and the change pages;
 -- then the directory.
 pub record TakesInTurn (old : Rooted) (command : Command) (p : Plan) : Type 0 where
   pub used : List Bool
-  pub after_body : List Bool
+  pub after_bodies : List Bool
   pub lists : Contents
   pub are_used : AreUsed old used
-  pub body : Takes used (body_needed command) p.body after_body
+  pub bodies : TakesEach used (bodies_needed (bodies_of_command command)) p.bodies.items after_bodies
   pub unplaced : AreUnplaced lists
-  pub placed : HasItsPlaces after_body p.body lists p
+  pub placed : HasItsPlaces after_bodies p.bodies.items lists p
 
 -- What a plan takes and gives back: its places are listed; what it gives back is reached by the old root, no two things of it with a
 -- block in common; and the next root reaches what the old one reached, less what is given back, and the places.
@@ -133,7 +124,7 @@ pub record TakesAndGives (old : Rooted) (p : Plan) : Type 0 where
 -- not reach, no two parts of it into the same; each part has a place of its size, the lowest that there is in its turn; what
 -- the next root no longer reaches is given back; and what it reaches keeps all rules.
 pub record IsPlanned (old : Rooted) (command : Command) (moment : ℕ) (p : Plan) : Type 0 where
-  pub next : IsNext old.contents command moment p.body p.contents
+  pub next : IsNext old.contents command moment p.bodies.items p.contents
   pub reply : (image : List ℕ) → p.reply ≡ reply_to (state_in image old.contents) command moment
   pub in_turn : TakesInTurn old command p
   pub free : AreBeside (is_kept old.root old.contents) (places p)
@@ -141,15 +132,15 @@ pub record IsPlanned (old : Rooted) (command : Command) (moment : ℕ) (p : Plan
   pub inside : AreInside old.size (places p)
   pub catalogue : All (λ page. ¬ IsTouched page.place) p.contents.catalogue
   pub history : All (λ page. ¬ IsTouched page.place) p.contents.history.pages
-  pub body : IsSized p.body (length (body_of_command command))
+  pub bodies : AllZip (λ extent bytes. IsSized extent (length bytes)) p.bodies.items (bodies_of_command command)
   pub directory : IsSized p.directory (length (planned_listing p))
   pub listable : AreListable written_format (once_stored p.contents)
   pub whole : IsWhole old.size (planned_root old.root p) (once_stored p.contents)
   pub blocks : TakesAndGives old p
 
--- All that a plan writes stands in an image.
-pub record AreWritten (p : Plan) (bytes image : List ℕ) : Type 0 where
-  pub body : part p.body (length bytes) image ≡ bytes
+-- All that a plan writes stands in an image, these bodies among it.
+pub record AreWritten (p : Plan) (written : List (List ℕ)) (image : List ℕ) : Type 0 where
+  pub bodies : AreBodies image p.bodies.items written
   pub catalogue : All (IsWritten record_format image) p.contents.catalogue
   pub history : All (IsWritten change_format image) p.contents.history.pages
   pub directory : part p.directory (length (planned_listing p)) image ≡ planned_listing p

@@ -1,10 +1,14 @@
 -- Which blocks a command has to find, and when there are none.
-use Rattle.std.specs.Prelude.{◌≡◌, ◌⊎◌, ◌≤◌, ◌+◌, ◌++◌, ℕ, Bool, true, not, is_some, List, [], ◌∷◌, length, map, filter}
+use Rattle.std.specs.Prelude.{◌≡◌, ◌⊎◌, ◌≤◌, ◌+◌, ◌++◌, ℕ, Bool, true, not, is_some, if◌then◌else◌, List, [], ◌∷◌, length, map, filter, bytes_eq}
+use Rattle.std.specs.List.{list_any}
 use Rattle.rs_extent.specs.declared.Extent.{Extent}
 use Rattle.rs_extent.specs.Blocks.{IsFreeRun, IsLowest, Sets}
 use Rattle.rs_body.specs.Blocks.{blocks_of}
 use Rattle.rs_model.specs.declared.command.Command.{Command}
-use Rattle.rs_model.specs.declared.command.Command.TheVariants.{Put, Delete, Publish}
+use Rattle.rs_model.specs.declared.command.Command.TheVariants.{Put, Delete, Publish, Group}
+use Rattle.rs_model.specs.declared.command.Item.{Item}
+use Rattle.rs_model.specs.declared.command.Item.TheVariants as single
+use Rattle.rs_model.specs.Grouping.{name_of}
 use Rattle.rs_page.specs.Format.{ItemFormat}
 use Rattle.rs_page.specs.Items.{record_format, change_format}
 use Rattle.rs_page.specs.Pages.{Page, stored_ref, blocks_needed}
@@ -43,8 +47,30 @@ lists_needed c =
     pages_needed record_format c.catalogue ++ pages_needed change_format c.history.pages
     ++ blocks_of (directory_length c.header (length c.catalogue + length c.history.pages + length c.published)) ∷ []
 
--- how many blocks the body of a command needs
-abbrev pub body_needed : Command → ℕ
-body_needed (Put name kind bytes) = blocks_of (length bytes)
-body_needed (Delete name) = 0
-body_needed Publish = 0
+-- a later item of a group is of this name
+abbrev pub is_named_in : List ℕ → List Item → Bool
+is_named_in name items = list_any (λ item. bytes_eq name (name_of item)) items
+
+-- the bodies of a group that no later item of it replaces or deletes, in the order of the items
+abbrev pub bodies_kept : List Item → List (List ℕ)
+bodies_kept [] = []
+bodies_kept (single.Put name kind bytes ∷ items) = if is_named_in name items then bodies_kept items else bytes ∷ bodies_kept items
+bodies_kept (single.Delete name ∷ items) = bodies_kept items
+
+-- the bodies that a command writes, in the order in which it does
+abbrev pub bodies_of_command : Command → List (List ℕ)
+bodies_of_command (Put name kind bytes) = bytes ∷ []
+bodies_of_command (Delete name) = []
+bodies_of_command Publish = []
+bodies_of_command (Group items) = bodies_kept items
+
+-- how many blocks each of these bodies needs
+abbrev pub bodies_needed : List (List ℕ) → List ℕ
+bodies_needed bodies = map (λ bytes. blocks_of (length bytes)) bodies
+
+-- runs of these lengths are taken one after another, each the lowest of its own length
+abbrev pub TakesEach : List Bool → List ℕ → List Extent → List Bool → Type 0
+TakesEach used [] [] after = after ≡ used
+TakesEach used (n ∷ ns) (extent ∷ extents) after = (used' : List Bool) × Takes used n extent used' × TakesEach used' ns extents after
+TakesEach used [] (extent ∷ extents) after = ⊥
+TakesEach used (n ∷ ns) [] after = ⊥

@@ -1,12 +1,15 @@
 //! What a command of a source is about to write, and where on its disk.
 //!
 //! A [`Plan`] has the lists after a command, and blocks for each part that has to be written: the
-//! body, the touched pages and the directory. [`plan_put`], [`plan_delete`] and [`plan_publish`] make
-//! one from the lists in memory, without a word to the disk, or find that it has no room.
+//! bodies, the touched pages and the directory. [`plan_put`], [`plan_delete`], [`plan_publish`] and
+//! [`plan_group`] make one from the lists in memory, without a word to the disk, or find that it has
+//! no room.
 #![tactic(auto)]
 
 mod plan;
 mod planning;
 
 pub use plan::Plan;
-pub use planning::{PlanFault, draft_put, dropped_parts, plan_delete, plan_publish, plan_put};
+pub use planning::{
+    PlanFault, body_kept, draft_put, dropped_parts, plan_delete, plan_group, plan_publish, plan_put,
+};

@@ -11,13 +11,13 @@ use rs_record::Name;
 pub struct Plan {
     /// The lists after the command, of which each touched page has its blocks.
     pub contents: Contents,
-    /// The blocks of the body, none where the command writes no body.
-    pub body: Extent,
+    /// The blocks of each body that the command writes, in the order in which it does.
+    pub bodies: Vec<Extent>,
     /// The blocks of the directory.
     pub directory: Extent,
     /// The reply to the command.
     pub reply: Reply,
-    /// All that it writes to: the body, the touched pages and the directory, in the order in which
+    /// All that it writes to: the bodies, the touched pages and the directory, in the order in which
     /// they were found.
     pub taken: Vec<Extent>,
     /// What the old root reaches and the next one no longer.

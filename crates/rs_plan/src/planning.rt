@@ -13,15 +13,17 @@ ghost use Rattle.rs_plan.specs.Drafts.{AwaitsBody, IsPageRuleKept, plan_filled};
 
 mod dropping;
 mod freeing;
+mod grouping;
 mod lists;
 mod placing;
 
 use crate::plan::Plan;
 pub use dropping::dropped_parts;
 use freeing::{freed_by_change, freed_by_publication};
+pub use grouping::{body_kept, plan_group};
 use lists::{lists_after_delete, lists_after_publish, lists_after_put, reply_told};
 use placing::{find_lowest, place_lists};
-use rs_extent::{Extent, Used};
+use rs_extent::Used;
 use rs_fixity::{Digests, digests_of};
 use rs_image::Rooted;
 use rs_model::Reply;
@@ -112,7 +114,8 @@ pub fn draft_put(
     )?;
     let reply = reply_told(&lists.history);
     let freed = freed_by_change(alloc, old, name)?;
-    let plan = place_lists(alloc, used, body, lists, reply, freed)?;
+    let bodies = Vec::from_slice(alloc, &[body])?;
+    let plan = place_lists(alloc, used, bodies, lists, reply, freed)?;
     Ok(plan)
 }
 
@@ -178,7 +181,14 @@ pub fn plan_delete(
     let contents = old.contents();
     let lists = lists_after_delete(alloc, contents, name, moment)?;
     let freed = freed_by_change(alloc, old, name)?;
-    let plan = place_lists(alloc, used, NO_BODY, lists, Reply::Deleted(moment), freed)?;
+    let plan = place_lists(
+        alloc,
+        used,
+        Vec::new(alloc),
+        lists,
+        Reply::Deleted(moment),
+        freed,
+    )?;
     Ok(plan)
 }
 
@@ -207,15 +217,9 @@ pub fn plan_publish(
     let lists = lists_after_publish(alloc, contents, moment)?;
     let reply = Reply::Published(lists.header.number, moment);
     let freed = freed_by_publication(alloc, old)?;
-    let plan = place_lists(alloc, used, NO_BODY, lists, reply, freed)?;
+    let plan = place_lists(alloc, used, Vec::new(alloc), lists, reply, freed)?;
     Ok(plan)
 }
-
-// The blocks of a body that is not written.
-const NO_BODY: Extent = Extent {
-    first: 0,
-    blocks: 0,
-};
 
 // What the page rule keeps of the lists of a draft.
 fn page_rule_is_kept()

@@ -7,5 +7,6 @@ pub mod Acknowledged
 pub mod Prefixes
 pub mod OneSession
 pub mod Walked
+pub mod Recorded
 pub mod Mirrored
 pub mod Halted

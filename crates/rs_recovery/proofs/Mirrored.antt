@@ -1,26 +1,30 @@
 -- Whoever asks sources of several sessions for both lists mirrors what was held.
-use Rattle.std.proofs.Common.{◌≡◌, ◌≤◌, ℕ, zero, suc, Bool, true, false, List, [], ◌∷◌, ◌++◌, length, take, drop, map, refl, sym, ◌∙◌, ap, subst, arith, cond, Option, IsTrue, is_some, length-append}
+use Rattle.std.proofs.Common.{◌≡◌, ◌⊎◌, inl, inr, ◌<◌, ◌≤◌, ◌+◌, ◌-◌, ℕ, zero, suc, Bool, true, false, List, [], ◌∷◌, ◌++◌, length, take, drop, map, refl, sym, ◌∙◌, ap, subst, arith, cond, Option, IsTrue, is_some, length-append}
 use Rattle.std.specs.List.{AllByRecursion}
 use Rattle.std.proofs.Math.Seq.{take-append_seam}
 use Rattle.std.proofs.lemmas.List.{take-append-drop, take-take}
 use Rattle.rs_disk.specs.Medium.{DiskState, IsMedium}
+use Rattle.rs_record.specs.declared.change.Change.{Change}
 use Rattle.rs_model.specs.State.{Source, start_of, entries}
-use Rattle.rs_model.specs.Step.{step, state_after, fold_of}
+use Rattle.rs_model.specs.Names.{Names}
+use Rattle.rs_model.specs.Step.{fold_of, mirror_of}
 use Rattle.rs_model.specs.Lawful.{IsLawful, IsLawfulTimed}
-use Rattle.rs_model.specs.Walk.{state_at, IsLawfulEvent}
+use Rattle.rs_model.specs.Walk.{state_at, IsLawfulEvent, count_at, catalogue}
+use Rattle.rs_model.specs.WalkLaws.{HeldIsCatalogued}
 use Rattle.rs_model.specs.declared.command.Command.{Command}
 use Rattle.rs_model.specs.declared.event.Event.{Event}
-use Rattle.rs_model.specs.declared.event.Event.TheVariants.{Tried}
+use Rattle.rs_model.specs.declared.value.Entry.{Entry}
 use Rattle.rs_caps.specs.Answer.{answer}
 use Rattle.rs_caps.specs.Destination.{part_paths, fetched_at, IsFetchedPart, IsFollowed, Mirrors, WasHeld, DestinationMirrors, MirrorWasHeld}
-use Rattle.rs_caps.specs.Gather.{gather_resources, gather_changes}
+use Rattle.rs_caps.specs.Gather.{gather_resources, gather_changes, listed_entry}
 use Rattle.rs_store.specs.Counted.{is_accepted, is_in_doubt, answered, counted_commands}
 use Rattle.rs_store.specs.declared.running.Ack.{Ack}
 use Rattle.rs_recovery.specs.Sessions.{Session, commands_standing}
 use Rattle.rs_recovery.specs.Served.{IsNoLater, IsPrefixOf, CommandsStand, SessionsStand}
-use Rattle.rs_recovery.specs.Mirrored.{AreLawfulSessions, list_head, changes_head, Asked, answered_by, IsAskedPart, AsksBoth, IsMirrored, SessionsAreMirrored}
+use Rattle.rs_recovery.specs.Mirrored.{AreLawfulSessions, list_head, changes_head, Asked, answered_by, IsAskedPart, AsksBoth, changes_made, AreOfNext, IsMirrored, SessionsAreMirrored}
 use Rattle.rs_recovery.proofs.Below.{Commands, Acks}
 use Rattle.rs_recovery.proofs.Walked.{told}
+use Rattle.rs_recovery.proofs.Recorded.{tried, tried_behind, split_at, within_next}
 
 -- what holds of each of some elements
 all_so : {A : Type 0} (P Q : A → Type 0) → ((x : A) → P x → Q x) → (xs : List A) → AllByRecursion P xs → AllByRecursion Q xs
@@ -61,18 +65,10 @@ standing_lawful (x ∷ past) (j ∷ standing) all =
     all_joined IsLawfulTimed (commands_standing past standing) (take j (counted_commands x.commands x.acks))
     (standing_lawful past standing all.1) (all_first IsLawfulTimed j (counted_commands x.commands x.acks) counted)
 
--- a command as an event of a walk
-abbrev tried : Command × ℕ → Event
-tried c = Tried c.0 c.1
-
+-- lawful commands are lawful events
 tried_lawful : (commands : Commands) → AllByRecursion IsLawfulTimed commands → AllByRecursion IsLawfulEvent (map tried commands)
 tried_lawful [] all = tt
 tried_lawful (c ∷ commands) all = ((all.0, tt), tried_lawful commands all.1)
-
-tried_walk : (s : Source) (n : ℕ) (commands : Commands) → state_at s (map tried commands) n ≡ fold_of s (take n commands)
-tried_walk s zero commands = refl
-tried_walk s (suc n) [] = refl
-tried_walk s (suc n) (c ∷ commands) = tried_walk (state_after s (step s c.0 c.1)) n commands
 
 -- the first of some commands
 first_are : (commands whole : Commands) → IsPrefixOf commands whole → take (length commands) whole ≡ commands
@@ -86,63 +82,72 @@ first_of_first n m whole le =
     (drop n (take m whole), ap (λ l. l ++ drop n (take m whole)) (sym (take-take n m whole le)) ∙ take-append-drop n (take m whole))
 
 module _ {D : Type 0} (device : D → DiskState) (sound : (disk : D) → IsMedium (device disk).size (device disk).now)
-    (mirrors : DestinationMirrors) (was_held : MirrorWasHeld) (base : List ℕ) (limit moment : ℕ) (sessions : List (Session D)) (standing : List ℕ)
-    (lawful : IsLawful (start_of base limit moment)) (all : AreLawfulSessions sessions) (stand : CommandsStand device (start_of base limit moment) sessions standing)
+    (mirrors : DestinationMirrors) (was_held : MirrorWasHeld) (catalogued : HeldIsCatalogued)
+    (base : List ℕ) (limit moment : ℕ) (before : Commands) (sessions : List (Session D)) (standing : List ℕ)
+    (lawful : IsLawful (start_of base limit moment)) (early : AllByRecursion IsLawfulTimed before) (all : AreLawfulSessions sessions)
+    (stand : CommandsStand device (fold_of (start_of base limit moment) before) sessions standing)
     (asked : Asked device sessions standing) (asks : AsksBoth device asked.asking asked.last) where
+  abbrev formatted : Source
+  formatted = start_of base limit moment
+
   abbrev start : Source
-  start = start_of base limit moment
+  start = fold_of formatted before
 
   abbrev whole : Commands
   whole = commands_standing sessions standing
 
   abbrev events : List Event
-  events = map tried whole
+  events = map tried (before ++ whole)
 
   abbrev when : List ℕ → ℕ
-  when path = length (asked.behind path)
+  when path = length before + length (asked.behind path)
 
   abbrev latest : ℕ
-  latest = length asked.behind_last
+  latest = length before + length asked.behind_last
 
   -- what was answered is what the walk answers
-  answered_alike : (path : List ℕ) → answered_by device asked.asking path ≡ fetched_at start events when path
+  answered_alike : (path : List ℕ) → answered_by device asked.asking path ≡ fetched_at formatted events when path
   answered_alike path =
       let served = stand.served (asked.asking path) (asked.behind path) (asked.served path) in
-      let state : state_at start events (when path) ≡ fold_of start (asked.behind path) =
-      tried_walk start (when path) whole ∙ ap (fold_of start) (first_are (asked.behind path) whole served.1) in
+      let state : state_at formatted events (when path) ≡ fold_of start (asked.behind path) =
+      tried_behind formatted before whole (length (asked.behind path)) ∙ ap (fold_of start) (first_are (asked.behind path) whole served.1) in
       ap (λ t. answer t path) (told device sound (asked.asking path).source (fold_of start (asked.behind path)) served.0 ∙ sym state)
 
-  alike : answered_by device asked.asking ≡ fetched_at start events when
+  alike : answered_by device asked.asking ≡ fetched_at formatted events when
   alike = λ i path. answered_alike path i
 
   -- what is asked no later has no more behind it
   later_path : (path other : List ℕ) → IsNoLater (asked.asking path) (asked.asking other) → when path ≤ when other
   later_path path other order =
-      no_more (asked.behind path) (asked.behind other)
-      (stand.ordered (asked.asking path) (asked.asking other) (asked.behind path) (asked.behind other) order (asked.served path) (asked.served other))
+      let front = stand.ordered (asked.asking path) (asked.asking other) (asked.behind path) (asked.behind other) order (asked.served path) (asked.served other) in
+      omega (arith, no_more (asked.behind path) (asked.behind other) front)
 
   by_last : (path : List ℕ) → IsNoLater (asked.asking path) asked.last → when path ≤ latest
   by_last path order =
-      no_more (asked.behind path) asked.behind_last
-      (stand.ordered (asked.asking path) asked.last (asked.behind path) asked.behind_last order (asked.served path) asked.last_served)
+      let front = stand.ordered (asked.asking path) asked.last (asked.behind path) asked.behind_last order (asked.served path) asked.last_served in
+      omega (arith, no_more (asked.behind path) asked.behind_last front)
 
-  at_most : (path : List ℕ) → when path ≤ length whole
-  at_most path = no_more (asked.behind path) whole (stand.served (asked.asking path) (asked.behind path) (asked.served path)).1
+  at_most : (path : List ℕ) → when path ≤ length before + length whole
+  at_most path =
+      omega (arith, no_more (asked.behind path) whole (stand.served (asked.asking path) (asked.behind path) (asked.served path)).1)
 
-  part_fetched : (head path : List ℕ) (last : ℕ) → IsAskedPart device asked.asking head path → when path ≤ last → IsFetchedPart start events when (when head) last path
+  last_stands : IsPrefixOf asked.behind_last whole
+  last_stands = (stand.served asked.last asked.behind_last asked.last_served).1
+
+  part_fetched : (head path : List ℕ) (last : ℕ) → IsAskedPart device asked.asking head path → when path ≤ last → IsFetchedPart formatted events when (when head) last path
   part_fetched head path last part le = record {
     after_head = later_path head path part.after_head;
     by_last = le;
     answered = subst (λ (found : Option (List ℕ)). IsTrue (is_some found)) (answered_alike path) part.answered;
   }
 
-  followed : IsFollowed start events when (length whole) latest
+  followed : IsFollowed formatted events when (length before + length whole) latest
   followed = record {
     resources = record {
       by_last = at_most list_head;
       parts = λ text document found read.
-          all_so (IsAskedPart device asked.asking list_head) (IsFetchedPart start events when (when list_head) (length whole))
-          (λ path part. part_fetched list_head path (length whole) part (at_most path)) (part_paths document)
+          all_so (IsAskedPart device asked.asking list_head) (IsFetchedPart formatted events when (when list_head) (length before + length whole))
+          (λ path part. part_fetched list_head path (length before + length whole) part (at_most path)) (part_paths document)
           (asks.resources text document (answered_alike list_head ∙ found) read);
     };
     order = later_path list_head changes_head asks.order;
@@ -152,7 +157,7 @@ module _ {D : Type 0} (device : D → DiskState) (sound : (disk : D) → IsMediu
           let here = answered_alike changes_head ∙ found in
           let Part : List ℕ → Type 0 = IsAskedPart device asked.asking changes_head in
           let InTime : List ℕ → Type 0 = λ path. IsNoLater (asked.asking path) asked.last in
-          all_so (λ path. Part path × InTime path) (IsFetchedPart start events when (when changes_head) latest)
+          all_so (λ path. Part path × InTime path) (IsFetchedPart formatted events when (when changes_head) latest)
           (λ path part. part_fetched changes_head path latest part.0 (by_last path part.1)) (part_paths document)
           (all_both Part InTime (part_paths document) (asks.changes text document here read) (asks.parts_by_last text document here read));
     };
@@ -160,30 +165,79 @@ module _ {D : Type 0} (device : D → DiskState) (sound : (disk : D) → IsMediu
         asks.no_gap at from listed changes (ap gather_resources alike ∙ resources) (ap gather_changes alike ∙ moves);
   }
 
+  -- a mirror is what was held after the first j of the commands that stand, and then the first changes of the next
+  abbrev IsHeldWith : ℕ → Names Entry → List Change → Type 0
+  IsHeldWith j mirror made =
+      AreOfNext start (take j whole) asked.behind_last made × (mirror ≡ mirror_of (entries (fold_of start (take j whole)).held) start.start made)
+
+  held_with : (j n : ℕ) (mirror : Names Entry)
+      → let p = length before + j in
+      count_at formatted events p ≤ n → mirror ≡ catalogue formatted events n
+      → (count_at formatted events p ≡ n → mirror ≡ entries (state_at formatted events p).held)
+      → (count_at formatted events p ≡ n) ⊎ ((p < latest) × (n < count_at formatted events (suc p)))
+      → (made : List Change) × IsHeldWith j mirror made
+  held_with j n mirror low is held (inl same) =
+      ([], (inl refl, held same ∙ ap (λ (t : Source). entries t.held) (tried_behind formatted before whole j)))
+  held_with j n mirror low is held (inr (soon, high)) =
+      let short : suc j ≤ length asked.behind_last = omega (arith, soon) in
+      let few : j < length whole = omega (arith, short, no_more asked.behind_last whole last_stands) in
+      let at = split_at j whole few in
+      let found = within_next catalogued base limit moment before whole j n few low high in
+      let k : ℕ = n - count_at formatted events (length before + j) in
+      let front : IsPrefixOf (take j whole ++ at.0 ∷ []) asked.behind_last =
+      subst (λ (l : Commands). IsPrefixOf (take j whole ++ at.0 ∷ []) l) (first_are asked.behind_last whole last_stands)
+      (subst (λ (l : Commands). IsPrefixOf l (take (length asked.behind_last) whole)) at.1 (first_of_first (suc j) (length asked.behind_last) whole short)) in
+      (take k (changes_made (fold_of start (take j whole)) at.0), (inr (at.0, front, k, found.0, refl), is ∙ found.1))
+
+  -- the same of what was held at a point of the walk
+  held_at : (j : ℕ) (mirror : Names Entry) (w : WasHeld formatted events when latest mirror) → w.passed.point ≡ length before + j
+      → (made : List Change) × IsHeldWith j mirror made
+  held_at j mirror w at =
+      held_with j w.n mirror
+      (subst (λ (p : ℕ). count_at formatted events p ≤ w.n) at w.passed.reached)
+      w.mirrored
+      (subst (λ (p : ℕ). count_at formatted events p ≡ w.n → mirror ≡ entries (state_at formatted events p).held) at w.held)
+      (subst (λ (p : ℕ). (count_at formatted events p ≡ w.n) ⊎ ((p < latest) × (w.n < count_at formatted events (suc p)))) at w.passed.passed)
+
   pub is_mirrored : IsMirrored device start sessions standing asked
   is_mirrored =
-      let are = tried_lawful whole (standing_lawful sessions standing all) in
-      let m : Mirrors start events when latest = mirrors base limit moment events when (length whole) latest lawful are followed in
-      let w : WasHeld start events when latest _ =
-      was_held base limit moment events when (length whole) latest m.at m.start m.listed m.changes lawful are followed m.resources_gathered m.changes_gathered in
-      let last_first = first_are asked.behind_last whole (stand.served asked.last asked.behind_last asked.last_served).1 in
+      let are = tried_lawful (before ++ whole) (all_joined IsLawfulTimed before whole early (standing_lawful sessions standing all)) in
+      let done : ℕ = length before + length whole in
+      let m : Mirrors formatted events when latest = mirrors base limit moment events when done latest lawful are followed in
+      let mirror : Names Entry = mirror_of (map listed_entry m.listed) m.at m.changes in
+      let w : WasHeld formatted events when latest mirror =
+      was_held base limit moment events when done latest m.at m.start m.listed m.changes lawful are followed m.resources_gathered m.changes_gathered in
+      let after : when changes_head ≤ w.passed.point = w.passed.after_first in
+      let until : w.passed.point ≤ latest = w.passed.by_last in
+      let j : ℕ = w.passed.point - length before in
+      let is : w.passed.point ≡ length before + j = omega (arith, after) in
+      let found = held_at j mirror w is in
+      let last_first = first_are asked.behind_last whole last_stands in
       let head_first = first_are (asked.behind changes_head) whole (stand.served (asked.asking changes_head) (asked.behind changes_head) (asked.served changes_head)).1 in
       record {
         at = m.at;
         listed = m.listed;
         from = m.start;
         changes = m.changes;
-        commands = take w.point whole;
+        commands = take j whole;
+        made = found.0;
         resources_gathered = ap gather_resources alike ∙ m.resources_gathered;
         changes_gathered = ap gather_changes alike ∙ m.changes_gathered;
-        after_head = subst (λ (l : Commands). IsPrefixOf l (take w.point whole)) head_first (first_of_first (when changes_head) w.point whole w.after_head);
-        by_last = subst (λ (l : Commands). IsPrefixOf (take w.point whole) l) last_first (first_of_first w.point latest whole w.by_last);
-        stands = (drop w.point whole, take-append-drop w.point whole);
-        mirrored = w.held ∙ ap (λ (t : Source). entries t.held) (tried_walk start w.point whole);
+        after_head = subst (λ (l : Commands). IsPrefixOf l (take j whole)) head_first
+            (first_of_first (length (asked.behind changes_head)) j whole (omega (arith, after)));
+        by_last = subst (λ (l : Commands). IsPrefixOf (take j whole) l) last_first
+            (first_of_first j (length asked.behind_last) whole (omega (arith, until)));
+        stands = (drop j whole, take-append-drop j whole);
+        next = found.1.0;
+        mirrored = found.1.1;
       }
 
 pub sessions_mirrored : {D : Type 0} (device : D → DiskState) (sound : (disk : D) → IsMedium (device disk).size (device disk).now)
-    → DestinationMirrors → MirrorWasHeld → SessionsStand device → SessionsAreMirrored device
-sessions_mirrored device sound mirrors was_held stands base limit moment sessions lawful all are =
-    let stand = stands (start_of base limit moment) sessions are in
-    (stand.0, stand.1, λ asked asks. is_mirrored device sound mirrors was_held base limit moment sessions stand.0 lawful all stand.1 asked asks)
+    → DestinationMirrors → MirrorWasHeld → HeldIsCatalogued → SessionsStand device → SessionsAreMirrored device
+sessions_mirrored device sound mirrors was_held catalogued stands base limit moment before sessions lawful early all are =
+    let start : Source = fold_of (start_of base limit moment) before in
+    let stand = stands start sessions are in (
+      stand.0,
+      stand.1,
+      λ asked asks. is_mirrored device sound mirrors was_held catalogued base limit moment before sessions stand.0 lawful early all stand.1 asked asks,
+    )

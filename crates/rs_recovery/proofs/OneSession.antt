@@ -1,7 +1,5 @@
 -- A source on a memory disk, through a stop.
-use Rattle.std.proofs.Common.{◌≡◌, ℕ, ◌≤◌, List, [], ◌∷◌, length, take, refl, sym, ap, subst, arith, Ok, Err}
-use Rattle.std.specs.List.{AllByRecursion}
-use Rattle.std.proofs.lemmas.List.{take_all}
+use Rattle.std.proofs.Common.{◌≡◌, ℕ, List, [], ◌∷◌, take, refl, ap, subst, arith, Ok, Err}
 use Rattle.rs_disk.specs.declared.memory.MemoryDisk.{MemoryDisk}
 use Rattle.rs_disk.specs.Medium.{Medium, DiskState, IsImage, image_of, resting}
 use Rattle.rs_disk.specs.Memory.{memory_state}
@@ -12,7 +10,7 @@ use Rattle.rs_store.specs.declared.opening.OpenFault.{OpenFault}
 use Rattle.rs_store.specs.declared.opening.OpenFault.TheVariants as openings
 use Rattle.rs_store.specs.Source.{Stored, Holds}
 use Rattle.rs_recovery.specs.declared.surviving.Halt.TheVariants.{Opening}
-use Rattle.rs_store.specs.Counted.{is_accepted, answered, counted_commands, acknowledged}
+use Rattle.rs_store.specs.Counted.{counted_commands}
 use Rattle.rs_store.specs.Runs.{InTurn}
 use Rattle.rs_recovery.specs.Sessions.{Session, IsStoppedSession, AreStanding, commands_standing}
 use Rattle.rs_recovery.specs.Recovered.{IsExcuse, YieldsHeld, Headline}
@@ -58,7 +56,7 @@ module _ (rise : CallsRise memory_state) (base : List ℕ) (limit moment : ℕ) 
   pub survives : (left : MemoryDisk) → last.disk ≡ left → (choice : List ℕ) → image ≡ image_of choice (memory_state left).now → (source : Stored MemoryDisk)
       → Headline memory_state disk (Ok source) → Survives (start_of base limit moment) cs acks left choice source
   survives left is_left choice chosen source headline =
-      let is = headline base limit moment (session ∷ []) (stopped, made) (ap (λ (m : Medium). m.seen) bytes) refl in
+      let is = headline base limit moment [] (session ∷ []) (stopped, made) (ap (λ (m : Medium). m.seen) bytes) refl in
       by_one left is_left choice chosen source is.standing is.stand.holds is.state is.yields
 
   excused : (before after : DiskState) (fault : OpenFault) → IsExcuse before after fault → IsLost (Opening fault) → ⊥
@@ -69,4 +67,4 @@ module _ (rise : CallsRise memory_state) (base : List ℕ) (limit moment : ℕ) 
 
   pub is_found : (back : MemoryDisk) (fault : OpenFault) → Headline memory_state disk (Err (back, fault)) → IsLost (Opening fault) → ⊥
   is_found back fault headline =
-      excused (memory_state disk) (memory_state back) fault (headline base limit moment (session ∷ []) (stopped, made) (ap (λ (m : Medium). m.seen) bytes) refl).state
+      excused (memory_state disk) (memory_state back) fault (headline base limit moment [] (session ∷ []) (stopped, made) (ap (λ (m : Medium). m.seen) bytes) refl).state

@@ -1,27 +1,25 @@
 -- Commands that are asked one by one are a run, and a stop leaves what the first of them make.
-use Rattle.std.proofs.Common.{◌≡◌, ◌⊎◌, inl, inr, ⊎_elim, ℕ, ◌+◌, ◌≤◌, Bool, true, false, ◌&&◌, ◌||◌, List, [], ◌∷◌, ◌++◌, length, take, refl, sym, ◌∙◌, ap, subst, arith, cond, Result, Ok, Err, append_assoc, append-nil}
+use Rattle.std.proofs.Common.{◌≡◌, ◌⊎◌, inl, inr, ⊎_elim, ℕ, ◌+◌, ◌≤◌, Bool, true, false, ◌&&◌, ◌||◌, List, [], ◌∷◌, ◌++◌, length, refl, sym, ◌∙◌, ap, subst, arith, cond, Result, Ok, Err, append_assoc, append-nil}
 use Rattle.std.specs.Prelude.{nat_le}
 use Rattle.std.proofs.lemmas.Bool.{leb-true, le-leb}
 use Rattle.std.proofs.lemmas.List.{length-append}
-use Rattle.rs_disk.specs.Medium.{DiskState, IsImage, IsImageAt}
+use Rattle.rs_disk.specs.Medium.{DiskState, IsImageAt}
 use Rattle.rs_model.specs.State.{Source}
-use Rattle.rs_model.specs.Step.{fold_of}
 use Rattle.rs_model.specs.declared.command.Command.{Command}
 use Rattle.rs_model.specs.declared.command.Reply.{Reply}
-use Rattle.rs_image.specs.StateOfImage.{StandsFor}
 use Rattle.rs_store.specs.declared.refusal.Refusal.{Refusal}
-use Rattle.rs_store.specs.declared.refusal.Refusal.TheVariants.{Closed, TooLong, NotHeld, TooManyResources, TooManyChanges, Exhausted, Full, ReadFault, ShortBody, Device, Damaged, NoMemory}
+use Rattle.rs_store.specs.declared.refusal.Refusal.TheVariants.{Closed, BadGroup, TooLong, NotHeld, TooManyResources, TooManyChanges, Exhausted, Full, ReadFault, ShortBody, Device, Damaged, NoMemory}
 use Rattle.rs_store.specs.declared.running.Ack.{Ack}
 use Rattle.rs_store.specs.Source.{Stored, Holds}
 use Rattle.rs_store.specs.Answered.{Answers}
 use Rattle.rs_store.specs.Counted.{is_accepted, is_device, is_in_doubt, answered, counted_commands, acknowledged, begun}
-use Rattle.rs_store.specs.Runs.{InTurn, IsIdle, StandsForPrefix}
-use Rattle.rs_store.specs.Laws.{AreClosed, CallsRise, TurnsGoOn}
+use Rattle.rs_store.specs.Runs.{InTurn, StandsForPrefix}
+use Rattle.rs_store.specs.Laws.{CallsRise, TurnsGoOn}
 use Rattle.rs_recovery.specs.Below.{Below}
-use Rattle.rs_recovery.specs.Prefixes.{counted_as, IsRunOf, StandsForFirst, LeavesPrefixes, RunsRecover, IdleIsRun, CommandIsRun, RunsJoin}
+use Rattle.rs_recovery.specs.Prefixes.{counted_as, StandsForFirst, LeavesPrefixes, RunsRecover, IdleIsRun, CommandIsRun, RunsJoin}
 use Rattle.rs_recovery.specs.Turns.{CommandsAreTurns}
 use Rattle.rs_recovery.proofs.Below.{Commands, Acks, one, weaker}
-use Rattle.rs_recovery.proofs.Counts.{begun_counts, length_answered}
+use Rattle.rs_recovery.proofs.Counts.{begun_counts}
 use Rattle.rs_recovery.proofs.Acknowledged.{all_acknowledged}
 
 -- what was acknowledged stays so
@@ -52,6 +50,7 @@ one_begun false false false rest done le none = omega arith
 -- a refusal that leaves no doubt counts nothing
 none_counted : (command : Command) (now : ℕ) (refusal : Refusal) → is_device (Err refusal) ≡ false → counted_as command now (Err refusal) ≡ []
 none_counted command now Closed other = refl
+none_counted command now BadGroup other = refl
 none_counted command now TooLong other = refl
 none_counted command now NotHeld other = refl
 none_counted command now TooManyResources other = refl
@@ -69,6 +68,7 @@ alone_counted : (command : Command) (now : ℕ) (reply : Result Reply Refusal) (
     → counted_commands ((command, now) ∷ []) (record { reply = reply; at_call = call } ∷ []) ≡ counted_as command now reply
 alone_counted command now (Ok reply) call = refl
 alone_counted command now (Err Closed) call = refl
+alone_counted command now (Err BadGroup) call = refl
 alone_counted command now (Err TooLong) call = refl
 alone_counted command now (Err NotHeld) call = refl
 alone_counted command now (Err TooManyResources) call = refl

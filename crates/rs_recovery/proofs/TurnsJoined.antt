@@ -47,8 +47,8 @@ module _ {D : Type 0} (device : D → DiskState) (images_stand : HeldStands devi
   cut_open : (old new : Stored D) (name kind : List ℕ) (n now : ℕ) (came : List ℕ) → IsCutShort device old new name kind n now came → old.is_closed ≡ true → ⊥
   cut_open old new name kind n now came cut shut =
       let command : Command = Put name kind (replicate n 0) in
-      let refused : decided old (state_of device old) command ≡ Some Closed =
-      ap (λ (b : Bool). cond b (Some Closed) (or_spent (refusal_of (state_of device old) command) (is_spent old))) shut in
+      let refused : decided old (state_of device old) command now ≡ Some Closed =
+      ap (λ (b : Bool). cond b (Some Closed) (or_spent (refusal_of (state_of device old) command now) (is_spent old))) shut in
       let clash : Some Closed ≡ None = sym refused ∙ cut.decides (replicate n 0) (length-replicate n 0) in
       cc
 

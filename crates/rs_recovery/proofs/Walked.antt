@@ -4,21 +4,20 @@ use Rattle.rs_disk.specs.Medium.{DiskState, IsMedium}
 use Rattle.rs_disk.proofs.Steps.{exit_images}
 use Rattle.rs_model.specs.State.{Source}
 use Rattle.rs_model.specs.Step.{step, state_after, next_state, accepted_unless, refusal_of, reply_to, moment_at}
-use Rattle.rs_model.specs.Walk.{walk_of}
+use Rattle.rs_model.specs.Walk.{after_event, walk_of}
 use Rattle.rs_model.specs.declared.command.Command.{Command}
 use Rattle.rs_model.specs.declared.command.Reply.{Reply}
 use Rattle.rs_model.specs.declared.command.Refusal as model
 use Rattle.rs_model.specs.declared.command.Refusal.TheVariants as decides
 use Rattle.rs_model.specs.declared.event.Event.{Event}
 use Rattle.rs_model.specs.declared.event.Event.TheVariants.{Tried, Refused, Stopped}
-use Rattle.rs_model.proofs.WalkLemmas.{walk-append}
 use Rattle.rs_image.specs.StateOfImage.{StandsFor}
 use Rattle.rs_store.specs.Answered.{Answers}
 use Rattle.rs_store.specs.Laws.{HeldStands}
 use Rattle.rs_store.specs.Refusals.{named_as, is_spent, or_spent, decided}
 use Rattle.rs_store.specs.Source.{Stored, Holds, state_of}
 use Rattle.rs_store.specs.declared.refusal.Refusal.{Refusal}
-use Rattle.rs_store.specs.declared.refusal.Refusal.TheVariants.{Closed, TooLong, NotHeld, TooManyResources, TooManyChanges, Exhausted, Full, ReadFault, ShortBody, Device, Damaged, NoMemory}
+use Rattle.rs_store.specs.declared.refusal.Refusal.TheVariants.{Closed, BadGroup, TooLong, NotHeld, TooManyResources, TooManyChanges, Exhausted, Full, ReadFault, ShortBody, Device, Damaged, NoMemory}
 use Rattle.rs_recovery.specs.Walked.{ModelRefuses, RefusalEvents, CommandEvents, LeavesWalk, CommandsMakeWalks, ClosedCommandsAreRefused}
 
 abbrev Kind : Type 1
@@ -31,6 +30,10 @@ walk_is device s M N new are walk = record {
   held = λ free. let w = walk.held free in (w.0, are w.0 w.1, w.2);
   at_exit = λ image is. let w = walk.at_exit image is in (w.0, are w.0 w.1, w.2);
 }
+
+walk-append : (s : Source) (first more : List Event) → walk_of s (first ++ more) ≡ walk_of (walk_of s first) more
+walk-append s [] more = refl
+walk-append s (event ∷ first) more = walk-append (after_event s event) first more
 
 -- some events, and then a walk from the state after them
 pub walk_behind : {D : Type 0} (device : D → DiskState) (s : Source) (first : List Event) (M N : Kind) (new : Stored D)
@@ -60,33 +63,33 @@ walked device stands s M new events are holds = record {
 module _ {D : Type 0} (device : D → DiskState) (sound : (disk : D) → IsMedium (device disk).size (device disk).now) (stands : HeldStands device) where
   module _ (old new : Stored D) (s : Source) (command : Command) (now : ℕ) (holds : Holds device old s) where
     -- what the model refuses an open source refuses
-    decides_so : (reason : model.Refusal) → refusal_of s command ≡ Some reason → decided old (state_of device old) command ≡ Some (named_as reason)
+    decides_so : (reason : model.Refusal) → refusal_of s command now ≡ Some reason → decided old (state_of device old) command now ≡ Some (named_as reason)
     decides_so reason is =
-        ap (λ (t : Source). decided old t command) (told device sound old s holds)
-        ∙ ap (λ (b : Bool). cond b (Some Closed) (or_spent (refusal_of s command) (is_spent old))) holds.is_open
+        ap (λ (t : Source). decided old t command now) (told device sound old s holds)
+        ∙ ap (λ (b : Bool). cond b (Some Closed) (or_spent (refusal_of s command now) (is_spent old))) holds.is_open
         ∙ ap (λ (found : Option model.Refusal). or_spent found (is_spent old)) is
 
     -- and its step changes nothing
-    no_step : (reason : model.Refusal) → refusal_of s command ≡ Some reason → s ≡ state_after s (step s command now)
+    no_step : (reason : model.Refusal) → refusal_of s command now ≡ Some reason → s ≡ state_after s (step s command now)
     no_step reason is =
         let t = moment_at s now in
         sym (ap (λ (found : Option model.Refusal). state_after s (accepted_unless found (next_state s command t, reply_to s command t))) is)
 
     named : (refusal : Refusal) (reason : model.Refusal) → Answers device old new command now (Err refusal)
-        → refusal_of s command ≡ Some reason → named_as reason ≡ refusal
+        → refusal_of s command now ≡ Some reason → named_as reason ≡ refusal
     named refusal reason answers is = let same = answers.decides (named_as reason) (decides_so reason is) in cc
 
-    by_model : (refusal : Refusal) (found : Option model.Refusal) → refusal_of s command ≡ found → Answers device old new command now (Err refusal)
+    by_model : (refusal : Refusal) (found : Option model.Refusal) → refusal_of s command now ≡ found → Answers device old new command now (Err refusal)
         → Holds device new s → LeavesWalk device s (RefusalEvents s command now refusal) new
     by_model refusal None none answers held =
         walked device stands s (RefusalEvents s command now refusal) new (Refused command ∷ [])
-        (inr ((λ (m : ModelRefuses s command refusal). let some = m.1 in absurd cc), refl)) held
+        (inr ((λ (m : ModelRefuses s command now refusal). let some = m.1 in absurd cc), refl)) held
     by_model refusal (Some reason) is answers held =
         walked device stands s (RefusalEvents s command now refusal) new (Tried command now ∷ [])
         (inl ((reason, is, named refusal reason answers is), refl)) (subst (Holds device new) (no_step reason is) held)
 
     refused : (refusal : Refusal) → Answers device old new command now (Err refusal) → Holds device new s → LeavesWalk device s (RefusalEvents s command now refusal) new
-    refused refusal answers held = by_model refusal (refusal_of s command) refl answers held
+    refused refusal answers held = by_model refusal (refusal_of s command now) refl answers held
 
     -- the device failed within the command
     stopped : Answers device old new command now (Err Device) → LeavesWalk device s (CommandEvents s command now (Err Device)) new
@@ -107,6 +110,7 @@ module _ {D : Type 0} (device : D → DiskState) (sound : (disk : D) → IsMediu
         walked device stands s (CommandEvents s command now (Ok reply)) new (Tried command now ∷ []) refl (subst (Holds device new) (sym (ap (state_after s) lead.1)) lead.2)
     by_answer (Err Device) answers = stopped answers
     by_answer (Err Closed) answers = refused Closed answers (answers.leads s holds).0
+    by_answer (Err BadGroup) answers = refused BadGroup answers (answers.leads s holds).0
     by_answer (Err TooLong) answers = refused TooLong answers (answers.leads s holds).0
     by_answer (Err NotHeld) answers = refused NotHeld answers (answers.leads s holds).0
     by_answer (Err TooManyResources) answers = refused TooManyResources answers (answers.leads s holds).0
@@ -123,6 +127,7 @@ module _ {D : Type 0} (device : D → DiskState) (sound : (disk : D) → IsMediu
 
 -- the model closes no source
 never_closed : (reason : model.Refusal) → named_as reason ≡ Closed → ⊥
+never_closed decides.BadGroup is = cc
 never_closed decides.TooLong is = cc
 never_closed decides.NotHeld is = cc
 never_closed decides.TooManyResources is = cc
@@ -132,11 +137,11 @@ never_closed decides.Exhausted is = cc
 closed_events : (s : Source) (command : Command) (now : ℕ) (result : Result Reply Refusal) → result ≡ Err Closed → CommandEvents s command now result (Refused command ∷ [])
 closed_events s command now result is =
     subst (λ (r : Result Reply Refusal). CommandEvents s command now r (Refused command ∷ [])) (sym is)
-    (inr ((λ (m : ModelRefuses s command Closed). never_closed m.0 m.2), refl))
+    (inr ((λ (m : ModelRefuses s command now Closed). never_closed m.0 m.2), refl))
 
 pub closed_commands : {D : Type 0} (device : D → DiskState) → ClosedCommandsAreRefused device
 closed_commands device old new s command now result shut answers =
-    let why : decided old (state_of device old) command ≡ Some Closed =
-    ap (λ (b : Bool). cond b (Some Closed) (or_spent (refusal_of (state_of device old) command) (is_spent old))) shut in
+    let why : decided old (state_of device old) command now ≡ Some Closed =
+    ap (λ (b : Bool). cond b (Some Closed) (or_spent (refusal_of (state_of device old) command now) (is_spent old))) shut in
     let is : result ≡ Err Closed = answers.decides Closed why in
     (is, answers.untouched Closed why, closed_events s command now result is)

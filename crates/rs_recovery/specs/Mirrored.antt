@@ -1,10 +1,10 @@
 -- A destination that asks sources of several sessions, between which there were stops.
-use Rattle.std.specs.Prelude.{◌≡◌, ℕ, ◌≤◌, List, map, codes, Option, Some, is_some, IsTrue}
+use Rattle.std.specs.Prelude.{◌≡◌, ◌⊎◌, ℕ, ◌<◌, ◌≤◌, List, [], ◌∷◌, ◌++◌, length, take, drop, map, codes, Option, Some, is_some, IsTrue}
 use Rattle.std.specs.List.{AllByRecursion}
 use Rattle.rs_disk.specs.Medium.{DiskState}
 use Rattle.rs_record.specs.declared.change.Change.{Change}
 use Rattle.rs_model.specs.State.{Source, start_of, entries}
-use Rattle.rs_model.specs.Step.{fold_of, mirror_of}
+use Rattle.rs_model.specs.Step.{step, state_after, fold_of, mirror_of}
 use Rattle.rs_model.specs.Lawful.{IsLawful, IsLawfulTimed}
 use Rattle.rs_model.specs.declared.command.Command.{Command}
 use Rattle.rs_caps.specs.Answer.{answer}
@@ -68,27 +68,43 @@ pub record AsksBoth {D : Type 0} (device : D → DiskState) (asking : List ℕ �
   pub parts_by_last : OfParts device asking changes_head (λ path. IsNoLater (asking path) last)
   pub no_gap : HaveNoGap device asking
 
--- Both lists read. The one mirrored with the other is what the source held after the first
--- of the commands that stand: all that were behind it as the Change List's head was asked, and none that was not yet at the last
--- time.
+-- the changes that a command makes in a state, where it is accepted: a put or a delete one, a group one for each item
+abbrev pub changes_made : Source → Command × ℕ → List Change
+changes_made s c = drop (length s.changes) (state_after s (step s c.0 c.1)).changes
+
+-- None of these changes, or the first of those that the next of some commands makes after the ones before it: of a group, since no
+-- other makes more than one.
+abbrev pub AreOfNext : Source → List (Command × ℕ) → List (Command × ℕ) → List Change → Type 0
+AreOfNext start commands whole made =
+    (made ≡ []) ⊎ ((next : Command × ℕ) × IsPrefixOf (commands ++ next ∷ []) whole
+    × (k : ℕ) × (k < length (changes_made (fold_of start commands) next)) × (made ≡ take k (changes_made (fold_of start commands) next)))
+
+-- Both lists read. The one mirrored with the other is what the source held after the first of the commands that stand: all that were
+-- behind it as the Change List's head was asked, and none that was not yet at the last time. Where the next of these is a group, it
+-- may be what was held followed by the first changes of that (`made`).
 pub record IsMirrored {D : Type 0} (device : D → DiskState) (start : Source) (sessions : List (Session D)) (standing : List ℕ) (asked : Asked device sessions standing) : Type 0 where
   pub at : ℕ
   pub listed : List Listed
   pub from : ℕ
   pub changes : List Change
   pub commands : List (Command × ℕ)
+  pub made : List Change
   pub resources_gathered : gather_resources (answered_by device asked.asking) ≡ Some (at, listed)
   pub changes_gathered : gather_changes (answered_by device asked.asking) ≡ Some (from, changes)
   pub after_head : IsPrefixOf (asked.behind changes_head) commands
   pub by_last : IsPrefixOf commands asked.behind_last
   pub stands : IsPrefixOf commands (commands_standing sessions standing)
-  pub mirrored : mirror_of (map listed_entry listed) at changes ≡ entries (fold_of start commands).held
+  pub next : AreOfNext start commands asked.behind_last made
+  pub mirrored : mirror_of (map listed_entry listed) at changes ≡ mirror_of (entries (fold_of start commands).held) start.start made
 
--- Over any number of sessions, whatever the stops, commands stand so that whoever asks for both lists mirrors what was held.
+-- Over any number of sessions, whatever the stops, commands stand so that whoever asks for both lists mirrors what was held. The
+-- first session began with the state that a formatting and then some commands made: none of them where the source was formatted; where
+-- it is a copy, those that stood behind the source that was copied.
 abbrev pub SessionsAreMirrored : {D : Type 0} → (D → DiskState) → Type 0
 SessionsAreMirrored {D} device =
-    (base : List ℕ) (limit moment : ℕ) (sessions : List (Session D))
-    → let start = start_of base limit moment in
-    IsLawful start → AreLawfulSessions sessions → AreSessions device start sessions
+    (base : List ℕ) (limit moment : ℕ) (before : List (Command × ℕ)) (sessions : List (Session D))
+    → let start = fold_of (start_of base limit moment) before in
+    IsLawful (start_of base limit moment) → AllByRecursion IsLawfulTimed before → AreLawfulSessions sessions
+    → AreSessions device start sessions
     → (standing : List ℕ) × CommandsStand device start sessions standing
     × ((asked : Asked device sessions standing) → AsksBoth device asked.asking asked.last → IsMirrored device start sessions standing asked)

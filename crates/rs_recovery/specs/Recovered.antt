@@ -57,7 +57,10 @@ pub record IsRecovered {D : Type 0} (device : D → DiskState) (disk : D) (resul
 -- documents of a prefix of the accepted commands that holds every acknowledged one; and in every recovered state the latest
 -- Resource List, followed by the changes recorded after its at-moment in their order, yields exactly the resources held, with
 -- their lengths, hashes and types.
+-- The first session began with the state that a formatting and then some commands made: none of them where the source was
+-- formatted; where it is a copy, those that stood behind the source that was copied.
 abbrev pub Headline : {D : Type 0} → (D → DiskState) → D → Result (Stored D) (D × OpenFault) → Type 0
-Headline {D} device disk result = (base : List ℕ) (limit moment : ℕ) (sessions : List (Session D))
-    → AreSessions device (start_of base limit moment) sessions → (device disk).now.seen ≡ last_image sessions
-    → IsTrue (device (disk_of result)).honest → IsRecovered device disk result (start_of base limit moment) sessions
+Headline {D} device disk result = (base : List ℕ) (limit moment : ℕ) (before : List (Command × ℕ)) (sessions : List (Session D))
+    → let start = fold_of (start_of base limit moment) before in
+    AreSessions device start sessions → (device disk).now.seen ≡ last_image sessions
+    → IsTrue (device (disk_of result)).honest → IsRecovered device disk result start sessions

@@ -1,5 +1,5 @@
 -- Sessions of a source, one after another, each ended by a stop.
-use Rattle.std.specs.Prelude.{◌≡◌, ℕ, ◌≤◌, List, [], ◌∷◌, ◌++◌, take}
+use Rattle.std.specs.Prelude.{◌≡◌, ℕ, ◌≤◌, List, [], ◌∷◌, ◌++◌, take, Ok, IsTrue}
 use Rattle.rs_disk.specs.Medium.{DiskState, IsImage, IsImageAt}
 use Rattle.rs_disk.specs.Leaves.{Leaves}
 use Rattle.rs_model.specs.State.{Source}
@@ -10,6 +10,7 @@ use Rattle.rs_store.specs.Source.{Stored, Holds}
 use Rattle.rs_store.specs.declared.running.Ack.{Ack}
 use Rattle.rs_store.specs.Counted.{counted_commands, acknowledged, begun}
 use Rattle.rs_store.specs.Runs.{InTurn}
+use Rattle.rs_store.specs.Copied.{AnswersCopy}
 
 -- A session: the source as it was made or opened, the commands that it was given with their answers, and the source after
 -- them; and its stop: after how many counted calls it came, and which image of the disk it left.
@@ -33,8 +34,8 @@ pub record IsStoppedSession {D : Type 0} (device : D → DiskState) (x : Session
 abbrev pub IsOpenedOn : {D : Type 0} → (D → DiskState) → List ℕ → Stored D → Type 0
 IsOpenedOn device bytes source = (s : Source) × StandsFor bytes s × Holds device source s
 
--- Sessions of one source, the latest first. The first one began with the formatting, which left this state; each later one
--- began with an opening on what the stop before it had left.
+-- Sessions of one source, the latest first. The first one began with the formatting or the copy that made the source, which left
+-- this state; each later one began with an opening on what the stop before it had left.
 abbrev pub AreSessions : {D : Type 0} → (D → DiskState) → Source → List (Session D) → Type 0
 AreSessions device start [] = ⊥
 AreSessions device start (x ∷ []) = IsStoppedSession device x × Holds device x.first start
@@ -75,3 +76,10 @@ abbrev pub OpeningsStopToo : {D : Type 0} → (D → DiskState) → Type 0
 OpeningsStopToo {D} device = (start : Source) (x : Session D) (past : List (Session D)) (before after : DiskState)
     → AreSessions device start (x ∷ past) → IsLeftBy device x before → Leaves before after (λ _. IsImage before.now)
     → Leaves before after (λ _ image. AreSessions device start (record x { image = image } ∷ past))
+
+-- A source that held a state was copied with the answer Ok, of a device that has followed the model: a session on the copy is the
+-- first of sessions that begin with that state.
+abbrev pub CopiesBeginSessions : {D E : Type 0} → (D → DiskState) → (E → DiskState) → Type 0
+CopiesBeginSessions {D} {E} device other = (old new : Stored D) (to : E) (s : Source) (x : Session E)
+    → AnswersCopy device other old new to (Ok x.first) → Holds device old s → IsTrue (device new.disk).honest
+    → IsStoppedSession other x → AreSessions other s (x ∷ [])

@@ -16,15 +16,15 @@ use Rattle.rs_store.specs.Source.{Stored, Holds}
 use Rattle.rs_store.specs.declared.refusal.Refusal.{Refusal}
 use Rattle.rs_store.specs.declared.refusal.Refusal.TheVariants.{Closed, Device}
 
--- the model refuses the command in this state, by this name
-abbrev pub ModelRefuses : Source → Command → Refusal → Type 0
-ModelRefuses s command refusal = (reason : model.Refusal) × (refusal_of s command ≡ Some reason) × (named_as reason ≡ refusal)
+-- the model refuses the command that comes at this moment in this state, by this name
+abbrev pub ModelRefuses : Source → Command → ℕ → Refusal → Type 0
+ModelRefuses s command now refusal = (reason : model.Refusal) × (refusal_of s command now ≡ Some reason) × (named_as reason ≡ refusal)
 
 -- A command that was refused was tried, where the model refuses it so; else the machine refused it.
 abbrev pub RefusalEvents : Source → Command → ℕ → Refusal → List Event → Type 0
 RefusalEvents s command now refusal events =
-    (ModelRefuses s command refusal × (events ≡ Tried command now ∷ []))
-    ⊎ ((¬ ModelRefuses s command refusal) × (events ≡ Refused command ∷ []))
+    (ModelRefuses s command now refusal × (events ≡ Tried command now ∷ []))
+    ⊎ ((¬ ModelRefuses s command now refusal) × (events ≡ Refused command ∷ []))
 
 -- The event that a command is in this state, by its answer. Accepted, it was tried; where the device failed, the source was
 -- stopped within it, and it stands or not.

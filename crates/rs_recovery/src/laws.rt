@@ -13,7 +13,7 @@ ghost use Rattle.rs_store.specs.Laws.{TurnsGoOn};
 ghost use Rattle.rs_recovery.specs.Below.{Below};
 ghost use Rattle.rs_recovery.specs.Turns.{CommandsAreTurns, ReadingsIdle, CutPutsIdle};
 ghost use Rattle.rs_recovery.specs.Prefixes.{RunsRecover, IdleIsRun, CommandIsRun, RunsJoin};
-ghost use Rattle.rs_recovery.specs.Sessions.{OneStanding, OpeningsStopToo};
+ghost use Rattle.rs_recovery.specs.Sessions.{OneStanding, OpeningsStopToo, CopiesBeginSessions};
 ghost use Rattle.rs_recovery.specs.Served.{SessionsStand};
 ghost use Rattle.rs_recovery.specs.Recovered.{YieldsHeld};
 ghost use Rattle.rs_recovery.specs.Documents.{DocumentsAreOfTheState};
@@ -81,6 +81,12 @@ pub fn one_standing<D: Disk>()
 /// A stop within an opening is a stop of the session before it.
 pub fn openings_stop_too<D: Disk>()
     ensures { OpeningsStopToo D.state }
+{}
+
+/// Sessions begin on a copy as they do on a formatting: where a source that held a state was copied with the answer Ok,
+/// and its device had followed the model, the copy holds that state.
+pub fn copies_begin_sessions<D: Disk, E: Disk>()
+    ensures { CopiesBeginSessions D.state E.state }
 {}
 
 /// A document of a source, as its lists show it, is the document of the state that they tell.

@@ -25,10 +25,10 @@ use std::alloc::Global;
 /// the latest Resource List, followed by the changes recorded after its at-moment in their order, yields exactly the resources
 /// held, with their lengths, hashes and types.*
 ///
-/// The clause `headline` says it. Its premises: the source was formatted, with the answer Ok; the disk follows the model of
-/// rs_disk, and nobody else writes it; the moments are those that were handed in; and a read gives now what the last stop
-/// left. That the source is recovered and not refused has two more, that no growth of memory is refused and that the device
-/// does not fail.
+/// The clause `headline` says it. Its premises: the source was formatted with the answer Ok, or is a copy of one that was, by
+/// [`Source::copy_to`] with that answer; the disk follows the model of rs_disk, and nobody else writes it; the moments are
+/// those that were handed in; and a read gives now what the last stop left. That the source is recovered and not refused has
+/// two more, that no growth of memory is refused and that the device does not fail.
 ///
 /// # Errors
 ///

@@ -28,6 +28,8 @@ pub(super) enum Answer {
     Deleted(u64),
     /// The number of the publication comes before the moment.
     Published(u64, u64),
+    /// The number of the items comes before the moment of the first.
+    Grouped(u8, u64),
     Refused(Refusal),
 }
 
@@ -72,6 +74,7 @@ pub(super) fn answer_of(ack: &Ack) -> Answer {
         Ok(Reply::Updated(moment)) => Answer::Updated(moment.ms()),
         Ok(Reply::Deleted(moment)) => Answer::Deleted(moment.ms()),
         Ok(Reply::Published(number, moment)) => Answer::Published(number, moment.ms()),
+        Ok(Reply::Grouped(number, moment)) => Answer::Grouped(number, moment.ms()),
         Err(refusal) => Answer::Refused(refusal),
     }
 }

@@ -1,4 +1,4 @@
--- What a line leaves of a stored source, and what its commands make of the state.
+-- What a statement leaves of a stored source, and what its commands make of the state.
 use Rattle.std.proofs.Common.{◌≡◌, ◌≤◌, ℕ, List, [], Result, Ok, Err, true, false, refl, ap, sym, ◌∙◌, subst, inl, inr, arith, IsTrue}
 use Rattle.rs_disk.specs.Medium.{DiskState, IsImage, Medium}
 use Rattle.rs_commit.specs.Slots.{Standing}
@@ -12,18 +12,19 @@ use Rattle.rs_image.specs.StateOfImage.{Tells, state_in}
 use Rattle.rs_store.specs.Answered.{Answers}
 use Rattle.rs_store.specs.Source.{Stored, Holds, state_of}
 use Rattle.rs_store.specs.declared.refusal.Refusal as stored
-use Rattle.rs_store.specs.declared.refusal.Refusal.TheVariants.{Closed, TooLong, NotHeld, TooManyResources, TooManyChanges, Exhausted, Full, ReadFault, ShortBody, Device, Damaged, NoMemory}
+use Rattle.rs_store.specs.declared.refusal.Refusal.TheVariants.{Closed, BadGroup, TooLong, NotHeld, TooManyResources, TooManyChanges, Exhausted, Full, ReadFault, ShortBody, Device, Damaged, NoMemory}
 use Rattle.rs_recovery.specs.Prefixes.{counted_as}
 use Rattle.rs_script.specs.declared.refusal.Refusal.{Refusal}
 use Rattle.rs_script.specs.declared.request.Request.{Request}
 use Rattle.rs_script.specs.declared.request.Request.TheVariants.{At, Run, Document, Body, Status, Verify}
 use Rattle.rs_store.specs.OnlyReads.{OnlyReads}
-use Rattle.rs_script.specs.Outcomes.{outcome_of_reply, RequestGives, LineGives}
+use Rattle.rs_script.specs.Outcomes.{outcome_of_reply, RequestGives, AnswerGives, LineGives, StatementGives}
 use Rattle.rs_script.specs.Requests.{request_of}
+use Rattle.rs_script.specs.Statements.{Statement, single, grouped, cut_off, request_by}
 use Rattle.rs_script.specs.Script.{IsMachine}
 use Rattle.rs_script.specs.Session.{ScriptState, Answer}
 
--- the source after a line, which may be as it was
+-- the source after a statement, which may be as it was
 pub record Follows {D : Type 0} (device : D → DiskState) (old new : Stored D) (commands : List (Command × ℕ)) : Type 0 where
   -- the device was honest, if it is
   pub lasts : IsTrue (device new.disk).honest → IsTrue (device old.disk).honest
@@ -72,6 +73,7 @@ module _ {D : Type 0} (device : D → DiskState) (old : Stored D) where
         holds = λ s held h. absurd cc;
       }
   run_follows new command now (Err Closed) commands is a = refused_follows new command now Closed commands (λ e. absurd cc) is a (λ s held. (a.leads s held).0)
+  run_follows new command now (Err BadGroup) commands is a = refused_follows new command now BadGroup commands (λ e. absurd cc) is a (λ s held. (a.leads s held).0)
   run_follows new command now (Err TooLong) commands is a = refused_follows new command now TooLong commands (λ e. absurd cc) is a (λ s held. (a.leads s held).0)
   run_follows new command now (Err NotHeld) commands is a = refused_follows new command now NotHeld commands (λ e. absurd cc) is a (λ s held. (a.leads s held).0)
   run_follows new command now (Err TooManyResources) commands is a = refused_follows new command now TooManyResources commands (λ e. absurd cc) is a (λ s held. (a.leads s held).0)
@@ -114,11 +116,21 @@ module _ {D : Type 0} (device : D → DiskState) (old : ScriptState (Stored D)) 
   request_follows (Ok Verify) r = read_follows device old.source answer.session.source answer.commands r.commands r.answers.reads_only
   request_follows (Err refusal) e = subst AnswerFollows (sym e) (stays device old.source)
 
-  pub line_follows : (line : List ℕ) → LineGives device old line answer → Follows device old.source answer.session.source answer.commands
+  answer_follows : (request : Result Request Refusal) → AnswerGives device old request answer → AnswerFollows answer
+  unfolding AnswerFollows
+  answer_follows request (inl gives) = request_follows request gives
+  answer_follows request (inr e) = subst AnswerFollows (sym e) (stays device old.source)
+
+  line_follows : (line : List ℕ) → LineGives device old line answer → AnswerFollows answer
   unfolding AnswerFollows
   line_follows line (inl long) = subst AnswerFollows (sym long.1) (stays device old.source)
-  line_follows line (inr (within, inl gives)) = request_follows (request_of line) gives
-  line_follows line (inr (within, inr e)) = subst AnswerFollows (sym e) (stays device old.source)
+  line_follows line (inr (within, gives)) = answer_follows (request_of line) gives
+
+  pub statement_follows : (statement : Statement) → StatementGives device old statement answer → Follows device old.source answer.session.source answer.commands
+  unfolding AnswerFollows
+  statement_follows (single line) gives = line_follows line gives
+  statement_follows (grouped first lines) gives = answer_follows (request_by (grouped first lines)) gives
+  statement_follows cut_off gives = request_follows (request_by cut_off) gives
 
 -- the generation does not fall, where the device did not fail
 module _ {D : Type 0} (device : D → DiskState) (old : ScriptState (Stored D)) (answer : Answer (Stored D)) (models : ¬ IsMachine answer.outcome) where
@@ -139,6 +151,7 @@ module _ {D : Type 0} (device : D → DiskState) (old : ScriptState (Stored D)) 
   run_rises command (Err ShortBody) a o = absurd (a.refused ShortBody refl)
   run_rises command (Err Damaged) a o = absurd (models (subst IsMachine (sym o) tt))
   run_rises command (Err NoMemory) a o = absurd (models (subst IsMachine (sym o) tt))
+  run_rises command (Err BadGroup) a o = alike_rises answer.session.source (a.unchanged BadGroup refl (λ e. absurd cc)).slots
   run_rises command (Err TooLong) a o = alike_rises answer.session.source (a.unchanged TooLong refl (λ e. absurd cc)).slots
   run_rises command (Err NotHeld) a o = alike_rises answer.session.source (a.unchanged NotHeld refl (λ e. absurd cc)).slots
   run_rises command (Err TooManyResources) a o = alike_rises answer.session.source (a.unchanged TooManyResources refl (λ e. absurd cc)).slots
@@ -155,9 +168,19 @@ module _ {D : Type 0} (device : D → DiskState) (old : ScriptState (Stored D)) 
   request_rises (Ok Verify) r = alike_rises answer.session.source r.answers.reads_only.slots
   request_rises (Err refusal) e = subst Rises (sym e) (omega arith)
 
-  pub line_rises : (line : List ℕ) → LineGives device old line answer
-      → old.source.slots.root.generation ≤ answer.session.source.slots.root.generation
+  answer_rises : (request : Result Request Refusal) → AnswerGives device old request answer → Rises answer
+  unfolding Rises
+  answer_rises request (inl gives) = request_rises request gives
+  answer_rises request (inr e) = subst Rises (sym e) (omega arith)
+
+  line_rises : (line : List ℕ) → LineGives device old line answer → Rises answer
   unfolding Rises
   line_rises line (inl long) = subst Rises (sym long.1) (omega arith)
-  line_rises line (inr (within, inl gives)) = request_rises (request_of line) gives
-  line_rises line (inr (within, inr e)) = subst Rises (sym e) (omega arith)
+  line_rises line (inr (within, gives)) = answer_rises (request_of line) gives
+
+  pub statement_rises : (statement : Statement) → StatementGives device old statement answer
+      → old.source.slots.root.generation ≤ answer.session.source.slots.root.generation
+  unfolding Rises
+  statement_rises (single line) gives = line_rises line gives
+  statement_rises (grouped first lines) gives = answer_rises (request_by (grouped first lines)) gives
+  statement_rises cut_off gives = request_rises (request_by cut_off) gives

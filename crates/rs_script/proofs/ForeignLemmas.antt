@@ -1,15 +1,21 @@
 -- A line that begins as no line with fields, and is longer than each without, asks for nothing.
-use Rattle.std.proofs.Common.{◌≡◌, ◌∷◌, [], ◌++◌, ◌+◌, ◌-◌, ◌≤◌, ◌<◌, ℕ, length, take, drop, get_or, List, Option, Some, None, Bool, true, false, nat_eq, refl, arith, ap, ◌∙◌, codes, bytes_eq, Err, length-append, length-take, if◌then◌else◌, ◌||◌, ◌==◌, slice_index}
+use Rattle.std.proofs.Common.{◌≡◌, ◌∷◌, [], ◌++◌, ◌+◌, ◌-◌, ◌≤◌, ◌<◌, ℕ, length, take, drop, get_or, List, Option, Some, None, Bool, true, false, nat_eq, refl, arith, ap, ◌∙◌, codes, bytes_eq, Err, length-append, length-take, length-drop, nat_le, if◌then◌else◌, ◌||◌, ◌==◌, slice_index}
 use Rattle.std.specs.List.{position, starts_with}
 use Rattle.std.proofs.lemmas.List.{take_more, take-take}
 use Rattle.std.proofs.lemmas.List.Sums.{passes_at_first}
 use Rattle.std.proofs.lemmas.Slice.Eq.{bytes_eq-Decides}
 use Rattle.std.proofs.lemmas.Bool.Decides.{nat_tests}
+use Rattle.rs_record.specs.Decimal.{number_in}
+use Rattle.rs_items.specs.declared.item.ItemFault.TheVariants as fault
+use Rattle.rs_items.specs.Fields.{fields, is_space, after_space, first_field, after_field}
+use Rattle.rs_items.specs.Items.{item_of_fields, item_of_line}
+use Rattle.rs_items.proofs.FieldLemmas.{position-some, fields-cut, fields-last}
+use Rattle.rs_items.proofs.ItemLemmas.{other_word as no_item}
 use Rattle.rs_script.specs.declared.refusal.Refusal.TheVariants.{BadLine}
-use Rattle.rs_script.specs.Fields.{fields, is_space, after_space, first_field, after_field}
 use Rattle.rs_script.specs.Lines.{line_of}
+use Rattle.rs_script.specs.PartialLine.{AsksNothing}
 use Rattle.rs_script.specs.Requests.{of_fields, request_of, begins_request}
-use Rattle.rs_script.proofs.FieldLemmas.{position-some, fields-cut, fields-last, too_many}
+use Rattle.rs_script.specs.Statements.{size_in, group_size}
 
 is_false : (b : Bool) → (b ≡ true → ⊥) → b ≡ false
 is_false true h = absurd (h refl)
@@ -36,49 +42,109 @@ other_word line word i found h =
     let yes : starts_with nat_eq line (word ++ 32 ∷ []) ≡ true = (bytes_eq-Decides (word ++ 32 ∷ []) (take (length (word ++ 32 ∷ [])) line)).1 whole in
     (cc))
 
--- a line of another word than those with fields asks for nothing
-other_request : (word rest : List ℕ) → bytes_eq word (codes "at") ≡ false → bytes_eq word (codes "put") ≡ false
-    → bytes_eq word (codes "delete") ≡ false → bytes_eq word (codes "show") ≡ false → of_fields (word ∷ fields 2 rest) ≡ Err BadLine
+-- a line that is no item, of another word than those with two fields, asks for nothing
+other_request : (line word rest : List ℕ) → bytes_eq word (codes "at") ≡ false → bytes_eq word (codes "show") ≡ false
+    → bytes_eq word (codes "group") ≡ false → item_of_line line ≡ Err fault.BadLine → of_fields line (word ∷ fields 1 rest) ≡ Err BadLine
 unfolding fields
-other_request word rest a p d s = two_fields (first_field rest) (after_field rest)
+other_request line word rest a s g none = two_fields (first_field rest) (after_field rest)
   where
-    two_fields : (field after : List ℕ) → of_fields (word ∷ field ∷ after_space (fields 1) after) ≡ Err BadLine
-    two_fields field [] = rw (a, d, s) refl
-    two_fields field (space ∷ bytes) = too_many word field bytes p
+    two_fields : (field after : List ℕ) → of_fields line (word ∷ field ∷ after_space (fields 0) after) ≡ Err BadLine
+    two_fields field [] = rw (a, s, g, none) refl
+    two_fields field (space ∷ bytes) = rw none refl
 
 either_false : (a b : Bool) → (a || b) ≡ false → (a ≡ false) × (b ≡ false)
 either_false true b e = absurd (cc)
 either_false false b e = (refl, e)
 
--- nor does a line that is longer than each of one field, and begins as none with more
-asks_nothing : (line : List ℕ) → 8 ≤ length line → begins_request line ≡ false → request_of line ≡ Err BadLine
-unfolding request_of
-asks_nothing line long h = by_space (position is_space line) refl
+-- it begins with none of the words that fields follow
+record BeginsNone (line : List ℕ) : Type 0 where
+  no_at : starts_with nat_eq line (codes "at ") ≡ false
+  no_put : starts_with nat_eq line (codes "put ") ≡ false
+  no_delete : starts_with nat_eq line (codes "delete ") ≡ false
+  no_show : starts_with nat_eq line (codes "show ") ≡ false
+  no_group : starts_with nat_eq line (codes "group ") ≡ false
+
+begins_none : (line : List ℕ) → begins_request line ≡ false → BeginsNone line
+begins_none line h =
+    let a = either_false (starts_with nat_eq line (codes "at ")) _ h in
+    let p = either_false (starts_with nat_eq line (codes "put ")) _ a.1 in
+    let d = either_false (starts_with nat_eq line (codes "delete ")) _ p.1 in
+    let s = either_false (starts_with nat_eq line (codes "show ")) _ d.1 in
+    let g = either_false (starts_with nat_eq line (codes "group ")) false s.1 in
+    record { no_at = a.0; no_put = p.0; no_delete = d.0; no_show = s.0; no_group = g.0 }
+
+-- nor is it an item
+is_no_item : (line : List ℕ) → BeginsNone line → item_of_line line ≡ Err fault.BadLine
+unfolding item_of_line
+is_no_item line b = by_space (position is_space line) refl
   where
-    by_space : (found : Option ℕ) → position is_space line ≡ found → of_fields (fields 3 line) ≡ Err BadLine
+    by_space : (found : Option ℕ) → position is_space line ≡ found → item_of_fields (fields 3 line) ≡ Err fault.BadLine
+    by_space None e = rw (fields-last line 2 e) refl
+    by_space (Some i) e =
+        rw (fields-cut line i 2 e)
+        (no_item (take i line) (drop (i + 1) line) (other_word line (codes "put") i e b.no_put) (other_word line (codes "delete") i e b.no_delete))
+
+-- nor does a line that is longer than each of one field, and begins as none with more
+asks_alone : (line : List ℕ) → 8 ≤ length line → BeginsNone line → request_of line ≡ Err BadLine
+unfolding request_of
+asks_alone line long b = by_space (position is_space line) refl
+  where
+    by_space : (found : Option ℕ) → position is_space line ≡ found → of_fields line (fields 2 line) ≡ Err BadLine
     by_space None e =
         let not_publish = other_length line (codes "publish") (λ same. absurd (omega (arith, same))) in
         let not_status = other_length line (codes "status") (λ same. absurd (omega (arith, same))) in
         let not_verify = other_length line (codes "verify") (λ same. absurd (omega (arith, same))) in
-        rw (fields-last line 2 e, not_publish, not_status, not_verify) refl
+        rw (fields-last line 1 e, not_publish, not_status, not_verify) refl
     by_space (Some i) e =
-        let no_at = either_false (starts_with nat_eq line (codes "at ")) _ h in
-        let no_put = either_false (starts_with nat_eq line (codes "put ")) _ no_at.1 in
-        let no_delete = either_false (starts_with nat_eq line (codes "delete ")) _ no_put.1 in
-        let no_show = either_false (starts_with nat_eq line (codes "show ")) _ no_delete.1 in
-        rw (fields-cut line i 2 e)
-        (other_request (take i line) (drop (i + 1) line) (other_word line (codes "at") i e no_at.0) (other_word line (codes "put") i e no_put.0)
-        (other_word line (codes "delete") i e no_delete.0) (other_word line (codes "show") i e no_show.0))
+        rw (fields-cut line i 1 e)
+        (other_request line (take i line) (drop (i + 1) line) (other_word line (codes "at") i e b.no_at) (other_word line (codes "show") i e b.no_show)
+        (other_word line (codes "group") i e b.no_group) (is_no_item line b))
+
+begins_no_group : (line : List ℕ) → starts_with nat_eq line (codes "group ") ≡ false → group_size line ≡ None
+unfolding group_size
+begins_no_group line e = rw e refl
+
+asks_nothing : (line : List ℕ) → 8 ≤ length line → begins_request line ≡ false → AsksNothing line
+asks_nothing line long h =
+    let b = begins_none line h in
+    record { alone = asks_alone line long b; within = is_no_item line b; no_group = begins_no_group line b.no_group }
+
+-- a line that is longer than each that begins a group begins none
+long_number : (text : List ℕ) → 2 < length text → number_in 2 text ≡ None
+unfolding number_in
+long_number text long =
+    let no : nat_le (length text) 2 ≡ false = grind (arith, nat_tests) in
+    let few : nat_le 1 (length text) ≡ true = grind (arith, nat_tests) in
+    rw (few, no) refl
+
+either_none : (b : Bool) (found : Option ℕ) → found ≡ None → (if b then size_in found else None) ≡ None
+either_none true found e = rw e refl
+either_none false found e = refl
+
+pub long_begins_none : (line : List ℕ) → 8 < length line → group_size line ≡ None
+unfolding group_size
+long_begins_none line long =
+    either_none (starts_with nat_eq line (codes "group ")) (number_in 2 (drop 6 line))
+    (long_number (drop 6 line) (omega (arith, length-drop 6 line)))
 
 -- the first bytes of a line tell how it begins
 begins_same : (raw : List ℕ) (n : ℕ) → 7 ≤ n → begins_request (take n raw) ≡ begins_request raw
 begins_same raw n le =
-    rw (take-take 3 n raw (omega arith), take-take 4 n raw (omega arith), take-take 7 n raw le, take-take 5 n raw (omega arith)) refl
+    rw (take-take 3 n raw (omega arith), take-take 4 n raw (omega arith), take-take 7 n raw le, take-take 5 n raw (omega arith), take-take 6 n raw (omega arith)) refl
 
-pub foreign : (raw : List ℕ) (has_break : Bool) → 9 ≤ length raw → begins_request raw ≡ false → request_of (line_of has_break raw) ≡ Err BadLine
+pub foreign : (raw : List ℕ) (has_break : Bool) → 9 ≤ length raw → begins_request raw ≡ false → AsksNothing (line_of has_break raw)
 foreign raw false long h = asks_nothing raw (omega arith) h
 foreign raw true long h = by_last (slice_index raw (length raw - 1) == 13)
   where
-    by_last : (ends : Bool) → request_of (if ends then take (length raw - 1) raw else raw) ≡ Err BadLine
+    by_last : (ends : Bool) → AsksNothing (if ends then take (length raw - 1) raw else raw)
     by_last true = asks_nothing (take (length raw - 1) raw) (omega (arith, length-take (length raw - 1) raw)) (begins_same raw (length raw - 1) (omega arith) ∙ h)
     by_last false = asks_nothing raw (omega arith) h
+
+-- a line of more bytes than there is always room for begins no group
+pub refused_begins_none : (raw : List ℕ) (has_break : Bool) → 9 < length raw → group_size (line_of has_break raw) ≡ None
+refused_begins_none raw false long = long_begins_none raw (omega arith)
+refused_begins_none raw true long = by_last (slice_index raw (length raw - 1) == 13)
+  where
+    by_last : (ends : Bool) → group_size (if ends then take (length raw - 1) raw else raw) ≡ None
+    by_last true = long_begins_none (take (length raw - 1) raw) (omega (arith, length-take (length raw - 1) raw))
+    by_last false = long_begins_none raw (omega arith)

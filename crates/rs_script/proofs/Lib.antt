@@ -1,9 +1,12 @@
-pub mod FieldLemmas
 pub mod AnswerLemmas
 pub mod ForeignLemmas
 pub mod Breaks
 pub mod Cut
+pub mod Grouped
 pub mod Steps
+pub mod Endings
+pub mod GroupItems
+pub mod LineTaking
 pub mod Models
 pub mod Chains
 pub mod Transcripts

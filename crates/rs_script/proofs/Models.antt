@@ -17,7 +17,7 @@ use Rattle.rs_store.specs.Refusals.{decided, or_spent, named_as}
 use Rattle.rs_store.specs.Shows.{status_of}
 use Rattle.rs_store.specs.Source.{Stored, state_of}
 use Rattle.rs_store.specs.declared.refusal.Refusal as stored
-use Rattle.rs_store.specs.declared.refusal.Refusal.TheVariants.{Closed, TooLong, NotHeld, TooManyResources, TooManyChanges, Exhausted, Full, ReadFault, ShortBody, Device, Damaged, NoMemory}
+use Rattle.rs_store.specs.declared.refusal.Refusal.TheVariants.{Closed, BadGroup, TooLong, NotHeld, TooManyResources, TooManyChanges, Exhausted, Full, ReadFault, ShortBody, Device, Damaged, NoMemory}
 use Rattle.rs_caps.specs.DocumentTexts.{document_text}
 use Rattle.rs_caps.specs.Shows.{shown_of}
 use Rattle.rs_recovery.specs.Prefixes.{counted_as}
@@ -28,10 +28,11 @@ use Rattle.rs_script.specs.declared.request.Request.TheVariants.{At, Run, Docume
 use Rattle.rs_store.specs.AnswersBody.{AnswersBody}
 use Rattle.rs_store.specs.OnlyReads.{OnlyReads}
 use Rattle.rs_store.specs.Verified.{AnswersVerify, is_sound, damaged_names}
-use Rattle.rs_script.specs.Outcomes.{outcome_of_reply, shown_as, verified_as, if_open, RequestGives, LineGives}
+use Rattle.rs_script.specs.Outcomes.{outcome_of_reply, shown_as, verified_as, if_open, RequestGives, AnswerGives, LineGives, StatementGives}
 use Rattle.rs_script.specs.Lines.{line_limit}
-use Rattle.rs_script.specs.Model.{stepped, shown_or, sound_count, answer_to, line_answer}
+use Rattle.rs_script.specs.Model.{stepped, shown_or, sound_count, answer_to, line_answer, statement_answer}
 use Rattle.rs_script.specs.Requests.{request_of}
+use Rattle.rs_script.specs.Statements.{Statement, single, grouped, cut_off, request_by}
 use Rattle.rs_script.specs.Script.{IsOfMachine, IsMachine, told}
 use Rattle.rs_script.specs.Session.{ScriptState, script_state, LineOutcome, refused, counted, verified, Answer, unchanged}
 
@@ -76,12 +77,12 @@ module _ {D : Type 0} (device : D → DiskState) (old : ScriptState (Stored D)) 
 
   -- the model refused the command
   run_refused : (command : Command) (r : stored.Refusal) → (r ≡ Closed → ⊥) → old.source.slots.root.generation + 1 < 2 ^ 64
-      → decided old.source state command ≡ Some r
+      → decided old.source state command old.now ≡ Some r
       → answer.outcome ≡ refused (refusals.Source r) → answer.commands ≡ [] → answer.session.now ≡ old.now
       → state_of device answer.session.source ≡ state
       → IsSame device answer (stepped (told device old) command (step state command old.now))
   run_refused command r other left cause o c n same =
-      let m = model_cause old.source.is_closed (nat_le (2 ^ 64) (old.source.slots.root.generation + 1)) (refusal_of state command) r cause other
+      let m = model_cause old.source.is_closed (nat_le (2 ^ 64) (old.source.slots.root.generation + 1)) (refusal_of state command old.now) r cause other
       (is_left old.source.slots.root.generation left) in
       let t = moment_at state old.now in
       let steps : step state command old.now ≡ Err m.0 = ap (λ found. accepted_unless found (next_state state command t, reply_to state command t)) m.1 in
@@ -109,6 +110,8 @@ module _ {D : Type 0} (device : D → DiskState) (old : ScriptState (Stored D)) 
   run_same command (Err ReadFault) a left o c n = absurd (a.refused ReadFault refl)
   run_same command (Err ShortBody) a left o c n = absurd (a.refused ShortBody refl)
   run_same command (Err NoMemory) a left o c n = machine_refused NoMemory tt o
+  run_same command (Err BadGroup) a left o c n =
+      run_refused command BadGroup (λ e. absurd cc) left (a.refused BadGroup refl) o c n (a.unchanged BadGroup refl (λ e. absurd cc)).state
   run_same command (Err TooLong) a left o c n =
       run_refused command TooLong (λ e. absurd cc) left (a.refused TooLong refl) o c n (a.unchanged TooLong refl (λ e. absurd cc)).state
   run_same command (Err NotHeld) a left o c n =
@@ -141,6 +144,7 @@ module _ {D : Type 0} (device : D → DiskState) (old : ScriptState (Stored D)) 
   read_same name (Err Device) a honest o c n = machine_refused Device tt o
   read_same name (Err Damaged) a honest o c n = machine_refused Damaged tt o
   read_same name (Err NoMemory) a honest o c n = machine_refused NoMemory tt o
+  read_same name (Err BadGroup) a honest o c n = absurd a.others
   read_same name (Err TooLong) a honest o c n = absurd a.others
   read_same name (Err ReadFault) a honest o c n = absurd a.others
   read_same name (Err ShortBody) a honest o c n = absurd a.others
@@ -164,6 +168,7 @@ module _ {D : Type 0} (device : D → DiskState) (old : ScriptState (Stored D)) 
   verify_same (Err NotHeld) a honest o c n = absurd a.others
   verify_same (Err Full) a honest o c n = absurd a.others
   verify_same (Err Damaged) a honest o c n = absurd a.others
+  verify_same (Err BadGroup) a honest o c n = absurd a.others
   verify_same (Err TooLong) a honest o c n = absurd a.others
   verify_same (Err ReadFault) a honest o c n = absurd a.others
   verify_same (Err ShortBody) a honest o c n = absurd a.others
@@ -205,15 +210,27 @@ module _ {D : Type 0} (device : D → DiskState) (old : ScriptState (Stored D)) 
   request_same (Ok Verify) r honest left = verify_same r.result r.answers honest r.outcome r.commands r.now
   request_same (Err refusal) e honest left = left_same (refused refusal) e
 
-  -- and so is a line
-  pub line_same : (line : List ℕ) → LineGives device old line answer
+  -- and so is one for which there may be no room
+  possible_same : (request : Result Request Refusal) → AnswerGives device old request answer
+      → IsTrue (device answer.session.source.disk).honest → old.source.slots.root.generation + 1 < 2 ^ 64
+      → IsSame device answer (answer_to (told device old) request)
+  possible_same request (inl gives) honest left = request_same request gives honest left
+  possible_same request (inr e) honest left = absurd (models (subst (λ (a : Answer (Stored D)). IsMachine a.outcome) (sym e) tt))
+
+  line_same : (line : List ℕ) → LineGives device old line answer
       → IsTrue (device answer.session.source.disk).honest → old.source.slots.root.generation + 1 < 2 ^ 64
       → IsSame device answer (line_answer (told device old) line)
   line_same line (inl long) honest left =
       let past : nat_lt line_limit (length line) ≡ true = grind (arith, nat_tests, long.0) in
       rw past (left_same (refused refusals.LongLine) long.1)
-  line_same line (inr (within, inl gives)) honest left =
+  line_same line (inr (within, gives)) honest left =
       let short : nat_lt line_limit (length line) ≡ false = grind (arith, nat_tests, within) in
-      rw short (request_same (request_of line) gives honest left)
-  line_same line (inr (within, inr e)) honest left =
-      absurd (models (subst (λ (a : Answer (Stored D)). IsMachine a.outcome) (sym e) tt))
+      rw short (possible_same (request_of line) gives honest left)
+
+  -- and so is a statement
+  pub statement_same : (statement : Statement) → StatementGives device old statement answer
+      → IsTrue (device answer.session.source.disk).honest → old.source.slots.root.generation + 1 < 2 ^ 64
+      → IsSame device answer (statement_answer (told device old) statement)
+  statement_same (single line) gives honest left = line_same line gives honest left
+  statement_same (grouped first lines) gives honest left = possible_same (request_by (grouped first lines)) gives honest left
+  statement_same cut_off gives honest left = request_same (request_by cut_off) gives honest left

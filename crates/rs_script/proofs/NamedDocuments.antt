@@ -1,20 +1,24 @@
--- The documents that lines ask for have paths.
+-- The documents that statements ask for have paths.
 use Rattle.std.proofs.Common.{◌≡◌, ℕ, Bool, true, false, List, [], ◌∷◌, refl, cond, Option, Some, None, Result, Ok, Err}
 use Rattle.std.specs.Prelude.{bytes_eq, codes, drop, nat_eq}
 use Rattle.std.specs.List.{starts_with}
 use Rattle.rs_record.specs.Decimal.{number_in}
-use Rattle.rs_record.specs.MediaType.{is_media_type}
 use Rattle.rs_record.specs.Name.{is_name}
 use Rattle.rs_lists.specs.declared.doc.Doc.{Doc}
 use Rattle.rs_caps.specs.Paths.{doc_of, HasCounts}
 use Rattle.rs_caps.proofs.PathsRead.{doc_of-exact}
-use Rattle.rs_model.specs.declared.command.Command.TheVariants.{Put, Delete, Publish}
+use Rattle.rs_model.specs.declared.command.Command.TheVariants.{Publish}
+use Rattle.rs_model.specs.declared.command.Item.{Item}
+use Rattle.rs_model.specs.declared.command.Item.TheVariants as item
+use Rattle.rs_items.specs.declared.item.ItemFault.{ItemFault}
+use Rattle.rs_items.specs.Fields.{fields}
+use Rattle.rs_items.specs.Items.{item_of_line}
 use Rattle.rs_script.specs.declared.refusal.Refusal.{Refusal}
-use Rattle.rs_script.specs.declared.refusal.Refusal.TheVariants.{BadLine, BadMoment, BadName, BadType, NoSuchDocument}
+use Rattle.rs_script.specs.declared.refusal.Refusal.TheVariants.{BadLine, BadMoment, BadName, BadGroup, NoSuchDocument}
 use Rattle.rs_script.specs.declared.request.Request.{Request}
 use Rattle.rs_script.specs.declared.request.Request.TheVariants.{Run, Document, Body, Status, Verify}
-use Rattle.rs_script.specs.Fields.{fields}
-use Rattle.rs_script.specs.Requests.{asked, at_moment, moment_in, at_request, bytes_of, put_bytes, put_request, delete_request, at_document, show_request, request_alone, request_with, of_fields, request_of}
+use Rattle.rs_script.specs.Requests.{asked, at_moment, moment_in, at_request, item_request, at_document, show_request, request_alone, request_with, of_fields, request_of}
+use Rattle.rs_script.specs.Statements.{Statement, single, grouped, cut_off, items_of_group, group_request, request_by}
 
 -- a document that is asked for is one that a path can name
 abbrev pub HasPath : Result Request Refusal → Type 0
@@ -29,9 +33,10 @@ moment_has : (found : Option ℕ) → HasPath (asked (at_moment found) BadMoment
 moment_has None = tt
 moment_has (Some t) = tt
 
-put_has : (name kind : List ℕ) (bytes : Option (List ℕ)) → HasPath (put_bytes name kind bytes)
-put_has name kind None = tt
-put_has name kind (Some bytes) = either (is_media_type kind) (Ok (Run (Put name kind bytes))) (Err BadType) tt tt
+item_has : (found : Result Item ItemFault) → HasPath (item_request found)
+item_has (Ok (item.Put name kind bytes)) = tt
+item_has (Ok (item.Delete name)) = tt
+item_has (Err why) = tt
 
 document_has : (path : List ℕ) (found : Option Doc) → doc_of path ≡ found → HasPath (asked (at_document found) NoSuchDocument)
 document_has path None is = tt
@@ -52,25 +57,30 @@ alone_has word =
     (either (bytes_eq word (codes "status")) (Ok Status) verify tt
     (either (bytes_eq word (codes "verify")) (Ok Verify) (Err BadLine) tt tt))
 
-with_has : (word argument : List ℕ) → HasPath (request_with word argument)
-with_has word argument =
-    let show : Result Request Refusal = cond (bytes_eq word (codes "show")) (show_request argument) (Err BadLine) in
-    let delete : Result Request Refusal = cond (bytes_eq word (codes "delete")) (delete_request argument) show in
-    either (bytes_eq word (codes "at")) (at_request argument) delete (moment_has (moment_in (number_in 15 argument)))
-    (either (bytes_eq word (codes "delete")) (delete_request argument) show
-    (either (is_name argument) (Ok (Run (Delete argument))) (Err BadName) tt tt)
-    (either (bytes_eq word (codes "show")) (show_request argument) (Err BadLine) (show_has argument) tt))
+with_has : (line word argument : List ℕ) → HasPath (request_with line word argument)
+with_has line word argument =
+    let other : Result Request Refusal = item_request (item_of_line line) in
+    let group : Result Request Refusal = cond (bytes_eq word (codes "group")) (Err BadGroup) other in
+    let show : Result Request Refusal = cond (bytes_eq word (codes "show")) (show_request argument) group in
+    either (bytes_eq word (codes "at")) (at_request argument) show (moment_has (moment_in (number_in 15 argument)))
+    (either (bytes_eq word (codes "show")) (show_request argument) group (show_has argument)
+    (either (bytes_eq word (codes "group")) (Err BadGroup) other tt (item_has (item_of_line line))))
 
-fields_have : (parts : List (List ℕ)) → HasPath (of_fields parts)
-fields_have [] = tt
-fields_have (word ∷ []) = alone_has word
-fields_have (word ∷ argument ∷ []) = with_has word argument
-fields_have (word ∷ name ∷ hex ∷ []) = tt
-fields_have (word ∷ name ∷ hex ∷ kind ∷ []) =
-    either (bytes_eq word (codes "put")) (put_request name hex kind) (Err BadLine)
-    (either (is_name name) (put_bytes name kind (bytes_of hex)) (Err BadName) (put_has name kind (bytes_of hex)) tt) tt
-fields_have (word ∷ name ∷ hex ∷ kind ∷ more ∷ rest) = tt
+fields_have : (line : List ℕ) (parts : List (List ℕ)) → HasPath (of_fields line parts)
+fields_have line [] = item_has (item_of_line line)
+fields_have line (word ∷ []) = alone_has word
+fields_have line (word ∷ argument ∷ []) = with_has line word argument
+fields_have line (word ∷ argument ∷ more ∷ rest) = item_has (item_of_line line)
 
-pub line_has_path : (line : List ℕ) → HasPath (request_of line)
+line_has : (line : List ℕ) → HasPath (request_of line)
 unfolding request_of
-line_has_path line = fields_have (fields 3 line)
+line_has line = fields_have line (fields 2 line)
+
+group_has : (found : Result (List Item) Refusal) → HasPath (group_request found)
+group_has (Ok items) = tt
+group_has (Err refusal) = tt
+
+pub statement_has_path : (statement : Statement) → HasPath (request_by statement)
+statement_has_path (single line) = line_has line
+statement_has_path (grouped first lines) = group_has (items_of_group lines)
+statement_has_path cut_off = tt

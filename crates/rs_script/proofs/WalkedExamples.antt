@@ -1,5 +1,5 @@
--- Worked scripts: which events their lines are.
-use Rattle.std.proofs.Common.{◌≡◌, ℕ, Bool, List, [], ◌∷◌, refl, inl, inr}
+-- Worked scripts: which events their statements are.
+use Rattle.std.proofs.Common.{◌≡◌, Bool, List, [], ◌∷◌, refl, inl, inr}
 use Rattle.std.specs.Prelude.{codes}
 use Rattle.rs_model.specs.State.{Source, start_of}
 use Rattle.rs_model.specs.declared.command.Command.TheVariants.{Delete, Publish}
@@ -12,7 +12,9 @@ use Rattle.rs_store.specs.declared.refusal.Refusal.TheVariants.{NotHeld, Full, D
 use Rattle.rs_recovery.specs.Walked.{ModelRefuses}
 use Rattle.rs_script.specs.declared.refusal.Refusal.TheVariants as refusals
 use Rattle.rs_record.specs.Decimal.{number_in}
-use Rattle.rs_script.specs.Fields.{fields}
+use Rattle.rs_items.specs.Fields.{fields}
+use Rattle.rs_items.specs.Items.{item_of_line}
+use Rattle.rs_script.specs.Statements.{Statement, single}
 use Rattle.rs_script.specs.Requests.{request_of}
 use Rattle.rs_script.specs.Session.{LineOutcome, moment_set, refused}
 use Rattle.rs_script.specs.Walked.{IsWalkOf}
@@ -23,8 +25,10 @@ start = start_of (codes "http://a") 2 1000
 
 -- The model refuses the first delete; the machine refuses the publication, since the disk is full; what is shown is not held;
 -- the device fails in the second publication, and the source is closed from then on.
-abbrev lines : List (List ℕ)
-lines = codes "at 5000" ∷ codes "delete a" ∷ codes "publish" ∷ codes "show /resource/a" ∷ codes "publish" ∷ codes "publish" ∷ []
+abbrev statements : List Statement
+statements =
+    single (codes "at 5000") ∷ single (codes "delete a") ∷ single (codes "publish") ∷ single (codes "show /resource/a")
+    ∷ single (codes "publish") ∷ single (codes "publish") ∷ []
 
 abbrev outcomes : List LineOutcome
 outcomes =
@@ -36,6 +40,7 @@ delete = Tried (Delete (codes "a")) 5000
 
 -- no refusal of the model is that the source is closed
 never_closed : (reason : model.Refusal) → named_as reason ≡ Closed → ⊥
+never_closed decides.BadGroup is = cc
 never_closed decides.TooLong is = cc
 never_closed decides.NotHeld is = cc
 never_closed decides.TooManyResources is = cc
@@ -44,8 +49,8 @@ never_closed decides.Exhausted is = cc
 
 -- the publication may stand or not
 pub worked_script : (stands : Bool)
-    → IsWalkOf start 0 lines outcomes (delete ∷ Refused Publish ∷ Stopped Publish 5000 stands ∷ Refused Publish ∷ [])
-unfolding request_of fields number_in
+    → IsWalkOf start 0 statements outcomes (delete ∷ Refused Publish ∷ Stopped Publish 5000 stands ∷ Refused Publish ∷ [])
+unfolding request_of item_of_line fields number_in
 worked_script stands = (
   [],
   delete ∷ Refused Publish ∷ Stopped Publish 5000 stands ∷ Refused Publish ∷ [],
@@ -60,7 +65,7 @@ worked_script stands = (
       Refused Publish ∷ [],
       Stopped Publish 5000 stands ∷ Refused Publish ∷ [],
       refl,
-      inr ((λ (m : ModelRefuses start Publish Full). let some = m.1 in absurd cc), refl),
+      inr ((λ (m : ModelRefuses start Publish 5000 Full). let some = m.1 in absurd cc), refl),
       (
         [],
         Stopped Publish 5000 stands ∷ Refused Publish ∷ [],

@@ -1,4 +1,4 @@
--- The lines of a script make a walk.
+-- The statements of a script make a walk.
 use Rattle.std.proofs.Common.{◌≡◌, inl, inr, ℕ, Bool, true, List, [], ◌∷◌, refl, sym, ◌∙◌, ap, subst, cond, Option, Some, None, Result, Ok, Err, Vec, Global, IsTrue}
 use Rattle.rs_disk.specs.Medium.{DiskState, IsMedium}
 use Rattle.rs_model.specs.State.{Source, body_of}
@@ -27,10 +27,11 @@ use Rattle.rs_script.specs.declared.refusal.Refusal.TheVariants as refusals
 use Rattle.rs_script.specs.declared.request.Request.{Request}
 use Rattle.rs_script.specs.declared.request.Request.TheVariants.{At, Run, Document, Body, Status, Verify}
 use Rattle.rs_script.specs.Model.{shown_or}
-use Rattle.rs_script.specs.Outcomes.{RunAnswers, ReadAnswers, outcome_of_reply, shown_as, if_open, RequestGives, LineGives}
+use Rattle.rs_script.specs.Outcomes.{RunAnswers, ReadAnswers, outcome_of_reply, shown_as, if_open, RequestGives, AnswerGives, LineGives, StatementGives}
 use Rattle.rs_script.specs.Requests.{request_of}
+use Rattle.rs_script.specs.Statements.{Statement, single, grouped, cut_off, request_by}
 use Rattle.rs_script.specs.Session.{ScriptState, LineOutcome, shown, refused, Answer, unchanged}
-use Rattle.rs_script.specs.Walked.{RunEvents, ShowEvents, LineEvents, now_after}
+use Rattle.rs_script.specs.Walked.{RunEvents, ShowEvents, StatementEvents, now_after}
 use Rattle.rs_script.proofs.NamedDocuments.{HasPath}
 
 abbrev Kind : Type 1
@@ -38,7 +39,7 @@ Kind = List Event → Type 0
 
 -- what comes of a request that was refused memory, and of a line past the limit
 no_room : (s : Source) (now : ℕ) (request : Result Request Refusal)
-    → (events : List Event) × LineEvents s now request (refused refusals.NoMemory) events × (walk_of s events ≡ s)
+    → (events : List Event) × StatementEvents s now request (refused refusals.NoMemory) events × (walk_of s events ≡ s)
 no_room s now (Ok (At t)) = ([], refl, refl)
 no_room s now (Ok (Run command)) = (Refused command ∷ [], refl, refl)
 no_room s now (Ok (Document doc)) = ([], refl, refl)
@@ -47,7 +48,7 @@ no_room s now (Ok Status) = ([], refl, refl)
 no_room s now (Ok Verify) = ([], refl, refl)
 no_room s now (Err refusal) = ([], refl, refl)
 
-too_long : (s : Source) (now : ℕ) (request : Result Request Refusal) → LineEvents s now request (refused refusals.LongLine) []
+too_long : (s : Source) (now : ℕ) (request : Result Request Refusal) → StatementEvents s now request (refused refusals.LongLine) []
 too_long s now (Ok (At t)) = refl
 too_long s now (Ok (Run command)) = refl
 too_long s now (Ok (Document doc)) = refl
@@ -82,12 +83,24 @@ module _ {D : Type 0} (device : D → DiskState) where
   request_now old (Ok Verify) answer r = r.now
   request_now old (Err refusal) answer e = subst (SetsNow old (Err refusal)) (sym e) refl
 
-  pub line_now : (old : ScriptState (Stored D)) (line : List ℕ) (answer : Answer (Stored D)) → LineGives device old line answer
-      → answer.session.now ≡ now_after old.now (request_of line) answer.outcome
+  answer_now : (old : ScriptState (Stored D)) (request : Result Request Refusal) (answer : Answer (Stored D)) → AnswerGives device old request answer
+      → SetsNow old request answer
+  unfolding SetsNow
+  answer_now old request answer (inl gives) = request_now old request answer gives
+  answer_now old request answer (inr e) = subst (SetsNow old request) (sym e) (unset old.now request refusals.NoMemory)
+
+  line_now : (old : ScriptState (Stored D)) (line : List ℕ) (answer : Answer (Stored D)) → LineGives device old line answer
+      → SetsNow old (request_of line) answer
   unfolding SetsNow
   line_now old line answer (inl long) = subst (SetsNow old (request_of line)) (sym long.1) (unset old.now (request_of line) refusals.LongLine)
-  line_now old line answer (inr (within, inl gives)) = request_now old (request_of line) answer gives
-  line_now old line answer (inr (within, inr e)) = subst (SetsNow old (request_of line)) (sym e) (unset old.now (request_of line) refusals.NoMemory)
+  line_now old line answer (inr (within, gives)) = answer_now old (request_of line) answer gives
+
+  pub statement_now : (old : ScriptState (Stored D)) (statement : Statement) (answer : Answer (Stored D)) → StatementGives device old statement answer
+      → answer.session.now ≡ now_after old.now (request_by statement) answer.outcome
+  unfolding SetsNow
+  statement_now old (single line) answer gives = line_now old line answer gives
+  statement_now old (grouped first lines) answer gives = answer_now old (request_by (grouped first lines)) answer gives
+  statement_now old cut_off answer gives = request_now old (request_by cut_off) answer gives
 
 -- a line that was asked of an open source
 module _ {D : Type 0} (device : D → DiskState) (sound : (disk : D) → IsMedium (device disk).size (device disk).now) (stands : HeldStands device)
@@ -95,7 +108,7 @@ module _ {D : Type 0} (device : D → DiskState) (sound : (disk : D) → IsMediu
     (old : ScriptState (Stored D)) (s : Source) (holds : Holds device old.source s) where
   -- the walk of what comes of a request
   Walk : Result Request Refusal → Answer (Stored D) → Type 0
-  Walk request answer = LeavesWalk device s (LineEvents s old.now request answer.outcome) answer.session.source
+  Walk request answer = LeavesWalk device s (StatementEvents s old.now request answer.outcome) answer.session.source
 
   -- no event
   nothing : (M : Kind) (new : Stored D) → M [] → Holds device new s → LeavesWalk device s M new
@@ -154,10 +167,10 @@ module _ {D : Type 0} (device : D → DiskState) (sound : (disk : D) → IsMediu
 
   -- nothing changed, and this is no event
   still : (request : Result Request Refusal) (answer given : Answer (Stored D)) → answer ≡ given
-      → LineEvents s old.now request given.outcome [] → Holds device given.session.source s → Walk request answer
+      → StatementEvents s old.now request given.outcome [] → Holds device given.session.source s → Walk request answer
   unfolding Walk
   still request answer given e none held =
-      subst (Walk request) (sym e) (nothing (LineEvents s old.now request given.outcome) given.session.source none held)
+      subst (Walk request) (sym e) (nothing (StatementEvents s old.now request given.outcome) given.session.source none held)
 
   request_walk : (request : Result Request Refusal) → HasPath request → (answer : Answer (Stored D)) → RequestGives device old request answer
       → IsTrue (device answer.session.source.disk).honest → Walk request answer
@@ -168,21 +181,33 @@ module _ {D : Type 0} (device : D → DiskState) (sound : (disk : D) → IsMediu
   request_walk (Ok (Body name)) has answer r honest = read_walk name answer r honest
   request_walk (Ok Status) has answer e honest = still (Ok Status) answer _ e refl holds
   request_walk (Ok Verify) has answer r honest =
-      nothing (LineEvents s old.now (Ok Verify) answer.outcome) answer.session.source refl (kept answer.session.source r.answers.reads_only)
+      nothing (StatementEvents s old.now (Ok Verify) answer.outcome) answer.session.source refl (kept answer.session.source r.answers.reads_only)
   request_walk (Err refusal) has answer e honest = still (Err refusal) answer _ e refl holds
 
-  pub line_walk : (line : List ℕ) → HasPath (request_of line) → (answer : Answer (Stored D)) → LineGives device old line answer
-      → IsTrue (device answer.session.source.disk).honest
-      → LeavesWalk device s (LineEvents s old.now (request_of line) answer.outcome) answer.session.source
+  answer_walk : (request : Result Request Refusal) → HasPath request → (answer : Answer (Stored D)) → AnswerGives device old request answer
+      → IsTrue (device answer.session.source.disk).honest → Walk request answer
+  unfolding Walk
+  answer_walk request has answer (inl gives) honest = request_walk request has answer gives honest
+  answer_walk request has answer (inr e) honest =
+      let none = no_room s old.now request in
+      subst (Walk request) (sym e)
+      (walked device stands s (StatementEvents s old.now request (refused refusals.NoMemory)) old.source none.0 none.1
+      (subst (Holds device old.source) (sym none.2) holds))
+
+  line_walk : (line : List ℕ) → HasPath (request_of line) → (answer : Answer (Stored D)) → LineGives device old line answer
+      → IsTrue (device answer.session.source.disk).honest → Walk (request_of line) answer
   unfolding Walk
   line_walk line has answer (inl long) honest =
       still (request_of line) answer (unchanged old (refused refusals.LongLine)) long.1 (too_long s old.now (request_of line)) holds
-  line_walk line has answer (inr (within, inl gives)) honest = request_walk (request_of line) has answer gives honest
-  line_walk line has answer (inr (within, inr e)) honest =
-      let none = no_room s old.now (request_of line) in
-      subst (Walk (request_of line)) (sym e)
-      (walked device stands s (LineEvents s old.now (request_of line) (refused refusals.NoMemory)) old.source none.0 none.1
-      (subst (Holds device old.source) (sym none.2) holds))
+  line_walk line has answer (inr (within, gives)) honest = answer_walk (request_of line) has answer gives honest
+
+  pub statement_walk : (statement : Statement) → HasPath (request_by statement) → (answer : Answer (Stored D)) → StatementGives device old statement answer
+      → IsTrue (device answer.session.source.disk).honest
+      → LeavesWalk device s (StatementEvents s old.now (request_by statement) answer.outcome) answer.session.source
+  unfolding Walk
+  statement_walk (single line) has answer gives honest = line_walk line has answer gives honest
+  statement_walk (grouped first lines) has answer gives honest = answer_walk (request_by (grouped first lines)) has answer gives honest
+  statement_walk cut_off has answer gives honest = request_walk (request_by cut_off) has answer gives honest
 
 -- What comes of a line of a closed source: it stays closed, its disk holds what it held, and the state of a walk is not changed.
 pub record Shut {D : Type 0} (device : D → DiskState) (old new : Stored D) (s : Source) (M : Kind) : Type 0 where
@@ -195,11 +220,11 @@ pub record Shut {D : Type 0} (device : D → DiskState) (old new : Stored D) (s 
 module _ {D : Type 0} (device : D → DiskState) (refusing : ClosedCommandsAreRefused device)
     (old : ScriptState (Stored D)) (s : Source) (closed : old.source.is_closed ≡ true) where
   ShutBy : Result Request Refusal → Answer (Stored D) → Type 0
-  ShutBy request answer = Shut device old.source answer.session.source s (LineEvents s old.now request answer.outcome)
+  ShutBy request answer = Shut device old.source answer.session.source s (StatementEvents s old.now request answer.outcome)
 
   -- nothing changed
   unmoved : (request : Result Request Refusal) (answer given : Answer (Stored D)) → answer ≡ given → given.session.source ≡ old.source
-      → (events : List Event) → LineEvents s old.now request given.outcome events → walk_of s events ≡ s → ShutBy request answer
+      → (events : List Event) → StatementEvents s old.now request given.outcome events → walk_of s events ≡ s → ShutBy request answer
   unfolding ShutBy
   unmoved request answer given e same events are stays = subst (ShutBy request) (sym e) record {
     events = events;
@@ -258,15 +283,25 @@ module _ {D : Type 0} (device : D → DiskState) (refusing : ClosedCommandsAreRe
       unmoved (Ok (Document doc)) answer (unchanged old (refused (refusals.Source Closed))) is refl [] refl refl
   request_shut (Ok (Body name)) answer r = read_none name answer r
   request_shut (Ok Status) answer e = unmoved (Ok Status) answer _ e refl [] refl refl
-  request_shut (Ok Verify) answer r = read_shut (LineEvents s old.now (Ok Verify) answer.outcome) answer.session.source r.answers.reads_only refl
+  request_shut (Ok Verify) answer r = read_shut (StatementEvents s old.now (Ok Verify) answer.outcome) answer.session.source r.answers.reads_only refl
   request_shut (Err refusal) answer e = unmoved (Err refusal) answer _ e refl [] refl refl
 
-  pub line_shut : (line : List ℕ) (answer : Answer (Stored D)) → LineGives device old line answer
-      → Shut device old.source answer.session.source s (LineEvents s old.now (request_of line) answer.outcome)
+  answer_shut : (request : Result Request Refusal) (answer : Answer (Stored D)) → AnswerGives device old request answer → ShutBy request answer
+  unfolding ShutBy
+  answer_shut request answer (inl gives) = request_shut request answer gives
+  answer_shut request answer (inr e) =
+      let none = no_room s old.now request in
+      unmoved request answer (unchanged old (refused refusals.NoMemory)) e refl none.0 none.1 none.2
+
+  line_shut : (line : List ℕ) (answer : Answer (Stored D)) → LineGives device old line answer → ShutBy (request_of line) answer
   unfolding ShutBy
   line_shut line answer (inl long) =
       unmoved (request_of line) answer (unchanged old (refused refusals.LongLine)) long.1 refl [] (too_long s old.now (request_of line)) refl
-  line_shut line answer (inr (within, inl gives)) = request_shut (request_of line) answer gives
-  line_shut line answer (inr (within, inr e)) =
-      let none = no_room s old.now (request_of line) in
-      unmoved (request_of line) answer (unchanged old (refused refusals.NoMemory)) e refl none.0 none.1 none.2
+  line_shut line answer (inr (within, gives)) = answer_shut (request_of line) answer gives
+
+  pub statement_shut : (statement : Statement) (answer : Answer (Stored D)) → StatementGives device old statement answer
+      → Shut device old.source answer.session.source s (StatementEvents s old.now (request_by statement) answer.outcome)
+  unfolding ShutBy
+  statement_shut (single line) answer gives = line_shut line answer gives
+  statement_shut (grouped first lines) answer gives = answer_shut (request_by (grouped first lines)) answer gives
+  statement_shut cut_off answer gives = request_shut (request_by cut_off) answer gives

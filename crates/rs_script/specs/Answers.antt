@@ -3,11 +3,11 @@ use Rattle.std.specs.Prelude.{ℕ, List, [], ◌∷◌, ◌++◌, length, codes,
 use Rattle.std.specs.Fmt.{decimal}
 use Rattle.rs_time.specs.Moment.{moment_text}
 use Rattle.rs_model.specs.declared.command.Reply.{Reply}
-use Rattle.rs_model.specs.declared.command.Reply.TheVariants.{Created, Updated, Deleted, Published}
+use Rattle.rs_model.specs.declared.command.Reply.TheVariants.{Created, Updated, Deleted, Published, Grouped}
 use Rattle.rs_store.specs.Refusals.{refusal_word}
 use Rattle.rs_store.specs.declared.reading.Status.{Status}
 use Rattle.rs_script.specs.declared.refusal.Refusal.{Refusal}
-use Rattle.rs_script.specs.declared.refusal.Refusal.TheVariants.{BadLine, LongLine, BadMoment, BadName, BadHex, BadType, NoSuchDocument, Source, NoMemory}
+use Rattle.rs_script.specs.declared.refusal.Refusal.TheVariants.{BadLine, LongLine, BadMoment, BadName, BadHex, BadType, BadGroup, NoSuchDocument, Source, NoMemory}
 use Rattle.rs_script.specs.Session.{LineOutcome, moment_set, replied, shown, counted, verified, refused}
 
 -- a moment, and the end of the line
@@ -19,6 +19,7 @@ reply_text (Created t) = codes "created " ++ moment_end t
 reply_text (Updated t) = codes "updated " ++ moment_end t
 reply_text (Deleted t) = codes "deleted " ++ moment_end t
 reply_text (Published number t) = (codes "published " ++ (decimal number ++ codes " ")) ++ moment_end t
+reply_text (Grouped count t) = (codes "grouped " ++ (decimal count ++ codes " ")) ++ moment_end t
 
 -- the word of a refusal
 abbrev pub word_of : Refusal → List ℕ
@@ -28,6 +29,7 @@ word_of BadMoment = codes "BadMoment"
 word_of BadName = codes "BadName"
 word_of BadHex = codes "BadHex"
 word_of BadType = codes "BadType"
+word_of BadGroup = codes "BadGroup"
 word_of NoSuchDocument = codes "NoSuchDocument"
 word_of (Source refusal) = refusal_word refusal
 word_of NoMemory = codes "NoMemory"

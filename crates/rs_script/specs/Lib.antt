@@ -1,12 +1,13 @@
 pub mod Lines
-pub mod Fields
 pub mod Requests
+pub mod Statements
 pub mod Session
 pub mod Model
 pub mod Outcomes
 pub mod Answers
 pub mod Script
 pub mod PartialLine
+pub mod Taken
 pub mod Broken
 pub mod Progress
 pub mod Walked

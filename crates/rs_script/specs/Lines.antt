@@ -1,5 +1,6 @@
 -- The lines of a script.
-use Rattle.std.specs.Prelude.{◌≡◌, ◌≢◌, ◌==◌, slice_index, ℕ, ◌-◌, List, [], ◌∷◌, ◌++◌, length, take, All, flat_map, map, if◌then◌else◌, Bool}
+use Rattle.std.specs.Prelude.{◌≡◌, ◌≢◌, ℕ, List, [], ◌∷◌, ◌++◌, All, flat_map, map, if◌then◌else◌, Bool}
+use Rattle.rs_items.specs.Lines.{cut_return, last_line}
 
 -- the longest line, in bytes, without its end
 abbrev pub line_limit : ℕ
@@ -18,19 +19,6 @@ pub record Splits (input : List ℕ) (raws : List (List ℕ)) (rest : List ℕ) 
   pub whole : input ≡ flat_map with_break raws ++ rest
   pub each : All HasNoBreak raws
   pub partial : HasNoBreak rest
-
--- whole lines: the last byte is a line feed, or there is none
-abbrev pub AreWholeLines : List ℕ → Type 0
-AreWholeLines input = (raws : List (List ℕ)) × Splits input raws []
-
--- without the carriage return (byte 13) at its end, if there is one
-abbrev pub cut_return : List ℕ → List ℕ
-cut_return raw = if slice_index raw (length raw - 1) == 13 then take (length raw - 1) raw else raw
-
--- the line that no line feed ends: there is none right after a line feed, or in an empty input
-abbrev pub last_line : List ℕ → List (List ℕ)
-last_line [] = []
-last_line (b ∷ bytes) = (b ∷ bytes) ∷ []
 
 -- the lines that a script answers: a carriage return is cut off right before a line feed alone
 abbrev pub script_lines : List (List ℕ) → List ℕ → List (List ℕ)

@@ -1,4 +1,4 @@
--- What the model answers to the lines of a script.
+-- What the model answers to the statements of a script.
 use Rattle.std.specs.Prelude.{ℕ, nat_lt, if◌then◌else◌, List, [], ◌∷◌, length, Option, Some, None, Result, Ok, Err}
 use Rattle.std.specs.List.{filter}
 use Rattle.rs_model.specs.State.{Source, body_of}
@@ -18,6 +18,7 @@ use Rattle.rs_caps.specs.DocumentTexts.{document_text}
 use Rattle.rs_caps.specs.Shows.{shown_of}
 use Rattle.rs_script.specs.Lines.{line_limit}
 use Rattle.rs_script.specs.Requests.{request_of}
+use Rattle.rs_script.specs.Statements.{Statement, single, grouped, cut_off, request_by}
 use Rattle.rs_script.specs.Session.{ScriptState, LineOutcome, moment_set, replied, shown, counted, verified, refused, Answer, unchanged}
 
 -- a command was accepted, or not
@@ -49,7 +50,13 @@ answer_to s (Err refusal) = unchanged s (refused refusal)
 abbrev pub line_answer : ScriptState Source → List ℕ → Answer Source
 line_answer s line = if nat_lt line_limit (length line) then unchanged s (refused refusals.LongLine) else answer_to s (request_of line)
 
--- what it answers to lines, one after another
-abbrev pub answers_of : ScriptState Source → List (List ℕ) → List (Answer Source)
+-- what the model answers to a statement
+abbrev pub statement_answer : ScriptState Source → Statement → Answer Source
+statement_answer s (single line) = line_answer s line
+statement_answer s (grouped first lines) = answer_to s (request_by (grouped first lines))
+statement_answer s cut_off = answer_to s (request_by cut_off)
+
+-- what it answers to statements, one after another
+abbrev pub answers_of : ScriptState Source → List Statement → List (Answer Source)
 answers_of s [] = []
-answers_of s (line ∷ lines) = line_answer s line ∷ answers_of (line_answer s line).session lines
+answers_of s (statement ∷ statements) = statement_answer s statement ∷ answers_of (statement_answer s statement).session statements

@@ -1,5 +1,5 @@
--- What may come of a line that is asked of a stored source.
-use Rattle.std.specs.Prelude.{◌≡◌, ◌⊎◌, ◌<◌, ◌≤◌, ◌-◌, ℕ, if◌then◌else◌, List, [], ◌∷◌, length, Result, Ok, Err, Vec}
+-- What may come of a statement that is asked of a stored source.
+use Rattle.std.specs.Prelude.{◌≡◌, ◌⊎◌, ◌<◌, ◌≤◌, ◌-◌, ℕ, if◌then◌else◌, List, [], length, Result, Ok, Err, Vec}
 use Rattle.std.specs.Global.{Global}
 use Rattle.rs_disk.specs.Medium.{DiskState}
 use Rattle.rs_model.specs.declared.command.Command.{Command}
@@ -21,6 +21,7 @@ use Rattle.rs_store.specs.Verified.{AnswersVerify}
 use Rattle.rs_script.specs.Lines.{line_limit}
 use Rattle.rs_script.specs.Model.{shown_or}
 use Rattle.rs_script.specs.Requests.{request_of}
+use Rattle.rs_script.specs.Statements.{Statement, single, grouped, cut_off, request_by}
 use Rattle.rs_script.specs.Session.{ScriptState, LineOutcome, moment_set, replied, shown, counted, verified, refused, Answer, unchanged}
 
 -- what comes of an answer to a command
@@ -87,3 +88,9 @@ abbrev pub LineGives : {D : Type 0} → (D → DiskState) → ScriptState (Store
 LineGives device old line answer =
     ((line_limit < length line) × (answer ≡ unchanged old (refused refusals.LongLine)))
     ⊎ ((length line ≤ line_limit) × AnswerGives device old (request_of line) answer)
+
+-- what may come of a statement: a group that is cut off by the end of the input is refused as such
+abbrev pub StatementGives : {D : Type 0} → (D → DiskState) → ScriptState (Stored D) → Statement → Answer (Stored D) → Type 0
+StatementGives device old (single line) answer = LineGives device old line answer
+StatementGives device old (grouped first lines) answer = AnswerGives device old (request_by (grouped first lines)) answer
+StatementGives device old cut_off answer = RequestGives device old (request_by cut_off) answer

@@ -1,4 +1,4 @@
--- A script: each line is answered in turn.
+-- A script: each statement is answered in turn.
 use Rattle.std.specs.Prelude.{◌≡◌, ℕ, List, [], ◌∷◌, ◌++◌, All}
 use Rattle.rs_disk.specs.Medium.{DiskState}
 use Rattle.rs_model.specs.State.{Source}
@@ -8,26 +8,25 @@ use Rattle.rs_recovery.specs.Prefixes.{Recovers}
 use Rattle.rs_store.specs.declared.refusal.Refusal as stored
 use Rattle.rs_store.specs.declared.refusal.Refusal.TheVariants as machine
 use Rattle.rs_script.specs.declared.refusal.Refusal.TheVariants as refusals
-use Rattle.rs_script.specs.Outcomes.{LineGives}
-use Rattle.rs_script.specs.Lines.{Splits, script_lines}
+use Rattle.rs_script.specs.Outcomes.{StatementGives}
+use Rattle.rs_script.specs.Statements.{Statement, IsScript}
 use Rattle.rs_script.specs.Walked.{MakesWalk}
 use Rattle.rs_script.specs.Session.{ScriptState, script_state, LineOutcome, refused, Answer}
 
--- The lines are answered in turn: what comes of each, the commands that count, and the script_state after them.
-abbrev pub Transcript : {D : Type 0} → (D → DiskState) → ScriptState (Stored D) → List (List ℕ) → List LineOutcome → List (Command × ℕ) → ScriptState (Stored D) → Type 0
+-- The statements are answered in turn: what comes of each, the commands that count, and the script_state after them.
+abbrev pub Transcript : {D : Type 0} → (D → DiskState) → ScriptState (Stored D) → List Statement → List LineOutcome → List (Command × ℕ) → ScriptState (Stored D) → Type 0
 Transcript device old [] outcomes commands new = (outcomes ≡ []) × (commands ≡ []) × (new ≡ old)
-Transcript {D} device old (line ∷ lines) outcomes commands new =
+Transcript {D} device old (statement ∷ statements) outcomes commands new =
     (answer : Answer (Stored D)) × (more : List LineOutcome) × (later : List (Command × ℕ))
-    × LineGives device old line answer × (outcomes ≡ answer.outcome ∷ more) × (commands ≡ answer.commands ++ later)
-    × Transcript device answer.session lines more later new
+    × StatementGives device old statement answer × (outcomes ≡ answer.outcome ∷ more) × (commands ≡ answer.commands ++ later)
+    × Transcript device answer.session statements more later new
 
--- the input is cut into lines, and these are answered in turn
+-- the input is taken as statements, and these are answered in turn
 abbrev pub ScriptGives : {D : Type 0} → (D → DiskState) → ScriptState (Stored D) → List ℕ → List LineOutcome → List (Command × ℕ) → ScriptState (Stored D) → Type 0
 ScriptGives device old input outcomes commands new =
-    (raws : List (List ℕ)) × (rest : List ℕ) × Splits input raws rest
-    × Transcript device old (script_lines raws rest) outcomes commands new
+    (statements : List Statement) × IsScript input statements × Transcript device old statements outcomes commands new
 
--- What ran on a source, from the moment 0 on: the input, what came of each of its lines, the commands that count, and the
+-- What ran on a source, from the moment 0 on: the input, what came of each of its statements, the commands that count, and the
 -- moment at which the next would come. Whenever a stop comes, it leaves what the first of these commands make; and the script
 -- makes a walk, whose fetches give what was shown.
 pub record Ran {D : Type 0} (device : D → DiskState) (old new : Stored D) : Type 0 where

@@ -1,4 +1,4 @@
--- Where a script stands, and what comes of a line.
+-- Where a script stands, and what comes of a statement.
 use Rattle.std.specs.Prelude.{ℕ, List, []}
 use Rattle.rs_model.specs.declared.command.Command.{Command}
 use Rattle.rs_model.specs.declared.command.Reply.{Reply}
@@ -13,7 +13,7 @@ pub record ScriptState (S : Type 0) : Type 0 where
 abbrev pub script_state : {S : Type 0} → S → ℕ → ScriptState S
 script_state source now = record { source = source; now = now }
 
--- what comes of a line
+-- what comes of a statement
 pub data LineOutcome : Type 0 where
   -- the moment is set
   moment_set : LineOutcome
@@ -27,7 +27,7 @@ pub data LineOutcome : Type 0 where
   verified : List (List ℕ) → ℕ → LineOutcome
   refused : Refusal → LineOutcome
 
--- what comes of a line, the command that counts with its moment (one or none), and where the script stands after it
+-- what comes of a statement, the command that counts with its moment (one or none), and where the script stands after it
 pub record Answer (S : Type 0) : Type 0 where
   pub outcome : LineOutcome
   pub commands : List (Command × ℕ)

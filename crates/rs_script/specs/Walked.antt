@@ -1,4 +1,4 @@
--- The walk that the lines of a script make of a source.
+-- The walk that the statements of a script make of a source.
 use Rattle.std.specs.Prelude.{◌≡◌, ℕ, List, [], ◌∷◌, ◌++◌, Some, Result, Ok, Err, IsTrue}
 use Rattle.rs_disk.specs.Medium.{DiskState}
 use Rattle.rs_model.specs.State.{Source}
@@ -15,11 +15,10 @@ use Rattle.rs_script.specs.declared.refusal.Refusal.{Refusal}
 use Rattle.rs_script.specs.declared.refusal.Refusal.TheVariants as refusals
 use Rattle.rs_script.specs.declared.request.Request.{Request}
 use Rattle.rs_script.specs.declared.request.Request.TheVariants.{At, Run, Document, Body}
-use Rattle.rs_script.specs.Lines.{Splits, script_lines}
-use Rattle.rs_script.specs.Requests.{request_of}
+use Rattle.rs_script.specs.Statements.{Statement, IsScript, request_by}
 use Rattle.rs_script.specs.Session.{LineOutcome, moment_set, replied, shown, refused}
 
--- The events of a line that asks for a command, by what came of it. Where the line itself is refused no command was asked, but
+-- The events of a statement that asks for a command, by what came of it. Where the statement itself is refused no command was asked, but
 -- where room for it was refused.
 abbrev pub RunEvents : Source → Command → ℕ → LineOutcome → List Event → Type 0
 RunEvents s command now (replied reply) events = CommandEvents s command now (Ok reply) events
@@ -32,34 +31,34 @@ abbrev pub ShowEvents : Source → List ℕ → LineOutcome → List Event → T
 ShowEvents s path (shown bytes) events = (answer s path ≡ Some bytes) × (events ≡ Fetch ∷ [])
 ShowEvents s path outcome events = events ≡ []
 
--- the events of a line that asks for this, in a state and at a moment: one, or none
-abbrev pub LineEvents : Source → ℕ → Result Request Refusal → LineOutcome → List Event → Type 0
-LineEvents s now (Ok (Run command)) outcome events = RunEvents s command now outcome events
-LineEvents s now (Ok (Document doc)) outcome events = ShowEvents s (path_of doc) outcome events
-LineEvents s now (Ok (Body name)) outcome events = ShowEvents s (body_path name) outcome events
-LineEvents s now request outcome events = events ≡ []
+-- the events of a statement that asks for this, in a state and at a moment: one, or none
+abbrev pub StatementEvents : Source → ℕ → Result Request Refusal → LineOutcome → List Event → Type 0
+StatementEvents s now (Ok (Run command)) outcome events = RunEvents s command now outcome events
+StatementEvents s now (Ok (Document doc)) outcome events = ShowEvents s (path_of doc) outcome events
+StatementEvents s now (Ok (Body name)) outcome events = ShowEvents s (body_path name) outcome events
+StatementEvents s now request outcome events = events ≡ []
 
--- the moment after a line that asks for this
+-- the moment after a statement that asks for this
 abbrev pub now_after : ℕ → Result Request Refusal → LineOutcome → ℕ
 now_after now (Ok (At t)) moment_set = t
 now_after now request outcome = now
 
--- The lines, with what came of each, are these events in their order, from a state and a moment on: those of each line in the
+-- The statements, with what came of each, are these events in their order, from a state and a moment on: those of each in the
 -- state after the events before it.
-abbrev pub IsWalkOf : Source → ℕ → List (List ℕ) → List LineOutcome → List Event → Type 0
+abbrev pub IsWalkOf : Source → ℕ → List Statement → List LineOutcome → List Event → Type 0
 IsWalkOf s now [] [] events = events ≡ []
-IsWalkOf s now (line ∷ lines) (outcome ∷ outcomes) events =
-    (here : List Event) × (later : List Event) × (events ≡ here ++ later) × LineEvents s now (request_of line) outcome here
-    × IsWalkOf (walk_of s here) (now_after now (request_of line) outcome) lines outcomes later
+IsWalkOf s now (statement ∷ statements) (outcome ∷ outcomes) events =
+    (here : List Event) × (later : List Event) × (events ≡ here ++ later) × StatementEvents s now (request_by statement) outcome here
+    × IsWalkOf (walk_of s here) (now_after now (request_by statement) outcome) statements outcomes later
 IsWalkOf s now [] (outcome ∷ outcomes) events = ⊥
-IsWalkOf s now (line ∷ lines) [] events = ⊥
+IsWalkOf s now (statement ∷ statements) [] events = ⊥
 
--- and so are the lines of this input
+-- and so are the statements of this input
 abbrev pub IsScriptWalk : Source → ℕ → List ℕ → List LineOutcome → List Event → Type 0
 IsScriptWalk s now input outcomes events =
-    (raws : List (List ℕ)) × (rest : List ℕ) × Splits input raws rest × IsWalkOf s now (script_lines raws rest) outcomes events
+    (statements : List Statement) × IsScript input statements × IsWalkOf s now statements outcomes events
 
--- A script on a source that held a state, of a device that has followed the model, leaves a walk of the events of its lines.
+-- A script on a source that held a state, of a device that has followed the model, leaves a walk of the events of its statements.
 abbrev pub MakesWalk : {D : Type 0} → (D → DiskState) → Stored D → ℕ → List ℕ → List LineOutcome → Stored D → Type 0
 MakesWalk device old now input outcomes new =
     (s : Source) → Holds device old s → IsTrue (device new.disk).honest → LeavesWalk device s (IsScriptWalk s now input outcomes) new

@@ -27,6 +27,7 @@ fn name_of(refusal: Refusal) -> &'static str
         Refusal::BadName => "BadName",
         Refusal::BadHex => "BadHex",
         Refusal::BadType => "BadType",
+        Refusal::BadGroup => "BadGroup",
         Refusal::NoSuchDocument => "NoSuchDocument",
         Refusal::Source(refusal) => refusal.word(),
         Refusal::NoMemory => "NoMemory",
@@ -71,6 +72,21 @@ fn write_published<W: Write>(
     writer.put_all(&[b"published ", number, b" ", &moment.text(), b"\n"])
 }
 
+/// Writes the answer of a group.
+fn write_grouped<W: Write>(
+    count: u8,
+    moment: Moment,
+    writer: &mut Watched<W>,
+) -> Result<(), WriteFault>
+    ensures written { WritesOut W.contents writer.old writer.new result
+        (reply_text (Reply.Grouped count moment)) }
+    ensures failed { OnErr result (EndFailed writer.old writer.new) }
+{
+    let mut digits = Buffer::new();
+    let count = digits.format(count).as_bytes();
+    writer.put_all(&[b"grouped ", count, b" ", &moment.text(), b"\n"])
+}
+
 /// Writes the answer of an accepted command.
 pub fn write_reply<W: Write>(reply: Reply, writer: &mut Watched<W>) -> Result<(), WriteFault>
     ensures written { WritesOut W.contents writer.old writer.new result (reply_text reply) }
@@ -81,6 +97,7 @@ pub fn write_reply<W: Write>(reply: Reply, writer: &mut Watched<W>) -> Result<()
         Reply::Updated(moment) => write_word(b"updated ", moment, writer),
         Reply::Deleted(moment) => write_word(b"deleted ", moment, writer),
         Reply::Published(number, moment) => write_published(number, moment, writer),
+        Reply::Grouped(count, moment) => write_grouped(count, moment, writer),
     }
 }
 

@@ -1,22 +1,24 @@
-//! The script engine: every line of an input is answered in turn.
+//! The script engine: every statement of an input is answered in turn.
 
-ghost use Rattle.std.specs.Prelude.{◌≡◌, ◌++◌, ◌≤◌, ◌^◌, ◌*◌, true, length, ℕ, List, OnOk, OnErr, IsErrOf};
+ghost use Rattle.std.specs.Prelude.{◌≡◌, ◌++◌, ◌≤◌, ◌^◌, ◌*◌, true, length, ℕ, List, None, OnOk, OnErr, IsErrOf};
 ghost use Rattle.std.specs.Io.KnownBytes.{Consumes};
 ghost use Rattle.rs_io.specs.Watch.{watched, failures, is_flushed, EndFailed, Wrote, WritesOut};
 ghost use Rattle.rs_script.specs.Answers.{output_of};
 ghost use Rattle.rs_script.specs.Broken.{BreaksOff};
 ghost use Rattle.rs_script.specs.PartialLine.{KeepsLine};
 ghost use Rattle.rs_script.specs.Lines.{HasNoBreak, line_of, with_break};
-ghost use Rattle.rs_script.specs.Progress.{LineAnswers, stand, ComesTo, StopsBy, EndsAt, StopsAt, Came, TookAll, GaveLines, ReadsNoMore};
+ghost use Rattle.rs_script.specs.Progress.{LineTaken, stand, ComesTo, StopsBy, EndsLine, EndsAt, StopsAt, Came, TookAll, GaveStatements, ReadsNoMore};
 ghost use Rattle.rs_script.specs.Script.{Ran};
 ghost use Rattle.rs_script.specs.Session.{script_state};
+ghost use Rattle.rs_script.specs.Taken.{KeepsGroup};
 
 use crate::answer::write_refusal;
 use crate::bytes::position_of;
-use crate::execute::answer_line;
+use crate::group::Taking;
 use crate::laws::{scripts_make_walks, scripts_recover};
-use crate::line::{Content, Line};
+use crate::line::Line;
 use crate::refusal::Refusal;
+use crate::statement::take_content;
 use rs_disk::Disk;
 use rs_io::{Watched, WriteFault};
 use rs_store::Source;
@@ -28,7 +30,7 @@ use thiserror::Error;
 /// Why a script ends early.
 #[derive(Clone, Copy, Debug, PartialEq, Eq, Error)]
 pub enum ScriptFault {
-    /// The reader failed, or gave 2^40 pieces. The lines that had come whole are answered.
+    /// The reader failed, or gave 2^40 pieces. The statements that had come whole are answered.
     #[error("the input cannot be read")]
     Read,
     /// The writer failed. Commands that were accepted before stand.
@@ -36,28 +38,26 @@ pub enum ScriptFault {
     Write,
 }
 
-/// Answers the line that has come, with a line feed after it where `has_break`.
-fn answer_kept<D: Disk, W: Write>(
+/// Takes the line that has come, with a line feed after it where `has_break`.
+fn take_kept<D: Disk, W: Write>(
     alloc: Global,
     source: &mut Source<D>,
     now: &mut Moment,
+    group: &mut Option<Taking>,
     line: &Line,
     has_break: bool,
     writer: &mut Watched<W>,
 ) -> Result<(), WriteFault>
-    ensures answered { (raw : List ℕ) → KeepsLine line.now raw
-        → LineAnswers D.state
-        (script_state source.old now.old) (line_of has_break raw) (script_state source.new now.new)
+    ensures taken { (raw : List ℕ) (begun : List (List ℕ))
+        → KeepsLine line.now raw → KeepsGroup group.old begun → LineTaken D.state
+        (script_state source.old now.old) begun (line_of has_break raw)
+        group.new (script_state source.new now.new)
         (WritesOut W.contents writer.old writer.new result) }
     ensures sound { OnOk result (failures writer.new ≡ failures writer.old) }
+    ensures stopped { OnErr result (group.new ≡ None) }
     ensures failed { OnErr result (EndFailed writer.old writer.new) }
 {
-    match line.content(has_break) {
-        Content::Bytes(bytes) => answer_line(alloc, source, now, bytes, writer),
-        Content::Foreign => write_refusal(Refusal::BadLine, writer),
-        Content::Refused => write_refusal(Refusal::NoMemory, writer),
-        Content::TooLong => write_refusal(Refusal::LongLine, writer),
-    }
+    take_content(alloc, source, now, group, line.content(has_break), writer)
 }
 
 /// More bytes of the input: `run`, without a line feed, and the line feed that ends the line.
@@ -65,21 +65,22 @@ fn take_line<D: Disk, W: Write>(
     alloc: Global,
     source: &mut Source<D>,
     now: &mut Moment,
+    group: &mut Option<Taking>,
     line: &mut Line,
     run: &[u8],
     writer: &mut Watched<W>,
 ) -> Result<(), WriteFault>
     ensures ok { OnOk result (HasNoBreak run.now → ComesTo D.state W.contents
-        (stand line.old writer.old source.old now.old)
-        (stand line.new writer.new source.new now.new) (with_break run.now)) }
+        (stand line.old group.old writer.old source.old now.old)
+        (stand line.new group.new writer.new source.new now.new) (with_break run.now)) }
     ensures err { OnErr result (HasNoBreak run.now → StopsBy D.state W.contents
-        (stand line.old writer.old source.old now.old) (with_break run.now)
+        (stand line.old group.old writer.old source.old now.old) (with_break run.now)
         writer.new (script_state source.new now.new)) }
     ensures sound { OnOk result (failures writer.new ≡ failures writer.old) }
     ensures failed { OnErr result (EndFailed writer.old writer.new) }
 {
     line.extend(run);
-    let written = answer_kept(alloc, source, now, line, true, writer);
+    let written = take_kept(alloc, source, now, group, line, true, writer);
     line.clear();
     written
 }
@@ -89,47 +90,74 @@ fn take_piece<D: Disk, W: Write>(
     alloc: Global,
     source: &mut Source<D>,
     now: &mut Moment,
+    group: &mut Option<Taking>,
     line: &mut Line,
     piece: &[u8],
     writer: &mut Watched<W>,
 ) -> Result<(), WriteFault>
     ensures ok { OnOk result (ComesTo D.state W.contents
-        (stand line.old writer.old source.old now.old)
-        (stand line.new writer.new source.new now.new) piece.now) }
+        (stand line.old group.old writer.old source.old now.old)
+        (stand line.new group.new writer.new source.new now.new) piece.now) }
     ensures err { OnErr result ((used : List ℕ) × (tail : List ℕ) × (piece.now ≡ used ++ tail)
-        × StopsBy D.state W.contents (stand line.old writer.old source.old now.old) used
+        × StopsBy D.state W.contents (stand line.old group.old writer.old source.old now.old) used
         writer.new (script_state source.new now.new)) }
     ensures failed { OnErr result (EndFailed writer.old writer.new) }
 {
     let mut rest = piece;
     while let Some(i) = position_of(b'\n', rest) {
-        take_line(alloc, source, now, line, &rest[..i], writer)?;
+        take_line(alloc, source, now, group, line, &rest[..i], writer)?;
         rest = &rest[i + 1..];
     }
     line.extend(rest);
     Ok(())
 }
 
-/// The end of the input: the last line is answered, if there is one.
-fn take_end<D: Disk, W: Write>(
+/// The last line of the input, if there is one that no line feed ended, is taken.
+fn take_last<D: Disk, W: Write>(
     alloc: Global,
     source: &mut Source<D>,
     now: &mut Moment,
+    group: &mut Option<Taking>,
     line: &Line,
     writer: &mut Watched<W>,
 ) -> Result<(), WriteFault>
-    ensures ok { OnOk result (EndsAt D.state W.contents
-        (stand line.now writer.old source.old now.old)
-        (stand line.now writer.new source.new now.new)) }
+    ensures ok { OnOk result (EndsLine D.state W.contents
+        (stand line.now group.old writer.old source.old now.old)
+        (stand line.now group.new writer.new source.new now.new)) }
     ensures err { OnErr result (StopsAt D.state W.contents
-        (stand line.now writer.old source.old now.old)
+        (stand line.now group.old writer.old source.old now.old)
         writer.new (script_state source.new now.new)) }
+    ensures sound { OnOk result (failures writer.new ≡ failures writer.old) }
     ensures failed { OnErr result (EndFailed writer.old writer.new) }
 {
     if line.is_empty() {
         return Ok(());
     }
-    answer_kept(alloc, source, now, line, false, writer)
+    take_kept(alloc, source, now, group, line, false, writer)
+}
+
+/// The end of the input: the last line is taken, and a group that lacks a line then is refused.
+fn take_end<D: Disk, W: Write>(
+    alloc: Global,
+    source: &mut Source<D>,
+    now: &mut Moment,
+    group: &mut Option<Taking>,
+    line: &Line,
+    writer: &mut Watched<W>,
+) -> Result<(), WriteFault>
+    ensures ok { OnOk result (EndsAt D.state W.contents
+        (stand line.now group.old writer.old source.old now.old)
+        (stand line.now group.new writer.new source.new now.new)) }
+    ensures err { OnErr result (StopsAt D.state W.contents
+        (stand line.now group.old writer.old source.old now.old)
+        writer.new (script_state source.new now.new)) }
+    ensures failed { OnErr result (EndFailed writer.old writer.new) }
+{
+    take_last(alloc, source, now, group, line, writer)?;
+    match group {
+        Some(_) => write_refusal(Refusal::BadGroup, writer),
+        None => Ok(()),
+    }
 }
 
 /// The bytes that one read asks for.
@@ -138,18 +166,18 @@ const PIECE: usize = 65_536;
 /// The reads of a script: as many as no reader in use gives.
 const READS: u64 = 1 << 40;
 
-/// Runs a script: each line that `reader` gives is asked of `source`, and its answer written to
-/// `writer`, which is flushed before each read and at the end. Commands come at the moment 0 until
-/// an `at` sets another.
+/// Runs a script: each statement that `reader` gives, a line or a group with its lines, is asked of
+/// `source`, and its answer written to `writer`, which is flushed before each read and at the end.
+/// Commands come at the moment 0 until an `at` sets another.
 ///
 /// Each turn makes one read. A read that gives no byte is the end, and no error is tried again.
 ///
 /// # Errors
 ///
-/// - [`ScriptFault::Read`]: a read failed in this call, or 2^40 reads came to no end. The lines that
-///   had come whole are answered, and of a part of a line after them nothing is done.
-/// - [`ScriptFault::Write`]: a call of the writer failed in this one. The lines whose answers were
-///   written are done, and the one whose answer was being written; no other was begun.
+/// - [`ScriptFault::Read`]: a read failed in this call, or 2^40 reads came to no end. The statements
+///   that had come whole are answered, and of a part of a line or of a group after them nothing is done.
+/// - [`ScriptFault::Write`]: a call of the writer failed in this one. The statements whose answers
+///   were written are done, and the one whose answer was being written; no other was begun.
 ///
 /// Whenever the disk stops within the call, what it then holds is what the first of the commands make that
 /// count in it: all that had been answered, and perhaps one more (`recovers` of `Ran`). To a destination the
@@ -166,16 +194,16 @@ pub fn script<D: Disk, R: Read, W: Write>(
         × Wrote W.contents writer.old writer.new (output_of ran.outcomes)) }
 
     // A read failed, and all answers were flushed before it; or the reader gave 2^40 bytes or more.
-    // The whole lines were answered, and a part of a line after them was not.
+    // The whole statements were answered, and a part of one after them was not.
     ensures read { IsErrOf result ScriptFault.Read
         → (ran : Ran D.state source.old source.new) × (part : List ℕ)
-        × GaveLines R.remaining reader.old reader.new ran.input part
+        × GaveStatements R.remaining reader.old reader.new ran.input part
         × Wrote W.contents writer.old writer.new (output_of ran.outcomes)
         × ReadsNoMore reader.old reader.new writer.new (ran.input ++ part) }
 
-    // A call of the writer failed, and none of the reader: what the lines so far asked for is done.
-    // They had come whole, or the input had ended. All their answers but the last went out whole,
-    // and of the last a beginning.
+    // A call of the writer failed, and none of the reader: what the statements so far asked for is
+    // done. They had come whole, or the input had ended. All their answers but the last went out
+    // whole, and of the last a beginning.
     ensures write { IsErrOf result ScriptFault.Write → (ran : Ran D.state source.old source.new)
         × Came R.remaining reader.old reader.new ran.input
         × BreaksOff W.contents writer.old writer.new ran.outcomes
@@ -192,6 +220,7 @@ pub fn script<D: Disk, R: Read, W: Write>(
     scripts_recover::<D>();
     scripts_make_walks::<D>();
     let mut line = Line::new(alloc);
+    let mut group = None;
     let mut now = Moment::first();
     let mut buf = [0u8; PIECE];
     for _ in 0..READS {
@@ -202,7 +231,7 @@ pub fn script<D: Disk, R: Read, W: Write>(
             return Err(ScriptFault::Read);
         };
         if count == 0 {
-            let Ok(()) = take_end(alloc, source, &mut now, &line, writer) else {
+            let Ok(()) = take_end(alloc, source, &mut now, &mut group, &line, writer) else {
                 return Err(ScriptFault::Write);
             };
             let Ok(()) = writer.flush() else {
@@ -210,7 +239,8 @@ pub fn script<D: Disk, R: Read, W: Write>(
             };
             return Ok(());
         }
-        let Ok(()) = take_piece(alloc, source, &mut now, &mut line, &buf[..count], writer) else {
+        let came = &buf[..count];
+        let Ok(()) = take_piece(alloc, source, &mut now, &mut group, &mut line, came, writer) else {
             return Err(ScriptFault::Write);
         };
     }

@@ -1,11 +1,13 @@
 //! One line: what it asks for is asked of the source, and its answer is written.
 
-ghost use Rattle.std.specs.Prelude.{Ok, OnOk, OnErr};
-ghost use Rattle.rs_io.specs.Watch.{EndFailed, WritesOut};
+ghost use Rattle.std.specs.Prelude.{◌≡◌, ℕ, List, Ok, OnOk, OnErr};
+ghost use Rattle.rs_io.specs.Watch.{failures, EndFailed, WritesOut};
 ghost use Rattle.rs_store.specs.Answered.{Answers};
 ghost use Rattle.rs_script.specs.Progress.{RequestAnswers};
 ghost use Rattle.rs_script.specs.Requests.{request_of};
 ghost use Rattle.rs_script.specs.Session.{script_state};
+ghost use Rattle.rs_script.specs.Statements.{items_of_group, group_request};
+ghost use Rattle.rs_script.specs.Taken.{KeepsItems};
 ghost use Rattle.rs_script.specs.declared.request.Request.TheVariants.{Run, Document, Body as Shown, Status as Counted, Verify as Verified};
 
 use crate::answer::{write_refusal, write_reply, write_status, write_verified};
@@ -16,7 +18,7 @@ use rs_caps::document_length;
 use rs_disk::Disk;
 use rs_io::{Watched, WriteFault};
 use rs_lists::Doc;
-use rs_model::{Command, Reply};
+use rs_model::{Command, Group, Item, Reply};
 use rs_record::Name;
 use rs_recovery::laws::documents_are_of_the_state;
 use rs_store::Source;
@@ -36,10 +38,11 @@ fn ask<D: Disk>(
         Command::Put { name, kind, bytes } => source.put(name, kind, bytes.bytes(), now),
         Command::Delete { name } => source.delete(name, now),
         Command::Publish => source.publish(now),
+        Command::Group(group) => source.group(group.items(), now),
     }
 }
 
-/// Answers `put`, `delete` or `publish`.
+/// Answers `put`, `delete`, `publish` or a group.
 fn run_command<D: Disk, W: Write>(
     source: &mut Source<D>,
     command: &Command,
@@ -54,6 +57,33 @@ fn run_command<D: Disk, W: Write>(
     match ask(source, command, now) {
         Ok(reply) => write_reply(reply, writer),
         Err(refusal) => write_refusal(Refusal::Source(refusal), writer),
+    }
+}
+
+/// Answers a group of these items, or refuses it for the first fault of a line.
+///
+/// # Errors
+///
+/// [`WriteFault`] where the answer is not written whole. What the group asked for is done.
+pub fn answer_group<D: Disk, W: Write>(
+    source: &mut Source<D>,
+    now: Moment,
+    items: Result<Vec<Item>, Refusal>,
+    writer: &mut Watched<W>,
+) -> Result<(), WriteFault>
+    ensures answered { (lines : List (List ℕ)) → KeepsItems items lines
+        → RequestAnswers D.state (script_state source.old now)
+        (group_request (items_of_group lines)) (script_state source.new now)
+        (WritesOut W.contents writer.old writer.new result) }
+    ensures sound { OnOk result (failures writer.new ≡ failures writer.old) }
+    ensures failed { OnErr result (EndFailed writer.old writer.new) }
+{
+    match items {
+        Ok(items) => {
+            let command = Command::Group(Group::new(items));
+            run_command(source, &command, now, writer)
+        }
+        Err(refusal) => write_refusal(refusal, writer),
     }
 }
 

@@ -6,10 +6,11 @@ ghost use Rattle.rs_model.specs.State.{Source};
 ghost use Rattle.rs_model.specs.Step.{fold_of};
 ghost use Rattle.rs_model.specs.declared.command.Command.{Command};
 ghost use Rattle.rs_store.specs.Source.{Stored, Holds, state_of};
-ghost use Rattle.rs_script.specs.Lines.{Splits, script_lines};
+ghost use Rattle.rs_script.specs.Lines.{Splits};
 ghost use Rattle.rs_script.specs.Model.{answers_of};
 ghost use Rattle.rs_script.specs.Script.{ScriptGives, ScriptsRecover, ScriptsMakeWalks, AreDecided, told};
 ghost use Rattle.rs_script.specs.Session.{ScriptState, LineOutcome};
+ghost use Rattle.rs_script.specs.Statements.{Statement, IsScript};
 
 use rs_caps::laws::answered::paths_are_answered;
 use rs_disk::Disk;
@@ -23,19 +24,25 @@ pub fn one_cut()
         → Splits input raws rest → Splits input others tail → (raws ≡ others) × (rest ≡ tail) }
 {}
 
+/// And its lines are taken as statements in one way.
+pub fn one_script()
+    ensures { (input : List ℕ) (statements others : List Statement)
+        → IsScript input statements → IsScript input others → statements ≡ others }
+{}
+
 /// Where no refusal is the machine's, generations are left and the device has followed the model, what
 /// comes of a script is a function of its input and of the state and the moment at which it begins:
-/// each line is answered as the model answers it.
+/// each statement is answered as the model answers it.
 pub fn one_transcript<D: Disk>()
     ensures { (old new : ScriptState (Stored D)) (input : List ℕ)
         (outcomes : List LineOutcome) (commands : List (Command × ℕ))
-        (raws : List (List ℕ)) (rest : List ℕ)
+        (statements : List Statement)
         → ScriptGives D.state old input outcomes commands new → AreDecided outcomes
         → IsTrue (D.state new.source.disk).honest
-        → new.source.slots.root.generation + 1 < 2 ^ 64 → Splits input raws rest
-        → (outcomes ≡ map (λ a. a.outcome) (answers_of (told D.state old) (script_lines raws rest)))
+        → new.source.slots.root.generation + 1 < 2 ^ 64 → IsScript input statements
+        → (outcomes ≡ map (λ a. a.outcome) (answers_of (told D.state old) statements))
         × (commands
-        ≡ flat_map (λ a. a.commands) (answers_of (told D.state old) (script_lines raws rest))) }
+        ≡ flat_map (λ a. a.commands) (answers_of (told D.state old) statements)) }
 {}
 
 /// The commands that a script counts, each at its moment, make the state that it leaves, unless the

@@ -1,18 +1,21 @@
 //! The script engine of a ResourceSync source (ANSI/NISO Z39.99-2017).
 //!
-//! A script is read line by line: each line asks something of a source, and is answered on the output.
+//! A script is read line by line: each line by itself, and each group with its lines, asks something of
+//! a source, and is answered on the output.
 #![tactic(auto)]
 
 mod answer;
 mod bytes;
 mod engine;
 mod execute;
+mod group;
 pub mod laws;
 mod line;
 mod memory;
 mod refusal;
 mod request;
 mod show;
+mod statement;
 
 pub use engine::{ScriptFault, script};
 pub use memory::script_bytes;

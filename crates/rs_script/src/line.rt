@@ -4,6 +4,7 @@ ghost use Rattle.std.specs.Prelude.{◌≡◌, [], ◌++◌, ◌-◌, ◌+◌, �
 ghost use Rattle.rs_script.specs.Lines.{line_limit, line_of};
 
 use crate::request::begins_request;
+use smallvec::SmallVec;
 use std::alloc::Global;
 
 /// The longest line, in bytes, without its line feed and a carriage return before that.
@@ -41,8 +42,8 @@ pub enum Content<'a> {
 /// A line while it comes: at most [`LINE_LIMIT`] + 1 bytes of it are kept.
 #[derive(Drop)]
 pub struct Line {
-    /// The bytes that have come, while all are kept.
-    pub bytes: Vec<u8>,
+    /// The bytes that have come, while all are kept. There is always room for a few.
+    pub bytes: SmallVec<u8, 9>,
     /// How many have come, while they are no more than a line may have with a carriage return.
     pub count: usize,
     /// The last of them, or 0.
@@ -50,6 +51,7 @@ pub struct Line {
     /// How much is kept.
     pub kept: Kept,
     pub ghost bounded: { count ≤ line_limit + 1 },
+    pub ghost roomy: { 9 ≤ bytes.capacity },
 }
 
 impl Line {
@@ -61,7 +63,7 @@ impl Line {
         ensures { KeepsLine result [] }
     {
         Line {
-            bytes: Vec::new(alloc),
+            bytes: SmallVec::new(alloc),
             count: 0,
             last: 0,
             kept: Kept::Whole,

@@ -1,5 +1,9 @@
 //! Why a line is refused.
 
+ghost use Rattle.std.specs.Prelude.{◌≡◌};
+ghost use Rattle.rs_script.specs.Requests.{refusal_by};
+
+use rs_items::ItemFault;
 use thiserror::Error;
 
 /// Why a line of a script is refused, or the source refuses what it asks for. Nothing
@@ -24,6 +28,9 @@ pub enum Refusal {
     /// The field is no lawful media type.
     #[error("the media type is not lawful")]
     BadType,
+    /// A group is not of 1 to 16 lines, or the input ends within it.
+    #[error("the group has no known size, or lacks a line")]
+    BadGroup,
     /// No document has the path, or the document of the path does not exist now.
     #[error("there is no such document")]
     NoSuchDocument,
@@ -33,4 +40,18 @@ pub enum Refusal {
     /// There is not enough memory for the line.
     #[error("out of memory")]
     NoMemory,
+}
+
+impl From<ItemFault> for Refusal {
+    ghost from_gives = { λ fault refusal. refusal ≡ refusal_by fault };
+
+    fn from(fault: ItemFault) -> Refusal {
+        match fault {
+            ItemFault::BadLine => Refusal::BadLine,
+            ItemFault::BadName => Refusal::BadName,
+            ItemFault::BadHex => Refusal::BadHex,
+            ItemFault::BadType => Refusal::BadType,
+            ItemFault::NoMemory => Refusal::NoMemory,
+        }
+    }
 }

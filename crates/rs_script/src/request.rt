@@ -1,16 +1,15 @@
 //! What a line of a script asks for.
 
-ghost use Rattle.std.specs.Prelude.{◌≡◌, ◌∷◌, [], ◌⊎◌, ℕ, suc, codes, IfOk, IfErr, IfSome, IfNone};
-ghost use Rattle.rs_script.specs.Fields.{fields as fields_of};
-ghost use Rattle.rs_script.specs.Requests.{request_of, request_alone as alone, request_with as with_argument, at_request as at, delete_request as delete, put_request as put, show_request as show, bytes_of, of_fields, begins_request as begins};
+ghost use Rattle.std.specs.Prelude.{◌≡◌, ◌⊎◌};
+ghost use Rattle.rs_items.specs.Items.{item_of_line};
+ghost use Rattle.rs_script.specs.Requests.{request_of, request_alone as alone, request_with as with_argument, at_request as at, show_request as show, item_request, begins_request as begins};
 
-use crate::bytes::position_of;
 use crate::refusal::Refusal;
-use hex::FromHexError;
 use rs_caps::doc_of;
+use rs_items::{item_of, split_field};
 use rs_lists::Doc;
-use rs_model::{Body, Command};
-use rs_record::{MediaType, MediaTypeError, Name, NameError, number};
+use rs_model::{Command, Item};
+use rs_record::{Name, NameError, number};
 use rs_time::Moment;
 use std::alloc::Global;
 
@@ -31,25 +30,14 @@ pub enum Request {
     Verify,
 }
 
-/// The first field of `bytes`, and what follows the space after it, or `None` where no space stands
-/// in them.
-fn split_field(bytes: &[u8]) -> Option<(&[u8], &[u8])>
-    ensures none { IfNone result ((spaces : ℕ)
-        → fields_of (suc spaces) bytes.now ≡ bytes.now ∷ []) }
-    ensures some { IfSome result (λ parts. (spaces : ℕ)
-        → fields_of (suc spaces) bytes.now ≡ parts.0.now ∷ fields_of spaces parts.1.now) }
-{
-    match position_of(b' ', bytes) {
-        Some(i) => Some((&bytes[..i], &bytes[i + 1..])),
-        None => None,
-    }
-}
-
-/// What `line`, at most [`LINE_LIMIT`](crate::line::LINE_LIMIT) bytes without its end, asks for.
+/// What `line`, at most [`LINE_LIMIT`](crate::line::LINE_LIMIT) bytes without its end, asks for by
+/// itself.
 ///
 /// # Errors
 ///
 /// - [`Refusal::BadLine`]: the line has none of the known forms.
+/// - [`Refusal::BadGroup`]: the line has the form of one that begins a group, which is nothing by
+///   itself.
 /// - [`Refusal::BadMoment`], [`Refusal::BadName`], [`Refusal::BadHex`], [`Refusal::BadType`]: the
 ///   first field that is not lawful.
 /// - [`Refusal::NoSuchDocument`]: no document has the path, at any time.
@@ -57,16 +45,24 @@ fn split_field(bytes: &[u8]) -> Option<(&[u8], &[u8])>
 pub fn parse_request(alloc: Global, line: &[u8]) -> Result<Request, Refusal>
     ensures { (result ≡ request_of line.now) ⊎ (result ≡ Err Refusal.NoMemory) }
 {
-    let Some((word, arguments)) = split_field(line) else {
+    let Some((word, argument)) = split_field(line) else {
         return request_alone(line);
     };
-    if word == b"put".as_slice() {
-        return put_fields(alloc, arguments);
+    match split_field(argument) {
+        None => request_with(alloc, line, word, argument),
+        Some(_) => parse_item(alloc, line),
     }
-    match split_field(arguments) {
-        None => request_with(alloc, word, arguments),
-        Some(_) => Err(Refusal::BadLine),
-    }
+}
+
+/// What a line of an item asks for.
+fn parse_item(alloc: Global, line: &[u8]) -> Result<Request, Refusal>
+    ensures { (result ≡ item_request (item_of_line line.now)) ⊎ (result ≡ Err Refusal.NoMemory) }
+{
+    let command = match item_of(alloc, line)? {
+        Item::Put { name, kind, bytes } => Command::Put { name, kind, bytes },
+        Item::Delete { name } => Command::Delete { name },
+    };
+    Ok(Request::Run(command))
 }
 
 /// Whether `bytes` begin as a line with fields after its first word. A line that does not, and is
@@ -78,6 +74,7 @@ pub fn begins_request(bytes: &[u8]) -> bool
         || bytes.starts_with(b"put ")
         || bytes.starts_with(b"delete ")
         || bytes.starts_with(b"show ")
+        || bytes.starts_with(b"group ")
 }
 
 /// What a line of one field asks for.
@@ -96,19 +93,25 @@ fn request_alone(word: &[u8]) -> Result<Request, Refusal>
 }
 
 /// What a line of two fields asks for.
-fn request_with(alloc: Global, word: &[u8], argument: &[u8]) -> Result<Request, Refusal>
-    ensures { (result ≡ with_argument word.now argument.now) ⊎ (result ≡ Err Refusal.NoMemory) }
+fn request_with(
+    alloc: Global,
+    line: &[u8],
+    word: &[u8],
+    argument: &[u8],
+) -> Result<Request, Refusal>
+    ensures { (result ≡ with_argument line.now word.now argument.now)
+        ⊎ (result ≡ Err Refusal.NoMemory) }
 {
     if word == b"at".as_slice() {
         return at_request(argument);
     }
-    if word == b"delete".as_slice() {
-        return delete_request(alloc, argument);
-    }
     if word == b"show".as_slice() {
         return show_request(alloc, argument);
     }
-    Err(Refusal::BadLine)
+    if word == b"group".as_slice() {
+        return Err(Refusal::BadGroup);
+    }
+    parse_item(alloc, line)
 }
 
 /// What `at` asks for.
@@ -121,17 +124,6 @@ fn at_request(ms: &[u8]) -> Result<Request, Refusal>
             None => Err(Refusal::BadMoment),
         },
         None => Err(Refusal::BadMoment),
-    }
-}
-
-/// What `delete` asks for.
-fn delete_request(alloc: Global, name: &[u8]) -> Result<Request, Refusal>
-    ensures { (result ≡ delete name.now) ⊎ (result ≡ Err Refusal.NoMemory) }
-{
-    match Name::new(alloc, name) {
-        Ok(name) => Ok(Request::Run(Command::Delete { name })),
-        Err(NameError::BadName) => Err(Refusal::BadName),
-        Err(NameError::NoMemory) => Err(Refusal::NoMemory),
     }
 }
 
@@ -149,58 +141,5 @@ fn show_request(alloc: Global, path: &[u8]) -> Result<Request, Refusal>
         Ok(name) => Ok(Request::Body(name)),
         Err(NameError::BadName) => Err(Refusal::BadName),
         Err(NameError::NoMemory) => Err(Refusal::NoMemory),
-    }
-}
-
-/// What `put` asks for, from its fields after the first: NAME, HEX and TYPE, which is the rest.
-fn put_fields(alloc: Global, fields: &[u8]) -> Result<Request, Refusal>
-    ensures { (result ≡ of_fields (codes "put" ∷ fields_of 2 fields.now))
-        ⊎ (result ≡ Err Refusal.NoMemory) }
-{
-    let Some((name, rest)) = split_field(fields) else {
-        return Err(Refusal::BadLine);
-    };
-    match split_field(rest) {
-        Some((hex, kind)) => put_request(alloc, name, hex, kind),
-        None => Err(Refusal::BadLine),
-    }
-}
-
-/// What `put` asks for.
-fn put_request(alloc: Global, name: &[u8], hex: &[u8], kind: &[u8]) -> Result<Request, Refusal>
-    ensures { (result ≡ put name.now hex.now kind.now) ⊎ (result ≡ Err Refusal.NoMemory) }
-{
-    let name = match Name::new(alloc, name) {
-        Ok(name) => name,
-        Err(NameError::BadName) => return Err(Refusal::BadName),
-        Err(NameError::NoMemory) => return Err(Refusal::NoMemory),
-    };
-    let bytes = decoded(alloc, hex)?;
-    match MediaType::new(alloc, kind) {
-        Ok(kind) => {
-            let bytes = Body::new(bytes);
-            Ok(Request::Run(Command::Put { name, kind, bytes }))
-        }
-        Err(MediaTypeError::BadType) => Err(Refusal::BadType),
-        Err(MediaTypeError::NoMemory) => Err(Refusal::NoMemory),
-    }
-}
-
-/// The bytes of a HEX, in one buffer of their number.
-fn decoded(alloc: Global, hex: &[u8]) -> Result<Vec<u8>, Refusal>
-    ensures ok { IfOk result (λ bytes. bytes_of hex.now ≡ Some bytes.items) }
-    ensures err { IfErr result (λ refusal. (refusal ≡ Refusal.NoMemory)
-        ⊎ ((refusal ≡ Refusal.BadHex) × (bytes_of hex.now ≡ None))) }
-{
-    if hex.is_empty() {
-        return Err(Refusal::BadHex);
-    }
-    if hex == b"-".as_slice() {
-        return Ok(Vec::new(alloc));
-    }
-    match hex::decode(alloc, hex) {
-        Ok(bytes) => Ok(bytes),
-        Err(FromHexError::OutOfMemory) => Err(Refusal::NoMemory),
-        Err(_) => Err(Refusal::BadHex),
     }
 }

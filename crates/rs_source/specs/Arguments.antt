@@ -7,15 +7,17 @@ use Rattle.rs_record.specs.Decimal.{number_in}
 use Rattle.rs_file.specs.declared.fault.FileFault.{FileFault}
 use Rattle.rs_file.specs.declared.fault.FileFault.TheVariants as file
 use Rattle.rs_source.specs.declared.command.Invocation.{Invocation}
-use Rattle.rs_source.specs.declared.command.Invocation.TheVariants.{Mem, Format, Run, Serve}
+use Rattle.rs_source.specs.declared.command.Invocation.TheVariants.{Mem, Format, Run, Serve, Copy}
 use Rattle.rs_source.specs.declared.command.ServingArguments.{ServingArguments}
 use Rattle.rs_source.specs.declared.command.SourceArguments.{SourceArguments}
 use Rattle.rs_source.specs.declared.program.ProgramError.{ProgramError}
-use Rattle.rs_source.specs.declared.program.ProgramError.TheVariants.{Usage, Exists, BadBase, BadLimit, TooSmall, NotASource, Damaged, Device, NoMemory, Read, Write}
+use Rattle.rs_source.specs.declared.program.ProgramError.TheVariants.{Usage, Exists, BadBase, BadLimit, TooSmall, NotASource, Full, Damaged, Device, NoMemory, Read, Write}
 use Rattle.rs_store.specs.declared.formatting.FormatFault.{FormatFault}
 use Rattle.rs_store.specs.declared.formatting.FormatFault.TheVariants as formatting
 use Rattle.rs_store.specs.declared.opening.OpenFault.{OpenFault}
 use Rattle.rs_store.specs.declared.opening.OpenFault.TheVariants as opening
+use Rattle.rs_store.specs.declared.copying.CopyFault.{CopyFault}
+use Rattle.rs_store.specs.declared.copying.CopyFault.TheVariants as copying
 use Rattle.rs_script.specs.declared.engine.ScriptFault.{ScriptFault}
 use Rattle.rs_script.specs.declared.engine.ScriptFault.TheVariants as fault
 
@@ -40,6 +42,8 @@ pub data Task : Type 0 where
   run : List ℕ → Task
   -- serve connections to the source on the file of this name
   serve : List ℕ → Served → Task
+  -- copy the source on the file of the first name to a new file of the second one, of so many bytes
+  copy : List ℕ → List ℕ → ℕ → Task
 
 -- where both numbers are there: a greater limit than 65,535 is taken as that
 abbrev pub with_numbers : Option ℕ → List ℕ → Option ℕ → Option Made
@@ -84,9 +88,14 @@ serve_of (program ∷ command ∷ file ∷ port ∷ count ∷ []) =
     if bytes_eq command (codes "serve") then option_map (serve file) (served_of port count) else None
 serve_of _ = None
 
+-- `copy OLD NEW SIZE`
+abbrev pub copy_of : List (List ℕ) → Option Task
+copy_of (program ∷ command ∷ old ∷ new ∷ size ∷ []) = if bytes_eq command (codes "copy") then option_map (copy old new) (number_in 18 size) else None
+copy_of _ = None
+
 -- what the words ask for that the program is started with, its name first
 abbrev pub asked_of : List (List ℕ) → Option Task
-asked_of words = option_or (option_or (option_or (mem_of words) (format_of words)) (run_of words)) (serve_of words)
+asked_of words = option_or (option_or (option_or (option_or (mem_of words) (format_of words)) (run_of words)) (serve_of words)) (copy_of words)
 
 -- what the program found that it is asked to do
 abbrev pub made_by : SourceArguments → Made
@@ -100,6 +109,7 @@ asked_by (Mem made) = mem (made_by made)
 asked_by (Format file made) = format file.now (made_by made)
 asked_by (Run file) = run file.now
 asked_by (Serve file serving) = serve file.now (served_by serving)
+asked_by (Copy old new size) = copy old.now new.now size
 
 -- wrong arguments end the program with status 2, all else that ends it early with status 1
 abbrev pub exit_status : ProgramError → ℕ
@@ -109,6 +119,7 @@ exit_status BadBase = 1
 exit_status BadLimit = 1
 exit_status TooSmall = 1
 exit_status NotASource = 1
+exit_status Full = 1
 exit_status Damaged = 1
 exit_status Device = 1
 exit_status NoMemory = 1
@@ -145,6 +156,15 @@ error_of_opening opening.Damaged = Damaged
 error_of_opening opening.Device = Device
 error_of_opening opening.NoMemory = NoMemory
 
+-- And of a copy. A source is closed after a fault of its device.
+abbrev pub error_of_copy : CopyFault → ProgramError
+error_of_copy copying.Closed = Device
+error_of_copy copying.TooSmall = TooSmall
+error_of_copy copying.Full = Full
+error_of_copy copying.Device = Device
+error_of_copy copying.Damaged = Damaged
+error_of_copy copying.NoMemory = NoMemory
+
 -- the errors with which a source on a file is not opened
 abbrev pub IsOfOpen : ProgramError → Type 0
 IsOfOpen NotASource = Unit {0}
@@ -162,6 +182,16 @@ IsOfFormat TooSmall = Unit {0}
 IsOfFormat Device = Unit {0}
 IsOfFormat NoMemory = Unit {0}
 IsOfFormat error = ⊥
+
+-- the errors with which a source is not copied to a new file
+abbrev pub IsOfCopy : ProgramError → Type 0
+IsOfCopy Exists = Unit {0}
+IsOfCopy TooSmall = Unit {0}
+IsOfCopy Full = Unit {0}
+IsOfCopy Damaged = Unit {0}
+IsOfCopy Device = Unit {0}
+IsOfCopy NoMemory = Unit {0}
+IsOfCopy error = ⊥
 
 -- the errors with which a source in memory does not begin
 abbrev pub IsOfStart : ProgramError → Type 0

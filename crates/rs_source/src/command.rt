@@ -2,7 +2,7 @@
 
 ghost use Rattle.std.specs.Prelude.{◌≡◌, map, option_map};
 ghost use Rattle.std.specs.String.{string_bytes};
-ghost use Rattle.rs_source.specs.Arguments.{asked_by, asked_of, format_of, made_by, made_of, mem_of, run_of, serve_of, served_by, served_of};
+ghost use Rattle.rs_source.specs.Arguments.{asked_by, asked_of, copy_of, format_of, made_by, made_of, mem_of, run_of, serve_of, served_by, served_of};
 
 use rs_record::number;
 
@@ -37,6 +37,9 @@ pub enum Invocation<'a> {
     Run(&'a str),
     /// `serve FILE PORT COUNT`: serves connections to the source on the file of this name.
     Serve(&'a str, ServingArguments),
+    /// `copy OLD NEW SIZE`: copies the source on the file of the first name to a new file of the second one, of
+    /// so many bytes.
+    Copy(&'a str, &'a str, u64),
 }
 
 /// How a source is made by these words, or `None` where SIZE or LIMIT is no number of 1 to 18 digits.
@@ -126,6 +129,20 @@ fn serve_asked(words: &[String]) -> Option<Invocation<'_>>
     Some(Invocation::Serve(file, serving))
 }
 
+/// What `copy OLD NEW SIZE` asks for.
+fn copy_asked(words: &[String]) -> Option<Invocation<'_>>
+    ensures { option_map asked_by result ≡ copy_of (map string_bytes words.now) }
+{
+    let [_, command, old, new, size] = words else {
+        return None;
+    };
+    if command.as_str() != "copy" {
+        return None;
+    }
+    let size = number(size.as_bytes(), 18)?;
+    Some(Invocation::Copy(old, new, size))
+}
+
 /// What the words ask for that the program is started with, its name first, or `None` where they
 /// are wrong.
 pub fn asked(words: &[String]) -> Option<Invocation<'_>>
@@ -135,4 +152,5 @@ pub fn asked(words: &[String]) -> Option<Invocation<'_>>
         .or(format_asked(words))
         .or(run_asked(words))
         .or(serve_asked(words))
+        .or(copy_asked(words))
 }

@@ -1,16 +1,18 @@
 //! Sources on files.
 
 ghost use Rattle.std.specs.Prelude.{◌≡◌, ◌<◌, ◌≤◌, false, IfOk, IfErr, OnOk, IsErrOf, IsTrue};
-ghost use Rattle.rs_model.specs.State.{start_of};
+ghost use Rattle.rs_model.specs.State.{start_of, Source as State};
 ghost use Rattle.rs_record.specs.Base.{is_base};
 ghost use Rattle.rs_directory.specs.Limit.{IsLimit};
 ghost use Rattle.rs_image.specs.StateOfImage.{StandsFor};
 ghost use Rattle.rs_file.specs.File.{state_of as device_of};
+ghost use Rattle.rs_store.specs.OnlyReads.{OnlyReads};
 ghost use Rattle.rs_store.specs.Source.{Holds, state_of};
-ghost use Rattle.rs_source.specs.Arguments.{IsOfFormat, IsOfOpen};
+ghost use Rattle.rs_source.specs.Arguments.{IsOfCopy, IsOfFormat, IsOfOpen};
 
 use crate::command::SourceArguments;
 use crate::program::ProgramError;
+use rs_disk::Disk;
 use rs_file::{FileDisk, Start};
 use rs_recovery::recover;
 use rs_store::Source;
@@ -79,6 +81,38 @@ pub fn open_file<R: Files<File = File>, S: Start>(
     let disk = FileDisk::open(rt, file, start)?;
     match recover(alloc, disk) {
         Ok(source) => Ok(source),
+        Err((_, fault)) => Err(fault.into()),
+    }
+}
+
+/// Makes a new file of this name and of `size` bytes, and copies a source to it. The source stays as it
+/// is, and its disk is only read.
+///
+/// # Errors
+///
+/// [`ProgramError::Exists`] where there is something of that name, and [`ProgramError::Device`] where
+/// the file cannot be made. Then [`ProgramError::TooSmall`] and [`ProgramError::Full`], in this order,
+/// [`ProgramError::Device`] where a call on either disk fails, [`ProgramError::Damaged`] where a body
+/// does not have its recorded SHA-256, and [`ProgramError::NoMemory`]; the file stays after each of them.
+pub fn copy_to_file<R: Files<File = File>, D: Disk, S: Start>(
+    rt: &R,
+    source: &mut Source<D>,
+    file: &str,
+    size: u64,
+    start: S,
+) -> Result<Source<FileDisk<S>>, ProgramError>
+    // It is said of a device that has followed the model.
+    ensures holds { (s : State) → Holds D.state source.old s → IsTrue (D.state source.new.disk).honest
+        → IfOk result (λ copy. Holds (device_of S.Start) copy s) }
+    ensures size { IfOk result (λ copy. (device_of S.Start copy.disk).size ≡ size) }
+    ensures too_small { IsErrOf result ProgramError.TooSmall → size < 8192 }
+    ensures in_range { OnOk result (8192 ≤ size) }
+    ensures err { IfErr result IsOfCopy }
+    ensures reads_only { OnlyReads D.state source.old source.new }
+{
+    let disk = FileDisk::create(rt, file, size, start)?;
+    match source.copy_to(disk) {
+        Ok(copy) => Ok(copy),
         Err((_, fault)) => Err(fault.into()),
     }
 }

@@ -3,7 +3,8 @@
 //! `rs_source mem SIZE BASE LIMIT` runs the script on standard input on a new source, whose disk of
 //! SIZE bytes lies in memory. `rs_source format FILE SIZE BASE LIMIT` makes a source on a new file, and
 //! `rs_source run FILE` runs the script on standard input on the source of a file. `rs_source serve FILE PORT COUNT`
-//! serves so many connections to it on the loopback interface.
+//! serves so many connections to it on the loopback interface. `rs_source copy OLD NEW SIZE` copies the source of a file
+//! to a new file of SIZE bytes.
 #![tactic(auto)]
 
 mod command;
@@ -12,7 +13,7 @@ mod program;
 mod serving;
 
 use command::{Invocation, ServingArguments, SourceArguments, asked};
-use file::{format_file, open_file};
+use file::{copy_to_file, format_file, open_file};
 use program::{ProgramError, start, unread};
 use rs_disk::Disk;
 use rs_file::Unknown;
@@ -103,6 +104,21 @@ fn run_serve<
     serve(rt, &mut source, serving)
 }
 
+/// `copy`: the source of a file on a new file.
+fn run_copy<R: Files<File = File> + Print + AllocGlobal>(
+    rt: &R,
+    old: &str,
+    new: &str,
+    size: u64,
+) -> Result<(), ProgramError> {
+    let mut source = open_file(rt, rt.alloc(), old, Unknown)?;
+    copy_to_file(rt, &mut source, new, size, Unknown)?;
+    match println!(rt; "copied {size}") {
+        Ok(()) => Ok(()),
+        Err(_) => Err(ProgramError::Write),
+    }
+}
+
 /// Does what the arguments of the program ask for.
 fn run<
     R: Files<File = File>
@@ -125,6 +141,7 @@ fn run<
         Some(Invocation::Format(file, made)) => run_format(rt, file, &made),
         Some(Invocation::Run(file)) => run_file(rt, file),
         Some(Invocation::Serve(file, serving)) => run_serve(rt, file, serving),
+        Some(Invocation::Copy(old, new, size)) => run_copy(rt, old, new, size),
         None => Err(ProgramError::Usage),
     }
 }

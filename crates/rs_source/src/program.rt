@@ -6,12 +6,12 @@ ghost use Rattle.rs_record.specs.Base.{is_base};
 ghost use Rattle.rs_directory.specs.Limit.{IsLimit};
 ghost use Rattle.rs_disk.specs.Memory.{memory_state};
 ghost use Rattle.rs_store.specs.Source.{Holds};
-ghost use Rattle.rs_source.specs.Arguments.{error_of, error_of_file, error_of_format, error_of_opening, IsOfStart, exit_status, unread_of};
+ghost use Rattle.rs_source.specs.Arguments.{error_of, error_of_copy, error_of_file, error_of_format, error_of_opening, IsOfStart, exit_status, unread_of};
 
 use rs_disk::MemoryDisk;
 use rs_file::FileFault;
 use rs_script::ScriptFault;
-use rs_store::{FormatFault, OpenFault, Source};
+use rs_store::{CopyFault, FormatFault, OpenFault, Source};
 use rs_time::Moment;
 use std::alloc::Global;
 use std::io::ErrorKind;
@@ -21,7 +21,7 @@ use thiserror::Error;
 #[derive(Clone, Copy, Debug, PartialEq, Eq, Error)]
 pub enum ProgramError {
     /// The arguments are wrong: status 2.
-    #[error("usage: rs_source mem SIZE BASE LIMIT | format FILE SIZE BASE LIMIT | run FILE | serve FILE PORT COUNT")]
+    #[error("usage: rs_source mem SIZE BASE LIMIT | format FILE SIZE BASE LIMIT | run FILE | serve FILE PORT COUNT | copy OLD NEW SIZE")]
     Usage,
     /// There is a file of the name that a new one was to have.
     #[error("rs_source: Exists")]
@@ -38,7 +38,11 @@ pub enum ProgramError {
     /// The file holds no source.
     #[error("rs_source: NotASource")]
     NotASource,
-    /// The file holds a source of which a rule of the format is broken.
+    /// The new disk has no room for what is copied to it.
+    #[error("rs_source: Full")]
+    Full,
+    /// The file holds a source of which a rule of the format is broken, or a body that is to be copied does not
+    /// have its recorded SHA-256.
     #[error("rs_source: Damaged")]
     Damaged,
     /// The file or the socket cannot be opened or made, or the disk failed before the program began its work.
@@ -67,6 +71,7 @@ impl ProgramError {
             | ProgramError::BadLimit
             | ProgramError::TooSmall
             | ProgramError::NotASource
+            | ProgramError::Full
             | ProgramError::Damaged
             | ProgramError::Device
             | ProgramError::NoMemory
@@ -121,6 +126,21 @@ impl From<OpenFault> for ProgramError {
             OpenFault::Damaged => ProgramError::Damaged,
             OpenFault::Device => ProgramError::Device,
             OpenFault::NoMemory => ProgramError::NoMemory,
+        }
+    }
+}
+
+impl From<CopyFault> for ProgramError {
+    ghost from_gives = { λ fault error. error ≡ error_of_copy fault };
+
+    fn from(fault: CopyFault) -> ProgramError {
+        match fault {
+            CopyFault::TooSmall => ProgramError::TooSmall,
+            CopyFault::Full => ProgramError::Full,
+            // A source is closed after a fault of its device.
+            CopyFault::Closed | CopyFault::Device => ProgramError::Device,
+            CopyFault::Damaged => ProgramError::Damaged,
+            CopyFault::NoMemory => ProgramError::NoMemory,
         }
     }
 }

@@ -16,18 +16,19 @@ use Rattle.rs_model.specs.declared.command.Refusal.TheVariants as decides
 use Rattle.rs_image.specs.declared.contents.Contents.{Contents}
 use Rattle.rs_image.specs.Reach.{is_kept}
 use Rattle.rs_image.specs.Whole.{IsWhole}
-use Rattle.rs_image.specs.StateOfImage.{Tells, StandsFor, state_in}
+use Rattle.rs_image.specs.StateOfImage.{Tells, StandsFor, state_in, AreLists}
 use Rattle.rs_image.proofs.Frame.{tells_behind}
 use Rattle.rs_plan.specs.declared.plan.Plan.{Plan}
 use Rattle.rs_plan.specs.declared.planning.PlanFault.{PlanFault}
 use Rattle.rs_plan.specs.declared.planning.PlanFault.TheVariants.{Full as NoRoom, NoMemory as NoPlanMemory}
 use Rattle.rs_store.specs.declared.refusal.Refusal.{Refusal}
-use Rattle.rs_store.specs.declared.refusal.Refusal.TheVariants.{Closed, TooLong, NotHeld, TooManyResources, TooManyChanges, Exhausted, Full, ReadFault, ShortBody, Device, Damaged, NoMemory}
+use Rattle.rs_store.specs.declared.refusal.Refusal.TheVariants.{Closed, BadGroup, TooLong, NotHeld, TooManyResources, TooManyChanges, Exhausted, Full, ReadFault, ShortBody, Device, Damaged, NoMemory}
 use Rattle.rs_image.specs.Rooted.{Rooted}
 use Rattle.rs_store.specs.Source.{Stored, Holds, rooted_in, state_of}
 use Rattle.rs_store.specs.Refusals.{named_as, or_spent, is_spent, decided}
-use Rattle.rs_plan.specs.Plans.{body_of_command, once_stored, planned_root, IsPlanned, LacksRoom, AreWritten}
-use Rattle.rs_store.specs.Writing.{of_plan, AreLists}
+use Rattle.rs_plan.specs.Room.{bodies_of_command}
+use Rattle.rs_plan.specs.Plans.{once_stored, planned_root, IsPlanned, LacksRoom, AreWritten}
+use Rattle.rs_store.specs.Writing.{of_plan}
 use Rattle.rs_store.specs.Commands.{IsCause, Leads}
 use Rattle.rs_store.specs.Answered.{moment_unless, IsUnchanged, Answers}
 use Rattle.rs_store.proofs.Stays.{ready_after, stands_meanwhile, told_after, stands_now, state_kept, state_behind, reach_kept}
@@ -67,6 +68,7 @@ IsEarly r = Unit {0}
 
 early_named : (x : model.Refusal) → IsEarly (named_as x)
 unfolding IsEarly
+early_named decides.BadGroup = tt
 early_named decides.TooLong = tt
 early_named decides.NotHeld = tt
 early_named decides.TooManyResources = tt
@@ -86,7 +88,7 @@ allowed true o spent is = absurd cc
 allowed false (Some x) spent is = absurd cc
 allowed false None spent is = refl
 
-stepped : (s : Source) (command : Command) (now : ℕ) → refusal_of s command ≡ None
+stepped : (s : Source) (command : Command) (now : ℕ) → refusal_of s command now ≡ None
     → step s command now ≡ Ok (next_state s command (moment_at s now), reply_to s command (moment_at s now))
 stepped s command now is = ap (λ (o : Option model.Refusal). accepted_unless o (next_state s command (moment_at s now), reply_to s command (moment_at s now))) is
 
@@ -95,9 +97,10 @@ unfolding IsEarly
 not_device r is same = subst IsEarly same is
 
 module _ {D : Type 0} (device : D → DiskState) (medium : (disk : D) → IsMedium (device disk).size (device disk).now) (old : Stored D) (command : Command) (now : ℕ) where
-  early_cause : (new : Stored D) (r : Refusal) → IsEarly r → decided old (state_of device old) command ≡ Some r → IsCause device old new command now r
+  early_cause : (new : Stored D) (r : Refusal) → IsEarly r → decided old (state_of device old) command now ≡ Some r → IsCause device old new command now r
   unfolding IsEarly
   early_cause new Closed is given = given
+  early_cause new BadGroup is given = given
   early_cause new TooLong is given = given
   early_cause new NotHeld is given = given
   early_cause new TooManyResources is given = given
@@ -113,6 +116,7 @@ module _ {D : Type 0} (device : D → DiskState) (medium : (disk : D) → IsMedi
   kept_leads : (new : Stored D) (s : Source) (r : Refusal) → (r ≡ Device → ⊥) → Holds device new s → Leaves (device old.disk) (device new.disk) (λ _ image. StandsFor image s)
       → Leads device old new s command now (Err r)
   kept_leads new s Closed other holds leaves = (holds, leaves)
+  kept_leads new s BadGroup other holds leaves = (holds, leaves)
   kept_leads new s TooLong other holds leaves = (holds, leaves)
   kept_leads new s NotHeld other holds leaves = (holds, leaves)
   kept_leads new s TooManyResources other holds leaves = (holds, leaves)
@@ -131,7 +135,7 @@ module _ {D : Type 0} (device : D → DiskState) (medium : (disk : D) → IsMedi
 
   -- a refusal that leaves what was in memory
   kept_answers : (new : Stored D) (r : Refusal) → IsCause device old new command now r → (r ≡ Device → ⊥)
-      → ((q : Refusal) → decided old (state_of device old) command ≡ Some q → (r ≡ q) × (new ≡ old))
+      → ((q : Refusal) → decided old (state_of device old) command now ≡ Some q → (r ≡ q) × (new ≡ old))
       → new.is_closed ≡ old.is_closed → IsUnchanged device old new
       → ((s : Source) → Holds device old s → Holds device new s × Leaves (device old.disk) (device new.disk) (λ _ image. StandsFor image s))
       → Advances (device old.disk) (device new.disk) → (device new.disk).faults ≡ (device old.disk).faults → Answers device old new command now (Err r)
@@ -162,13 +166,13 @@ module _ {D : Type 0} (device : D → DiskState) (medium : (disk : D) → IsMedi
       (holds, started (device old.disk) (λ _ image. StandsFor image s) (stands_now old.slots old.contents s (device old.disk) (medium old.disk) holds.ready holds.told))
 
   -- refused at once
-  pub at_once : (r : Refusal) → decided old (state_of device old) command ≡ Some r → Answers device old old command now (Err r)
+  pub at_once : (r : Refusal) → decided old (state_of device old) command now ≡ Some r → Answers device old old command now (Err r)
   at_once r is =
-      let of_early : IsEarly r = early old.is_closed (refusal_of (state_of device old) command) (is_spent old) r is in
+      let of_early : IsEarly r = early old.is_closed (refusal_of (state_of device old) command now) (is_spent old) r is in
       kept_answers old r (early_cause old r of_early is) (not_device r of_early) (λ q other. let same : r ≡ q = cc in (same, refl)) refl nothing_done at_rest no_call refl
 
   -- without a plan
-  pub unplanned : (fault : PlanFault) → decided old (state_of device old) command ≡ None
+  pub unplanned : (fault : PlanFault) → decided old (state_of device old) command now ≡ None
       → (fault ≡ NoRoom → LacksRoom (rooted_in device old) command (moment_at (state_of device old) now))
       → Answers device old old command now (Err (of_plan fault))
   unplanned NoRoom is room =
@@ -177,8 +181,8 @@ module _ {D : Type 0} (device : D → DiskState) (medium : (disk : D) → IsMedi
       kept_answers old NoMemory is (λ (same : NoMemory ≡ Device). absurd cc) (λ q other. absurd cc) refl nothing_done at_rest no_call refl
 
   -- with a plan
-  module _ (p : Plan) (bytes : List ℕ) (whole : IsWhole (device old.disk).size old.slots.root old.contents)
-      (free : decided old (state_of device old) command ≡ None) (body : body_of_command command ≡ bytes)
+  module _ (p : Plan) (bodies : List (List ℕ)) (whole : IsWhole (device old.disk).size old.slots.root old.contents)
+      (free : decided old (state_of device old) command now ≡ None) (bodies_are : bodies_of_command command ≡ bodies)
       (planned : IsPlanned (rooted_in device old) command (moment_at (state_of device old) now) p)
       (mid : D) (run : WritesOutside (is_kept old.slots.root old.contents) (device old.disk) (device mid)) where
     kept_state : state_in (device mid).now.seen old.contents ≡ state_of device old
@@ -191,7 +195,7 @@ module _ {D : Type 0} (device : D → DiskState) (medium : (disk : D) → IsMedi
         → Answers device old (record { disk = mid; slots = old.slots; contents = old.contents; is_closed = old.is_closed }) command now (Err NoMemory)
     stopped goes unmet =
         kept_answers (record { disk = mid; slots = old.slots; contents = old.contents; is_closed = old.is_closed }) NoMemory free
-        (λ (is : NoMemory ≡ Device). absurd (no_device is)) (λ q other. absurd (none_some (decided old (state_of device old) command) q free other)) refl
+        (λ (is : NoMemory ≡ Device). absurd (no_device is)) (λ q other. absurd (none_some (decided old (state_of device old) command now) q free other)) refl
         (record { slots = refl; contents = refl; state = kept_state })
         (λ s holds. (
           record {
@@ -209,8 +213,8 @@ module _ {D : Type 0} (device : D → DiskState) (medium : (disk : D) → IsMedi
     after_step : (s : Source) → Holds device old s → state_after s (step s command now) ≡ next s
     unfolding next
     after_step s holds =
-        let is : refusal_of s command ≡ None =
-        subst (λ (x : Source). refusal_of x command ≡ None) (tells_state s holds) (allowed old.is_closed (refusal_of (state_of device old) command) (is_spent old) free) in
+        let is : refusal_of s command now ≡ None =
+        subst (λ (x : Source). refusal_of x command now ≡ None) (tells_state s holds) (allowed old.is_closed (refusal_of (state_of device old) command now) (is_spent old) free) in
         ap (λ (x : Result (Source × Reply) model.Refusal). state_after s x) (stepped s command now is)
 
     -- the device failed
@@ -249,7 +253,7 @@ module _ {D : Type 0} (device : D → DiskState) (medium : (disk : D) → IsMedi
         goes
 
     -- all was written, and the root was to change
-    module _ (there : AreWritten p bytes (device mid).now.seen) (lists : AreLists (once_stored p.contents)) (size : (device mid).size ≡ (device old.disk).size)
+    module _ (there : AreWritten p bodies (device mid).now.seen) (lists : AreLists (once_stored p.contents)) (size : (device mid).size ≡ (device old.disk).size)
         (root : Root) (root_is : root ≡ planned_root old.slots.root p) where
       long : length (device mid).now.seen ≡ (device old.disk).size
       long = (medium mid).image.size ∙ (medium mid).settled ∙ size
@@ -259,8 +263,8 @@ module _ {D : Type 0} (device : D → DiskState) (medium : (disk : D) → IsMedi
       tells_new s holds =
           let told = told_after old.slots old.contents s (device old.disk) (medium old.disk) holds.ready holds.told (device mid) run
           (device mid).now.seen (medium mid).image in
-          let there_next = tells_next (device old.disk).size old.slots.root old.contents command (moment_at (state_of device old) now) p bytes (device mid).now.seen s
-          planned body there lists long told in
+          let there_next = tells_next (device old.disk).size old.slots.root old.contents command (moment_at (state_of device old) now) p bodies (device mid).now.seen s
+          planned bodies_are there lists long told in
           let moment : Tells (planned_root old.slots.root p) (once_stored p.contents) (device mid).now.seen (next_state s command (moment_at s now)) =
           subst (λ (x : Source). Tells (planned_root old.slots.root p) (once_stored p.contents) (device mid).now.seen (next_state s command (moment_at x now)))
           (tells_state s holds) there_next in
@@ -320,9 +324,9 @@ module _ {D : Type 0} (device : D → DiskState) (medium : (disk : D) → IsMedi
           let state : state_of device new ≡ next_state (state_of device old) command moment =
           ap (λ (c : Contents). state_in last c) contents
           ∙ state_behind (device old.disk).size (planned_root old.slots.root p) (once_stored p.contents) seen last planned.whole (flipped last seen same)
-          ∙ state_follows (device old.disk).size old.slots.root old.contents command moment p bytes seen planned body there
+          ∙ state_follows (device old.disk).size old.slots.root old.contents command moment p bodies seen planned bodies_are there
           ∙ ap (λ (s : Source). next_state s command moment) kept_state in
-          let is : refusal_of (state_of device old) command ≡ None = allowed old.is_closed (refusal_of (state_of device old) command) (is_spent old) free in
+          let is : refusal_of (state_of device old) command now ≡ None = allowed old.is_closed (refusal_of (state_of device old) command now) (is_spent old) free in
           let steps : step (state_of device old) command now ≡ Ok (state_of device new, reply) =
           stepped (state_of device old) command now is
           ∙ ap₂ accepting (sym state) (sym replied) in

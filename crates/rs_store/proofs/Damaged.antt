@@ -1,14 +1,11 @@
 -- Which bodies are damaged, one record after the other.
-use Rattle.std.proofs.Common.{◌≡◌, ◌≢◌, ◌≤◌, ◌+◌, ◌*◌, ℕ, Bool, true, false, List, [], ◌∷◌, ◌++◌, length, map, not, nat_eq, sym, ◌∙◌, ap, cond, refl, rules}
+use Rattle.std.proofs.Common.{◌≡◌, ◌≤◌, ◌+◌, ◌*◌, ℕ, true, List, [], ◌∷◌, ◌++◌, map, not, ◌∙◌, ap, rules}
 use Rattle.std.specs.Prelude.{All}
 use Rattle.std.specs.List.{filter}
-use Rattle.std.specs.Cmp.Lexicographic.{pointwise, same_text, other_text}
 use Rattle.std.proofs.lemmas.List.{map-append}
 use Rattle.std.proofs.lemmas.List.Elements.{All-cons, All-head, All-tail, filter-append}
-use Rattle.rs_fixity.specs.Digests.{digests}
-use Rattle.rs_extent.specs.Extents.{within, in_some}
+use Rattle.rs_extent.specs.Extents.{in_some}
 use Rattle.rs_extent.proofs.Sets.{some_first, some_rest, some_behind}
-use Rattle.rs_body.specs.Blocks.{part}
 use Rattle.rs_body.proofs.Sets.{fits_sized}
 use Rattle.rs_commit.specs.declared.root.Root.{Root}
 use Rattle.rs_record.specs.declared.record.Record.{Record}

@@ -25,7 +25,7 @@ left_or_next (Some r) s next = inl refl
 
 after_put : (s : Source) (command : Command) (now : ℕ)
     → (state_after s (step s command now) ≡ s) ⊎ (state_after s (step s command now) ≡ next_state s command (moment_at s now))
-after_put s command now = left_or_next (refusal_of s command) s (next_state s command (moment_at s now), reply_to s command (moment_at s now))
+after_put s command now = left_or_next (refusal_of s command now) s (next_state s command (moment_at s now), reply_to s command (moment_at s now))
 
 -- what is bound has its bytes
 abbrev bytes_in : Option Held → List ℕ

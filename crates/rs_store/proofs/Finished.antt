@@ -1,4 +1,4 @@
--- What a source answers once the body of a plan stands, by how far the rest came. It counts from the moment before the body was written.
+-- What a source answers once the bodies of a plan stand, by how far the rest came. It counts from the moment before the bodies were written.
 use Rattle.std.proofs.Common.{◌≡◌, ℕ, Bool, true, List, refl, sym, ◌∙◌, ap, subst, arith, None, Ok, Err, Result}
 use Rattle.rs_disk.specs.Medium.{DiskState, IsMedium, resting}
 use Rattle.rs_disk.specs.Leaves.{Advances, Leaves, HasFailed}
@@ -15,21 +15,22 @@ use Rattle.rs_image.specs.declared.contents.Contents.{Contents}
 use Rattle.rs_image.specs.Reach.{is_kept}
 use Rattle.rs_image.specs.Whole.{IsWhole}
 use Rattle.rs_plan.specs.declared.plan.Plan.{Plan}
-use Rattle.rs_plan.specs.Plans.{body_of_command, once_stored, places, planned_root, IsPlanned}
+use Rattle.rs_plan.specs.Room.{bodies_of_command}
+use Rattle.rs_plan.specs.Plans.{once_stored, places, planned_root, IsPlanned}
 use Rattle.rs_store.specs.declared.refusal.Refusal.{Refusal}
 use Rattle.rs_store.specs.declared.refusal.Refusal.TheVariants.{Device, NoMemory}
 use Rattle.rs_store.specs.Source.{Stored, rooted_in, state_of}
 use Rattle.rs_store.specs.Refusals.{decided}
-use Rattle.rs_store.specs.Writing.{AreStoredLists, HasWrittenBody}
+use Rattle.rs_store.specs.Writing.{AreStoredLists, HasWrittenBodies}
 use Rattle.rs_store.specs.Answered.{Answers}
 use Rattle.rs_store.proofs.Opened.{failed_behind}
 use Rattle.rs_store.proofs.Answered.{stopped, broken_off, not_committed, committed}
 
--- what the end of a command promises, whatever command a plan is of, and whenever its body was begun
+-- what the end of a command promises, whatever command a plan is of, and whenever its bodies were begun
 abbrev pub Promised : {D : Type 0} → (D → DiskState) → Plan → Stored D → Result Reply Refusal → Stored D → Type 0
 Promised {D} device p new result now =
-    (start : Stored D) (command : Command) (moment : ℕ) → HasWrittenBody device start now p (body_of_command command)
-    → decided start (state_of device start) command ≡ None
+    (start : Stored D) (command : Command) (moment : ℕ) → HasWrittenBodies device start now p (bodies_of_command command)
+    → decided start (state_of device start) command moment ≡ None
     → IsPlanned (rooted_in device start) command (moment_at (state_of device start) moment) p
     → Answers device start new command moment result
 
@@ -45,8 +46,8 @@ advances_on old mid new one two = record {
 module _ {D : Type 0} (device : D → DiskState) (medium : (disk : D) → IsMedium (device disk).size (device disk).now) (now : Stored D) (p : Plan)
     (whole : IsWhole (device now.disk).size now.slots.root now.contents)
     (mid : D) (run : (kept : ℕ → Bool) → AreBeside kept (places p) → WritesOutside kept (device now.disk) (device mid)) (goes : Advances (device now.disk) (device mid)) where
-  module _ (start : Stored D) (command : Command) (moment : ℕ) (begun : HasWrittenBody device start now p (body_of_command command))
-      (free : decided start (state_of device start) command ≡ None)
+  module _ (start : Stored D) (command : Command) (moment : ℕ) (begun : HasWrittenBodies device start now p (bodies_of_command command))
+      (free : decided start (state_of device start) command moment ≡ None)
       (planned : IsPlanned (rooted_in device start) command (moment_at (state_of device start) moment) p) where
     all_outside : WritesOutside (is_kept start.slots.root start.contents) (device start.disk) (device mid)
     all_outside =
@@ -72,11 +73,11 @@ module _ {D : Type 0} (device : D → DiskState) (medium : (disk : D) → IsMedi
         let was : Stored D = record { disk = mid; slots = start.slots; contents = start.contents; is_closed = start.is_closed } in
         let same : was ≡ left = λ i. record { disk = mid; slots = sym begun.slots i; contents = sym begun.contents i; is_closed = sym begun.is_closed i } in
         subst (λ (new : Stored D). Answers device start new command moment (Err NoMemory)) same
-        (stopped device medium start command moment p (body_of_command command) was_whole free refl planned mid all_outside all_goes (all_unmet unmet))
+        (stopped device medium start command moment p (bodies_of_command command) was_whole free refl planned mid all_outside all_goes (all_unmet unmet))
 
     broken_so : (new : Stored D) → new.disk ≡ mid → new.is_closed ≡ true → HasFailed (device now.disk) (device mid) → Answers device start new command moment (Err Device)
     broken_so new disk closed failed =
-        broken_off device medium start command moment p (body_of_command command) was_whole free refl planned mid all_outside new disk closed
+        broken_off device medium start command moment p (bodies_of_command command) was_whole free refl planned mid all_outside new disk closed
         (subst (λ (d : D). HasFailed (device start.disk) (device d)) (sym disk) (failed_behind (device start.disk) (device now.disk) (device mid) begun.advances.faults failed))
         (subst (λ (d : D). Advances (device start.disk) (device d)) (sym disk) all_goes)
 
@@ -92,8 +93,8 @@ module _ {D : Type 0} (device : D → DiskState) (medium : (disk : D) → IsMedi
 
       not_committed_so : new.is_closed ≡ true → HasFailed (device mid) (device new.disk) → Answers device start new command moment (Err Device)
       not_committed_so closed failed =
-          not_committed device medium start command moment p (body_of_command command) was_whole free refl planned mid all_outside
-          (stored.reads (body_of_command command) planned.body begun.stands) stored.lists all_goes.size root was_next new was_any closed
+          not_committed device medium start command moment p (bodies_of_command command) was_whole free refl planned mid all_outside
+          (stored.reads (bodies_of_command command) planned.bodies begun.stand) stored.lists all_goes.size root was_next new was_any closed
           (failed_behind (device start.disk) (device mid) (device new.disk) all_goes.faults failed)
           (advances_on (device start.disk) (device mid) (device new.disk) all_goes further)
 
@@ -103,8 +104,8 @@ module _ {D : Type 0} (device : D → DiskState) (medium : (disk : D) → IsMedi
           → (device mid).faults ≡ (device now.disk).faults → (device new.disk).faults ≡ (device mid).faults
           → Answers device start new command moment (Ok reply)
       committed_so reply settled at lists closed ready behind rests replied unmet further_unmet =
-          committed device medium start command moment p (body_of_command command) was_whole free refl planned mid all_outside
-          (stored.reads (body_of_command command) planned.body begun.stands) stored.lists all_goes.size root was_next new reply settled was_any at lists
+          committed device medium start command moment p (bodies_of_command command) was_whole free refl planned mid all_outside
+          (stored.reads (bodies_of_command command) planned.bodies begun.stand) stored.lists all_goes.size root was_next new reply settled was_any at lists
           (closed ∙ begun.is_closed) (subst (λ (s : Standing). IsReady s (device mid).now → IsReady new.slots (device new.disk).now) begun.slots ready)
           behind rests (replied ∙ planned.reply (device start.disk).now.seen)
           (advances_on (device start.disk) (device mid) (device new.disk) all_goes further)

@@ -3,14 +3,13 @@ use Rattle.std.proofs.Common.{true≢false, ◌≡◌, ◌⊎◌, inl, inr, ⊎_
 use Rattle.std.specs.Prelude.{All, IfSome, is_some}
 use Rattle.std.proofs.lemmas.List.Elements.{All-nil, All-cons, All-head, All-tail, All-filter}
 use Rattle.rs_extent.specs.declared.Extent.{Extent}
-use Rattle.rs_body.specs.Blocks.{part}
 use Rattle.rs_commit.specs.declared.root.Root.{Root}
 use Rattle.rs_record.specs.declared.record.Record.{Record}
 use Rattle.rs_record.specs.declared.change.Change.{Change}
 use Rattle.rs_model.specs.State.{Source}
 use Rattle.rs_model.specs.Step.{next_state}
 use Rattle.rs_model.specs.declared.command.Command.{Command}
-use Rattle.rs_model.specs.declared.command.Command.TheVariants.{Put, Delete, Publish}
+use Rattle.rs_model.specs.declared.command.Command.TheVariants.{Put, Delete, Publish, Group}
 use Rattle.rs_page.specs.declared.place.PageRef.{PageRef}
 use Rattle.rs_page.specs.Format.{ItemFormat}
 use Rattle.rs_page.specs.Items.{record_format, change_format}
@@ -25,10 +24,10 @@ use Rattle.rs_changes.proofs.Joined.{joined as joined_changes}
 use Rattle.rs_image.specs.declared.contents.Contents.{Contents}
 use Rattle.rs_image.specs.Rooted.{rooted}
 use Rattle.rs_image.specs.Whole.{IsWhole}
-use Rattle.rs_image.specs.StateOfImage.{Tells, state_in, held_in}
+use Rattle.rs_image.specs.StateOfImage.{Tells, state_in, held_in, AreLists}
 use Rattle.rs_plan.specs.declared.plan.Plan.{Plan}
-use Rattle.rs_plan.specs.Plans.{body_of_command, ArePagesAfter, once_stored, planned_root, IsPlanned, AreWritten}
-use Rattle.rs_store.specs.Writing.{AreLists}
+use Rattle.rs_plan.specs.Room.{bodies_of_command}
+use Rattle.rs_plan.specs.Plans.{AreBodies, ArePagesAfter, once_stored, planned_root, IsPlanned, AreWritten}
 
 -- what holds of a list holds of each part of it, ..
 all_sub : {A : Type 0} (P : A → Type 0) (xs ys : List A) → All P ys → IsSublist xs ys → All P xs
@@ -101,29 +100,31 @@ held_history pages image is all stand =
 abbrev HoldsPagesInMemory : List (Page Record) → List ℕ → Type 0
 HoldsPagesInMemory pages image = HoldsCatalogue (stored_refs pages) image (map (λ page. page.items) pages)
 
-held_published : (command : Command) (moment : ℕ) (body : Extent) (old c : Contents) (image : List ℕ) → ArePagesAfter old command moment body c
+held_published : (command : Command) (moment : ℕ) (bodies : List Extent) (old c : Contents) (image : List ℕ) → ArePagesAfter old command moment bodies c
     → HoldsPagesInMemory old.catalogue image → HoldsPagesInMemory old.published image → HoldsPagesInMemory c.published image
-held_published (Put name kind bytes) moment body old c image after catalogue published =
+held_published (Put name kind bytes) moment bodies old c image after catalogue published =
     subst (λ (l : List (Page Record)). HoldsPagesInMemory l image) (sym after.2) published
-held_published (Delete name) moment body old c image after catalogue published =
+held_published (Delete name) moment bodies old c image after catalogue published =
     subst (λ (l : List (Page Record)). HoldsPagesInMemory l image) (sym after.2) published
-held_published Publish moment body old c image after catalogue published =
+held_published (Group items) moment bodies old c image after catalogue published =
+    subst (λ (l : List (Page Record)). HoldsPagesInMemory l image) (sym after.2) published
+held_published Publish moment bodies old c image after catalogue published =
     subst (λ (l : List (Page Record)). HoldsPagesInMemory l image) (sym after.2) catalogue
 
--- The state of the lists is the next one, where the body stands.
-pub state_follows : (size : ℕ) (root : Root) (old : Contents) (command : Command) (moment : ℕ) (p : Plan) (bytes image : List ℕ)
-    → IsPlanned (rooted size root old) command moment p → body_of_command command ≡ bytes → AreWritten p bytes image
+-- The state of the lists is the next one, where the bodies stand.
+pub state_follows : (size : ℕ) (root : Root) (old : Contents) (command : Command) (moment : ℕ) (p : Plan) (bodies : List (List ℕ)) (image : List ℕ)
+    → IsPlanned (rooted size root old) command moment p → bodies_of_command command ≡ bodies → AreWritten p bodies image
     → state_in image (once_stored p.contents) ≡ next_state (state_in image old) command moment
-state_follows size root old command moment p bytes image planned body there =
-    let stands : part p.body (length (body_of_command command)) image ≡ body_of_command command =
-    subst (λ (l : List ℕ). part p.body (length l) image ≡ l) (sym body) there.body in
-    once_state image p.contents ∙ planned.next.turns image stands
+state_follows size root old command moment p bodies image planned are there =
+    let stand : AreBodies image p.bodies.items (bodies_of_command command) =
+    subst (λ (l : List (List ℕ)). AreBodies image p.bodies.items l) (sym are) there.bodies in
+    once_state image p.contents ∙ planned.next.turns image stand
 
-pub tells_next : (size : ℕ) (root : Root) (old : Contents) (command : Command) (moment : ℕ) (p : Plan) (bytes image : List ℕ) (s : Source)
-    → IsPlanned (rooted size root old) command moment p → body_of_command command ≡ bytes → AreWritten p bytes image → AreLists (once_stored p.contents)
+pub tells_next : (size : ℕ) (root : Root) (old : Contents) (command : Command) (moment : ℕ) (p : Plan) (bodies : List (List ℕ)) (image : List ℕ) (s : Source)
+    → IsPlanned (rooted size root old) command moment p → bodies_of_command command ≡ bodies → AreWritten p bodies image → AreLists (once_stored p.contents)
     → length image ≡ size → Tells root old image s
     → Tells (planned_root root p) (once_stored p.contents) image (next_state s command moment)
-tells_next size root old command moment p bytes image s planned body there lists long told =
+tells_next size root old command moment p bodies image s planned are there lists long told =
     let c = p.contents in
     let records : All (Stands record_format image) old.catalogue = pages_stand record_format old.catalogue image told.whole.catalogue told.catalogue.hold in
     let changes : All (Stands change_format image) old.history.pages = pages_stand change_format old.history.pages image told.whole.history told.history.hold in
@@ -135,7 +136,7 @@ tells_next size root old command moment p bytes image s planned body there lists
           (written_stand record_format c.catalogue image (kept_stand record_format old.catalogue c.catalogue image planned.next.catalogue records) there.catalogue);
       history = held_history (stored change_format c.history.pages) image lists.history planned.whole.history
           (written_stand change_format c.history.pages image (kept_stand change_format old.history.pages c.history.pages image planned.next.history changes) there.history);
-      published = held_published command moment p.body old c image planned.next.pages told.catalogue told.published;
+      published = held_published command moment p.bodies.items old c image planned.next.pages told.catalogue told.published;
       whole = subst (λ (n : ℕ). IsWhole n (planned_root root p) (once_stored c)) (sym long) planned.whole;
-      state = state_follows size root old command moment p bytes image planned body there ∙ ap (λ (t : Source). next_state t command moment) told.state;
+      state = state_follows size root old command moment p bodies image planned are there ∙ ap (λ (t : Source). next_state t command moment) told.state;
     }

@@ -1,5 +1,4 @@
 pub mod Written
-pub mod Bounds
 pub mod Stays
 pub mod Follows
 pub mod Answered
@@ -16,3 +15,6 @@ pub mod Kept
 pub mod Finished
 pub mod Begun
 pub mod Damaged
+pub mod Copied
+pub mod Decided
+pub mod Grouped

@@ -11,7 +11,7 @@ use Rattle.rs_model.specs.declared.command.Command.{Command}
 use Rattle.rs_model.specs.declared.command.Reply.{Reply}
 use Rattle.rs_image.specs.StateOfImage.{StandsFor}
 use Rattle.rs_store.specs.declared.refusal.Refusal.{Refusal}
-use Rattle.rs_store.specs.declared.refusal.Refusal.TheVariants.{Closed, TooLong, NotHeld, TooManyResources, TooManyChanges, Exhausted, Full, ReadFault, ShortBody, Device, Damaged, NoMemory}
+use Rattle.rs_store.specs.declared.refusal.Refusal.TheVariants.{Closed, BadGroup, TooLong, NotHeld, TooManyResources, TooManyChanges, Exhausted, Full, ReadFault, ShortBody, Device, Damaged, NoMemory}
 use Rattle.rs_store.specs.Source.{Stored, Holds}
 use Rattle.rs_store.specs.Commands.{Leads}
 use Rattle.rs_store.specs.Answered.{Answers}
@@ -25,6 +25,7 @@ pub not_done : {D : Type 0} (device : D → DiskState) (old new : Stored D) (s :
     → is_device (Err refusal) ≡ false → Leads device old new s command now (Err refusal)
     → Holds device new s × Leaves (device old.disk) (device new.disk) (λ _ image. StandsFor image s)
 not_done {D} device old new s command now Closed other lead = lead
+not_done {D} device old new s command now BadGroup other lead = lead
 not_done {D} device old new s command now TooLong other lead = lead
 not_done {D} device old new s command now NotHeld other lead = lead
 not_done {D} device old new s command now TooManyResources other lead = lead
@@ -40,6 +41,7 @@ not_done {D} device old new s command now Device other lead = absurd (true≢fal
 -- a refusal is Device or it is not
 pub is_device_or_not : (refusal : Refusal) → (refusal ≡ Device) ⊎ (is_device (Err refusal) ≡ false)
 is_device_or_not Closed = inr refl
+is_device_or_not BadGroup = inr refl
 is_device_or_not TooLong = inr refl
 is_device_or_not NotHeld = inr refl
 is_device_or_not TooManyResources = inr refl

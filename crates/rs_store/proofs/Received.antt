@@ -7,7 +7,7 @@ use Rattle.rs_disk.specs.Medium.{DiskState}
 use Rattle.rs_model.specs.declared.command.Command.TheVariants.{Put}
 use Rattle.rs_model.specs.declared.command.Reply.{Reply}
 use Rattle.rs_store.specs.declared.refusal.Refusal.{Refusal}
-use Rattle.rs_store.specs.declared.refusal.Refusal.TheVariants.{Closed, TooLong, NotHeld, TooManyResources, TooManyChanges, Exhausted, Full, ReadFault, ShortBody, Device, Damaged, NoMemory}
+use Rattle.rs_store.specs.declared.refusal.Refusal.TheVariants.{Closed, BadGroup, TooLong, NotHeld, TooManyResources, TooManyChanges, Exhausted, Full, ReadFault, ShortBody, Device, Damaged, NoMemory}
 use Rattle.rs_store.specs.Source.{Stored}
 use Rattle.rs_store.specs.Answered.{Answers}
 use Rattle.rs_store.specs.Received.{IsBodyOf, IsLeft, IsCutShort, IsCut, IsStopped, IsLate, MayHaveCome, AnswersFrom}
@@ -21,6 +21,7 @@ same_body n came body whole h =
 -- nothing may have come with any refusal
 pub nothing_came : (n : ℕ) (r : Refusal) → MayHaveCome n [] r
 nothing_came n Closed = refl
+nothing_came n BadGroup = refl
 nothing_came n TooLong = refl
 nothing_came n NotHeld = refl
 nothing_came n TooManyResources = refl
@@ -36,6 +37,7 @@ nothing_came n NoMemory = omega arith
 -- and all of it with a late one
 come_late : (n : ℕ) (came : List ℕ) (r : Refusal) → IsLate r → length came ≡ n → MayHaveCome n came r
 come_late n came Closed late whole = absurd late
+come_late n came BadGroup late whole = absurd late
 come_late n came TooLong late whole = absurd late
 come_late n came NotHeld late whole = absurd late
 come_late n came TooManyResources late whole = absurd late
@@ -53,6 +55,7 @@ module _ {D : Type 0} (device : D → DiskState) (old new : Stored D) (name kind
   pub refused_from : (r : Refusal) → (r ≡ ReadFault → ⊥) → (r ≡ ShortBody → ⊥) → MayHaveCome n came r → ((body : List ℕ) → IsBodyOf n came body → Answers device old new (Put name kind body) now (Err r))
       → AnswersFrom device old new name kind n now came (Err r)
   refused_from Closed a b fits all = (fits, all)
+  refused_from BadGroup a b fits all = (fits, all)
   refused_from TooLong a b fits all = (fits, all)
   refused_from NotHeld a b fits all = (fits, all)
   refused_from TooManyResources a b fits all = (fits, all)
@@ -100,6 +103,7 @@ module _ {D : Type 0} (device : D → DiskState) (old new : Stored D) (name kind
   pub cut_from : (r : Refusal) → (r ≡ Device → ⊥) → IsStopped n rest came r → (length came < n → IsCutShort device old new name kind n now came)
       → AnswersFrom device old new name kind n now came (Err r)
   cut_from Closed other cut short = absurd cut
+  cut_from BadGroup other cut short = absurd cut
   cut_from TooLong other cut short = absurd cut
   cut_from NotHeld other cut short = absurd cut
   cut_from TooManyResources other cut short = absurd cut

@@ -10,7 +10,7 @@ use Rattle.rs_model.specs.declared.command.Command.{Command}
 use Rattle.rs_model.specs.declared.command.Reply.{Reply}
 use Rattle.rs_model.specs.declared.command.Refusal as model
 use Rattle.rs_store.specs.declared.refusal.Refusal.{Refusal}
-use Rattle.rs_store.specs.declared.refusal.Refusal.TheVariants.{Closed, TooLong, NotHeld, TooManyResources, TooManyChanges, Exhausted, Full, ReadFault, ShortBody, Device, Damaged, NoMemory}
+use Rattle.rs_store.specs.declared.refusal.Refusal.TheVariants.{Closed, BadGroup, TooLong, NotHeld, TooManyResources, TooManyChanges, Exhausted, Full, ReadFault, ShortBody, Device, Damaged, NoMemory}
 use Rattle.rs_store.specs.Source.{Stored, Holds, state_of}
 use Rattle.rs_store.specs.Refusals.{decided, named_as, is_spent, or_spent}
 use Rattle.rs_store.specs.Commands.{IsCause}
@@ -37,17 +37,18 @@ module _ {D : Type 0} (device : D → DiskState) (sound : (disk : D) → IsMediu
   told_state source s holds = (holds.told (device source.disk).now.seen (sound source.disk).image).state
 
   module _ (old new : Stored D) (s : Source) (holds : Holds device old s) (command : Command) (now : ℕ) where
-    decides : (x : Option model.Refusal) → refusal_of s command ≡ x → decided old (state_of device old) command ≡ or_spent x (is_spent old)
+    decides : (x : Option model.Refusal) → refusal_of s command now ≡ x → decided old (state_of device old) command now ≡ or_spent x (is_spent old)
     decides x is =
-        ap (λ (t : Source). decided old t command) (told_state old s holds)
+        ap (λ (t : Source). decided old t command now) (told_state old s holds)
         ∙ (λ i. cond (holds.is_open i) (Some Closed) (or_spent (is i) (is_spent old)))
 
-    of_machine : refusal_of s command ≡ None → (refusal : Refusal) → IsCause device old new command now refusal → IsBeyondModel refusal
+    of_machine : refusal_of s command now ≡ None → (refusal : Refusal) → IsCause device old new command now refusal → IsBeyondModel refusal
     of_machine none Exhausted cause = tt
     of_machine none Full cause = tt
     of_machine none Device cause = tt
     of_machine none NoMemory cause = tt
     of_machine none Closed cause = spent_alone (is_spent old) Closed (sym (decides None none) ∙ cause)
+    of_machine none BadGroup cause = spent_alone (is_spent old) BadGroup (sym (decides None none) ∙ cause)
     of_machine none TooLong cause = spent_alone (is_spent old) TooLong (sym (decides None none) ∙ cause)
     of_machine none NotHeld cause = spent_alone (is_spent old) NotHeld (sym (decides None none) ∙ cause)
     of_machine none TooManyResources cause = spent_alone (is_spent old) TooManyResources (sym (decides None none) ∙ cause)
@@ -56,14 +57,14 @@ module _ {D : Type 0} (device : D → DiskState) (sound : (disk : D) → IsMediu
     of_machine none ShortBody cause = absurd cause
     of_machine none Damaged cause = absurd cause
 
-    by_model : (refusal : Refusal) → Answers device old new command now (Err refusal) → (x : Option model.Refusal) → refusal_of s command ≡ x
+    by_model : (refusal : Refusal) → Answers device old new command now (Err refusal) → (x : Option model.Refusal) → refusal_of s command now ≡ x
         → MatchOption x (IsBeyondModel refusal) (λ r. refusal ≡ named_as r)
     by_model refusal answers None is = of_machine is refusal (answers.refused refusal refl)
     by_model refusal answers (Some r) is = same_refusal refusal (named_as r) (answers.decides (named_as r) (decides (Some r) is))
 
     pub may_answer : (reply : Result Reply Refusal) → Answers device old new command now reply → MayAnswer s command now reply
     may_answer (Ok reply) answers = let lead = answers.leads s holds in (lead.0, lead.1)
-    may_answer (Err refusal) answers = by_model refusal answers (refusal_of s command) refl
+    may_answer (Err refusal) answers = by_model refusal answers (refusal_of s command now) refl
 
   pub are_replies : (s : Source) (old : Stored D) (cs : Commands) (acks : Acks) (new : Stored D) → Holds device old s → InTurn device old cs acks new → AreReplies s cs acks
   are_replies s old [] [] new holds turn = tt

@@ -1,13 +1,15 @@
 -- The places of a plan, and what was written into them one after the other.
-use Rattle.std.proofs.Common.{true≢false, ◌≡◌, ℕ, ◌+◌, ◌*◌, ◌<◌, ◌≤◌, Bool, true, List, [], ◌∷◌, ◌++◌, length, refl, sym, ◌∙◌, subst, arith, Result, Ok, Err, OnOk}
+use Rattle.std.proofs.Common.{◌≡◌, ℕ, ◌+◌, ◌*◌, ◌<◌, ◌≤◌, Bool, true, List, [], ◌∷◌, ◌++◌, length, ◌∙◌, subst, arith, Result, Ok, Err, OnOk}
 use Rattle.std.specs.Prelude.{All}
+use Rattle.std.specs.List.{AllZip}
+use Rattle.std.proofs.lemmas.List.{append_assoc}
 use Rattle.rs_disk.specs.Medium.{DiskState}
 use Rattle.rs_extent.specs.declared.Extent.{Extent}
-use Rattle.rs_extent.specs.Extents.{within, in_some, IsOnDisk, IsBeside, AreBeside, AreApart, AreOnDisk}
+use Rattle.rs_extent.specs.Extents.{in_some, IsOnDisk, IsBeside, AreBeside, AreApart, AreOnDisk}
 use Rattle.rs_body.specs.Blocks.{part, IsSized}
-use Rattle.rs_body.specs.Outside.{WritesOutside}
+use Rattle.rs_body.specs.Outside.{Keeps, WritesOutside}
 use Rattle.rs_body.proofs.KeptBlocks.{part_kept, outside_on}
-use Rattle.rs_extent.proofs.Sets.{some_first, some_rest, beside_first, beside_rest}
+use Rattle.rs_extent.proofs.Sets.{some_first, some_rest, beside_first}
 use Rattle.rs_body.proofs.Sets.{fits_sized}
 use Rattle.rs_page.specs.Items.{record_format, change_format}
 use Rattle.rs_page.specs.Pages.{placed_extents}
@@ -16,8 +18,8 @@ use Rattle.rs_page.proofs.Standing.{written_stay}
 use Rattle.rs_image.specs.Reach.{AreInside, blocks_of_disk}
 use Rattle.rs_extent.proofs.Sets.{some_front, some_behind}
 use Rattle.rs_plan.specs.declared.plan.Plan.{Plan}
-use Rattle.rs_plan.specs.Plans.{places, planned_listing, AreWritten}
-use Rattle.rs_extent.proofs.Sets.{not_true, beside_front, beside_behind, apart_front, beside_between}
+use Rattle.rs_plan.specs.Plans.{AreBodies, places, planned_listing, AreWritten}
+use Rattle.rs_extent.proofs.Sets.{beside_front, beside_behind, apart_front, apart_behind, beside_between}
 
 pub on_ok : {T E : Type 0} {P Q : Type 0} (result : Result T E) → (P → Q) → OnOk result P → OnOk result Q
 on_ok (Ok x) from p = from p
@@ -27,45 +29,47 @@ on_ok (Err e) from p = tt
 abbrev pub pages_of : Plan → List Extent
 pages_of p = placed_extents p.contents.catalogue ++ placed_extents p.contents.history.pages
 
-abbrev pub behind_body : Plan → List Extent
-behind_body p = pages_of p ++ p.directory ∷ []
+abbrev pub behind_bodies : Plan → List Extent
+behind_bodies p = pages_of p ++ p.directory ∷ []
 
-places_are : (p : Plan) → behind_body p ≡ placed_extents p.contents.catalogue ++ placed_extents p.contents.history.pages ++ p.directory ∷ []
-places_are p = refl
+places_are : (p : Plan) → places p ≡ p.bodies.items ++ behind_bodies p
+places_are p = simp append_assoc
 
 -- What is beside the places of a plan is beside each of them.
 pub record AreEachBeside (kept : ℕ → Bool) (p : Plan) : Type 0 where
-  pub body : IsBeside kept p.body
+  pub bodies : AreBeside kept p.bodies.items
   pub pages : AreBeside kept (pages_of p)
   pub directory : IsBeside kept p.directory
 
 pub beside_each : (kept : ℕ → Bool) (p : Plan) → AreBeside kept (places p) → AreEachBeside kept p
 beside_each kept p beside =
-    let rest = placed_extents p.contents.catalogue ++ placed_extents p.contents.history.pages ++ p.directory ∷ [] in
-    let behind : AreBeside kept (behind_body p) = subst (λ (es : List Extent). AreBeside kept es) (sym (places_are p)) (beside_rest kept p.body rest beside) in
+    let all : AreBeside kept (p.bodies.items ++ behind_bodies p) = subst (λ (es : List Extent). AreBeside kept es) (places_are p) beside in
+    let behind = beside_behind kept p.bodies.items (behind_bodies p) all in
     record {
-      body = beside_first kept p.body rest beside;
+      bodies = beside_front kept p.bodies.items (behind_bodies p) all;
       pages = beside_front kept (pages_of p) (p.directory ∷ []) behind;
       directory = beside_first kept p.directory [] (beside_behind kept (pages_of p) (p.directory ∷ []) behind);
     }
 
 -- The places of a plan are apart from one another.
 pub record AreEachApart (p : Plan) : Type 0 where
+  pub bodies : AreApart p.bodies.items
   pub pages : AreApart (pages_of p)
-  pub body_pages : AreBeside (within p.body) (pages_of p)
-  pub body_directory : IsBeside (within p.body) p.directory
+  pub bodies_pages : AreBeside (in_some p.bodies.items) (pages_of p)
+  pub bodies_directory : IsBeside (in_some p.bodies.items) p.directory
   pub pages_directory : IsBeside (in_some (pages_of p)) p.directory
 
 pub apart_each : (p : Plan) → AreApart (places p) → AreEachApart p
 apart_each p apart =
-    let rest = placed_extents p.contents.catalogue ++ placed_extents p.contents.history.pages ++ p.directory ∷ [] in
-    let behind : AreApart (behind_body p) = subst (λ (es : List Extent). AreApart es) (sym (places_are p)) apart.1 in
-    let body : AreBeside (within p.body) rest = λ b is. not_true (within p.body b) (λ here. true≢false (sym is ∙ apart.0 b here)) in
-    let beside : AreBeside (within p.body) (behind_body p) = subst (λ (es : List Extent). AreBeside (within p.body) es) (sym (places_are p)) body in
+    let all : AreApart (p.bodies.items ++ behind_bodies p) = subst (λ (es : List Extent). AreApart es) (places_are p) apart in
+    let behind = apart_behind p.bodies.items (behind_bodies p) all in
+    let bodies = in_some p.bodies.items in
+    let beside : AreBeside bodies (behind_bodies p) = beside_between p.bodies.items (behind_bodies p) all in
     record {
+      bodies = apart_front p.bodies.items (behind_bodies p) all;
       pages = apart_front (pages_of p) (p.directory ∷ []) behind;
-      body_pages = beside_front (within p.body) (pages_of p) (p.directory ∷ []) beside;
-      body_directory = beside_first (within p.body) p.directory [] (beside_behind (within p.body) (pages_of p) (p.directory ∷ []) beside);
+      bodies_pages = beside_front bodies (pages_of p) (p.directory ∷ []) beside;
+      bodies_directory = beside_first bodies p.directory [] (beside_behind bodies (pages_of p) (p.directory ∷ []) beside);
       pages_directory = beside_first (in_some (pages_of p)) p.directory [] (beside_between (pages_of p) (p.directory ∷ []) behind);
     }
 
@@ -74,37 +78,53 @@ on_disk : (size b : ℕ) → b < blocks_of_disk size → 512 * b + 512 ≤ size
 on_disk size b lt = omega arith
 
 pub record AreEachOnDisk (size : ℕ) (p : Plan) : Type 0 where
-  pub body : IsOnDisk p.body size
+  pub bodies : AreOnDisk p.bodies.items size
   pub pages : AreOnDisk (pages_of p) size
   pub directory : IsOnDisk p.directory size
 
 pub inside_each : (size : ℕ) (p : Plan) → AreInside size (places p) → AreEachOnDisk size p
 inside_each size p inside =
-    let rest = placed_extents p.contents.catalogue ++ placed_extents p.contents.history.pages ++ p.directory ∷ [] in
-    let behind : (b : ℕ) → in_some (behind_body p) b ≡ true → 512 * b + 512 ≤ size =
-    subst (λ (es : List Extent). (b : ℕ) → in_some es b ≡ true → 512 * b + 512 ≤ size) (sym (places_are p))
-    (λ b is. on_disk size b (inside b (some_rest p.body rest b is)).1) in
+    let all : AreOnDisk (p.bodies.items ++ behind_bodies p) size =
+    subst (λ (es : List Extent). AreOnDisk es size) (places_are p) (λ b is. on_disk size b (inside b is).1) in
+    let behind : AreOnDisk (behind_bodies p) size = λ b is. all b (some_behind p.bodies.items (behind_bodies p) b is) in
     record {
-      body = λ b is. on_disk size b (inside b (some_first p.body rest b is)).1;
+      bodies = λ b is. all b (some_front p.bodies.items (behind_bodies p) b is);
       pages = λ b is. behind b (some_front (pages_of p) (p.directory ∷ []) b is);
       directory = λ b is. behind b (some_behind (pages_of p) (p.directory ∷ []) b (some_first p.directory [] b is));
     }
 
--- The body, then the pages, then the directory: all of them stand there at the end.
-pub all_written : (p : Plan) (bytes : List ℕ) (first mid new : DiskState) → AreApart (places p) → IsSized p.body (length bytes)
-    → part p.body (length bytes) first.now.seen ≡ bytes
+-- these bodies have exactly the blocks of these extents
+abbrev pub AreSized : List Extent → List (List ℕ) → Type 0
+AreSized extents bodies = AllZip (λ extent bytes. IsSized extent (length bytes)) extents bodies
+
+-- Bodies that stand in extents of a set stay where the set is kept.
+pub bodies_kept_so : (kept : ℕ → Bool) (extents : List Extent) (bodies : List (List ℕ)) → AreSized extents bodies
+    → ((b : ℕ) → in_some extents b ≡ true → kept b ≡ true) → (old new : List ℕ) → Keeps kept old new
+    → AreBodies old extents bodies → AreBodies new extents bodies
+bodies_kept_so kept [] [] sized all old new keeps stand = tt
+bodies_kept_so kept [] (bytes ∷ bodies) sized all old new keeps stand = absurd sized
+bodies_kept_so kept (e ∷ es) [] sized all old new keeps stand = absurd sized
+bodies_kept_so kept (e ∷ es) (bytes ∷ bodies) sized all old new keeps stand = (
+  part_kept kept e (length bytes) (fits_sized e (length bytes) sized.0) (λ b is. all b (some_first e es b is)) old new keeps ∙ stand.0,
+  bodies_kept_so kept es bodies sized.1 (λ b is. all b (some_rest e es b is)) old new keeps stand.1,
+)
+
+-- The bodies, then the pages, then the directory: all of them stand there at the end.
+pub all_written : (p : Plan) (bodies : List (List ℕ)) (first mid new : DiskState) → AreApart (places p) → AreSized p.bodies.items bodies
+    → AreBodies first.now.seen p.bodies.items bodies
     → ((kept : ℕ → Bool) → AreBeside kept (pages_of p) → WritesOutside kept first mid)
     → All (IsWritten record_format mid.now.seen) p.contents.catalogue → All (IsWritten change_format mid.now.seen) p.contents.history.pages
     → ((kept : ℕ → Bool) → IsBeside kept p.directory → WritesOutside kept mid new)
-    → part p.directory (length (planned_listing p)) new.now.seen ≡ planned_listing p → AreWritten p bytes new.now.seen
-all_written p bytes first mid new apart sized body pages catalogue history last directory =
+    → part p.directory (length (planned_listing p)) new.now.seen ≡ planned_listing p → AreWritten p bodies new.now.seen
+all_written p bodies first mid new apart sized stand pages catalogue history last directory =
     let each = apart_each p apart in
     let cat = placed_extents p.contents.catalogue in
     let hist = placed_extents p.contents.history.pages in
-    let after = outside_on (within p.body) first mid new (pages (within p.body) each.body_pages) (last (within p.body) each.body_directory) in
+    let of_bodies = in_some p.bodies.items in
+    let after = outside_on of_bodies first mid new (pages of_bodies each.bodies_pages) (last of_bodies each.bodies_directory) in
     let kept = last (in_some (pages_of p)) each.pages_directory in
     record {
-      body = part_kept (within p.body) p.body (length bytes) (fits_sized p.body (length bytes) sized) (λ b is. is) first.now.seen new.now.seen after.seen ∙ body;
+      bodies = bodies_kept_so of_bodies p.bodies.items bodies sized (λ b is. is) first.now.seen new.now.seen after.seen stand;
       catalogue = written_stay record_format (in_some (pages_of p)) p.contents.catalogue mid.now.seen new.now.seen (λ b is. some_front cat hist b is) kept.seen catalogue;
       history = written_stay change_format (in_some (pages_of p)) p.contents.history.pages mid.now.seen new.now.seen (λ b is. some_behind cat hist b is) kept.seen history;
       directory = directory;

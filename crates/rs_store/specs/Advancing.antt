@@ -20,6 +20,6 @@ pub record GoesOnOnce {D : Type 0} (device : D → DiskState) (old : Stored D) (
   pub commands : List (Command × ℕ)
   pub few : length commands ≤ 1
   pub came : All (λ command. command.1 ≡ now) commands
-  pub accepted : All (λ command. refusal_of (state_of device old) command.0 ≡ None) commands
+  pub accepted : All (λ command. refusal_of (state_of device old) command.0 command.1 ≡ None) commands
   pub goes_on : GoesOnBy device old new commands
   pub kept : commands ≡ [] → new.is_closed ≡ old.is_closed

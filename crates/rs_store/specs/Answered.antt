@@ -35,8 +35,8 @@ pub record IsUnchanged {D : Type 0} (device : D → DiskState) (old new : Stored
 -- `unchanged`: any other refusal leaves what was in memory.
 -- `goes_on`: whatever the answer, the disk has its size, and its counts do not fall.
 pub record Answers {D : Type 0} (device : D → DiskState) (old new : Stored D) (command : Command) (now : ℕ) (result : Result Reply Refusal) : Type 0 where
-  pub decides : (r : Refusal) → decided old (state_of device old) command ≡ Some r → result ≡ Err r
-  pub untouched : (r : Refusal) → decided old (state_of device old) command ≡ Some r → new ≡ old
+  pub decides : (r : Refusal) → decided old (state_of device old) command now ≡ Some r → result ≡ Err r
+  pub untouched : (r : Refusal) → decided old (state_of device old) command now ≡ Some r → new ≡ old
   pub refused : (r : Refusal) → IsErrOf result r → IsCause device old new command now r
   pub accepted : IfOk result (λ reply. step (state_of device old) command now ≡ Ok (state_of device new, reply))
   pub generation : IfOk result (λ _. new.slots.root.generation ≡ old.slots.root.generation + 1)

@@ -16,14 +16,14 @@ use Rattle.rs_plan.specs.Plans.{LacksRoom}
 -- The cause of a refusal of a command is there.
 abbrev pub IsCause : {D : Type 0} → (D → DiskState) → Stored D → Stored D → Command → ℕ → Refusal → Type 0
 IsCause device old new command now Full =
-    (decided old (state_of device old) command ≡ None) × LacksRoom (rooted_in device old) command (moment_at (state_of device old) now)
+    (decided old (state_of device old) command now ≡ None) × LacksRoom (rooted_in device old) command (moment_at (state_of device old) now)
 IsCause device old new command now Device =
-    (decided old (state_of device old) command ≡ None) × HasFailed (device old.disk) (device new.disk)
+    (decided old (state_of device old) command now ≡ None) × HasFailed (device old.disk) (device new.disk)
 IsCause device old new command now Damaged = ⊥
 IsCause device old new command now ReadFault = ⊥
 IsCause device old new command now ShortBody = ⊥
-IsCause device old new command now NoMemory = decided old (state_of device old) command ≡ None
-IsCause device old new command now refusal = decided old (state_of device old) command ≡ Some refusal
+IsCause device old new command now NoMemory = decided old (state_of device old) command now ≡ None
+IsCause device old new command now refusal = decided old (state_of device old) command now ≡ Some refusal
 
 -- What a command leaves of a source that holds a state, by its answer. Accepted, the source holds the next state; refused by
 -- anything but Device, it holds the old one. At each moment in between each image of a crash stands for the old state or for

@@ -16,3 +16,4 @@ pub mod Counted
 pub mod Runs
 pub mod Laws
 pub mod Advancing
+pub mod Copied

@@ -34,7 +34,7 @@ pub record IsLeft {D : Type 0} (device : D → DiskState) (old new : Stored D) :
 -- decided of a body of that length, and each has a plan.
 pub record IsCutShort {D : Type 0} (device : D → DiskState) (old new : Stored D) (name kind : List ℕ) (n now : ℕ) (came : List ℕ) : Type 0 where
   pub fewer : length came < n
-  pub decides : (body : List ℕ) → length body ≡ n → decided old (state_of device old) (Put name kind body) ≡ None
+  pub decides : (body : List ℕ) → length body ≡ n → decided old (state_of device old) (Put name kind body) now ≡ None
   pub plan : (body : List ℕ) → length body ≡ n
       → (p : Plan) × IsPlanned (rooted_in device old) (Put name kind body) (moment_at (state_of device old) now) p
   pub left : IsLeft device old new

@@ -6,11 +6,12 @@ use Rattle.rs_model.specs.declared.command.Command.{Command}
 use Rattle.rs_model.specs.declared.command.Refusal as model
 use Rattle.rs_model.specs.declared.command.Refusal.TheVariants as decides
 use Rattle.rs_store.specs.declared.refusal.Refusal.{Refusal}
-use Rattle.rs_store.specs.declared.refusal.Refusal.TheVariants.{Closed, TooLong, NotHeld, TooManyResources, TooManyChanges, Exhausted, Full, ReadFault, ShortBody, Device, Damaged, NoMemory}
+use Rattle.rs_store.specs.declared.refusal.Refusal.TheVariants.{Closed, BadGroup, TooLong, NotHeld, TooManyResources, TooManyChanges, Exhausted, Full, ReadFault, ShortBody, Device, Damaged, NoMemory}
 use Rattle.rs_store.specs.Source.{Stored}
 
 -- a refusal of the model, by the same name
 abbrev pub named_as : model.Refusal → Refusal
+named_as decides.BadGroup = BadGroup
 named_as decides.TooLong = TooLong
 named_as decides.NotHeld = NotHeld
 named_as decides.TooManyResources = TooManyResources
@@ -26,14 +27,15 @@ abbrev pub or_spent : Option model.Refusal → Bool → Option Refusal
 or_spent (Some refusal) spent = Some (named_as refusal)
 or_spent None spent = if spent then Some Exhausted else None
 
--- Why a command is refused before anything is asked of memory or the disk, if it is: a closed source refuses all, then come
+-- Why a command that comes at `now` is refused before anything is asked of memory or the disk, if it is: a closed source refuses all, then come
 -- the causes of the model in their order, and then the generation.
-abbrev pub decided : {D : Type 0} → Stored D → Source → Command → Option Refusal
-decided source s command = if source.is_closed then Some Closed else or_spent (refusal_of s command) (is_spent source)
+abbrev pub decided : {D : Type 0} → Stored D → Source → Command → ℕ → Option Refusal
+decided source s command now = if source.is_closed then Some Closed else or_spent (refusal_of s command now) (is_spent source)
 
 -- the word by which a refusal is answered, in a script and over HTTP
 abbrev pub refusal_word : Refusal → List ℕ
 refusal_word Closed = codes "Closed"
+refusal_word BadGroup = codes "BadGroup"
 refusal_word TooLong = codes "TooLong"
 refusal_word NotHeld = codes "NotHeld"
 refusal_word TooManyResources = codes "TooManyResources"

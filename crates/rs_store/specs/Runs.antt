@@ -56,7 +56,7 @@ IsBeyondModel refusal = ⊥
 -- a refusal that the model does not decide.
 abbrev pub MayAnswer : Source → Command → ℕ → Result Reply Refusal → Type 0
 MayAnswer s command now (Ok reply) = (t : Source) × (step s command now ≡ Ok (t, reply))
-MayAnswer s command now (Err refusal) = MatchOption (refusal_of s command) (IsBeyondModel refusal) (λ r. refusal ≡ named_as r)
+MayAnswer s command now (Err refusal) = MatchOption (refusal_of s command now) (IsBeyondModel refusal) (λ r. refusal ≡ named_as r)
 
 -- the state after a command that was answered so
 abbrev pub state_then : Source → Command × ℕ → Ack → Source

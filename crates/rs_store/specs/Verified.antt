@@ -1,5 +1,5 @@
 -- What a source answers where it is asked which bodies are damaged.
-use Rattle.std.specs.Prelude.{◌≡◌, ◌↔◌, ◌≤◌, ◌*◌, ℕ, Bool, not, nat_eq, List, map, length, Result, Vec, vec_len, IfOk, IfErr, IsErrOf, IsTrue}
+use Rattle.std.specs.Prelude.{◌≡◌, ◌↔◌, ◌≤◌, ◌*◌, ℕ, Bool, not, nat_eq, List, map, length, Result, Vec, IfOk, IfErr, IsErrOf, IsTrue}
 use Rattle.std.specs.List.{filter}
 use Rattle.std.specs.Cmp.Lexicographic.{pointwise}
 use Rattle.std.specs.Global.{Global}

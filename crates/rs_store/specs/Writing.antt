@@ -9,14 +9,14 @@ use Rattle.rs_catalogue.specs.Catalogue.{IsCatalogue}
 use Rattle.rs_changes.specs.History.{IsHistory}
 use Rattle.rs_image.specs.declared.contents.Contents.{Contents}
 use Rattle.rs_directory.specs.Directory.{written_format}
-use Rattle.rs_body.specs.Blocks.{part, IsSized}
+use Rattle.rs_body.specs.Blocks.{IsSized}
 use Rattle.rs_body.specs.Outside.{WritesOutside}
 use Rattle.rs_disk.specs.Medium.{DiskState}
 use Rattle.rs_disk.specs.Leaves.{Advances}
 use Rattle.rs_page.specs.Pages.{IsTouched}
 use Rattle.rs_image.specs.Reach.{is_kept, AreInside}
 use Rattle.rs_image.specs.Rooted.{Rooted}
-use Rattle.rs_image.specs.StateOfImage.{listing, AreListable}
+use Rattle.rs_image.specs.StateOfImage.{listing, AreListable, AreLists}
 use Rattle.rs_plan.specs.declared.plan.Plan.{Plan}
 use Rattle.rs_plan.specs.declared.planning.PlanFault.{PlanFault}
 use Rattle.rs_plan.specs.declared.planning.PlanFault.TheVariants.{Full as NoRoom, NoMemory as NoPlanMemory}
@@ -26,7 +26,8 @@ use Rattle.rs_store.specs.declared.writing.WriteFault.{WriteFault}
 use Rattle.rs_store.specs.declared.writing.WriteFault.TheVariants.{Device, NoMemory}
 use Rattle.rs_store.specs.declared.writing.Written.{Written}
 use Rattle.rs_store.specs.Source.{Stored}
-use Rattle.rs_plan.specs.Plans.{IsPlanned, once_stored, places, planned_listing, AreWritten}
+use Rattle.rs_plan.specs.Plans.{IsPlanned, AreBodies, once_stored, places, planned_listing, AreWritten}
+use Rattle.std.specs.List.{AllZip}
 
 -- a page that was not stored
 abbrev pub of_store : StoreFault → WriteFault
@@ -42,12 +43,6 @@ of_plan NoPlanMemory = OutOfMemory
 pub record IsDigestOf (c : Contents) (w : Written) : Type 0 where
   pub len : w.length ≡ length (listing written_format c)
   pub sha256 : w.sha256 ≡ (digests (listing written_format c)).sha256
-
--- The lists are those of a catalogue, of a history and of what a catalogue had when it was published.
-pub record AreLists (c : Contents) : Type 0 where
-  pub catalogue : IsCatalogue c.catalogue
-  pub history : IsHistory c.history.pages
-  pub published : IsCatalogue c.published
 
 -- A plan is of some command.
 pub record IsPlanOfSome (old : Rooted) (p : Plan) : Type 0 where
@@ -65,28 +60,29 @@ pub record IsWritable (size : ℕ) (p : Plan) : Type 0 where
   pub directory : IsSized p.directory (length (planned_listing p))
   pub listable : AreListable written_format (once_stored p.contents)
 
--- The lists of a plan were written, and a read gave `old` before it and gives `new` then: they are stored, and with a body that
--- stood in its extent all of the plan stands.
+-- The lists of a plan were written, and a read gave `old` before it and gives `new` then: they are stored, and with bodies that
+-- stood in their extents all of the plan stands.
 pub record AreStoredLists (p p' : Plan) (old new : List ℕ) : Type 0 where
   pub contents : p'.contents ≡ once_stored p.contents
   pub lists : AreLists (once_stored p.contents)
-  pub reads : (bytes : List ℕ) → IsSized p.body (length bytes) → part p.body (length bytes) old ≡ bytes → AreWritten p bytes new
+  pub reads : (bodies : List (List ℕ)) → AllZip (λ extent bytes. IsSized extent (length bytes)) p.bodies.items bodies
+      → AreBodies old p.bodies.items bodies → AreWritten p bodies new
 
 -- the parts of a plan beside its lists are as they were
 pub record StaysBesideLists (p p' : Plan) : Type 0 where
-  pub body : p'.body ≡ p.body
+  pub bodies : p'.bodies ≡ p.bodies
   pub directory : p'.directory ≡ p.directory
   pub reply : p'.reply ≡ p.reply
   pub taken : p'.taken ≡ p.taken
   pub freed : p'.freed ≡ p.freed
 
--- A source wrote these bytes as the body of a plan, and nothing else: what is in memory is as it was, all writes were outside what
--- its root reaches, no device call failed, and the body stands in its extent.
-pub record HasWrittenBody {D : Type 0} (device : D → DiskState) (start now : Stored D) (p : Plan) (bytes : List ℕ) : Type 0 where
+-- A source wrote these bodies of a plan, and nothing else: what is in memory is as it was, all writes were outside what its root
+-- reaches, no device call failed, and the bodies stand in their extents.
+pub record HasWrittenBodies {D : Type 0} (device : D → DiskState) (start now : Stored D) (p : Plan) (bodies : List (List ℕ)) : Type 0 where
   pub slots : now.slots ≡ start.slots
   pub contents : now.contents ≡ start.contents
   pub is_closed : now.is_closed ≡ start.is_closed
   pub outside : WritesOutside (is_kept start.slots.root start.contents) (device start.disk) (device now.disk)
   pub advances : Advances (device start.disk) (device now.disk)
   pub sound : (device now.disk).faults ≡ (device start.disk).faults
-  pub stands : part p.body (length bytes) (device now.disk).now.seen ≡ bytes
+  pub stand : AreBodies (device now.disk).now.seen p.bodies.items bodies

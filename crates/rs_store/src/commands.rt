@@ -6,8 +6,9 @@ ghost use Rattle.rs_model.specs.declared.command.Command.{Command};
 ghost use Rattle.rs_model.specs.declared.command.Command.TheVariants.{Put, Delete, Publish};
 ghost use Rattle.rs_store.specs.Source.{Stored, rooted_in, state_of};
 ghost use Rattle.rs_store.specs.Refusals.{decided};
-ghost use Rattle.rs_plan.specs.Plans.{IsPlanned, body_of_command};
-ghost use Rattle.rs_store.specs.Writing.{of_plan, IsPlanOfSome, HasWrittenBody};
+ghost use Rattle.rs_plan.specs.Room.{bodies_of_command};
+ghost use Rattle.rs_plan.specs.Plans.{IsPlanned};
+ghost use Rattle.rs_store.specs.Writing.{of_plan, IsPlanOfSome, HasWrittenBodies};
 ghost use Rattle.rs_store.specs.Answered.{Answers};
 ghost use Rattle.rs_store.specs.Received.{IsLate};
 
@@ -71,7 +72,7 @@ impl<D: Disk> Source<D> {
             bytes,
             moment,
         )?;
-        if write_body(&mut self.disk, plan.body, bytes).is_err() {
+        if write_body(&mut self.disk, plan.bodies[0], bytes).is_err() {
             self.is_closed = true;
             return Err(Refusal::Device);
         }
@@ -116,17 +117,17 @@ impl<D: Disk> Source<D> {
         self.finish(plan)
     }
 
-    /// Writes the lists of a plan whose body stands in its extent, and changes the root; then what is
+    /// Writes the lists of a plan whose bodies stand in their extents, and changes the root; then what is
     /// in memory goes along, with the set of the used blocks, and the plan's reply is answered.
     ///
-    /// What it promises counts from the moment before the body was written.
+    /// What it promises counts from the moment before the bodies were written.
     pub(crate) fn finish(&mut self, mut plan: Plan) -> Result<Reply, Refusal>
         requires is_open { self.old.is_closed ≡ false }
         requires spare { self.old.slots.root.generation + 1 < 2 ^ 64 }
         requires planned { IsPlanOfSome (rooted_in D.state self.old) plan }
         ensures answers { (start : Stored D) (command : Command) (now : ℕ)
-            → HasWrittenBody D.state start self.old plan (body_of_command command)
-            → decided start (state_of D.state start) command ≡ None
+            → HasWrittenBodies D.state start self.old plan (bodies_of_command command)
+            → decided start (state_of D.state start) command now ≡ None
             → IsPlanned (rooted_in D.state start) command
             (moment_at (state_of D.state start) now) plan
             → Answers D.state start self.new command now result }

@@ -1,7 +1,7 @@
 //! What is decided of a command before anything is asked of memory or the disk.
 
-ghost use Rattle.std.specs.Prelude.{◌≡◌, ◌<◌, ◌+◌, ◌^◌, ℕ, List, [], ◌∷◌, length, false, not, is_some, is_none, IfOk, OnOk};
-ghost use Rattle.rs_model.specs.Names.{value_of};
+ghost use Rattle.std.specs.Prelude.{◌≡◌, ◌<◌, ◌+◌, ◌^◌, ℕ, List, [], ◌∷◌, length, false, not, is_some, is_none, IfOk, IsTrue, OnOk};
+ghost use Rattle.rs_model.specs.Names.{is_ordered, value_of};
 ghost use Rattle.rs_model.specs.Step.{moment_at, change_refusal, first_cause, is_held, is_out_of_moments};
 ghost use Rattle.rs_catalogue.specs.Named.{named};
 ghost use Rattle.rs_catalogue.specs.Catalogue.{records_of};
@@ -28,7 +28,7 @@ impl<D: Disk> Source<D> {
     ) -> Result<Moment, Refusal>
         ensures decided { (kind bytes : List ℕ) → length bytes ≡ body_length
             → result ≡ moment_unless
-            (decided self.now (state_of D.state self.now) (Put name.now kind bytes))
+            (decided self.now (state_of D.state self.now) (Put name.now kind bytes) now)
             (moment_at (state_of D.state self.now) now) }
         ensures open { OnOk result (self.now.is_closed ≡ false) }
         ensures may { IfOk result (MayPut self.now.contents name.now body_length) }
@@ -50,7 +50,7 @@ impl<D: Disk> Source<D> {
     /// The moment of a delete that comes at `now`, or why it is refused at once.
     pub(crate) fn moment_of_delete(&self, name: &Name, now: Moment) -> Result<Moment, Refusal>
         ensures decided { result ≡ moment_unless
-            (decided self.now (state_of D.state self.now) (Delete name.now))
+            (decided self.now (state_of D.state self.now) (Delete name.now) now)
             (moment_at (state_of D.state self.now) now) }
         ensures open { OnOk result (self.now.is_closed ≡ false) }
         ensures may { IfOk result (MayDelete self.now.contents name.now) }
@@ -69,7 +69,7 @@ impl<D: Disk> Source<D> {
     /// The moment of a publish that comes at `now`, or why it is refused at once.
     pub(crate) fn moment_of_publish(&self, now: Moment) -> Result<Moment, Refusal>
         ensures decided { result ≡ moment_unless
-            (decided self.now (state_of D.state self.now) Publish)
+            (decided self.now (state_of D.state self.now) Publish now)
             (moment_at (state_of D.state self.now) now) }
         ensures open { OnOk result (self.now.is_closed ≡ false) }
         ensures may { IfOk result (MayPublish self.now.contents) }
@@ -112,16 +112,17 @@ impl<D: Disk> Source<D> {
         self.contents.catalogue.get(name).is_some()
     }
 
-    // How many resources are held.
-    fn resources(&self) -> usize
+    /// How many resources are held. Their names are in order.
+    pub(crate) fn resources(&self) -> usize
         ensures held { result ≡ length (state_of D.state self.now).held }
         ensures records { result ≡ length (records_of self.now.contents.catalogue) }
+        ensures ordered { IsTrue (is_ordered (state_of D.state self.now).held) }
     {
         self.contents.catalogue.len()
     }
 
-    // The moment of a command that is allowed otherwise.
-    fn next_moment(&self, now: Moment) -> Result<Moment, Refusal>
+    /// The moment of a command that is allowed otherwise.
+    pub(crate) fn next_moment(&self, now: Moment) -> Result<Moment, Refusal>
         ensures decided { result ≡ moment_unless
             (or_spent
             (first_cause

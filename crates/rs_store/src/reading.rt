@@ -16,7 +16,7 @@ ghost use Rattle.rs_store.specs.OnlyReads.{OnlyReads};
 ghost use Rattle.rs_store.specs.Views.{shown_in, shown_by_source};
 
 use crate::{Refusal, Source, SourceView};
-use rs_body::{BodyFault, read_body};
+use rs_body::{BodyFault, read_in_pieces};
 use rs_catalogue::Catalogue;
 use rs_changes::History;
 use rs_disk::Disk;
@@ -115,7 +115,7 @@ impl<D: Disk> Source<D> {
         let sha256 = record.digests.sha256;
         let (extent, length) = (record.extent, record.length);
         let mut bytes = Vec::new(self.alloc);
-        read_body(&mut self.disk, extent, length, &sha256, &mut bytes)?;
+        read_in_pieces(&mut self.disk, extent, length, &sha256, &mut bytes)?;
         Ok(bytes)
     }
 

@@ -72,7 +72,7 @@ impl<D: Disk> Source<D> {
             length,
             moment,
         )?;
-        let digests = match receive(&mut self.disk, reader, plan.body, length) {
+        let digests = match receive(&mut self.disk, reader, plan.bodies[0], length) {
             Ok(digests) => digests,
             Err(refusal) => match refusal {
                 Refusal::Device => {
@@ -183,8 +183,14 @@ fn read_behind<R: Read>(
     reader.read(&mut buf[filled..])
 }
 
-// Fills a buffer with the next bytes of a reader.
-fn read_into<R: Read>(reader: &mut Watched<R>, buf: &mut [u8]) -> Result<(), Refusal>
+/// Fills a buffer with the next bytes of a reader, and reads no byte behind them.
+///
+/// # Errors
+///
+/// - [`Refusal::ReadFault`] where a read failed,
+/// - [`Refusal::ShortBody`] where the input ended before so many bytes came.
+pub fn read_into<R: Read>(reader: &mut Watched<R>, buf: &mut [u8]) -> Result<(), Refusal>
+    ensures size { length buf.new ≡ length buf.old }
     ensures ok { OnOk result (Took R.remaining reader.old reader.new buf.new) }
     ensures cut { IfErr result (λ refusal. (came : List ℕ)
         × Consumes (R.remaining (watched reader.old)) (R.remaining (watched reader.new)) came

@@ -2,6 +2,7 @@
 
 ghost use Rattle.std.specs.Prelude.{◌≡◌};
 
+use rs_model::Refusal as Refused;
 use std::alloc::AllocError;
 use thiserror::Error;
 
@@ -12,6 +13,9 @@ pub enum Refusal {
     /// A command met a fault of the device earlier. The source has to be opened again.
     #[error("the source is closed")]
     Closed,
+    /// A group of no items, or of more than 16.
+    #[error("a group has 1 to 16 items")]
+    BadGroup,
     /// A put of a body of more than 16,777,216 bytes.
     #[error("the body is longer than 16777216 bytes")]
     TooLong,
@@ -56,6 +60,7 @@ impl Refusal {
     {
         match self {
             Refusal::Closed => "Closed",
+            Refusal::BadGroup => "BadGroup",
             Refusal::TooLong => "TooLong",
             Refusal::NotHeld => "NotHeld",
             Refusal::TooManyResources => "TooManyResources",
@@ -67,6 +72,23 @@ impl Refusal {
             Refusal::Device => "Device",
             Refusal::Damaged => "Damaged",
             Refusal::NoMemory => "NoMemory",
+        }
+    }
+}
+
+impl From<Refused> for Refusal {
+    ghost use Rattle.rs_store.specs.Refusals.{named_as};
+
+    ghost from_gives = { λ refused refusal. refusal ≡ named_as refused };
+
+    fn from(refused: Refused) -> Refusal {
+        match refused {
+            Refused::BadGroup => Refusal::BadGroup,
+            Refused::TooLong => Refusal::TooLong,
+            Refused::NotHeld => Refusal::NotHeld,
+            Refused::TooManyResources => Refusal::TooManyResources,
+            Refused::TooManyChanges => Refusal::TooManyChanges,
+            Refused::Exhausted => Refusal::Exhausted,
         }
     }
 }

@@ -74,6 +74,7 @@ impl<D: Disk> Source<D> {
             Command::Put { name, kind, bytes } => self.put(name, kind, bytes.bytes(), now),
             Command::Delete { name } => self.delete(name, now),
             Command::Publish => self.publish(now),
+            Command::Group(group) => self.group(group.items(), now),
         }
     }
 

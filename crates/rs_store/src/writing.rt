@@ -1,21 +1,19 @@
 //! Writing what a plan says.
 
-ghost use Rattle.std.specs.Prelude.{◌≡◌, ◌<◌, ◌+◌, ◌++◌, ◌^◌, ℕ, Bool, length, vec_len, All, IfOk, OnOk, IsErrOf};
+ghost use Rattle.std.specs.Prelude.{◌≡◌, ◌<◌, ◌+◌, ◌++◌, ℕ, Bool, length, All, IfOk, OnOk, IsErrOf};
 ghost use Rattle.rs_extent.specs.Extents.{IsOnDisk, IsBeside, AreBeside, AreApart, AreOnDisk};
 ghost use Rattle.rs_body.specs.Blocks.{part, IsSized};
 ghost use Rattle.rs_body.specs.Outside.{WritesOutside};
 ghost use Rattle.rs_page.specs.Items.{record_format, change_format};
 ghost use Rattle.rs_page.specs.Pages.{IsTouched, placed_extents};
 ghost use Rattle.rs_page.specs.DiskPages.{IsWritten};
-ghost use Rattle.rs_image.specs.Reach.{AreInside};
 ghost use Rattle.rs_directory.specs.Directory.{written_format};
-ghost use Rattle.rs_image.specs.StateOfImage.{listing, AreListable};
+ghost use Rattle.rs_image.specs.StateOfImage.{listing, AreLists};
 ghost use Rattle.rs_disk.specs.Leaves.{Advances, TellsFaults};
 ghost use Rattle.rs_plan.specs.Plans.{once_stored, places};
-ghost use Rattle.rs_store.specs.Writing.{of_store, IsDigestOf, AreStoredLists, IsWritable, StaysBesideLists, AreLists};
+ghost use Rattle.rs_store.specs.Writing.{of_store, IsDigestOf, AreStoredLists, IsWritable, StaysBesideLists};
 
 use rs_body::write_body;
-use rs_directory::directory_bytes;
 use rs_disk::{Disk, Fault};
 use rs_extent::Extent;
 use rs_fixity::sha256_of;
@@ -160,23 +158,11 @@ fn write_directory<D: Disk>(
         → WritesOutside kept (D.state disk.old) (D.state disk.new) }
     ensures advances { Advances (D.state disk.old) (D.state disk.new) }
 {
-    let bytes = directory_of(alloc, contents)?;
+    let bytes = contents.directory(alloc)?;
     let written = Written {
         length: bytes.len() as u32,
         sha256: sha256_of(&bytes),
     };
     write_body(disk, extent, &bytes)?;
     Ok(written)
-}
-
-// The bytes of the directory of these lists.
-fn directory_of(alloc: Global, contents: &Contents) -> Result<Vec<u8>, AllocError>
-    ensures bytes { IfOk result (λ bytes. bytes.items ≡ listing written_format contents.now) }
-    ensures fits { IfOk result (λ bytes. vec_len bytes < 2 ^ 32) }
-    ensures lists { OnOk result (AreLists contents.now) }
-{
-    let catalogue = contents.catalogue.pages(alloc)?;
-    let changes = contents.history.pages(alloc)?;
-    let published = contents.published.pages(alloc)?;
-    directory_bytes(alloc, &contents.header, &catalogue, &changes, &published)
 }

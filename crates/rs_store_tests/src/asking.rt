@@ -2,7 +2,7 @@
 
 use rs_disk::MemoryDisk;
 use rs_io::Watched;
-use rs_model::Reply;
+use rs_model::{Body, Item, Reply};
 use rs_record::{MediaType, Name};
 use rs_store::{Refusal, Source};
 use rs_time::Moment;
@@ -19,6 +19,17 @@ pub(super) enum Asked {
     Delete(&'static [u8]),
     /// A publish.
     Publish,
+    /// A group of puts and deletes.
+    Group(&'static [Part]),
+}
+
+/// What an item of a group asks of a source. A body is of `text/plain`.
+#[derive(Clone, Copy, Debug)]
+pub(super) enum Part {
+    /// This name is to be held with this body.
+    Held(&'static [u8], &'static [u8]),
+    /// This name is to be held no more.
+    Gone(&'static [u8]),
 }
 
 /// What is answered: a reply with its moment, in milliseconds, or a refusal. It is spelled in plain numbers, so
@@ -30,6 +41,8 @@ pub(super) enum Answer {
     Deleted(u64),
     /// The number of the publication comes before the moment.
     Published(u64, u64),
+    /// The number of the items comes before the moment of the first.
+    Grouped(u8, u64),
     Refused(Refusal),
 }
 
@@ -65,6 +78,33 @@ pub(super) fn opened(rt: &(impl Abort + AllocGlobal), disk: MemoryDisk) -> Sourc
     }
 }
 
+/// An item of a group.
+fn item_of(rt: &(impl Abort + AllocGlobal), part: Part) -> Item {
+    match part {
+        Part::Held(name, body) => {
+            let bytes = Vec::from_slice(rt.alloc(), body).expect(rt, "memory for a body");
+            Item::Put {
+                name: named(rt, name),
+                kind: plain(rt),
+                bytes: Body::new(bytes),
+            }
+        }
+        Part::Gone(name) => Item::Delete {
+            name: named(rt, name),
+        },
+    }
+}
+
+/// The items of a group.
+fn items_of(rt: &(impl Abort + AllocGlobal), parts: &[Part]) -> Vec<Item> {
+    let mut items = Vec::new(rt.alloc());
+    for part in parts {
+        let item = item_of(rt, *part);
+        items.push(item).expect(rt, "memory for items");
+    }
+    items
+}
+
 /// What a source answers to a command that comes at the moment 0.
 pub(super) fn ask(
     rt: &(impl Abort + AllocGlobal),
@@ -81,6 +121,7 @@ pub(super) fn ask(
         }
         Asked::Delete(name) => source.delete(&named(rt, name), now),
         Asked::Publish => source.publish(now),
+        Asked::Group(parts) => source.group(&items_of(rt, parts), now),
     };
     answer_of(&done)
 }
@@ -100,6 +141,7 @@ pub(super) fn answer_of(done: &Result<Reply, Refusal>) -> Answer {
         Ok(Reply::Updated(moment)) => Answer::Updated(moment.ms()),
         Ok(Reply::Deleted(moment)) => Answer::Deleted(moment.ms()),
         Ok(Reply::Published(number, moment)) => Answer::Published(*number, moment.ms()),
+        Ok(Reply::Grouped(number, moment)) => Answer::Grouped(*number, moment.ms()),
         Err(refusal) => Answer::Refused(*refusal),
     }
 }

@@ -8,11 +8,11 @@ mod asking;
 #[cfg(test)]
 mod closing;
 #[cfg(test)]
+mod copying;
+#[cfg(test)]
 mod failing;
 #[cfg(test)]
 mod filling;
-#[cfg(test)]
-mod making;
 #[cfg(test)]
 mod paging;
 #[cfg(test)]

@@ -122,13 +122,13 @@ fn a_publication_shares_the_pages_that_stay(rt: HostRuntime) {
 }
 
 /// A command, which comes at the moment 0.
-pub(super) struct Step {
+struct Step {
     /// What is asked.
-    pub(super) asked: Asked,
+    asked: Asked,
     /// The answer where nothing stops it.
-    pub(super) answer: Answer,
+    answer: Answer,
     /// How many device calls it makes.
-    pub(super) calls: u64,
+    calls: u64,
 }
 
 // What is asked of a source of 64 resources, in one page.
@@ -198,11 +198,7 @@ fn images_tell(rt: &(impl Abort + AllocGlobal), disk: &MemoryDisk, old: &str, ne
 
 /// Stops the device at each call of a command that comes to the source in these bytes, and gives the bytes that the
 /// whole command leaves.
-pub(super) fn stop_everywhere(
-    rt: &(impl Abort + AllocGlobal),
-    bytes: &[u8],
-    step: &Step,
-) -> Vec<u8> {
+fn stop_everywhere(rt: &(impl Abort + AllocGlobal), bytes: &[u8], step: &Step) -> Vec<u8> {
     let opening = calls_of_opening(rt, bytes);
     let (answer, disk) = stopped(rt, bytes, step.asked, opening.saturating_add(step.calls));
     assert_eq!(rt; answer, step.answer);

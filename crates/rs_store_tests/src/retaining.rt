@@ -1,13 +1,10 @@
 //! Which changes a publication drops: the full parts whose last change is not after the publication before it.
 
-use super::asking::Answer::{self, Created, Published, Refused};
+use super::asking::Answer::{self, Created, Published};
 use super::asking::Asked::{self, Publish, Put};
 use super::asking::{ask, disk_of, made, opened, told};
-use super::making::{of_version_one, with_all_changes};
-use super::paging::{Step, stop_everywhere};
 use rs_disk::MemoryDisk;
 use rs_lists::{Doc, View, change_parts, list_length};
-use rs_store::Refusal::TooManyChanges;
 use rs_store::Source;
 use std::process::Abort;
 
@@ -71,66 +68,6 @@ fn a_publication_drops_full_parts(rt: HostRuntime) {
         assert_eq!(rt; documents(&rt, &source), *parts, "{asked:?}");
     }
     let mut source = opened(&rt, source.into_disk());
-    assert_eq!(rt; kept(&rt, &source), (1, 1, 2, 6));
-    assert_eq!(rt;
-        told(&rt, &mut source).as_str(),
-        "held: a= b= c= d= e=; changes: Created e; published 4: a b c d e"
-    );
-}
-
-/// The source on a disk of these bytes.
-fn opened_from(rt: &(impl Abort + AllocGlobal), bytes: &[u8]) -> Source<MemoryDisk> {
-    let disk = MemoryDisk::from_bytes(rt.alloc(), bytes).expect(rt, "memory for a disk");
-    opened(rt, disk)
-}
-
-#[test]
-fn the_second_publication_makes_room(rt: HostRuntime) {
-    let mut source = opened_from(&rt, &with_all_changes(&rt));
-    assert_eq!(rt;
-        ask(&rt, &mut source, Put(b"a", b"one")),
-        Refused(TooManyChanges)
-    );
-    // No change is before the formatting.
-    assert_eq!(rt; ask(&rt, &mut source, Publish), Published(1, 50_001));
-    assert_eq!(rt; kept(&rt, &source), (50_000, 25_000, 0, 0));
-    assert_eq!(rt;
-        ask(&rt, &mut source, Put(b"b", b"one")),
-        Refused(TooManyChanges)
-    );
-    assert_eq!(rt; ask(&rt, &mut source, Publish), Published(2, 50_002));
-    assert_eq!(rt; kept(&rt, &source).2, 25_000);
-    assert_eq!(rt; source.status().expect(&rt, "a status").changes, 0);
-    assert_eq!(rt; ask(&rt, &mut source, Put(b"b", b"one")), Created(50_003));
-    let mut source = opened(&rt, source.into_disk());
-    assert_eq!(rt; kept(&rt, &source), (1, 1, 25_000, 50_000));
-    assert_eq!(rt;
-        told(&rt, &mut source).as_str(),
-        "held: a= b=one; changes: Created b; published 2: a"
-    );
-}
-
-// What is told of a disk of version 1.
-const OLD: &str =
-    "held: a= b= c= d= e=; changes: Created a Created b Created c Created d Created e; \
-    published 3: a b c d";
-
-// A page of the changes and the directory; the commit makes six calls, since the spare is open.
-const PUBLICATION: Step = Step {
-    asked: Publish,
-    answer: Published(4, 9),
-    calls: 8,
-};
-
-#[test]
-fn a_disk_of_version_one_is_taken_over(rt: HostRuntime) {
-    let bytes = of_version_one(&rt);
-    let mut source = opened_from(&rt, &bytes);
-    assert_eq!(rt; kept(&rt, &source), (5, 3, 0, 0));
-    assert_eq!(rt; told(&rt, &mut source).as_str(), OLD);
-    let whole = stop_everywhere(&rt, &bytes, &PUBLICATION);
-    assert_eq!(rt; whole.get(513).copied(), Some(2));
-    let mut source = opened_from(&rt, &whole);
     assert_eq!(rt; kept(&rt, &source), (1, 1, 2, 6));
     assert_eq!(rt;
         told(&rt, &mut source).as_str(),

@@ -1,7 +1,7 @@
 //! Faults and refusals as text.
 
 use rs_plan::PlanFault;
-use rs_store::{FormatFault, OpenFault, Refusal};
+use rs_store::{CopyFault, FormatFault, OpenFault, Refusal};
 use std::fmt::Display;
 use std::process::Abort;
 
@@ -36,8 +36,18 @@ const PLAN_FAULTS: [(PlanFault, &str); 2] = [
     (PlanFault::NoMemory, "out of memory"),
 ];
 
-const REFUSALS: [(Refusal, &str); 12] = [
+const COPY_FAULTS: [(CopyFault, &str); 6] = [
+    (CopyFault::Closed, "the source is closed"),
+    (CopyFault::TooSmall, "the disk has fewer than 8192 bytes"),
+    (CopyFault::Full, "the disk is full"),
+    (CopyFault::Device, "the device failed"),
+    (CopyFault::Damaged, "a body is damaged"),
+    (CopyFault::NoMemory, "out of memory"),
+];
+
+const REFUSALS: [(Refusal, &str); 13] = [
     (Refusal::Closed, "the source is closed"),
+    (Refusal::BadGroup, "a group has 1 to 16 items"),
     (Refusal::TooLong, "the body is longer than 16777216 bytes"),
     (Refusal::NotHeld, "the resource is not held"),
     (Refusal::TooManyResources, "50000 resources are held"),
@@ -59,5 +69,6 @@ fn faults_are_shown(rt: HostRuntime) {
     are_shown(&rt, &FORMAT_FAULTS);
     are_shown(&rt, &OPEN_FAULTS);
     are_shown(&rt, &PLAN_FAULTS);
+    are_shown(&rt, &COPY_FAULTS);
     are_shown(&rt, &REFUSALS);
 }

@@ -5,8 +5,9 @@
 //! the bytes behind it and opens it, each by a write and a sync. The spare of a source that was just made is
 //! closed; after each commit it is open.
 
-use super::asking::Answer::{self, Created, Deleted, Published, Refused, Updated};
-use super::asking::Asked::{self, Delete, Publish, Put, Receive};
+use super::asking::Answer::{self, Created, Deleted, Grouped, Published, Refused, Updated};
+use super::asking::Asked::{self, Delete, Group, Publish, Put, Receive};
+use super::asking::Part::{Gone, Held};
 use super::asking::{ask, disk_of, made, opened, told};
 use rs_disk::MemoryDisk;
 use rs_store::Refusal::{Closed, Device, NotHeld};
@@ -103,6 +104,35 @@ const DELETES: [Step; 5] = [
         answer: Created(4),
         calls: 10,
         told: "held: a=two; changes: Created a Deleted a Created a; published 1:",
+    },
+];
+
+// Groups of three and of two.
+const GROUPS: [Step; 4] = [
+    Step {
+        asked: Put(b"a", b"one"),
+        answer: Created(1),
+        calls: 8,
+        told: "held: a=one; changes: Created a; published 0:",
+    },
+    // The second body of `b`, a page of either list, the directory, and one commit.
+    Step {
+        asked: Group(&[Held(b"b", b"two"), Gone(b"a"), Held(b"b", b"three")]),
+        answer: Grouped(3, 2),
+        calls: 10,
+        told: "held: b=three; changes: Created a Created b Deleted a Updated b; published 0:",
+    },
+    Step {
+        asked: Group(&[Held(b"c", b""), Gone(b"z")]),
+        answer: Refused(NotHeld),
+        calls: 0,
+        told: "held: b=three; changes: Created a Created b Deleted a Updated b; published 0:",
+    },
+    Step {
+        asked: Delete(b"b"),
+        answer: Deleted(5),
+        calls: 8,
+        told: "held:; changes: Created a Created b Deleted a Updated b Deleted b; published 0:",
     },
 ];
 
@@ -279,6 +309,11 @@ fn cut_everywhere(rt: &(impl Abort + AllocGlobal), steps: &[Step], calls: u64) {
 fn a_command_is_whole_or_absent(rt: HostRuntime) {
     cut_everywhere(&rt, &PUTS, 53);
     cut_everywhere(&rt, &DELETES, 33);
+}
+
+#[test]
+fn a_group_is_whole_or_absent(rt: HostRuntime) {
+    cut_everywhere(&rt, &GROUPS, 26);
 }
 
 /// The gates of the two slots.

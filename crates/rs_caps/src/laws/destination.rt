@@ -12,7 +12,8 @@ use rs_record::{Change, Record};
 /// Whatever happens between its fetches (commands, refusals, crashes within commands and between them), a
 /// destination that fetches the Resource List and then the Change List, each with the parts that its head
 /// names, and mirrors the one with the other, has a catalogue of the source: what its first n changes make,
-/// n of those between its fetches of the Change List. That is what the source held at a point between them.
+/// n of those between its fetches of the Change List. That is what the source held at a point between them; or, where
+/// a group came next there, what it held followed by the first changes of the group.
 ///
 /// The premise is that the Change List, as it was fetched, does not begin after the moment of the Resource List. It may
 /// do so where publications come between the two fetches, which drop changes; a destination that sees it begins anew.

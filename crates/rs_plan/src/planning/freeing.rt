@@ -1,10 +1,10 @@
 //! What the root after a command no longer reaches.
 
-ghost use Rattle.std.specs.Prelude.{◌≡◌, ◌++◌, IfOk, OnOk};
+ghost use Rattle.std.specs.Prelude.{◌≡◌, [], ◌∷◌, ◌++◌, IfOk, OnOk};
 ghost use Rattle.rs_page.specs.Pages.{stored_refs, extents_of};
 ghost use Rattle.rs_pages.specs.Dropped.{front_pages};
 ghost use Rattle.rs_plan.specs.Allowed.{changes_dropped};
-ghost use Rattle.rs_plan.specs.Freed.{unpublished, entry_of_name, extent_of_page, extent_of_body, freed_by_change, freed_by_publication};
+ghost use Rattle.rs_plan.specs.Freed.{unpublished, entry_of_name, extent_of_page, extent_of_body, freed_page, freed_history_page, freed_by_change, freed_by_publication};
 
 use super::dropping::dropped_parts;
 use rs_extent::Extent;
@@ -12,6 +12,71 @@ use rs_image::{Contents, Rooted, unshared_pages};
 use rs_page::PageRef;
 use rs_record::Name;
 use std::alloc::{AllocError, Global};
+
+/// What items free beside the directory.
+#[derive(Drop)]
+pub(crate) struct Freed {
+    /// The touched pages of the catalogue that are not published.
+    pub(crate) pages: Vec<Extent>,
+    /// The touched pages of the history.
+    pub(crate) history_pages: Vec<Extent>,
+    /// The bodies that names had.
+    pub(crate) bodies: Vec<Extent>,
+}
+
+impl Freed {
+    /// What no item frees.
+    pub(crate) fn new(alloc: Global) -> Freed
+        ensures pages { result.pages.items ≡ [] }
+        ensures history { result.history_pages.items ≡ [] }
+        ensures bodies { result.bodies.items ≡ [] }
+    {
+        Freed {
+            pages: Vec::new(alloc),
+            history_pages: Vec::new(alloc),
+            bodies: Vec::new(alloc),
+        }
+    }
+
+    /// Adds what a change of this name frees, where these are the lists before it.
+    ///
+    /// # Errors
+    ///
+    /// [`AllocError`] where the memory is refused.
+    pub(crate) fn add(&mut self, lists: &Contents, name: &Name) -> Result<(), AllocError>
+        ensures pages { OnOk result (self.new.pages.items
+            ≡ self.old.pages.items ++ freed_page lists.now name.now) }
+        ensures history { OnOk result (self.new.history_pages.items
+            ≡ self.old.history_pages.items ++ freed_history_page lists.now name.now) }
+        ensures bodies { OnOk result (self.new.bodies.items
+            ≡ self.old.bodies.items ++ extent_of_body lists.now name.now) }
+    {
+        add_page(&mut self.pages, unpublished_page(lists, name))?;
+        add_page(&mut self.history_pages, lists.history.open_entry())?;
+        add_body(&mut self.bodies, lists, name)
+    }
+
+    /// All that is freed: this directory, and what is in the lists.
+    ///
+    /// # Errors
+    ///
+    /// [`AllocError`] where the memory is refused.
+    pub(crate) fn with_directory(
+        &self,
+        alloc: Global,
+        directory: Extent,
+    ) -> Result<Vec<Extent>, AllocError>
+        ensures { IfOk result (λ freed. freed.items ≡ directory
+            ∷ self.now.pages.items ++ self.now.history_pages.items ++ self.now.bodies.items) }
+    {
+        let mut freed = Vec::new(alloc);
+        freed.push(directory)?;
+        freed.extend_from_slice(&self.pages)?;
+        freed.extend_from_slice(&self.history_pages)?;
+        freed.extend_from_slice(&self.bodies)?;
+        Ok(freed)
+    }
+}
 
 /// What a change of this name frees: the directory, the page of the catalogue that the name goes
 /// into, unless it is published, the page of the history that the change goes into, and the body

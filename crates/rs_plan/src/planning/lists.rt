@@ -1,6 +1,6 @@
 //! The lists after a command.
 
-ghost use Rattle.std.specs.Prelude.{◌≡◌, ◌<◌, ◌≤◌, ◌+◌, ◌^◌, [], ◌∷◌, ◌++◌, length, is_some, IfOk, IsNone, IsSome, MatchOption};
+ghost use Rattle.std.specs.Prelude.{◌≡◌, ◌<◌, ◌≤◌, ◌+◌, [], ◌∷◌, ◌++◌, length, is_some, IfOk, MatchOption};
 ghost use Rattle.rs_time.specs.Moment.{IsMoment};
 ghost use Rattle.rs_record.specs.Changes.{bound, deleted};
 ghost use Rattle.rs_page.specs.SharedPages.{KeepsPages};
@@ -209,6 +209,22 @@ pub(crate) fn lists_after_publish(
         history: old.history.drop_parts(alloc, dropped, limit)?,
         catalogue: old.catalogue.copy(alloc)?,
         published: old.catalogue.copy(alloc)?,
+    })
+}
+
+/// The same lists once more.
+///
+/// # Errors
+///
+/// [`AllocError`] where the memory is refused.
+pub(crate) fn lists_copied(alloc: Global, old: &Contents) -> Result<Contents, AllocError>
+    ensures { IfOk result (λ lists. lists ≡ old.now) }
+{
+    Ok(Contents {
+        header: header_at(alloc, &old.header, old.header.last)?,
+        catalogue: old.catalogue.copy(alloc)?,
+        history: old.history.copy(alloc)?,
+        published: old.published.copy(alloc)?,
     })
 }
 

@@ -3,8 +3,7 @@
 ghost use Rattle.std.specs.Prelude.{◌≡◌, ◌≤◌, ◌+◌, List, ◌∷◌, ◌++◌, [], length, vec_len, vec_capacity, IfOk, OnErr, IsErrOf, MatchOption};
 ghost use Rattle.rs_body.specs.Blocks.{blocks_of};
 ghost use Rattle.rs_extent.specs.declared.Extent.{Extent};
-ghost use Rattle.rs_extent.specs.Blocks.{IsFree};
-ghost use Rattle.rs_extent.specs.Extents.{AreTaken};
+ghost use Rattle.rs_extent.specs.Extents.{CanTake, AreTaken};
 ghost use Rattle.rs_page.specs.Pages.{placed_extents};
 ghost use Rattle.rs_catalogue.specs.Catalogue.{IsCatalogue};
 ghost use Rattle.rs_changes.specs.History.{IsHistory};
@@ -21,7 +20,7 @@ use rs_extent::{Extent, Used};
 use rs_image::Contents;
 use rs_model::Reply;
 use rs_page::Full;
-use std::alloc::{AllocError, Global};
+use std::alloc::Global;
 
 /// Finds the lowest run of free blocks for so many bytes, and no block for none. `None` where there
 /// is no such run.
@@ -39,8 +38,8 @@ pub(crate) fn find_lowest(used: &Used, length: u32) -> Option<Extent>
     used.find(blocks)
 }
 
-/// Finds blocks for the lists after a command whose body has its blocks already: each page that is
-/// touched, and then the directory, the lowest run of free blocks of its size, in the order of the
+/// Finds blocks for the lists after a command whose bodies have their blocks already: each page that
+/// is touched, and then the directory, the lowest run of free blocks of its size, in the order of the
 /// catalogue, the history and the directory. It makes a plan with this reply, which frees these
 /// extents, and leaves the set as it was.
 ///
@@ -51,48 +50,38 @@ pub(crate) fn find_lowest(used: &Used, length: u32) -> Option<Extent>
 pub(crate) fn place_lists(
     alloc: Global,
     used: &mut Used,
-    body: Extent,
+    bodies: Vec<Extent>,
     mut lists: Contents,
     reply: Reply,
     freed: Vec<Extent>,
 ) -> Result<Plan, PlanFault>
     requires unplaced { AreUnplaced lists }
-    requires is_free { IsFree used.old body }
+    requires are_free { CanTake used.old bodies.items }
     ensures same { used.new ≡ used.old }
-    ensures placed { IfOk result (IsPlacedFrom used.old body lists) }
+    ensures placed { IfOk result (IsPlacedFrom used.old bodies.items lists) }
     ensures taken { IfOk result (λ plan. plan.taken.items ≡ places plan) }
     ensures freed { IfOk result (λ plan. plan.freed.items ≡ freed.items) }
     ensures reply { IfOk result (λ plan. plan.reply ≡ reply) }
-    ensures full { IsErrOf result PlanFault.Full → HasNoRoomFrom used.old body lists }
+    ensures full { IsErrOf result PlanFault.Full → HasNoRoomFrom used.old bodies.items lists }
     ensures catalogue { IfOk result (λ _. IsCatalogue lists.catalogue) }
     ensures history { IfOk result (λ _. IsHistory lists.history.pages) }
     ensures published { IfOk result (λ _. IsCatalogue lists.published) }
 {
-    let mut taken = room_for_places(alloc, &lists)?;
-    taken.push(body).unwrap();
-    used.take(body);
+    let mut taken = Vec::from_slice(alloc, &bodies)?;
+    let pages = lists.catalogue.page_count() + lists.history.page_count();
+    taken.reserve(pages + 1)?;
+    used.take_each(&bodies);
     let placed = take_places(used, &mut lists, &mut taken);
     used.give_each(&taken);
     let directory = placed?;
     Ok(Plan {
         contents: lists,
-        body,
+        bodies,
         directory,
         reply,
         taken,
         freed,
     })
-}
-
-// An empty list with room for a body, for each page, and for a directory.
-fn room_for_places(alloc: Global, lists: &Contents) -> Result<Vec<Extent>, AllocError>
-    ensures empty { IfOk result (λ places. places.items ≡ []) }
-    ensures len { IfOk result (λ places. vec_len places ≡ 0) }
-    ensures room { IfOk result (λ places. length lists.now.catalogue
-        + length lists.now.history.pages + 2 ≤ vec_capacity places) }
-{
-    let pages = lists.catalogue.page_count() + lists.history.page_count();
-    Vec::with_capacity(alloc, pages + 2)
 }
 
 // Takes blocks for the touched pages and then for the directory, and adds them to the list of what
@@ -117,7 +106,7 @@ fn take_places(
     ensures history { IsHistory lists.old.history.pages }
     ensures published { IsCatalogue lists.old.published }
 {
-    let length = directory_size(&lists.header, pages_of(lists));
+    let length = directory_size(&lists.header, lists.page_count());
     lists.catalogue.place_touched(used)?;
     lists.catalogue.list_placed(taken);
     lists.history.place_touched(used)?;
@@ -129,9 +118,9 @@ fn take_places(
     Ok(directory)
 }
 
-// Takes the lowest run of free blocks for so many bytes, and no block for none. `None` where there
-// is no such run; nothing has changed then.
-fn take_lowest(used: &mut Used, length: u32) -> Option<Extent>
+/// Takes the lowest run of free blocks for so many bytes, and no block for none. `None` where there
+/// is no such run; nothing has changed then.
+pub(crate) fn take_lowest(used: &mut Used, length: u32) -> Option<Extent>
     ensures found { MatchOption result (HasNoRun used.old (blocks_of length))
         (λ extent. Takes used.old (blocks_of length) extent used.new) }
     ensures none { MatchOption result (used.new ≡ used.old) (λ _. Unit {0}) }
@@ -139,15 +128,4 @@ fn take_lowest(used: &mut Used, length: u32) -> Option<Extent>
     let extent = find_lowest(used, length)?;
     used.take(extent);
     Some(extent)
-}
-
-// How many pages there are in all.
-fn pages_of(lists: &Contents) -> usize
-    ensures pages { result ≡ length lists.now.catalogue + length lists.now.history.pages
-        + length lists.now.published }
-    ensures catalogue { IsCatalogue lists.now.catalogue }
-    ensures history { IsHistory lists.now.history.pages }
-    ensures published { IsCatalogue lists.now.published }
-{
-    lists.catalogue.page_count() + lists.history.page_count() + lists.published.page_count()
 }

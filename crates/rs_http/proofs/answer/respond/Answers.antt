@@ -56,3 +56,7 @@ returns-in-Ok-Publish-clause-ends g c =
 pub returns-in-Ok-Put-clause-ends : goal.returns-in-Ok-Put-clause-ends
 returns-in-Ok-Put-clause-ends g c =
     rw (c.in-Ok-Put.is ∙ ap Ok c.in-Ok-Put.field-0-is) (c.put.ensures.ends c.in-Ok-Put.field-0-3)
+
+pub returns-in-Ok-Group-clause-ends : goal.returns-in-Ok-Group-clause-ends
+returns-in-Ok-Group-clause-ends g c =
+    rw (c.in-Ok-Group.is ∙ ap Ok c.in-Ok-Group.field-0-is) (c.group.ensures.ends c.in-Ok-Group.field-0-1)

@@ -1,7 +1,6 @@
 -- The head, and the text of the document, which a HEAD leaves out.
-use Rattle.std.proofs.Common.{◌≡◌, ◌∙◌, ◌++◌, [], ◌∷◌, ap, sym, refl, Err, append_assoc, append-nil, List, ℕ, if◌then◌else◌, Bool, subst, Option, codes}
+use Rattle.std.proofs.Common.{◌≡◌, ◌∙◌, ◌++◌, [], ap, sym, Err, append-nil, List, ℕ, if◌then◌else◌, Bool, subst, Option, codes}
 use Rattle.std.specs.Prelude.{IfSome}
-use Rattle.httpdate.specs.Date.{date_text}
 use Rattle.rs_io.specs.Watch.{FailedWithin, Wrote}
 use Rattle.rs_io.proofs.Growth.{wrote_then}
 use Rattle.rs_io.proofs.Faults.{stops_first, failed_last}

@@ -1,5 +1,5 @@
 -- The length, between what is always there.
-use Rattle.std.proofs.Common.{◌≡◌, ◌∙◌, ◌++◌, [], codes, decimal, List, ℕ}
+use Rattle.std.proofs.Common.{◌≡◌, ◌∙◌, ◌++◌, [], codes, decimal}
 use Rattle.rs_io.proofs.Faults.{writes_same}
 use Rattle.rs_http.specs.Responses.{content_lines, framed}
 use Rattle.rs_http.proofs.response.write_document_head.Goals as goal

@@ -1,5 +1,5 @@
 -- The digits of the status, its reason and the date, between what is always there.
-use Rattle.std.proofs.Common.{◌≡◌, ◌∙◌, ◌++◌, codes, decimal, List, ℕ}
+use Rattle.std.proofs.Common.{◌≡◌, ◌∙◌, ◌++◌, codes, decimal}
 use Rattle.httpdate.specs.Date.{date_text}
 use Rattle.rs_io.proofs.Faults.{writes_either, writes_same}
 use Rattle.rs_http.specs.Responses.{first_lines, reason_of}

@@ -1,17 +1,20 @@
-use Rattle.std.proofs.Common.{◌∙◌, ap, ℕ, Err, refl, arith}
+use Rattle.std.proofs.Common.{◌∙◌, ap, ℕ, List, [], Err, refl, sym, subst}
 use Rattle.rs_extent.specs.declared.Extent.{Extent}
 use Rattle.rs_directory.specs.declared.header.Header.{Header}
+use Rattle.rs_extent.specs.Extents.{CanTake}
+use Rattle.rs_extent.proofs.Taken.{taken_none}
 use Rattle.rs_image.specs.Rooted.{IsRooted, rooted}
 use Rattle.rs_model.specs.declared.command.Command.TheVariants.{Publish}
 use Rattle.rs_model.specs.declared.command.Reply.TheVariants as replies
 use Rattle.rs_plan.proofs.Following.{all_unplaced, lacking}
 use Rattle.rs_plan.proofs.Publishing.{first_is, changes_left, publish_unplaced, publish_next, publish_frees}
 use Rattle.rs_plan.proofs.Here.{sound_here, used_here, may_here, same_fault, freed_here, planned_there, lacking_there}
-use Rattle.rs_plan.proofs.Extents.{found_none, takes_found}
-use Rattle.rs_plan.proofs.PublishRules.{publish_rules}
+use Rattle.rs_plan.proofs.Extents.{could_take, takes_none}
+use Rattle.rs_plan.proofs.PublishRules.{publish_rules, publish_records}
 use Rattle.rs_plan.proofs.Planned.{planned}
 use Rattle.rs_plan.specs.declared.planning.PlanFault.TheVariants.{Full}
-use Rattle.rs_plan.specs.Placed.{AreUnplaced, HasNoRoomFrom}
+use Rattle.rs_plan.specs.Placed.{AreUnplaced, IsPlacedFrom, HasNoRoomFrom}
+use Rattle.rs_plan.specs.Freed.{freed_by_publication}
 use Rattle.rs_plan.proofs.planning.plan_publish.Goals as goal
 
 pub lists_after_publish-requires-clause-may : goal.lists_after_publish-requires-clause-may
@@ -34,7 +37,7 @@ place_lists-requires c =
     record {
       unplaced = publish_unplaced old c.in_ok-lists.lists c.args.moment made.header made.catalogue made.history made.published
           c.first_items_are_dropped_as_one.ensures.keeps (all_unplaced old sound.whole.catalogue sound.whole.history);
-      is_free = λ b from until. absurd (omega arith);
+      are_free = subst (CanTake c.args.used.now) (sym c.new.ensures.items) (could_take c.args.used.now c.args.used.now [] (taken_none c.args.used.now c.args.used.now refl));
     }
 
 pub returns-in_err-plan-clause-full : goal.returns-in_err-plan-clause-full
@@ -47,14 +50,14 @@ returns-in_err-plan-clause-full c full =
     let used = c.args.used.now in
     let lists = c.in_ok-lists.lists in
     let made = c.in_ok-lists.ensures in
-    let body : Extent = record { first = 0; blocks = 0 } in
-    let room : HasNoRoomFrom used body lists =
-    c.place_lists.ensures.full (c.in_err-plan.was ∙ ap Err (same_fault c.from_residual-in_err-plan.result c.in_err-plan.field-0.0 Full c.from_residual-in_err-plan.ensures.1 full)) in
+    let room : HasNoRoomFrom used [] lists =
+    subst (λ (l : List Extent). HasNoRoomFrom used l lists) c.new.ensures.items
+    (c.place_lists.ensures.full (c.in_err-plan.was ∙ ap Err (same_fault c.from_residual-in_err-plan.result c.in_err-plan.field-0.0 Full c.from_residual-in_err-plan.ensures.1 full))) in
     lacking_there r old at Publish c.args.moment
-    (lacking (rooted r.size r.root old) Publish c.args.moment used room.after_body body lists (used_here r old at used c.requires.used)
-    (takes_found used room.after_body 0 body (found_none used) room.sets)
+    (lacking (rooted r.size r.root old) Publish c.args.moment used room.after_bodies [] lists (used_here r old at used c.requires.used)
+    (takes_none used room.after_bodies room.takes)
     (publish_next old lists c.args.moment made.header made.catalogue made.history made.published law.dropped law.keeps
-    (all_unplaced old sound.whole.catalogue sound.whole.history) body) room.fails)
+    (all_unplaced old sound.whole.catalogue sound.whole.history)) room.fails)
 
 pub returns-clause-planned : goal.returns-clause-planned
 returns-clause-planned c =
@@ -68,19 +71,22 @@ returns-clause-planned c =
     let lists = c.in_ok-lists.lists in
     let made = c.in_ok-lists.ensures in
     let placing = c.in_ok-plan.ensures in
-    let after = placing.placed.after_body in
-    let body : Extent = record { first = 0; blocks = 0 } in
+    let from : IsPlacedFrom used [] lists c.in_ok-plan.plan =
+    subst (λ (l : List Extent). IsPlacedFrom used l lists c.in_ok-plan.plan) c.new.ensures.items placing.placed in
+    let after = from.after_bodies in
+    let may = may_here r old at moment c.requires.may in
+    let first = first_is old lists moment made.header made.catalogue made.history made.published in
+    let changes = changes_left old lists moment made.header made.catalogue made.history made.published law.dropped in
     let none : AreUnplaced old = all_unplaced old sound.whole.catalogue sound.whole.history in
     planned_there r old at Publish moment c.in_ok-plan.plan
-    (planned r.size r.root old sound Publish moment used after (used_here r old at used c.requires.used) body
-    (takes_found used after 0 body (found_none used) placing.placed.sets) lists
-    (publish_next old lists moment made.header made.catalogue made.history made.published law.dropped law.keeps none body)
-    (publish_rules r.size r.root old lists body moment sound.whole made.lawful sound.listable.header made.moment (may_here r old at moment c.requires.may) made.header
-    made.catalogue (first_is old lists moment made.header made.catalogue made.history made.published)
-    (changes_left old lists moment made.header made.catalogue made.history made.published law.dropped) made.published)
+    (planned r.size r.root old sound Publish moment used after (used_here r old at used c.requires.used) []
+    (takes_none used after from.takes) lists
+    (publish_next old lists moment made.header made.catalogue made.history made.published law.dropped law.keeps none)
+    (publish_rules r.size r.root old lists moment sound.whole made.lawful sound.listable.header made.moment may made.header made.catalogue first changes made.published)
+    (publish_records r.size r.root old lists moment sound.whole made.lawful sound.listable.header made.moment may made.header made.catalogue first changes made.published)
     (publish_unplaced old lists moment made.header made.catalogue made.history made.published law.keeps none)
-    c.in_ok-plan.plan placing.placed.placed
+    c.in_ok-plan.plan from.placed
     (λ image. placing.reply ∙ ap (λ (n : ℕ). replies.Published n moment) (ap (λ (h : Header). h.number) made.header))
     placing.catalogue placing.history placing.published
-    (publish_frees old lists moment made.header made.catalogue made.history made.published law.front body refl) placing.taken
-    (placing.freed ∙ freed_here r old at Publish c.in_ok-freed.freed.items c.in_ok-freed.ensures))
+    (λ one apart beside. publish_frees old lists moment made.header made.catalogue made.history made.published law.front r.root.directory c.in_ok-plan.plan.freed.items
+    (placing.freed ∙ freed_here r old at freed_by_publication c.in_ok-freed.freed.items c.in_ok-freed.ensures)) placing.taken)

@@ -1,5 +1,6 @@
 use Rattle.std.proofs.Common.{ℕ, List, take, sym, subst}
-use Rattle.rs_model.specs.State.{start_of}
+use Rattle.rs_model.specs.Regular.{IsRegular, IsTimely}
+use Rattle.rs_model.specs.State.{Source, start_of}
 use Rattle.rs_model.specs.Step.{fold_of}
 use Rattle.rs_image.specs.StateOfImage.{StandsFor}
 use Rattle.rs_store.specs.Counted.{counted_commands}
@@ -25,17 +26,22 @@ returns-clause-after_a_run g c = λ honest s commands acks m prefix.
     }
 
 pub returns-clause-headline : goal.returns-clause-headline
-returns-clause-headline g c = λ base limit moment sessions are bytes honest.
-    let start = start_of base limit moment in
+returns-clause-headline g c = λ base limit moment before sessions are bytes honest.
+    let formatted : Source = start_of base limit moment in
+    let start : Source = fold_of formatted before in
+    let began : IsRegular start = c.fold_is_regular.ensures.regular formatted before (c.start_is_regular.ensures.regular base limit moment) in
+    let on_time : IsTimely start =
+    c.fold_is_regular.ensures.timely formatted before (c.start_is_regular.ensures.regular base limit moment) (c.start_is_regular.ensures.timely base limit moment) in
     let found = c.sessions_stand.ensures start sessions are in
-    let s = fold_of start (commands_standing sessions found.0) in
+    let commands = commands_standing sessions found.0 in
+    let s = fold_of start commands in
     let here : StandsFor (g.D.Disk.state c.args.disk).now.seen s = subst (λ (l : List ℕ). StandsFor l s) (sym bytes) (left_standing g.D.Disk.state start sessions found.0 are found.1.holds) in
-    let regular = c.fold_is_regular.ensures.regular start (commands_standing sessions found.0) (c.start_is_regular.ensures.regular base limit moment) in
+    let regular = c.fold_is_regular.ensures.regular start commands began in
     record {
       standing = found.0;
       stand = found.1;
       state = returns-clause-recovers g c honest s here;
       regular = regular;
-      timely = c.fold_is_regular.ensures.timely start (commands_standing sessions found.0) (c.start_is_regular.ensures.regular base limit moment) (c.start_is_regular.ensures.timely base limit moment);
+      timely = c.fold_is_regular.ensures.timely start commands began on_time;
       yields = yields_held s regular;
     }

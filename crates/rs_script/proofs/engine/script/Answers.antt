@@ -1,5 +1,5 @@
 -- Each exit, by what came up to it.
-use Rattle.std.proofs.Common.{◌≡◌, rules, ℕ, true, [], ◌++◌, ◌≤◌, take, arith, inl, inr, refl, subst, sym, ◌∙◌}
+use Rattle.std.proofs.Common.{◌≡◌, rules, ℕ, None, true, [], ◌++◌, ◌≤◌, take, arith, inl, inr, refl, subst, sym, ◌∙◌}
 use Rattle.std.proofs.KnownBytes.{Consumes-nil, Consumes-trans, Consumes-kept, Appends-kept}
 use Rattle.rs_io.specs.Watch.{watched, is_flushed, EndFailed}
 use Rattle.rs_io.proofs.Faults.{later_fault}
@@ -13,7 +13,7 @@ pub loop-init : goal.loop-init
 loop-init g c =
     let start = script_state c.args.source.now 0 in
     let a = c.args.writer.now in
-    let P : ℕ → Type 0 = λ now. Progress g.D.Disk.state g.W.Write.contents start a [] c.new-line.result a (script_state c.args.source.now now) in (
+    let P : ℕ → Type 0 = λ now. Progress g.D.Disk.state g.W.Write.contents start a [] c.new-line.result None a (script_state c.args.source.now now) in (
       [],
       (Consumes-nil (g.R.Read.remaining (watched c.args.reader.now)), refl),
       subst P (sym c.first-now.ensures) (Progress-none g.D.Disk.state g.W.Write.contents start a c.new-line.result c.new-line.ensures),
@@ -24,7 +24,7 @@ loop-init g c =
 pub returns-in_default-clause-write : goal.returns-in_default-clause-write
 returns-in_default-clause-write g c = λ _.
     let inv = c.loop.invariant in
-    let whole = Progress-whole g.D.Disk.state g.W.Write.contents g.R.Read.remaining c.args.source.now c.args.writer.now inv.0 c.loop.line c.loop.writer c.loop.source c.loop.now
+    let whole = Progress-whole g.D.Disk.state g.W.Write.contents g.R.Read.remaining c.args.source.now c.args.writer.now inv.0 c.loop.line c.loop.group c.loop.writer c.loop.source c.loop.now
     c.args.reader.now c.loop.reader (0 ≤ 0) (c.scripts_recover.ensures, c.scripts_make_walks.ensures) (inl (omega arith)) inv.1.0 inv.2 in (
       whole.0,
       inl ((whole.1, whole.2.0), whole.2.1),
@@ -37,8 +37,8 @@ returns-in_default-read-clause-read g c = λ _.
     let before = g.R.Read.remaining (watched c.args.reader.now) in
     let after = g.R.Read.remaining (watched c.read.new.self) in
     let inv = c.loop.invariant in
-    let p = Progress-kept g.D.Disk.state g.W.Write.contents _ _ inv.0 _ _ c.flush.new.self _ c.flush.ensures.bytes c.in-Ok.ensures.sound inv.2 in
-    Progress-whole g.D.Disk.state g.W.Write.contents g.R.Read.remaining c.args.source.now c.args.writer.now inv.0 c.loop.line c.flush.new.self c.loop.source c.loop.now
+    let p = Progress-kept g.D.Disk.state g.W.Write.contents _ _ inv.0 _ _ _ c.flush.new.self _ c.flush.ensures.bytes c.in-Ok.ensures.sound inv.2 in
+    Progress-whole g.D.Disk.state g.W.Write.contents g.R.Read.remaining c.args.source.now c.args.writer.now inv.0 c.loop.line c.loop.group c.flush.new.self c.loop.source c.loop.now
     c.args.reader.now c.read.new.self (EndFailed c.args.reader.now c.read.new.self × (is_flushed c.flush.new.self ≡ true)) (c.scripts_recover.ensures, c.scripts_make_walks.ensures)
     (inl (later_fault c.args.reader.now c.loop.reader c.read.new.self inv.1.1 c.in_default-read.ensures.failed, c.in-Ok.ensures.flushed))
     (Consumes-kept before (g.R.Read.remaining (watched c.loop.reader)) after inv.0 inv.1.0 c.in_default-read.ensures.err) p
@@ -46,7 +46,7 @@ returns-in_default-read-clause-read g c = λ _.
 pub returns-clause-read : goal.returns-clause-read
 returns-clause-read g c = λ _.
     let inv = c.loop.invariant in
-    Progress-whole g.D.Disk.state g.W.Write.contents g.R.Read.remaining c.args.source.now c.args.writer.now inv.0 c.loop.line c.loop.writer c.loop.source c.loop.now
+    Progress-whole g.D.Disk.state g.W.Write.contents g.R.Read.remaining c.args.source.now c.args.writer.now inv.0 c.loop.line c.loop.group c.loop.writer c.loop.source c.loop.now
     c.args.reader.now c.loop.reader (EndFailed c.args.reader.now c.loop.reader × (is_flushed c.loop.writer ≡ true)) (c.scripts_recover.ensures, c.scripts_make_walks.ensures) (inr (omega (arith, inv.3))) inv.1.0 inv.2
 
 pub returns-in_default-take_end-clause-write : goal.returns-in_default-take_end-clause-write
@@ -54,7 +54,7 @@ returns-in_default-take_end-clause-write g c = λ _.
     let before = g.R.Read.remaining (watched c.args.reader.now) in
     let after = g.R.Read.remaining (watched c.read.new.self) in
     let inv = c.loop.invariant in
-    let p = Progress-kept g.D.Disk.state g.W.Write.contents _ _ inv.0 _ _ c.flush.new.self _ c.flush.ensures.bytes c.in-Ok.ensures.sound inv.2 in
+    let p = Progress-kept g.D.Disk.state g.W.Write.contents _ _ inv.0 _ _ _ c.flush.new.self _ c.flush.ensures.bytes c.in-Ok.ensures.sound inv.2 in
     let gave = Consumes-end before (g.R.Read.remaining (watched c.loop.reader)) after inv.0 c.read.new.buf c.in-Ok-read.count c.if-count-eq0.true inv.1.0 c.in-Ok-read.ensures.ok.0 in
     let end = c.in_default-take_end.ensures.err _ _ inv.0 p in (
       ran_of g.D.Disk.state (c.scripts_recover.ensures, c.scripts_make_walks.ensures) c.args.source.now c.take_end.new.source inv.0 end.0 end.1 c.take_end.new.now end.2,
@@ -68,7 +68,7 @@ returns-in_default-flush-clause-write g c = λ _.
     let before = g.R.Read.remaining (watched c.args.reader.now) in
     let after = g.R.Read.remaining (watched c.read.new.self) in
     let inv = c.loop.invariant in
-    let p = Progress-kept g.D.Disk.state g.W.Write.contents _ _ inv.0 _ _ c.flush.new.self _ c.flush.ensures.bytes c.in-Ok.ensures.sound inv.2 in
+    let p = Progress-kept g.D.Disk.state g.W.Write.contents _ _ inv.0 _ _ _ c.flush.new.self _ c.flush.ensures.bytes c.in-Ok.ensures.sound inv.2 in
     let gave = Consumes-end before (g.R.Read.remaining (watched c.loop.reader)) after inv.0 c.read.new.buf c.in-Ok-read.count c.if-count-eq0.true inv.1.0 c.in-Ok-read.ensures.ok.0 in
     let end = c.in-Ok-take_end.ensures.ok _ _ inv.0 p in (
       ran_of g.D.Disk.state (c.scripts_recover.ensures, c.scripts_make_walks.ensures) c.args.source.now c.take_end.new.source inv.0 end.0 end.1 c.take_end.new.now end.2,
@@ -82,7 +82,7 @@ returns-then-count-eq0-clause-ok g c =
     let before = g.R.Read.remaining (watched c.args.reader.now) in
     let after = g.R.Read.remaining (watched c.read.new.self) in
     let inv = c.loop.invariant in
-    let p = Progress-kept g.D.Disk.state g.W.Write.contents _ _ inv.0 _ _ c.flush.new.self _ c.flush.ensures.bytes c.in-Ok.ensures.sound inv.2 in
+    let p = Progress-kept g.D.Disk.state g.W.Write.contents _ _ inv.0 _ _ _ c.flush.new.self _ c.flush.ensures.bytes c.in-Ok.ensures.sound inv.2 in
     let gave = Consumes-end before (g.R.Read.remaining (watched c.loop.reader)) after inv.0 c.read.new.buf c.in-Ok-read.count c.if-count-eq0.true inv.1.0 c.in-Ok-read.ensures.ok.0 in
     let end = c.in-Ok-take_end.ensures.ok _ _ inv.0 p in (
       ran_of g.D.Disk.state (c.scripts_recover.ensures, c.scripts_make_walks.ensures) c.args.source.now c.take_end.new.source inv.0 end.0 end.1 c.take_end.new.now end.2,
@@ -99,7 +99,7 @@ returns-in_default-take_piece-clause-write g c = λ _.
     let before = g.R.Read.remaining (watched c.args.reader.now) in
     let after = g.R.Read.remaining (watched c.read.new.self) in
     let inv = c.loop.invariant in
-    let p = Progress-kept g.D.Disk.state g.W.Write.contents _ _ inv.0 _ _ c.flush.new.self _ c.flush.ensures.bytes c.in-Ok.ensures.sound inv.2 in
+    let p = Progress-kept g.D.Disk.state g.W.Write.contents _ _ inv.0 _ _ _ c.flush.new.self _ c.flush.ensures.bytes c.in-Ok.ensures.sound inv.2 in
     let e = c.in_default-take_piece.ensures.err in
     let stops = e.3 _ _ inv.0 p in (
       ran_of g.D.Disk.state (c.scripts_recover.ensures, c.scripts_make_walks.ensures) c.args.source.now c.take_piece.new.source (inv.0 ++ e.0) stops.0.0 stops.0.1 c.take_piece.new.now stops.0.2,
@@ -112,7 +112,7 @@ pub loop-preserved : goal.loop-preserved
 loop-preserved g c =
     let inv = c.loop.invariant in
     let piece = take c.in-Ok-read.count c.read.new.buf in
-    let p = Progress-kept g.D.Disk.state g.W.Write.contents _ _ inv.0 _ _ c.flush.new.self _ c.flush.ensures.bytes c.in-Ok.ensures.sound inv.2 in (
+    let p = Progress-kept g.D.Disk.state g.W.Write.contents _ _ inv.0 _ _ _ c.flush.new.self _ c.flush.ensures.bytes c.in-Ok.ensures.sound inv.2 in (
       inv.0 ++ piece,
       (
         Consumes-trans (g.R.Read.remaining (watched c.args.reader.now)) (g.R.Read.remaining (watched c.loop.reader)) (g.R.Read.remaining (watched c.read.new.self))

@@ -9,5 +9,5 @@ abbrev pub invariant-loop : goal.invariant-loop
 invariant-loop g l =
     (input : List ℕ)
     × Took g.R.Read.remaining l.fn.reader l.reader input
-    × Progress g.D.Disk.state g.W.Write.contents (script_state l.fn.source 0) l.fn.writer input l.line l.writer (script_state l.source l.now)
+    × Progress g.D.Disk.state g.W.Write.contents (script_state l.fn.source 0) l.fn.writer input l.line l.group l.writer (script_state l.source l.now)
     × (l.counter ≤ length input) × (length input ≤ l.counter * 65536)

@@ -1,12 +1,24 @@
 -- The rest is cut at its first line feed.
-use Rattle.std.proofs.Common.{◌≡◌, ◌++◌, ◌+◌, ◌-◌, ◌∙◌, List, ℕ, ap, append_assoc, arith, drop, length, sym, take, subst}
+use Rattle.std.proofs.Common.{◌≡◌, ◌++◌, ◌+◌, ◌-◌, ◌∙◌, List, ℕ, ap, append_assoc, append-nil, [], refl, arith, drop, length, sym, take, subst}
 use Rattle.std.proofs.lemmas.Grind.{common_steps}
-use Rattle.rs_script.specs.Lines.{AreWholeLines, with_break}
+use Rattle.rs_script.specs.Lines.{with_break}
+use Rattle.rs_script.specs.Statements.{AreWholeStatements}
 use Rattle.rs_script.specs.Progress.{Progress, Answered}
 use Rattle.rs_script.specs.Session.{script_state}
 use Rattle.rs_script.proofs.Breaks.{before_break, no_break, piece_cut}
 use Rattle.rs_script.proofs.Steps.{Progress-run, on_err}
 use Rattle.rs_script.proofs.engine.take_piece.Goals as goal
+
+pub loop-i-init : goal.loop-i-init
+loop-i-init g c = (
+  [],
+  refl,
+  λ start before input p.
+      let P : List ℕ → Type 0 = λ bytes. Progress g.D.Disk.state g.W.Write.contents start before bytes c.args.line.now c.args.group.now c.args.writer.now
+      (script_state c.args.source.now c.args.now.now) in
+      subst P (sym (append-nil input)) p,
+  refl,
+)
 
 pub returns-in_err-take_line-clause-err : goal.returns-in_err-take_line-clause-err
 returns-in_err-take_line-clause-err g c =
@@ -20,7 +32,7 @@ returns-in_err-take_line-clause-err g c =
       drop (i + 1) rest,
       piece_cut c.args.piece.now inv.0 rest i inv.1 found,
       λ start before input p.
-          let P : List ℕ → Type 0 = λ bytes. Answered g.D.Disk.state g.W.Write.contents start before bytes c.take_line.new.writer (script_state c.take_line.new.source c.take_line.new.now) × AreWholeLines bytes in
+          let P : List ℕ → Type 0 = λ bytes. Answered g.D.Disk.state g.W.Write.contents start before bytes c.take_line.new.writer (script_state c.take_line.new.source c.take_line.new.now) × AreWholeStatements bytes in
           subst P (append_assoc input inv.0 run)
           (c.in_err-take_line.ensures.err (before_break rest i found) start before (input ++ inv.0) (inv.2 start before input p)),
     )
@@ -36,7 +48,7 @@ loop-i-preserved g c =
       inv.0 ++ run,
       piece_cut c.args.piece.now inv.0 rest i inv.1 found ∙ ap (λ z. (inv.0 ++ run) ++ z) (sym all),
       λ start before input p.
-          let P : List ℕ → Type 0 = λ bytes. Progress g.D.Disk.state g.W.Write.contents start before bytes c.take_line.new.line c.take_line.new.writer
+          let P : List ℕ → Type 0 = λ bytes. Progress g.D.Disk.state g.W.Write.contents start before bytes c.take_line.new.line c.take_line.new.group c.take_line.new.writer
           (script_state c.take_line.new.source c.take_line.new.now) in
           subst P (append_assoc input inv.0 run)
           (c.in_ok-take_line.ensures.ok (before_break rest i found) start before (input ++ inv.0) (inv.2 start before input p)),
@@ -46,8 +58,8 @@ loop-i-preserved g c =
 pub returns-clause-ok : goal.returns-clause-ok
 returns-clause-ok g c = λ start before input p.
     let inv = c.loop-i.invariant in
-    let P : List ℕ → Type 0 = λ bytes. Progress g.D.Disk.state g.W.Write.contents start before bytes c.extend.new.self c.loop-i.writer
+    let P : List ℕ → Type 0 = λ bytes. Progress g.D.Disk.state g.W.Write.contents start before bytes c.extend.new.self c.loop-i.group c.loop-i.writer
     (script_state c.loop-i.source c.loop-i.now) in
     subst P (append_assoc input inv.0 c.loop-i.rest.now ∙ ap (λ z. input ++ z) (sym inv.1))
-    (Progress-run g.D.Disk.state g.W.Write.contents start before (input ++ inv.0) _ _ _ c.loop-i.rest.now c.extend.new.self
+    (Progress-run g.D.Disk.state g.W.Write.contents start before (input ++ inv.0) _ _ _ _ c.loop-i.rest.now c.extend.new.self
     (no_break c.loop-i.rest.now (sym c.position_of.ensures ∙ c.in_default.is)) c.extend.ensures (inv.2 start before input p))

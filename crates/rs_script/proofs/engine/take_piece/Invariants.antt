@@ -14,6 +14,6 @@ abbrev pub invariant-loop-i : goal.invariant-loop-i
 invariant-loop-i g l =
     (used : List ℕ) × (l.piece ≡ used ++ l.rest)
     × ((start : ScriptState (Stored g.row.D.Denot)) (before : Watched g.row.W.Denot) (input : List ℕ)
-    → Progress g.D.Disk.state g.W.Write.contents start before input l.fn.line l.fn.writer (script_state l.fn.source l.fn.now)
-    → Progress g.D.Disk.state g.W.Write.contents start before (input ++ used) l.line l.writer (script_state l.source l.now))
+    → Progress g.D.Disk.state g.W.Write.contents start before input l.fn.line l.fn.group l.fn.writer (script_state l.fn.source l.fn.now)
+    → Progress g.D.Disk.state g.W.Write.contents start before (input ++ used) l.line l.group l.writer (script_state l.source l.now))
     × (failures l.writer ≡ failures l.fn.writer)

@@ -1,5 +1,5 @@
 -- The number of bytes, the text of the document, and the line feed.
-use Rattle.std.proofs.Common.{◌≡◌, ap, Err, ℕ, List, [], ◌∷◌, ◌++◌, ◌∙◌, codes, decimal, append_assoc, subst, Option}
+use Rattle.std.proofs.Common.{ap, Err, ℕ, List, [], ◌∷◌, ◌++◌, ◌∙◌, codes, decimal, append_assoc, subst, Option}
 use Rattle.std.specs.Prelude.{IfSome}
 use Rattle.rs_io.specs.Watch.{FailedWithin, Wrote}
 use Rattle.rs_io.proofs.Growth.{wrote_then}

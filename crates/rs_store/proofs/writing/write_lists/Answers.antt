@@ -5,8 +5,7 @@ use Rattle.rs_body.specs.Blocks.{part}
 use Rattle.rs_body.proofs.KeptBlocks.{outside_on}
 use Rattle.rs_image.specs.declared.contents.Contents.{Contents}
 use Rattle.rs_directory.specs.Directory.{written_format}
-use Rattle.rs_image.specs.StateOfImage.{listing}
-use Rattle.rs_store.specs.Writing.{AreLists}
+use Rattle.rs_image.specs.StateOfImage.{listing, AreLists}
 use Rattle.rs_store.proofs.Written.{beside_each, apart_each, inside_each, all_written}
 use Rattle.rs_store.proofs.writing.write_lists.Goals as goal
 
@@ -50,8 +49,8 @@ returns-clause-stored g c =
     (λ reads lists. record {
       contents = stored;
       lists = subst (λ (d : Contents). AreLists d) stored lists;
-      reads = λ bytes sized stands. all_written p bytes (g.D.Disk.state c.args.disk.now) (g.D.Disk.state c.write_pages.new.disk) new
-          c.requires.apart sized stands c.write_pages.ensures.outside
+      reads = λ bodies sized stand. all_written p bodies (g.D.Disk.state c.args.disk.now) (g.D.Disk.state c.write_pages.new.disk) new
+          c.requires.apart sized stand c.write_pages.ensures.outside
           c.in_ok-write_pages.ensures.catalogue c.in_ok-write_pages.ensures.history c.write_directory.ensures.outside
           (subst (λ (d : Contents). part p.directory (length (listing written_format d)) new.now.seen ≡ listing written_format d) stored reads);
     })

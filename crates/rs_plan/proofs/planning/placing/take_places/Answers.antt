@@ -3,13 +3,12 @@ use Rattle.std.specs.Prelude.{OnErr}
 use Rattle.rs_body.specs.Blocks.{blocks_of}
 use Rattle.rs_page.specs.Items.{record_format, change_format}
 use Rattle.rs_directory.specs.Directory.{directory_length}
-use Rattle.rs_plan.specs.Placed.{directory_bytes_of}
 use Rattle.rs_plan.specs.Room.{HasNoRun, HasNoRoom, lists_needed, pages_needed}
-use Rattle.rs_plan.proofs.Pages.{few_catalogue, few_history}
 use Rattle.rs_extent.specs.declared.Extent.{Extent}
 use Rattle.rs_extent.specs.Extents.{AreTaken}
 use Rattle.rs_extent.proofs.Taken.{taken_both}
 use Rattle.rs_page.specs.Pages.{placed_extents}
+use Rattle.rs_image.specs.StateOfImage.{directory_bytes_of}
 use Rattle.rs_plan.proofs.Extents.{taken_lowest, pushed}
 use Rattle.rs_plan.proofs.Placing.{room_after, room_none, places_length}
 use Rattle.rs_plan.proofs.planning.placing.take_places.Goals as goal
@@ -17,18 +16,6 @@ use Rattle.rs_plan.proofs.planning.placing.take_places.Goals as goal
 on_err : {T E : Type 0} (P : Type 0) (r : Result T E) → P → OnErr r P
 on_err P (Ok x) p = tt
 on_err P (Err e) p = p
-
-pub directory_size-length-requires : goal.directory_size-length-requires
-directory_size-length-requires c =
-    let lists = c.args.lists.now in
-    let pages = c.pages_of.ensures in
-    omega (
-      arith,
-      pages.pages,
-      few_catalogue lists.catalogue pages.catalogue,
-      few_history lists.history.pages pages.history,
-      few_catalogue lists.published pages.published,
-    )
 
 pub returns-in_err-place_touched-clause-full : goal.returns-in_err-place_touched-clause-full
 returns-in_err-place_touched-clause-full c =
@@ -51,7 +38,7 @@ pub returns-in_default-clause-full : goal.returns-in_default-clause-full
 returns-in_default-clause-full c =
     let lists = c.args.lists.now in
     let rest : List ℕ = blocks_of (directory_bytes_of lists) ∷ [] in
-    let size = c.directory_size-length.ensures.size ∙ ap (directory_length lists.header) c.pages_of.ensures.pages in
+    let size = c.directory_size-length.ensures.size ∙ ap (directory_length lists.header) c.page_count.ensures.pages in
     subst (HasNoRoom c.args.used.now) (sym (append_assoc (pages_needed record_format lists.catalogue) (pages_needed change_format lists.history.pages) rest))
     (room_after record_format c.args.used.now _ lists.catalogue _ (pages_needed change_format lists.history.pages ++ rest) c.in_ok-place_touched.ensures.places c.requires.unplaced.catalogue
     (room_after change_format _ c.place_touched-2.new.used lists.history.pages _ rest c.in_ok-place_touched-2.ensures.places c.requires.unplaced.history

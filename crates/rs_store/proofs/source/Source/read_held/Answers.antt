@@ -15,12 +15,12 @@ use Rattle.rs_store.specs.Shows.{AreAsRecorded, HasItsDigest}
 use Rattle.rs_store.proofs.Found.{found_room, found_fits, held_found, held_missing, never_not_held, damaged_body}
 use Rattle.rs_store.proofs.source.Source.read_held.Goals as goal
 
-pub read_body-requires-clause-room : goal.read_body-requires-clause-room
-read_body-requires-clause-room g c =
+pub read_in_pieces-requires-clause-room : goal.read_in_pieces-requires-clause-room
+read_in_pieces-requires-clause-room g c =
     found_room (g.D.Disk.state c.self.inside.disk).size c.self.inside.slots.root c.self.inside.contents c.args.name.now c.in-Some.record.now c.self.invariant.rooted.whole (sym c.in-Some.ensures)
 
-pub read_body-requires-clause-fits : goal.read_body-requires-clause-fits
-read_body-requires-clause-fits g c =
+pub read_in_pieces-requires-clause-fits : goal.read_in_pieces-requires-clause-fits
+read_in_pieces-requires-clause-fits g c =
     found_fits (g.D.Disk.state c.self.inside.disk).size c.self.inside.slots.root c.self.inside.contents c.args.name.now c.in-Some.record.now c.self.invariant.rooted.whole (sym c.in-Some.ensures)
 
 pub returns-in_default-clause-not_held : goal.returns-in_default-clause-not_held
@@ -32,52 +32,52 @@ returns-in_default-clause-not_held g c =
     let is_open : c.args.self.now.is_closed ≡ false = search rules in
     (λ _. (is_open, missing), λ _. refl)
 
-pub returns-in_err-read_body-clause-not_held : goal.returns-in_err-read_body-clause-not_held
-returns-in_err-read_body-clause-not_held g c =
+pub returns-in_err-read_in_pieces-clause-not_held : goal.returns-in_err-read_in_pieces-clause-not_held
+returns-in_err-read_in_pieces-clause-not_held g c =
     let P : Stored g.row.D.Denot → Type 0 = λ s. is_held (state_of g.D.Disk.state s) c.args.name.now ≡ true in
     let held : P c.args.self.now =
     subst P c.self.view_is
     (ap is_some (held_found (g.D.Disk.state c.self.inside.disk).now.seen c.args.name.now (records_of c.self.inside.contents.catalogue) c.in-Some.record.now (sym c.in-Some.ensures))) in
     let p = err_from_is_err_and c.from_residual.result c.from_residual.ensures.1 in
-    let fault = c.in_err-read_body.field-0.0 in (
+    let fault = c.in_err-read_in_pieces.field-0.0 in (
       λ is. let named : refusal_of_body fault ≡ NotHeld = cc in absurd (never_not_held fault named),
       λ none. absurd (false≢true (sym none.1 ∙ held)),
     )
 
-pub returns-in_err-read_body-clause-damaged : goal.returns-in_err-read_body-clause-damaged
-returns-in_err-read_body-clause-damaged g c is honest =
+pub returns-in_err-read_in_pieces-clause-damaged : goal.returns-in_err-read_in_pieces-clause-damaged
+returns-in_err-read_in_pieces-clause-damaged g c is honest =
     let name = c.args.name.now in
     let seen = (g.D.Disk.state c.self.inside.disk).now.seen in
     let P : Stored g.row.D.Denot → Type 0 = λ s. IfSome (value_of name (state_of g.D.Disk.state s).held) (λ held. HasItsDigest held → ⊥) in
     let Q : Option Held → Type 0 = λ o. IfSome o (λ held. HasItsDigest held → ⊥) in
     let p = err_from_is_err_and c.from_residual.result c.from_residual.ensures.1 in
-    let fault = c.in_err-read_body.field-0.0 in
+    let fault = c.in_err-read_in_pieces.field-0.0 in
     let answered : refusal_of_body fault ≡ Damaged = cc in
     let only : fault ≡ faults.Damaged = damaged_body fault answered in
     subst P c.self.view_is
     (subst Q (sym (held_found seen name (records_of c.self.inside.contents.catalogue) c.in-Some.record.now (sym c.in-Some.ensures)))
-    (λ digest. c.in_err-read_body.ensures.damaged (cc) honest digest))
+    (λ digest. c.in_err-read_in_pieces.ensures.damaged (cc) honest digest))
 
 pub returns-clause-reads : goal.returns-clause-reads
 returns-clause-reads g c honest =
     let name = c.args.name.now in
     let seen = (g.D.Disk.state c.self.inside.disk).now.seen in
-    let P : Stored g.row.D.Denot → Type 0 = λ s. body_of name (state_of g.D.Disk.state s) ≡ Some c.read_body.new.into.items in
+    let P : Stored g.row.D.Denot → Type 0 = λ s. body_of name (state_of g.D.Disk.state s) ≡ Some c.read_in_pieces.new.into.items in
     subst P c.self.view_is
     (ap (λ (o : Option Held). option_map (λ held. held.bytes) o) (held_found seen name (records_of c.self.inside.contents.catalogue) c.in-Some.record.now (sym c.in-Some.ensures))
-    ∙ ap Some (sym (c.in_ok-read_body.ensures.reads honest)))
+    ∙ ap Some (sym (c.in_ok-read_in_pieces.ensures.reads honest)))
 
 pub returns-clause-recorded : goal.returns-clause-recorded
 returns-clause-recorded g c =
     let name = c.args.name.now in
-    let bytes = c.read_body.new.into.items in
+    let bytes = c.read_in_pieces.new.into.items in
     let seen = (g.D.Disk.state c.self.inside.disk).now.seen in
     let P : Stored g.row.D.Denot → Type 0 = λ s. IfSome (value_of name (state_of g.D.Disk.state s).held) (λ held. AreAsRecorded held.entry.facts bytes) in
     let Q : Option Held → Type 0 = λ o. IfSome o (λ held. AreAsRecorded held.entry.facts bytes) in
     let long : length bytes ≡ c.in-Some.record.now.length = search rules in
     subst P c.self.view_is
     (subst Q (sym (held_found seen name (records_of c.self.inside.contents.catalogue) c.in-Some.record.now (sym c.in-Some.ensures)))
-    (record { len = long; sha256 = c.in_ok-read_body.ensures.digest }))
+    (record { len = long; sha256 = c.in_ok-read_in_pieces.ensures.digest }))
 
 pub returns-clause-not_held : goal.returns-clause-not_held
 returns-clause-not_held g c =

@@ -1,0 +1,44 @@
+-- Faults that are handed on, and facts of what comes well.
+use Rattle.std.proofs.Common.{◌≡◌, Result, Ok, Err, sym, ◌∙◌}
+use Rattle.std.specs.Prelude.{OnOk, OnErr, IfOk, IsErrOf}
+use Rattle.std.specs.Result.{IsErrAnd}
+
+-- what was handed on is this fault
+handed_on : {T E : Type 0} (r : Result T E) (e fault : E) → IsErrAnd r (λ y. y ≡ e) → IsErrOf r fault → e ≡ fault
+handed_on (Ok x) e fault handed is = absurd handed
+handed_on (Err y) e fault handed is = let same : y ≡ fault = cc in sym handed ∙ same
+
+pub handed_err : {T S E : Type 0} (r : Result T E) (e fault : E) → IsErrAnd r (λ y. y ≡ e) → IsErrOf r fault → IsErrOf {T = S} (Err e) fault
+handed_err r e fault handed is = (λ i. Err (handed_on r e fault handed is i))
+
+pub same_fault : {T E : Type 0} (e fault : E) → IsErrOf {T = T} (Err e) fault → e ≡ fault
+same_fault e fault is = cc
+
+pub same_err : {S T E : Type 0} (e fault : E) → IsErrOf {T = S} (Err e) fault → IsErrOf {T = T} (Err e) fault
+same_err e fault is = let same : e ≡ fault = cc in λ i. Err (same i)
+
+pub err_is : {T E : Type 0} (r : Result T E) (e : E) → IsErrAnd r (λ y. y ≡ e) → r ≡ Err e
+err_is (Ok x) e handed = absurd handed
+err_is (Err y) e handed = λ i. Err (handed i)
+
+-- where one thing comes well, so does what follows from it
+pub on_ok : {T E : Type 0} {P Q : Type 0} (r : Result T E) → (P → Q) → OnOk r P → OnOk r Q
+on_ok (Ok x) f p = f p
+on_ok (Err e) f p = tt
+
+pub on_err : {T E : Type 0} (P : Type 0) (r : Result T E) → P → OnErr r P
+on_err P (Ok x) p = tt
+on_err P (Err e) p = p
+
+pub if_ok : {T E : Type 0} {P Q : T → Type 0} (r : Result T E) → ((x : T) → P x → Q x) → IfOk r P → IfOk r Q
+if_ok (Ok x) f p = f x p
+if_ok (Err e) f p = tt
+
+pub mapped_err : {T E : Type 0} {P Q : Type 0} (r : Result T E) → (P → Q) → OnErr r P → OnErr r Q
+mapped_err (Ok x) f p = tt
+mapped_err (Err e) f p = f p
+
+-- what holds either way
+pub either_way : {T E P : Type 0} (r : Result T E) → P → OnOk r P
+either_way (Ok x) p = p
+either_way (Err e) p = tt

@@ -1,0 +1,13 @@
+pub mod Answered
+pub mod Ended
+pub mod FullPages
+pub mod Handed
+pub mod Laid
+pub mod Meanwhile
+pub mod MovedBodies
+pub mod Places
+pub mod Records
+pub mod Runs
+pub mod Taking
+pub mod Told
+pub mod Whole

@@ -1,0 +1,28 @@
+-- The front of both extents is the same so far, and hashed.
+use Rattle.std.proofs.Common.{◌≡◌, ◌-◌, ◌≤◌, ℕ, Bool, IsTrue}
+use Rattle.rs_disk.specs.Leaves.{Advances, Rests}
+use Rattle.rs_fixity.specs.Hashed.{HasTakenSha256}
+use Rattle.rs_extent.specs.Extents.{IsBeside}
+use Rattle.rs_body.specs.Blocks.{part}
+use Rattle.rs_body.specs.Outside.{WritesOutside}
+use Rattle.rs_copy.proofs.bodies.copy_pieces.Given as goal
+
+abbrev pub invariant-loop-at : goal.invariant-loop-at
+invariant-loop-at g l =
+    let before = g.D.Disk.state l.fn.from in
+    let after = g.D.Disk.state l.from in
+    let old = g.E.Disk.state l.fn.to in
+    let new = g.E.Disk.state l.to in
+    record {
+      within : l.at ≤ l.held.length;
+      hashed : HasTakenSha256 l.hashing (part l.extent l.at new.now.seen);
+      copied : IsTrue after.honest → part l.extent l.at new.now.seen ≡ part l.held.extent l.at before.now.seen;
+      rests : Rests before after;
+      advances : Advances old new;
+      read : after.faults ≡ before.faults;
+      written : new.faults ≡ old.faults;
+      outside : (kept : ℕ → Bool) → IsBeside kept l.extent → WritesOutside kept old new;
+    }
+
+abbrev pub decreases-loop-at : goal.decreases-loop-at
+decreases-loop-at g l = l.held.length - l.at

@@ -1,0 +1,144 @@
+//! Writing a copy as it was laid out.
+
+ghost use Rattle.std.specs.Prelude.{◌≡◌, ◌<◌, ◌≤◌, ℕ, Bool, map, All, IfOk, IfErr, OnOk, IsErrOf, IsTrue};
+ghost use Rattle.std.specs.List.{AllZip};
+ghost use Rattle.rs_disk.specs.Leaves.{Advances, TellsFaults};
+ghost use Rattle.rs_extent.specs.Extents.{AreApart, AreBeside, AreOnDisk, IsBeside, IsOnDisk};
+ghost use Rattle.rs_body.specs.Blocks.{IsSized};
+ghost use Rattle.rs_body.specs.Outside.{WritesOutside};
+ghost use Rattle.rs_page.specs.declared.page.store.StoreFault.{StoreFault};
+ghost use Rattle.rs_catalogue.specs.Catalogue.{records_of};
+ghost use Rattle.rs_image.specs.StateOfImage.{held_in, directory_bytes_of, AreAllStored};
+ghost use Rattle.rs_copy.specs.declared.faults.CopyFault.{CopyFault};
+ghost use Rattle.rs_copy.specs.Laying.{IsLaidOut, IsMoved, all_stored};
+ghost use Rattle.rs_copy.specs.Copies.{HasItsBody};
+ghost use Rattle.rs_copy.specs.Copying.{ArePagesWritten, AreUntouched, HasPlace, HasRoom, IsBehindRoot, IsListed, IsOfWriting, CopyStands, Steps, WritesCopy, copied_root, is_slot, pages_in};
+
+use crate::CopyFault;
+use crate::bodies::copy_bodies;
+use crate::laying_out::Layout;
+use rs_body::write_body;
+use rs_commit::laws::shut_tells_none;
+use rs_commit::{Root, Slots, VERSION, close_slots, open_first};
+use rs_disk::Disk;
+use rs_extent::Extent;
+use rs_fixity::sha256_of;
+use rs_image::Contents;
+use rs_page::StoreFault;
+use std::alloc::Global;
+
+/// Writes a copy of these lists as it was laid out: it closes the slots, copies the bodies, writes
+/// the pages and the directory, and puts the root into the first slot. The layout has the stored
+/// lists then.
+///
+/// # Errors
+///
+/// - [`CopyFault::Device`] where a call of one of the disks fails.
+/// - [`CopyFault::Damaged`] where a body does not have its recorded SHA-256.
+/// - [`CopyFault::NoMemory`] where the memory for the bytes of a page or of the directory is
+///   refused.
+pub(crate) fn write_copy<D: Disk, E: Disk>(
+    alloc: Global,
+    from: &mut D,
+    old: &Contents,
+    to: &mut E,
+    layout: &mut Layout,
+) -> Result<Slots, CopyFault>
+    requires behind { IsBehindRoot (D.state from.old).size old.now }
+    requires laid_out { IsLaidOut (E.state to.old).size old.now layout.old.contents
+        layout.old.directory layout.old.used }
+    requires size { 1024 ≤ (E.state to.old).size }
+    ensures { WritesCopy old.now layout.old layout.new (D.state from.old) (D.state from.new)
+        (E.state to.old) (E.state to.new) result }
+{
+    shut_tells_none();
+    close_slots(to)?;
+    let root = write_behind(alloc, from, old, to, layout)?;
+    Ok(open_first(to, &root)?)
+}
+
+// Writes what lies behind the slots: the bodies, the pages, and the directory. The root that names
+// it.
+fn write_behind<D: Disk, E: Disk>(
+    alloc: Global,
+    from: &mut D,
+    old: &Contents,
+    to: &mut E,
+    layout: &mut Layout,
+) -> Result<Root, CopyFault>
+    requires places { All (HasPlace (D.state from.old).size) (records_of old.now.catalogue) }
+    requires alike { AllZip IsMoved (records_of old.now.catalogue)
+        (records_of layout.old.contents.catalogue) }
+    requires room { HasRoom (E.state to.old).size layout.old.contents layout.old.directory }
+    ensures steps { Steps (D.state from.old) (D.state from.new)
+        (E.state to.old) (E.state to.new) result }
+    ensures root { IfOk result (λ root. root
+        ≡ copied_root layout.old.directory (all_stored layout.old.contents)) }
+    ensures layout { OnOk result (layout.new
+        ≡ record layout.old { contents = all_stored layout.old.contents }) }
+    ensures stands { OnOk result
+        (CopyStands layout.old.contents layout.old.directory (E.state to.new).now.seen) }
+    ensures copied { OnOk result (IsTrue (D.state from.new).honest
+        → map (held_in (E.state to.new).now.seen) (records_of layout.old.contents.catalogue)
+        ≡ map (held_in (D.state from.old).now.seen) (records_of old.now.catalogue)) }
+    ensures damaged { IsErrOf result CopyFault.Damaged → IsTrue (D.state from.new).honest
+        → ¬ All (HasItsBody (D.state from.old).now.seen) (records_of old.now.catalogue) }
+    ensures outside { WritesOutside is_slot (E.state to.old) (E.state to.new) }
+{
+    copy_bodies(from, &old.catalogue, to, &layout.contents.catalogue)?;
+    write_pages(alloc, to, &mut layout.contents)?;
+    write_directory(alloc, to, layout.directory, &layout.contents)
+}
+
+// Writes each page that was given blocks.
+fn write_pages<E: Disk>(
+    alloc: Global,
+    to: &mut E,
+    contents: &mut Contents,
+) -> Result<(), StoreFault>
+    requires untouched { AreUntouched contents.old }
+    requires room { AreOnDisk (pages_in contents.old) (E.state to.old).size }
+    requires apart { AreApart (pages_in contents.old) }
+    ensures stored { OnOk result (contents.new ≡ all_stored contents.old) }
+    ensures written { OnOk result (ArePagesWritten (E.state to.new).now.seen contents.old) }
+    ensures device { TellsFaults (IsErrOf result StoreFault.Device)
+        (E.state to.old) (E.state to.new) }
+    ensures outside { (kept : ℕ → Bool) → AreBeside kept (pages_in contents.old)
+        → WritesOutside kept (E.state to.old) (E.state to.new) }
+    ensures advances { Advances (E.state to.old) (E.state to.new) }
+{
+    contents.catalogue.store_touched(alloc, to)?;
+    contents.history.store_touched(alloc, to)?;
+    contents.published.store_touched(alloc, to)
+}
+
+// Writes the directory of these lists, all of whose pages are stored. The root that names it.
+fn write_directory<E: Disk>(
+    alloc: Global,
+    to: &mut E,
+    extent: Extent,
+    contents: &Contents,
+) -> Result<Root, CopyFault>
+    requires stored { AreAllStored contents.now }
+    requires room { IsOnDisk extent (E.state to.old).size }
+    requires sized { IsSized extent (directory_bytes_of contents.now) }
+    ensures root { IfOk result (λ root. root ≡ copied_root extent contents.now) }
+    ensures listed { OnOk result (IsListed extent contents.now (E.state to.new).now.seen) }
+    ensures device { TellsFaults (IsErrOf result CopyFault.Device)
+        (E.state to.old) (E.state to.new) }
+    ensures others { IfErr result IsOfWriting }
+    ensures not_damaged { ¬ IsErrOf result CopyFault.Damaged }
+    ensures outside { (kept : ℕ → Bool) → IsBeside kept extent
+        → WritesOutside kept (E.state to.old) (E.state to.new) }
+    ensures advances { Advances (E.state to.old) (E.state to.new) }
+{
+    let bytes = contents.directory(alloc)?;
+    write_body(to, extent, &bytes)?;
+    Ok(Root {
+        version: VERSION,
+        generation: 1,
+        directory: extent,
+        length: bytes.len() as u32,
+        sha256: sha256_of(&bytes),
+    })
+}

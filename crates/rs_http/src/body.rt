@@ -1,0 +1,36 @@
+//! The body of a request, in memory.
+
+ghost use Rattle.std.specs.Prelude.{◌≡◌, ℕ, List, length, IfOk, IfErr, IsErrOf};
+ghost use Rattle.std.specs.Io.KnownBytes.{Consumes};
+ghost use Rattle.rs_io.specs.Watch.{watched, failures, EndFailed, Took};
+ghost use Rattle.rs_http.specs.Groups.{IsUnread};
+
+use rs_io::Watched;
+use rs_store::{Refusal, read_into};
+use std::alloc::Global;
+use std::io::Read;
+
+/// Reads the next bytes of a reader, exactly this many, into memory.
+///
+/// # Errors
+///
+/// - [`Refusal::ReadFault`] where a read failed,
+/// - [`Refusal::ShortBody`] where the input ended before so many came,
+/// - [`Refusal::NoMemory`] where the room for them is refused. Nothing is read then.
+pub(crate) fn read_body<R: Read>(
+    alloc: Global,
+    reader: &mut Watched<R>,
+    body_length: u64,
+) -> Result<Vec<u8>, Refusal>
+    ensures ok { IfOk result (λ body. (length body.items ≡ body_length)
+        × Took R.remaining reader.old reader.new body.items) }
+    ensures unread { IfErr result (λ refusal. (came : List ℕ)
+        × Consumes (R.remaining (watched reader.old)) (R.remaining (watched reader.new)) came
+        × IsUnread body_length (R.remaining (watched reader.new)) came refusal) }
+    ensures failed { IsErrOf result Refusal.ReadFault → EndFailed reader.old reader.new }
+    ensures sound { ¬ IsErrOf result Refusal.ReadFault → failures reader.new ≡ failures reader.old }
+{
+    let mut body = vec![in alloc; 0u8; body_length as usize]?;
+    read_into(reader, &mut body)?;
+    Ok(body)
+}

@@ -1,0 +1,115 @@
+//! The items that the body of a group asks for.
+
+ghost use Rattle.std.specs.Prelude.{◌≡◌, ◌⊎◌, ◌<◌, ◌≤◌, ◌++◌, ◌∷◌, [], List, length, take, IfOk, IfErr, IfSome, IfNone, OnOk};
+ghost use Rattle.std.specs.List.{position};
+ghost use Rattle.rs_model.specs.declared.command.Item.{Item};
+ghost use Rattle.rs_items.specs.declared.item.ItemFault.{ItemFault};
+ghost use Rattle.rs_items.specs.Items.{item_of_line};
+ghost use Rattle.rs_http.specs.Groups.{is_break, lines_of, items_of_lines, items_in};
+ghost use Rattle.rs_items.specs.Lines.{cut_return as without_return, last_line};
+ghost use Rattle.rs_http.specs.Outcomes.{reason_of_fault};
+ghost use Rattle.rs_http.specs.declared.request.NoPlan.TheVariants.{NoMemory};
+
+use crate::request::NoPlan;
+use rs_items::item_of;
+use rs_model::{Item, MOST_GROUPED};
+use std::alloc::{AllocError, Global};
+
+/// So many items are kept: one more than a group may have, so that it is refused as it would be
+/// with all that follow.
+const MOST_KEPT: usize = MOST_GROUPED + 1;
+
+// The line before a line feed: a carriage return at its end is dropped.
+fn cut_return(raw: &[u8]) -> &[u8]
+    ensures { result.now ≡ without_return raw.now }
+{
+    match raw {
+        [line @ .., b'\r'] => line,
+        _ => raw,
+    }
+}
+
+// Where the first line feed stands.
+fn first_break(bytes: &[u8]) -> Option<usize>
+    ensures { result ≡ position is_break bytes.now }
+{
+    bytes.iter().position(|b| *b == b'\n')
+}
+
+// The first line of some bytes, and what follows its line feed, or `None` where there is none.
+fn split_line(bytes: &[u8]) -> Option<(&[u8], &[u8])>
+    ensures some { IfSome result (λ parts.
+        lines_of bytes.now ≡ parts.0.now ∷ lines_of parts.1.now) }
+    ensures shorter { IfSome result (λ parts. length parts.1.now < length bytes.now) }
+    ensures none { IfNone result (lines_of bytes.now ≡ last_line bytes.now) }
+{
+    match first_break(bytes) {
+        Some(i) => Some((cut_return(&bytes[..i]), &bytes[i + 1..])),
+        None => None,
+    }
+}
+
+// Keeps an item behind the others, where they are not so many yet.
+fn keep(items: &mut Vec<Item>, item: Item) -> Result<(), AllocError>
+    requires { length items.old.items ≤ 17 }
+    ensures { OnOk result (items.new.items ≡ take 17 (items.old.items ++ item ∷ [])) }
+{
+    if items.len() >= MOST_KEPT {
+        return Ok(());
+    }
+    items.push(item)?;
+    Ok(())
+}
+
+// Reads one line more, and keeps its item among the first ones.
+fn add_item(alloc: Global, items: &mut Vec<Item>, line: &[u8]) -> Result<(), NoPlan>
+    requires { length items.old.items ≤ 17 }
+    ensures ok { OnOk result ((item : Item) × (item_of_line line.now ≡ Ok item)
+        × (items.new.items ≡ take 17 (items.old.items ++ item ∷ []))) }
+    ensures err { IfErr result (λ reason. (reason ≡ NoMemory)
+        ⊎ ((fault : ItemFault) × (item_of_line line.now ≡ Err fault)
+        × (reason ≡ reason_of_fault fault))) }
+{
+    let item = item_of(alloc, line)?;
+    keep(items, item)?;
+    Ok(())
+}
+
+// Reads what no line feed ends, which is a line where it has bytes.
+fn add_last(alloc: Global, items: &mut Vec<Item>, bytes: &[u8]) -> Result<(), NoPlan>
+    requires { length items.old.items ≤ 17 }
+    ensures ok { OnOk result ((last : List Item) × (items_of_lines (last_line bytes.now) ≡ Ok last)
+        × (items.new.items ≡ take 17 (items.old.items ++ last))) }
+    ensures err { IfErr result (λ reason. (reason ≡ NoMemory)
+        ⊎ ((fault : ItemFault) × (items_of_lines (last_line bytes.now) ≡ Err fault)
+        × (reason ≡ reason_of_fault fault))) }
+{
+    if bytes.is_empty() {
+        return Ok(());
+    }
+    add_item(alloc, items, bytes)
+}
+
+/// The first 17 items of the lines of a body. Each line is looked at, also behind those of the items
+/// that are kept.
+///
+/// # Errors
+///
+/// - [`NoPlan::Refused`] for the fault of the first line that has one,
+/// - [`NoPlan::NoMemory`] where the memory for an item is refused.
+pub(crate) fn first_items(alloc: Global, body: &[u8]) -> Result<Vec<Item>, NoPlan>
+    ensures ok { IfOk result (λ items. (all : List Item) × (items_in body.now ≡ Ok all)
+        × (items.items ≡ take 17 all)) }
+    ensures err { IfErr result (λ reason. (reason ≡ NoMemory)
+        ⊎ ((fault : ItemFault) × (items_in body.now ≡ Err fault)
+        × (reason ≡ reason_of_fault fault))) }
+{
+    let mut items = Vec::new(alloc);
+    let mut rest = body;
+    while let Some((line, after)) = split_line(rest) {
+        add_item(alloc, &mut items, line)?;
+        rest = after;
+    }
+    add_last(alloc, &mut items, rest)?;
+    Ok(items)
+}

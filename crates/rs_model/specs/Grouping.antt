@@ -1,0 +1,71 @@
+-- What is known of a state where a group is decided, and how its items are decided by that.
+use Rattle.std.specs.Prelude.{◌≡◌, ℕ, ◌+◌, ◌-◌, Bool, true, false, not, ◌&&◌, nat_lt, nat_le, max, IsTrue, List, [], ◌∷◌, length, map, Option, Some, if◌then◌else◌}
+use Rattle.rs_time.specs.Moment.{greatest}
+use Rattle.rs_record.specs.Limits.{longest_body}
+use Rattle.rs_model.specs.declared.command.Item.{Item}
+use Rattle.rs_model.specs.declared.command.Item.TheVariants as single
+use Rattle.rs_model.specs.declared.grouping.Counts.{Counts}
+use Rattle.rs_model.specs.declared.command.Refusal.{Refusal}
+use Rattle.rs_model.specs.declared.command.Refusal.TheVariants.{TooLong, NotHeld, TooManyResources, TooManyChanges, Exhausted}
+use Rattle.rs_model.specs.Names.{by_bytes, is_ordered}
+use Rattle.rs_model.specs.State.{Source, most_resources, most_changes}
+use Rattle.rs_model.specs.Step.{first_cause, is_held}
+use Rattle.std.specs.Ordering.{is_eq}
+
+-- the name of an item
+abbrev pub name_of : Item → List ℕ
+name_of (single.Put name kind bytes) = name
+name_of (single.Delete name) = name
+
+-- This is known of a state whose names are in order: which of the names of these items are held, how many resources and changes there
+-- are, and the moment of its last command.
+pub record IsBefore (s : Source) (items : List Item) (held : List Bool) (counts : Counts) : Type 0 where
+  pub ordered : IsTrue (is_ordered s.held)
+  pub held_is : held ≡ map (λ item. is_held s (name_of item)) items
+  pub resources : counts.resources ≡ length s.held
+  pub changes : counts.changes ≡ length s.changes
+  pub last : counts.last ≡ s.last
+
+-- it is a put
+abbrev pub is_put : Item → Bool
+is_put (single.Put name kind bytes) = true
+is_put (single.Delete name) = false
+
+-- whether a name is held after these items, if it is so or not before them: as the last of them that has the name leaves it
+abbrev pub held_after : List Item → Bool → List ℕ → Bool
+held_after [] held name = held
+held_after (item ∷ items) held name = held_after items (if is_eq (by_bytes name (name_of item)) then is_put item else held) name
+
+-- why a change is refused that the resources allow, by what is known
+abbrev pub change_refusal_by : Counts → Option Refusal
+change_refusal_by counts = first_cause ((nat_le most_changes counts.changes, TooManyChanges) ∷ (nat_le greatest counts.last, Exhausted) ∷ [])
+
+-- why a put is refused, by what is known and whether its name is held
+abbrev pub put_refusal_by : List ℕ → Bool → Counts → Option Refusal
+put_refusal_by bytes held counts =
+    if nat_lt longest_body (length bytes) then Some TooLong else
+    if not held && nat_le most_resources counts.resources then Some TooManyResources else
+    change_refusal_by counts
+
+-- .. and why a delete is
+abbrev pub delete_refusal_by : Bool → Counts → Option Refusal
+delete_refusal_by held counts = if held then change_refusal_by counts else Some NotHeld
+
+-- .. and why an item is
+abbrev pub item_refusal_by : Item → Bool → Counts → Option Refusal
+item_refusal_by (single.Put name kind bytes) held counts = put_refusal_by bytes held counts
+item_refusal_by (single.Delete name) held counts = delete_refusal_by held counts
+
+-- how many resources are held after an item
+abbrev pub resources_after : Item → Bool → ℕ → ℕ
+resources_after (single.Put name kind bytes) held resources = if held then resources else resources + 1
+resources_after (single.Delete name) held resources = resources - 1
+
+-- what is known after an accepted item that comes at `now`
+abbrev pub counts_after_item : Item → Bool → Counts → ℕ → Counts
+counts_after_item item held counts now =
+    record {
+      resources = resources_after item held counts.resources;
+      changes = counts.changes + 1;
+      last = max now (counts.last + 1);
+    }

@@ -1,0 +1,106 @@
+-- The pages after the items of a group, and which entries they lose.
+use Rattle.std.proofs.Common.{◌≡◌, ℕ, ◌+◌, List, [], ◌∷◌, ◌++◌, refl, sym, ◌∙◌, ap}
+use Rattle.std.specs.List.{cons_option}
+use Rattle.rs_extent.specs.declared.Extent.{Extent}
+use Rattle.rs_record.specs.declared.record.Record.{Record}
+use Rattle.rs_page.specs.declared.place.PageRef.{PageRef}
+use Rattle.rs_page.specs.Pages.{stored_refs, extents_of}
+use Rattle.rs_page.specs.SharedPages.{KeepsPages, stored_pages}
+use Rattle.rs_pages.specs.Entries.{open_entry}
+use Rattle.rs_pages.specs.Laws.{Ascend}
+use Rattle.rs_pages.specs.Storing.{unshared}
+use Rattle.rs_model.specs.Grouping.{name_of}
+use Rattle.rs_model.specs.declared.command.Item.{Item}
+use Rattle.rs_image.specs.declared.contents.Contents.{Contents}
+use Rattle.rs_plan.specs.Drafts.{IsPageRuleKept}
+use Rattle.rs_plan.specs.Freed.{entry_of_name, freed_page, freed_history_page}
+use Rattle.rs_plan.specs.Placed.{AreUnplaced}
+use Rattle.rs_plan.specs.Turned.{extent_for, extents_left, lists_after_item, lists_after_items, of_each_item, MayDoEach}
+use Rattle.rs_plan.proofs.Bodies.{itself}
+use Rattle.rs_plan.proofs.FreedParts.{one_extent}
+use Rattle.rs_plan.proofs.ItemSteps.{records_step, keeps_step, unplaced_step, page_lost, history_page_lost}
+use Rattle.rs_plan.proofs.Losing.{LosesAll, loses_none, loses_more}
+use Rattle.rs_plan.proofs.OneName.{freed_first}
+use Rattle.rs_plan.proofs.Sublists.{among}
+
+-- the entries that the pages of the catalogue lose, and those of the history
+abbrev pub pages_lost : Contents → List Item → ℕ → List Extent → List PageRef
+pages_lost c [] moment bodies = []
+pages_lost c (item ∷ items) moment bodies =
+    cons_option (entry_of_name c (name_of item))
+    (pages_lost (lists_after_item c item moment (extent_for item items bodies)) items (moment + 1) (extents_left item items bodies))
+
+abbrev pub history_pages_lost : Contents → List Item → ℕ → List Extent → List PageRef
+history_pages_lost c [] moment bodies = []
+history_pages_lost c (item ∷ items) moment bodies =
+    cons_option (open_entry c.history.pages)
+    (history_pages_lost (lists_after_item c item moment (extent_for item items bodies)) items (moment + 1) (extents_left item items bodies))
+
+-- what is published stays, and so does the number of the first part
+pub published_after : (items : List Item) (c : Contents) (moment : ℕ) (bodies : List Extent) → (lists_after_items c items moment bodies).published ≡ c.published
+published_after [] c moment bodies = refl
+published_after (item ∷ items) c moment bodies =
+    published_after items (lists_after_item c item moment (extent_for item items bodies)) (moment + 1) (extents_left item items bodies)
+
+-- what is freed of the pages
+pub freed_pages : (items : List Item) (c : Contents) (moment : ℕ) (bodies : List Extent)
+    → of_each_item freed_page c items moment bodies ≡ extents_of (unshared (pages_lost c items moment bodies) (stored_refs c.published))
+freed_pages [] c moment bodies = refl
+freed_pages (item ∷ items) c moment bodies =
+    let next = lists_after_item c item moment (extent_for item items bodies) in
+    let left = extents_left item items bodies in
+    ap (λ (l : List Extent). freed_page c (name_of item) ++ l) (freed_pages items next (moment + 1) left)
+    ∙ sym (freed_first (entry_of_name c (name_of item)) (pages_lost next items (moment + 1) left) (stored_refs c.published))
+
+pub freed_history_pages : (items : List Item) (c : Contents) (moment : ℕ) (bodies : List Extent)
+    → of_each_item freed_history_page c items moment bodies ≡ extents_of (history_pages_lost c items moment bodies)
+freed_history_pages [] c moment bodies = refl
+freed_history_pages (item ∷ items) c moment bodies =
+    let next = lists_after_item c item moment (extent_for item items bodies) in
+    let left = extents_left item items bodies in
+    ap (λ (l : List Extent). freed_history_page c (name_of item) ++ l) (freed_history_pages items next (moment + 1) left)
+    ∙ sym (one_extent (open_entry c.history.pages) (history_pages_lost next items (moment + 1) left))
+
+module _ (law : IsPageRuleKept) where
+  -- the pages on the disk are kept, and none is given blocks
+  pub keeps_after : (items : List Item) (c : Contents) (moment : ℕ) (bodies : List Extent) → KeepsPages c.catalogue (lists_after_items c items moment bodies).catalogue
+      × KeepsPages c.history.pages (lists_after_items c items moment bodies).history.pages
+  keeps_after [] c moment bodies = (itself (stored_pages c.catalogue), itself (stored_pages c.history.pages))
+  keeps_after (item ∷ items) c moment bodies =
+      let body = extent_for item items bodies in
+      let next = lists_after_item c item moment body in
+      let final = lists_after_items c (item ∷ items) moment bodies in
+      let step = keeps_step law c item moment body in
+      let later = keeps_after items next (moment + 1) (extents_left item items bodies) in (
+        among (stored_pages final.catalogue) (stored_pages next.catalogue) (stored_pages c.catalogue) later.0 step.0,
+        among (stored_pages final.history.pages) (stored_pages next.history.pages) (stored_pages c.history.pages) later.1 step.1,
+      )
+
+  pub unplaced_after : (items : List Item) (c : Contents) (moment : ℕ) (bodies : List Extent) → AreUnplaced c → AreUnplaced (lists_after_items c items moment bodies)
+  unplaced_after [] c moment bodies none = none
+  unplaced_after (item ∷ items) c moment bodies none =
+      unplaced_after items (lists_after_item c item moment (extent_for item items bodies)) (moment + 1) (extents_left item items bodies)
+      (unplaced_step law c item moment (extent_for item items bodies) none)
+
+  -- all entries are kept but those
+  pub loses_pages : (items : List Item) (c : Contents) (moment : ℕ) (bodies : List Extent) → Ascend (λ (r : Record). r.name) c.catalogue → MayDoEach c items moment bodies
+      → LosesAll (pages_lost c items moment bodies) (stored_refs c.catalogue) (stored_refs (lists_after_items c items moment bodies).catalogue)
+  loses_pages [] c moment bodies ordered may = loses_none (stored_refs c.catalogue)
+  loses_pages (item ∷ items) c moment bodies ordered may =
+      let body = extent_for item items bodies in
+      let left = extents_left item items bodies in
+      let next = lists_after_item c item moment body in
+      loses_more (entry_of_name c (name_of item)) (stored_refs c.catalogue) (stored_refs next.catalogue) (pages_lost next items (moment + 1) left)
+      (stored_refs (lists_after_items next items (moment + 1) left).catalogue) (page_lost law c item moment body ordered may.2)
+      (loses_pages items next (moment + 1) left (records_step law item moment body c.catalogue ordered).1 may.3)
+
+  pub loses_history_pages : (items : List Item) (c : Contents) (moment : ℕ) (bodies : List Extent)
+      → LosesAll (history_pages_lost c items moment bodies) (stored_refs c.history.pages) (stored_refs (lists_after_items c items moment bodies).history.pages)
+  loses_history_pages [] c moment bodies = loses_none (stored_refs c.history.pages)
+  loses_history_pages (item ∷ items) c moment bodies =
+      let body = extent_for item items bodies in
+      let left = extents_left item items bodies in
+      let next = lists_after_item c item moment body in
+      loses_more (open_entry c.history.pages) (stored_refs c.history.pages) (stored_refs next.history.pages) (history_pages_lost next items (moment + 1) left)
+      (stored_refs (lists_after_items next items (moment + 1) left).history.pages) (history_page_lost law c item moment body)
+      (loses_history_pages items next (moment + 1) left)

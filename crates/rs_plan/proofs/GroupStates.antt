@@ -1,0 +1,214 @@
+-- The states that the lists tell between the items of a group.
+use Rattle.std.proofs.Common.{◌≡◌, ◌<◌, ◌≤◌, ℕ, ◌+◌, Bool, List, [], ◌∷◌, ◌++◌, length, map, max, Option, refl, sym, ◌∙◌, ap, subst, arith}
+use Rattle.std.specs.Prelude.{All, is_some}
+use Rattle.std.specs.List.{AllZip}
+use Rattle.rs_body.specs.Blocks.{part, IsSized}
+use Rattle.rs_extent.specs.declared.Extent.{Extent}
+use Rattle.rs_image.specs.Whole.{IsSoundRecord}
+use Rattle.rs_record.specs.declared.record.Record.{Record}
+use Rattle.rs_record.specs.declared.change.Change.{Change}
+use Rattle.rs_record.specs.Changes.{bound, deleted}
+use Rattle.rs_pages.specs.Laws.{Ascend}
+use Rattle.rs_catalogue.specs.Catalogue.{records_of}
+use Rattle.rs_catalogue.specs.Named.{named}
+use Rattle.rs_catalogue.proofs.Shown.{map_values-bind, map_values-unbind, value-map_values}
+use Rattle.rs_changes.specs.History.{changes_of}
+use Rattle.rs_model.specs.declared.value.Entry.{Entry}
+use Rattle.rs_model.specs.declared.value.Held.{Held}
+use Rattle.rs_model.specs.declared.command.Item.{Item}
+use Rattle.rs_model.specs.declared.command.Item.TheVariants as single
+use Rattle.rs_model.specs.State.{Source, facts_of, entries}
+use Rattle.rs_model.specs.Step.{after_item, after_items}
+use Rattle.rs_model.specs.Names.{Names, value_of, bind, unbind, map_values}
+use Rattle.rs_model.specs.Listed.{entry_of}
+use Rattle.rs_image.specs.declared.contents.Contents.{Contents}
+use Rattle.rs_image.specs.StateOfImage.{held_in, state_in}
+use Rattle.rs_plan.specs.Allowed.{MayDoItem}
+use Rattle.rs_plan.specs.Drafts.{IsPageRuleKept}
+use Rattle.rs_plan.specs.Placed.{record_made}
+use Rattle.rs_plan.specs.Plans.{AreBodies}
+use Rattle.rs_plan.specs.Room.{bodies_kept}
+use Rattle.rs_plan.specs.Turned.{change_put, extent_for, extents_left, lists_after_item, lists_after_items, MayDoEach}
+use Rattle.rs_plan.proofs.Alike.{AreAlike, bound_alike, unbound_alike, begin_alike, end_alike, begin_all, end_all}
+use Rattle.rs_plan.proofs.ItemSteps.{FitsItem, fits_step, map_after, records_step}
+use Rattle.rs_plan.proofs.Turns.{shown_in, held_shown, some_mapped, state_with}
+
+-- the state of these lists, where this is held
+abbrev pub model_at : Contents → Names Held → Source
+model_at c held = state_with c.header held (changes_of c.history.pages) (map entry_of (records_of c.published))
+
+-- what is held after an item, and after items
+abbrev pub held_after : Item → ℕ → Names Held → Names Held
+held_after (single.Put name kind bytes) moment held = bind name (record { bytes = bytes; entry = record { facts = facts_of kind bytes; moment = moment } }) held
+held_after (single.Delete name) moment held = unbind name held
+
+abbrev pub held_after_items : List Item → ℕ → Names Held → Names Held
+held_after_items [] moment held = held
+held_after_items (item ∷ items) moment held = held_after_items items (moment + 1) (held_after item moment held)
+
+-- the entry of a record
+abbrev pub entry_in : Record → Entry
+entry_in r = (entry_of r).1
+
+-- What is held has the entries of the records.
+abbrev pub HasEntries : Contents → Names Held → Type 0
+HasEntries c held = entries held ≡ map_values entry_in (named (records_of c.catalogue))
+
+-- so a name is held where a record has it
+pub held_as : (c : Contents) (held : Names Held) (name : List ℕ) → HasEntries c held
+    → is_some (value_of name held) ≡ is_some (value_of name (named (records_of c.catalogue)))
+held_as c held name same =
+    sym (some_mapped (λ (h : Held). h.entry) (value_of name held)) ∙ ap (λ (o : Option Entry). is_some o) (sym (value-map_values (λ (h : Held). h.entry) name held))
+    ∙ ap (λ (m : Names Entry). is_some (value_of name m)) same
+    ∙ ap (λ (o : Option Entry). is_some o) (value-map_values entry_in name (named (records_of c.catalogue)))
+    ∙ some_mapped entry_in (value_of name (named (records_of c.catalogue)))
+
+-- what is held in an image has the entries of the records
+entries_of : (image : List ℕ) (records : List Record) → entries (map (held_in image) records) ≡ map_values entry_in (named records)
+entries_of image [] = refl
+entries_of image (r ∷ records) = ap (λ (rest : Names Entry). (r.name, entry_in r) ∷ rest) (entries_of image records)
+
+pub entries_held : (image : List ℕ) (c : Contents) → HasEntries c (map (held_in image) (records_of c.catalogue))
+entries_held image c = entries_of image (records_of c.catalogue)
+
+-- the moment of the last command grows, and the formatting stays
+pub last_grows : (items : List Item) (c : Contents) (moment : ℕ) (bodies : List Extent) → c.header.last ≤ moment → c.header.last ≤ (lists_after_items c items moment bodies).header.last
+last_grows [] c moment bodies le = omega arith
+last_grows (item ∷ items) c moment bodies le =
+    let next = lists_after_item c item moment (extent_for item items bodies) in
+    omega (arith, le, last_grows items next (moment + 1) (extents_left item items bodies) (omega arith))
+
+pub start_stays : (items : List Item) (c : Contents) (moment : ℕ) (bodies : List Extent) → (lists_after_items c items moment bodies).header.start ≡ c.header.start
+start_stays [] c moment bodies = refl
+start_stays (item ∷ items) c moment bodies =
+    start_stays items (lists_after_item c item moment (extent_for item items bodies)) (moment + 1) (extents_left item items bodies)
+
+module _ (law : IsPageRuleKept) where
+  pub entries_step : (c : Contents) (held : Names Held) (item : Item) (moment : ℕ) (body : Extent) → Ascend (λ (r : Record). r.name) c.catalogue → HasEntries c held
+      → HasEntries (lists_after_item c item moment body) (held_after item moment held)
+  entries_step c held (single.Put name kind bytes) moment body ordered same =
+      map_values-bind (λ (h : Held). h.entry) name (record { bytes = bytes; entry = record { facts = facts_of kind bytes; moment = moment } }) held
+      ∙ ap (bind name (entry_in (record_made name kind bytes body moment))) same
+      ∙ sym (map_values-bind entry_in name (record_made name kind bytes body moment) (named (records_of c.catalogue)))
+      ∙ ap (map_values entry_in) (sym (records_step law (single.Put name kind bytes) moment body c.catalogue ordered).0)
+  entries_step c held (single.Delete name) moment body ordered same =
+      map_values-unbind (λ (h : Held). h.entry) name held ∙ ap (unbind name) same ∙ sym (map_values-unbind entry_in name (named (records_of c.catalogue)))
+      ∙ ap (map_values entry_in) (sym (records_step law (single.Delete name) moment body c.catalogue ordered).0)
+
+  -- the model's state after an item is that of the lists after it
+  pub state_step : (c : Contents) (held : Names Held) (item : Item) (moment : ℕ) (body : Extent) → HasEntries c held
+      → after_item (model_at c held) item moment ≡ model_at (lists_after_item c item moment body) (held_after item moment held)
+  state_step c held (single.Put name kind bytes) moment body same =
+      ap (λ (changes : List Change). state_with (record c.header { last = moment }) (held_after (single.Put name kind bytes) moment held) changes (map entry_of (records_of c.published)))
+      (ap (λ (again : Bool). changes_of c.history.pages ++ bound name again moment (facts_of kind bytes) ∷ []) (held_as c held name same)
+      ∙ sym (law.appended (change_put c name kind bytes moment) c.history.pages))
+  state_step c held (single.Delete name) moment body same =
+      ap (λ (changes : List Change). state_with (record c.header { last = moment }) (held_after (single.Delete name) moment held) changes (map entry_of (records_of c.published)))
+      (sym (law.appended (deleted name moment) c.history.pages))
+
+  -- so is that after all items
+  pub turned_state : (items : List Item) (c : Contents) (held : Names Held) (moment now : ℕ) (bodies : List Extent) → Ascend (λ (r : Record). r.name) c.catalogue → HasEntries c held
+      → max now (c.header.last + 1) ≡ moment
+      → after_items (model_at c held) items now ≡ model_at (lists_after_items c items moment bodies) (held_after_items items moment held)
+  turned_state [] c held moment now bodies ordered same here = refl
+  turned_state (item ∷ items) c held moment now bodies ordered same here =
+      let body = extent_for item items bodies in
+      let next = lists_after_item c item moment body in
+      ap (λ (t : ℕ). after_items (after_item (model_at c held) item t) items now) here
+      ∙ ap (λ (s : Source). after_items s items now) (state_step c held item moment body same)
+      ∙ turned_state items next (held_after item moment held) (moment + 1) now (extents_left item items bodies) (records_step law item moment body c.catalogue ordered).1
+      (entries_step c held item moment body ordered same) (omega (arith, here))
+
+  -- The names stay in order.
+  pub ordered_after : (items : List Item) (c : Contents) (moment : ℕ) (bodies : List Extent) → Ascend (λ (r : Record). r.name) c.catalogue
+      → Ascend (λ (r : Record). r.name) (lists_after_items c items moment bodies).catalogue
+  ordered_after [] c moment bodies ordered = ordered
+  ordered_after (item ∷ items) c moment bodies ordered =
+      ordered_after items (lists_after_item c item moment (extent_for item items bodies)) (moment + 1) (extents_left item items bodies)
+      (records_step law item moment (extent_for item items bodies) c.catalogue ordered).1
+
+  -- The bodies that are written stand where the records say; so all do at the end.
+  module _ (image : List ℕ) where
+    abbrev Shows : Record → Held → Type 0
+    Shows r held = shown_in image r ≡ held
+
+    abbrev StandsAt : Extent → List ℕ → Type 0
+    StandsAt extent bytes = part extent (length bytes) image ≡ bytes
+
+    shown_step : (c : Contents) (held : Names Held) (item : Item) (items : List Item) (moment : ℕ) (body : Extent) → Ascend (λ (r : Record). r.name) c.catalogue
+        → FitsItem StandsAt item items body → AreAlike Shows (item ∷ items) (named (records_of c.catalogue)) held
+        → AreAlike Shows items (map_after item moment body (named (records_of c.catalogue))) (held_after item moment held)
+    shown_step c held (single.Put name kind bytes) items moment body ordered fits alike =
+        bound_alike Shows (single.Put name kind bytes) items (record_made name kind bytes body moment)
+        (record { bytes = bytes; entry = record { facts = facts_of kind bytes; moment = moment } })
+        (λ none. ap (λ (b : List ℕ). let h : Held = record { bytes = b; entry = record { facts = facts_of kind bytes; moment = moment } } in h) (fits none))
+        (named (records_of c.catalogue)) held ordered alike
+    shown_step c held (single.Delete name) items moment body ordered fits alike =
+        unbound_alike Shows (single.Delete name) items (named (records_of c.catalogue)) held ordered alike
+
+    shown_after : (items : List Item) (c : Contents) (held : Names Held) (moment : ℕ) (bodies : List Extent) → Ascend (λ (r : Record). r.name) c.catalogue
+        → AreBodies image bodies (bodies_kept items) → AreAlike Shows items (named (records_of c.catalogue)) held
+        → AreAlike Shows [] (named (records_of (lists_after_items c items moment bodies).catalogue)) (held_after_items items moment held)
+    shown_after [] c held moment bodies ordered there alike = alike
+    shown_after (item ∷ items) c held moment bodies ordered there alike =
+        let body = extent_for item items bodies in
+        let fits = fits_step StandsAt item items bodies there in
+        let step = records_step law item moment body c.catalogue ordered in
+        shown_after items (lists_after_item c item moment body) (held_after item moment held) (moment + 1) (extents_left item items bodies) step.1 fits.1
+        (subst (λ (m : Names Record). AreAlike Shows items m (held_after item moment held)) (sym step.0)
+        (shown_step c held item items moment body ordered fits.0 alike))
+
+    pub group_turns : (c : Contents) (items : List Item) (moment : ℕ) (bodies : List Extent) → Ascend (λ (r : Record). r.name) c.catalogue → c.header.last < moment
+        → AreBodies image bodies (bodies_kept items) → state_in image (lists_after_items c items moment bodies) ≡ after_items (state_in image c) items moment
+    group_turns c items moment bodies ordered later there =
+        let held : Names Held = map (held_in image) (records_of c.catalogue) in
+        let final = lists_after_items c items moment bodies in
+        let shown : held ≡ map_values (shown_in image) (named (records_of c.catalogue)) = held_shown image (records_of c.catalogue) in
+        let alike : AreAlike Shows items (named (records_of c.catalogue)) held =
+        subst (AreAlike Shows items (named (records_of c.catalogue))) (sym shown) (begin_alike Shows (shown_in image) (λ r. refl) items (named (records_of c.catalogue))) in
+        let same : map (held_in image) (records_of final.catalogue) ≡ held_after_items items moment held =
+        held_shown image (records_of final.catalogue)
+        ∙ end_alike Shows (shown_in image) (λ r h is. is) (named (records_of final.catalogue)) (held_after_items items moment held)
+        (shown_after items c held moment bodies ordered there alike) in
+        ap (model_at final) same ∙ sym (turned_state items c held moment moment bodies ordered (entries_held image c) (omega (arith, later)))
+
+  -- Each record is sound at the end, since each body that is written has its blocks.
+  module _ (low high : ℕ) where
+    abbrev Sound : Record → Record → Type 0
+    Sound r other = IsSoundRecord low high r
+
+    abbrev HasBlocks : Extent → List ℕ → Type 0
+    HasBlocks extent bytes = IsSized extent (length bytes)
+
+    sound_step : (c : Contents) (item : Item) (items : List Item) (moment : ℕ) (body : Extent) → Ascend (λ (r : Record). r.name) c.catalogue
+        → FitsItem HasBlocks item items body → MayDoItem c item moment → low < moment → moment ≤ high
+        → AreAlike Sound (item ∷ items) (named (records_of c.catalogue)) (named (records_of c.catalogue))
+        → AreAlike Sound items (map_after item moment body (named (records_of c.catalogue))) (map_after item moment body (named (records_of c.catalogue)))
+    sound_step c (single.Put name kind bytes) items moment body ordered fits may after up_to alike =
+        bound_alike Sound (single.Put name kind bytes) items (record_made name kind bytes body moment) (record_made name kind bytes body moment)
+        (λ none. record { moment = record { after = after; up_to = up_to }; body = may.body; sized = fits none })
+        (named (records_of c.catalogue)) (named (records_of c.catalogue)) ordered alike
+    sound_step c (single.Delete name) items moment body ordered fits may after up_to alike =
+        unbound_alike Sound (single.Delete name) items (named (records_of c.catalogue)) (named (records_of c.catalogue)) ordered alike
+
+    sound_after : (items : List Item) (c : Contents) (moment : ℕ) (bodies : List Extent) → Ascend (λ (r : Record). r.name) c.catalogue
+        → AllZip HasBlocks bodies (bodies_kept items) → MayDoEach c items moment bodies → low < moment → (lists_after_items c items moment bodies).header.last ≤ high
+        → AreAlike Sound items (named (records_of c.catalogue)) (named (records_of c.catalogue))
+        → AreAlike Sound [] (named (records_of (lists_after_items c items moment bodies).catalogue)) (named (records_of (lists_after_items c items moment bodies).catalogue))
+    sound_after [] c moment bodies ordered sized may after up_to alike = alike
+    sound_after (item ∷ items) c moment bodies ordered sized may after up_to alike =
+        let body = extent_for item items bodies in
+        let left = extents_left item items bodies in
+        let next = lists_after_item c item moment body in
+        let fits = fits_step HasBlocks item items bodies sized in
+        let step = records_step law item moment body c.catalogue ordered in
+        let le : moment ≤ high = omega (arith, last_grows items next (moment + 1) left (omega arith), up_to) in
+        sound_after items next (moment + 1) left step.1 fits.1 may.3 (omega (arith, after)) up_to
+        (subst (λ (m : Names Record). AreAlike Sound items m m) (sym step.0) (sound_step c item items moment body ordered fits.0 may.2 after le alike))
+
+    pub records_sound : (items : List Item) (c : Contents) (moment : ℕ) (bodies : List Extent) → Ascend (λ (r : Record). r.name) c.catalogue
+        → AllZip HasBlocks bodies (bodies_kept items) → MayDoEach c items moment bodies → low < moment → (lists_after_items c items moment bodies).header.last ≤ high
+        → All (IsSoundRecord low high) (records_of c.catalogue) → All (IsSoundRecord low high) (records_of (lists_after_items c items moment bodies).catalogue)
+    records_sound items c moment bodies ordered sized may after up_to all =
+        end_all (IsSoundRecord low high) (records_of (lists_after_items c items moment bodies).catalogue) (records_of (lists_after_items c items moment bodies).catalogue)
+        (sound_after items c moment bodies ordered sized may after up_to (begin_all (IsSoundRecord low high) items (records_of c.catalogue) all))

@@ -1,0 +1,94 @@
+-- The lists after the items of a group, before their pages have places.
+use Rattle.std.specs.Prelude.{ℕ, ◌+◌, Bool, false, not, if◌then◌else◌, List, [], ◌∷◌, ◌++◌, is_some}
+use Rattle.rs_extent.specs.declared.Extent.{Extent}
+use Rattle.rs_record.specs.declared.record.Record.{Record}
+use Rattle.rs_record.specs.declared.change.Change.{Change}
+use Rattle.rs_record.specs.Changes.{bound, deleted}
+use Rattle.rs_model.specs.Names.{value_of}
+use Rattle.rs_model.specs.State.{facts_of}
+use Rattle.rs_model.specs.declared.command.Item.{Item}
+use Rattle.rs_model.specs.declared.command.Item.TheVariants as single
+use Rattle.rs_model.specs.Grouping.{name_of}
+use Rattle.rs_page.specs.Pages.{Page}
+use Rattle.rs_pages.specs.Rule.{bound_in, unbound_in, appended_to}
+use Rattle.rs_changes.specs.History.{with_pages}
+use Rattle.rs_catalogue.specs.Catalogue.{records_of}
+use Rattle.rs_catalogue.specs.Named.{named}
+use Rattle.rs_image.specs.declared.contents.Contents.{Contents}
+use Rattle.rs_image.specs.Whole.{AreMoments}
+use Rattle.rs_time.specs.Moment.{IsMoment}
+use Rattle.rs_plan.specs.Allowed.{MayDoItem}
+use Rattle.rs_plan.specs.Placed.{record_made}
+use Rattle.rs_plan.specs.Room.{is_named_in}
+
+-- the extent of a body that is not written
+abbrev pub no_body : Extent
+no_body = record { first = 0; blocks = 0 }
+
+-- the first of these extents, and the others
+abbrev pub first_of : List Extent → Extent
+first_of [] = no_body
+first_of (extent ∷ extents) = extent
+
+abbrev pub others_of : List Extent → List Extent
+others_of [] = []
+others_of (extent ∷ extents) = extents
+
+-- the change that a put of these bytes makes, where these are the lists before it
+abbrev pub change_put : Contents → List ℕ → List ℕ → List ℕ → ℕ → Change
+change_put old name kind bytes moment = bound name (is_some (value_of name (named (records_of old.catalogue)))) moment (facts_of kind bytes)
+
+-- the change that an item makes, where these are the lists before it
+abbrev pub change_of_item : Contents → Item → ℕ → Change
+change_of_item old (single.Put name kind bytes) moment = change_put old name kind bytes moment
+change_of_item old (single.Delete name) moment = deleted name moment
+
+-- the pages of a catalogue after an item at its moment, whose body stands in an extent: a record is bound or unbound
+abbrev pub catalogue_after : Item → ℕ → Extent → List (Page Record) → List (Page Record)
+catalogue_after (single.Put name kind bytes) moment body pages = bound_in (λ (r : Record). r.name) (record_made name kind bytes body moment) pages
+catalogue_after (single.Delete name) moment body pages = unbound_in (λ (r : Record). r.name) name pages
+
+-- the lists after one item at its moment, whose body stands in an extent
+abbrev pub lists_after_item : Contents → Item → ℕ → Extent → Contents
+lists_after_item old item moment body =
+    record {
+      header = record old.header { last = moment };
+      catalogue = catalogue_after item moment body old.catalogue;
+      history = with_pages old.history (appended_to (change_of_item old item moment) old.history.pages);
+      published = old.published;
+    }
+
+-- the item has a body that no later item replaces or deletes
+abbrev pub is_written : Item → List Item → Bool
+is_written (single.Put name kind bytes) items = not (is_named_in name items)
+is_written (single.Delete name) items = false
+
+-- Of these extents, in which the bodies stand that are written, the one of the body of an item, where later ones follow it; a body that
+-- is not written has none.
+abbrev pub extent_for : Item → List Item → List Extent → Extent
+extent_for item items bodies = if is_written item items then first_of bodies else no_body
+
+-- those of the later items
+abbrev pub extents_left : Item → List Item → List Extent → List Extent
+extents_left item items bodies = if is_written item items then others_of bodies else bodies
+
+-- The lists after these items, the first of them at this moment and each other one millisecond after the one before it. The bodies
+-- that no later item replaces or deletes stand in these extents, in their order; any other has none.
+abbrev pub lists_after_items : Contents → List Item → ℕ → List Extent → Contents
+lists_after_items old [] moment bodies = old
+lists_after_items old (item ∷ items) moment bodies =
+    lists_after_items (lists_after_item old item moment (extent_for item items bodies)) items (moment + 1) (extents_left item items bodies)
+
+-- what a property of the lists and of a name gives of each item, in the lists before it
+abbrev pub of_each_item : (Contents → List ℕ → List Extent) → Contents → List Item → ℕ → List Extent → List Extent
+of_each_item f old [] moment bodies = []
+of_each_item f old (item ∷ items) moment bodies =
+    f old (name_of item)
+    ++ of_each_item f (lists_after_item old item moment (extent_for item items bodies)) items (moment + 1) (extents_left item items bodies)
+
+-- Each of these items may be done in the lists before it.
+abbrev pub MayDoEach : Contents → List Item → ℕ → List Extent → Type 0
+MayDoEach old [] moment bodies = Unit {0}
+MayDoEach old (item ∷ items) moment bodies =
+    IsMoment moment × AreMoments old.header old × MayDoItem old item moment
+    × MayDoEach (lists_after_item old item moment (extent_for item items bodies)) items (moment + 1) (extents_left item items bodies)

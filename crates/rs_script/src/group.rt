@@ -1,0 +1,79 @@
+//! A group while its lines come.
+
+ghost use Rattle.std.specs.Prelude.{◌≡◌, ◌⊎◌, ◌∷◌, [], ◌++◌, ◌≤◌, ℕ, List, IfSome};
+ghost use Rattle.rs_script.specs.PartialLine.{IsContent};
+ghost use Rattle.rs_script.specs.Statements.{group_size as size_of, grouped_item};
+ghost use Rattle.rs_script.specs.Taken.{KeepsItems};
+
+use crate::line::Content;
+use crate::refusal::Refusal;
+use rs_items::item_of;
+use rs_model::{Item, MOST_GROUPED};
+use rs_record::number;
+use std::alloc::Global;
+
+/// A group that lacks at least one of its lines.
+#[derive(Drop)]
+pub struct Taking {
+    /// How many lines belong to it after the next one.
+    pub later: usize,
+    /// The items of the lines that have come, or the first fault of one, for which it is refused.
+    pub items: Result<Vec<Item>, Refusal>,
+}
+
+/// How many lines the group takes that `line` begins, 1 to 16, or `None` where it begins none.
+fn group_size(line: &[u8]) -> Option<usize>
+    ensures value { result ≡ size_of line.now }
+    ensures some { IfSome result (λ size. 1 ≤ size) }
+{
+    if !line.starts_with(b"group ") {
+        return None;
+    }
+    let size = number(&line[6..], 2)? as usize;
+    if size == 0 || size > MOST_GROUPED {
+        return None;
+    }
+    Some(size)
+}
+
+/// How many lines the group takes that such a line begins, or `None` where it begins none.
+pub fn size_begun(content: Content<'_>) -> Option<usize>
+    ensures value { (line : List ℕ) → IsContent content.entry line → result ≡ size_of line }
+    ensures some { IfSome result (λ size. 1 ≤ size) }
+{
+    match content {
+        Content::Bytes(line) => group_size(line),
+        Content::Foreign | Content::Refused | Content::TooLong => None,
+    }
+}
+
+/// The items of one line more, or the first fault. Want of room for one is a fault as well.
+pub fn with_line(
+    alloc: Global,
+    items: Result<Vec<Item>, Refusal>,
+    content: Content<'_>,
+) -> Result<Vec<Item>, Refusal>
+    ensures { (line : List ℕ) (lines : List (List ℕ))
+        → IsContent content.entry line → KeepsItems items lines
+        → KeepsItems result (lines ++ line ∷ []) }
+{
+    let mut items = items?;
+    let item = item_in(alloc, content)?;
+    match items.push(item) {
+        Ok(()) => Ok(items),
+        Err(_) => Err(Refusal::NoMemory),
+    }
+}
+
+/// The item of a line of a group.
+fn item_in(alloc: Global, content: Content<'_>) -> Result<Item, Refusal>
+    ensures { (line : List ℕ) → IsContent content.entry line
+        → (result ≡ grouped_item line) ⊎ (result ≡ Err Refusal.NoMemory) }
+{
+    match content {
+        Content::Bytes(bytes) => Ok(item_of(alloc, bytes)?),
+        Content::Foreign => Err(Refusal::BadLine),
+        Content::Refused => Err(Refusal::NoMemory),
+        Content::TooLong => Err(Refusal::LongLine),
+    }
+}

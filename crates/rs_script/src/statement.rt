@@ -1,0 +1,117 @@
+//! One line more of a script: it is answered, or it goes into a group.
+
+ghost use Rattle.std.specs.Prelude.{◌≡◌, ◌≤◌, ◌∷◌, [], ℕ, List, Some, None, OnOk, OnErr};
+ghost use Rattle.rs_io.specs.Watch.{failures, EndFailed, WritesOut};
+ghost use Rattle.rs_script.specs.PartialLine.{IsContent};
+ghost use Rattle.rs_script.specs.Progress.{LineAnswers, LineTaken};
+ghost use Rattle.rs_script.specs.Session.{script_state};
+ghost use Rattle.rs_script.specs.Statements.{group_size as size_of};
+ghost use Rattle.rs_script.specs.Taken.{KeepsGroup};
+
+use crate::answer::write_refusal;
+use crate::execute::{answer_group, answer_line};
+use crate::group::{Taking, size_begun, with_line};
+use crate::line::Content;
+use crate::refusal::Refusal;
+use rs_disk::Disk;
+use rs_io::{Watched, WriteFault};
+use rs_store::Source;
+use rs_time::Moment;
+use std::alloc::Global;
+use std::io::Write;
+
+/// Answers a line by itself.
+fn answer_content<D: Disk, W: Write>(
+    alloc: Global,
+    source: &mut Source<D>,
+    now: &mut Moment,
+    content: Content<'_>,
+    writer: &mut Watched<W>,
+) -> Result<(), WriteFault>
+    ensures answered { (line : List ℕ) → IsContent content.entry line → LineAnswers D.state
+        (script_state source.old now.old) line (script_state source.new now.new)
+        (WritesOut W.contents writer.old writer.new result) }
+    ensures sound { OnOk result (failures writer.new ≡ failures writer.old) }
+    ensures failed { OnErr result (EndFailed writer.old writer.new) }
+{
+    match content {
+        Content::Bytes(bytes) => answer_line(alloc, source, now, bytes, writer),
+        Content::Foreign => write_refusal(Refusal::BadLine, writer),
+        Content::Refused => write_refusal(Refusal::NoMemory, writer),
+        Content::TooLong => write_refusal(Refusal::LongLine, writer),
+    }
+}
+
+/// Begins a group of so many lines.
+fn begin_group(alloc: Global, size: usize) -> Taking
+    requires { 1 ≤ size }
+    ensures { (first : List ℕ) → size_of first ≡ Some size
+        → KeepsGroup (Some result) (first ∷ []) }
+{
+    Taking {
+        later: size - 1,
+        items: Ok(Vec::new(alloc)),
+    }
+}
+
+/// Takes a line that stands in no group: it begins one, or is answered by itself.
+fn take_first<D: Disk, W: Write>(
+    alloc: Global,
+    source: &mut Source<D>,
+    now: &mut Moment,
+    group: &mut Option<Taking>,
+    content: Content<'_>,
+    writer: &mut Watched<W>,
+) -> Result<(), WriteFault>
+    requires none { group.old ≡ None }
+    ensures taken { (line : List ℕ) → IsContent content.entry line → LineTaken D.state
+        (script_state source.old now.old) [] line group.new (script_state source.new now.new)
+        (WritesOut W.contents writer.old writer.new result) }
+    ensures stopped { OnErr result (group.new ≡ None) }
+    ensures sound { OnOk result (failures writer.new ≡ failures writer.old) }
+    ensures failed { OnErr result (EndFailed writer.old writer.new) }
+{
+    match size_begun(content) {
+        Some(size) => {
+            *group = Some(begin_group(alloc, size));
+            Ok(())
+        }
+        None => answer_content(alloc, source, now, content, writer),
+    }
+}
+
+/// Takes a line. In a group its item is kept, and the last line of the group has the group
+/// answered; in none it begins a group, or is answered by itself.
+///
+/// # Errors
+///
+/// [`WriteFault`] where the answer is not written whole. What the statement asked for is done.
+pub fn take_content<D: Disk, W: Write>(
+    alloc: Global,
+    source: &mut Source<D>,
+    now: &mut Moment,
+    group: &mut Option<Taking>,
+    content: Content<'_>,
+    writer: &mut Watched<W>,
+) -> Result<(), WriteFault>
+    ensures taken { (line : List ℕ) (begun : List (List ℕ))
+        → IsContent content.entry line → KeepsGroup group.old begun → LineTaken D.state
+        (script_state source.old now.old) begun line group.new (script_state source.new now.new)
+        (WritesOut W.contents writer.old writer.new result) }
+    ensures stopped { OnErr result (group.new ≡ None) }
+    ensures sound { OnOk result (failures writer.new ≡ failures writer.old) }
+    ensures failed { OnErr result (EndFailed writer.old writer.new) }
+{
+    let Some(taking) = group.take() else {
+        return take_first(alloc, source, now, group, content, writer);
+    };
+    let items = with_line(alloc, taking.items, content);
+    if taking.later == 0 {
+        return answer_group(source, *now, items, writer);
+    }
+    *group = Some(Taking {
+        later: taking.later - 1,
+        items,
+    });
+    Ok(())
+}

@@ -1,0 +1,121 @@
+use Rattle.std.proofs.Common.{rules, ◌≡◌, ℕ, ◌+◌, ◌<◌, length, drop, take, get_or, List, [], refl, ◌∙◌, ap, arith, Option, None, Bor}
+use Rattle.std.specs.List.{cons_option}
+use Rattle.std.specs.Option.{option_copied}
+use Rattle.std.proofs.lemmas.List.{drop_all}
+use Rattle.rs_disk.specs.Leaves.{Advances}
+use Rattle.rs_extent.specs.Extents.{in_some}
+use Rattle.rs_body.proofs.KeptBlocks.{outside_on}
+use Rattle.rs_body.proofs.Sets.{fits_sized}
+use Rattle.rs_model.specs.declared.command.Item.{Item}
+use Rattle.rs_plan.specs.Room.{bodies_kept}
+use Rattle.rs_plan.specs.Turned.{no_body}
+use Rattle.rs_store.proofs.Finished.{advances_on}
+use Rattle.rs_store.proofs.Grouped.{kept_step, has_extent, others_left, sized_at, beside_at, inside_at, beside_before, one_more, all_stand}
+use Rattle.rs_store.proofs.grouping.write_bodies.Goals.{in-Some+in_ok-write_body, in_default}
+use Rattle.rs_store.proofs.grouping.write_bodies.Goals as goal
+
+-- the bodies that are left, by what the first item has
+left_by : (items : List Item) (i n : ℕ) (o p : Option (Bor (List ℕ))) → drop n (bodies_kept items) ≡ bodies_kept (drop i items)
+    → bodies_kept (drop i items) ≡ cons_option (option_copied o) (bodies_kept (drop (i + 1) items)) → o ≡ p
+    → drop n (bodies_kept items) ≡ cons_option (option_copied p) (bodies_kept (drop (i + 1) items))
+left_by items i n o p left step is = left ∙ step ∙ ap (λ (q : Option (Bor (List ℕ))). cons_option (option_copied q) (bodies_kept (drop (i + 1) items))) is
+
+pub bounds-extents-written : goal.bounds-extents-written
+bounds-extents-written g c =
+    let items = c.args.items.now in
+    let i = c.loop-i.i in
+    let next = left_by items i c.loop-i.written c.body_kept.result _ c.loop-i.invariant.left (kept_step items i (option_copied c.body_kept.result) c.body_kept.ensures) c.in-Some.is in
+    has_extent c.args.extents.now (bodies_kept items) c.requires.sized c.loop-i.written c.in-Some.bytes.now (bodies_kept (drop (i + 1) items)) next
+
+pub write_body-requires-clause-room : goal.write_body-requires-clause-room
+write_body-requires-clause-room g c b is =
+    let items = c.args.items.now in
+    let extents = c.args.extents.now in
+    let i = c.loop-i.i in
+    let n = c.loop-i.written in
+    let next = left_by items i n c.body_kept.result _ c.loop-i.invariant.left (kept_step items i (option_copied c.body_kept.result) c.body_kept.ensures) c.in-Some.is in
+    let there = inside_at extents (bodies_kept items) c.requires.sized n c.in-Some.bytes.now (bodies_kept (drop (i + 1) items)) next no_body (get_or extents n no_body) refl
+    (g.D.Disk.state c.args.disk.now).size c.requires.room b is in
+    omega (arith, there, c.loop-i.invariant.advances.size)
+
+pub write_body-requires-clause-fits : goal.write_body-requires-clause-fits
+write_body-requires-clause-fits g c =
+    let items = c.args.items.now in
+    let extents = c.args.extents.now in
+    let i = c.loop-i.i in
+    let n = c.loop-i.written in
+    let bytes = c.in-Some.bytes.now in
+    let next = left_by items i n c.body_kept.result _ c.loop-i.invariant.left (kept_step items i (option_copied c.body_kept.result) c.body_kept.ensures) c.in-Some.is in
+    fits_sized (get_or extents n no_body) (length bytes)
+    (sized_at extents (bodies_kept items) c.requires.sized n bytes (bodies_kept (drop (i + 1) items)) next no_body (get_or extents n no_body) refl)
+
+pub returns-in_err-write_body-clause-outside : goal.returns-in_err-write_body-clause-outside
+returns-in_err-write_body-clause-outside g c kept beside =
+    let items = c.args.items.now in
+    let extents = c.args.extents.now in
+    let i = c.loop-i.i in
+    let n = c.loop-i.written in
+    let next = left_by items i n c.body_kept.result _ c.loop-i.invariant.left (kept_step items i (option_copied c.body_kept.result) c.body_kept.ensures) c.in-Some.is in
+    let at_hand = beside_at extents (bodies_kept items) c.requires.sized n c.in-Some.bytes.now (bodies_kept (drop (i + 1) items)) next no_body (get_or extents n no_body) refl kept beside in
+    outside_on kept (g.D.Disk.state c.args.disk.now) (g.D.Disk.state c.loop-i.disk) (g.D.Disk.state c.write_body.new.disk) (c.loop-i.invariant.outside kept beside)
+    (c.write_body.ensures.outside kept at_hand)
+
+pub loop-i-preserved : goal.loop-i-preserved
+loop-i-preserved g c =
+    let items = c.args.items.now in
+    let extents = c.args.extents.now in
+    let bodies = bodies_kept items in
+    let sized = c.requires.sized in
+    let i = c.loop-i.i in
+    let n = c.loop-i.written in
+    let kept = c.loop-i.invariant in
+    let old = g.D.Disk.state c.args.disk.now in
+    let mid = g.D.Disk.state c.loop-i.disk in
+    let step = kept_step items i (option_copied c.body_kept.result) c.body_kept.ensures in
+    elim c.match-body_kept.branch [
+      | in-Some+in_ok-write_body w ↦
+          let bytes = w.in-Some.bytes.now in
+          let later : List (List ℕ) = bodies_kept (drop (i + 1) items) in
+          let next = left_by items i n c.body_kept.result _ kept.left step w.in-Some.is in
+          let e = get_or extents n no_body in
+          let new = g.D.Disk.state w.write_body.new.disk in
+          let runs = w.write_body.ensures.runs in
+          let goes : Advances mid new = record { size = runs.size; keeps = w.write_body.ensures.keeps; calls = runs.calls; faults = runs.faults } in
+          let written = w.write_body.ensures.outside (in_some (take n extents)) (beside_before extents bodies sized n bytes later next no_body e refl c.requires.apart) in
+          rw (w.written-is, w.disk-is) (record {
+            left = others_left extents bodies sized n bytes later next;
+            stand = one_more extents bodies sized n bytes later next no_body e refl mid.now.seen new.now.seen kept.stand written.seen w.in_ok-write_body.ensures.reads;
+            advances = advances_on old mid new kept.advances goes;
+            sound = w.in_ok-write_body.ensures.runs.ok ∙ kept.sound;
+            outside = λ set beside. outside_on set old mid new (kept.outside set beside)
+                (w.write_body.ensures.outside set (beside_at extents bodies sized n bytes later next no_body e refl set beside));
+          })
+      | in_default w ↦
+          rw (w.written-is, w.disk-is) (record {
+            left = left_by items i n c.body_kept.result None kept.left step w.in_default.is;
+            stand = kept.stand;
+            advances = kept.advances;
+            sound = kept.sound;
+            outside = kept.outside;
+          })
+    ]
+
+pub returns-clause-stand : goal.returns-clause-stand
+returns-clause-stand g c =
+    let items = c.args.items.now in
+    let none : drop c.loop-i.written (bodies_kept items) ≡ [] = c.loop-i.invariant.left ∙ ap bodies_kept (drop_all c.loop-i.i items c.loop-i-test.false) in
+    all_stand c.args.extents.now (bodies_kept items) c.loop-i.written (g.D.Disk.state c.loop-i.disk).now.seen c.requires.sized none c.loop-i.invariant.stand
+
+pub offset_bounds-extents-written : goal.offset_bounds-extents-written
+offset_bounds-extents-written g c =
+    let within : c.loop-i.written < length c.args.extents.now = bounds-extents-written g c in
+    search rules
+
+pub overflow_add-written : goal.overflow_add-written
+overflow_add-written g c =
+    let items = c.args.items.now in
+    let i = c.loop-i.i in
+    let next = left_by items i c.loop-i.written c.body_kept.result _ c.loop-i.invariant.left (kept_step items i (option_copied c.body_kept.result) c.body_kept.ensures) c.in-Some.is in
+    let within : c.loop-i.written < length c.args.extents.now =
+    has_extent c.args.extents.now (bodies_kept items) c.requires.sized c.loop-i.written c.in-Some.bytes.now (bodies_kept (drop (i + 1) items)) next in
+    search rules

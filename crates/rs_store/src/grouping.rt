@@ -1,0 +1,135 @@
+//! Groups: several puts and deletes by one commit.
+
+ghost use Rattle.std.specs.Prelude.{◌≡◌, ◌<◌, ◌≤◌, ◌+◌, ◌^◌, ℕ, Bool, length, take, map, false, IfOk, OnOk};
+ghost use Rattle.std.specs.List.{AllZip};
+ghost use Rattle.rs_disk.specs.Leaves.{Runs};
+ghost use Rattle.rs_extent.specs.Extents.{AreApart, AreBeside, AreOnDisk};
+ghost use Rattle.rs_body.specs.Blocks.{IsSized};
+ghost use Rattle.rs_body.specs.Outside.{WritesOutside};
+ghost use Rattle.rs_model.specs.Grouping.{name_of};
+ghost use Rattle.rs_model.specs.State.{most_grouped};
+ghost use Rattle.rs_model.specs.Step.{is_held, moment_at, refusal_of};
+ghost use Rattle.rs_model.specs.declared.command.Command.TheVariants.{Group};
+ghost use Rattle.rs_plan.specs.Allowed.{MayGroup};
+ghost use Rattle.rs_plan.specs.Plans.{AreBodies};
+ghost use Rattle.rs_plan.specs.Room.{bodies_kept};
+ghost use Rattle.rs_store.specs.Source.{state_of};
+ghost use Rattle.rs_store.specs.Refusals.{decided};
+ghost use Rattle.rs_store.specs.Answered.{Answers, moment_unless};
+
+use crate::source::rooted_by;
+use crate::{Refusal, Source};
+use rs_body::write_body;
+use rs_disk::{Disk, Fault};
+use rs_extent::Extent;
+use rs_model::{
+    Counts, Item, MOST_GROUPED, Refusal as Refused, Reply, group_refusal, groups_step_in_turn,
+};
+use rs_plan::{body_kept, plan_group};
+use rs_time::Moment;
+
+impl<D: Disk> Source<D> {
+    /// Binds and unbinds the names of these items, 1 to 16 of them, in their order and in one step: all
+    /// or none of it stands, whatever moment a crash comes at. The command comes at the moment `now`; the
+    /// first item is accepted at this one, or at one millisecond after the last accepted command where
+    /// that is later, and each other one millisecond after the one before it. A body that a later item
+    /// replaces or deletes is not written. One commit is made for all.
+    ///
+    /// The reply tells the number of the items and the moment of the first. It comes after all is
+    /// settled, as with [`Source::put`].
+    ///
+    /// # Errors
+    ///
+    /// As with [`Source::put`] and [`Source::delete`], the first refusal of the first item that is
+    /// refused, each in the state after the ones before it; [`Refusal::BadGroup`], for no items or more
+    /// than 16, comes right after [`Refusal::Closed`]. After each of them nothing of the group has been
+    /// done.
+    pub fn group(&mut self, items: &[Item], now: Moment) -> Result<Reply, Refusal>
+        ensures { Answers D.state self.old self.new (Group items.now) now result }
+    {
+        let moment = self.moment_of_group(items, now)?;
+        let rooted = rooted_by(&self.disk, &self.slots, &self.contents);
+        let plan = plan_group(self.alloc, &mut self.used, &rooted, items, moment)?;
+        if write_bodies(&mut self.disk, &plan.bodies, items).is_err() {
+            self.is_closed = true;
+            return Err(Refusal::Device);
+        }
+        self.finish(plan)
+    }
+
+    // The moment of the first item of a group that comes at `now`, or why it is refused at once.
+    fn moment_of_group(&self, items: &[Item], now: Moment) -> Result<Moment, Refusal>
+        ensures decided { result ≡ moment_unless
+            (decided self.now (state_of D.state self.now) (Group items.now) now)
+            (moment_at (state_of D.state self.now) now) }
+        ensures open { OnOk result (self.now.is_closed ≡ false) }
+        ensures may { IfOk result (MayGroup self.now.contents items.now) }
+        ensures spare { OnOk result (self.now.slots.root.generation + 1 < 2 ^ 64) }
+    {
+        if self.is_closed {
+            return Err(Refusal::Closed);
+        }
+        groups_step_in_turn();
+        if items.is_empty() || items.len() > MOST_GROUPED {
+            return Err(Refusal::BadGroup);
+        }
+        if let Some(refused) = self.refused_group(items, now) {
+            return Err(refused.into());
+        }
+        let moment = self.next_moment(now)?;
+        Ok(moment)
+    }
+
+    // Why the model refuses a group of these items that comes at `now`, if it does.
+    fn refused_group(&self, items: &[Item], now: Moment) -> Option<Refused>
+        requires { length items.now ≤ most_grouped }
+        ensures { result ≡ refusal_of (state_of D.state self.now) (Group items.now) now }
+    {
+        let mut held = [false; MOST_GROUPED];
+        self.note_held(items, &mut held);
+        let counts = Counts {
+            resources: self.resources(),
+            changes: self.contents.history.len(),
+            last: self.contents.header.last,
+        };
+        group_refusal(items, &held[..items.len()], counts, now)
+    }
+
+    // Puts down of each item whether its name is held.
+    fn note_held(&self, items: &[Item], held: &mut [bool])
+        requires { length items.now ≤ length held.old }
+        ensures noted { take (length items.now) held.new
+            ≡ map (λ item. is_held (state_of D.state self.now) (name_of item)) items.now }
+        ensures size { length held.new ≡ length held.old }
+    {
+        for (i, item) in items.iter().enumerate() {
+            held[i] = self.holds(item.name());
+        }
+    }
+}
+
+// Writes each body of these items that no later one replaces or deletes, each to its extent. Nothing
+// beside the extents changes, whether it succeeds or not.
+fn write_bodies<D: Disk>(disk: &mut D, extents: &[Extent], items: &[Item]) -> Result<(), Fault>
+    requires room { AreOnDisk extents.now (D.state disk.old).size }
+    requires apart { AreApart extents.now }
+    requires sized { AllZip (λ extent bytes. IsSized extent (length bytes))
+        extents.now (bodies_kept items.now) }
+    ensures stand { OnOk result
+        (AreBodies (D.state disk.new).now.seen extents.now (bodies_kept items.now)) }
+    ensures runs { Runs (D.state disk.old) (D.state disk.new) result }
+
+    // Whatever it answers.
+    ensures keeps { (D.state disk.new).honest ≡ (D.state disk.old).honest }
+    ensures outside { (kept : ℕ → Bool) → AreBeside kept extents.now
+        → WritesOutside kept (D.state disk.old) (D.state disk.new) }
+{
+    let mut written = 0;
+    for i in 0..items.len() {
+        if let Some(bytes) = body_kept(&items[i..]) {
+            write_body(disk, extents[written], bytes)?;
+            written += 1;
+        }
+    }
+    Ok(())
+}

@@ -1,0 +1,113 @@
+//! Copies of a source to another disk: stopped at each of its calls, to disks that are too small, and of a
+//! damaged body.
+
+use super::asking::Asked::{Delete, Publish, Put};
+use super::asking::{ask, disk_of, made, opened, told};
+use rs_disk::{Disk, MemoryDisk};
+use rs_store::CopyFault::{self, Damaged, Device, Full, TooSmall};
+use rs_store::{OpenFault, Source};
+use std::process::Abort;
+
+/// A source of which one resource is held, and another one that was deleted since is published.
+fn filled(rt: &(impl Abort + AllocGlobal)) -> Source<MemoryDisk> {
+    let mut source = made(rt, disk_of(rt, 65536));
+    for asked in [Put(b"a", b"one"), Publish, Put(b"b", b"two"), Delete(b"a")] {
+        let _answer = ask(rt, &mut source, asked);
+    }
+    source
+}
+
+/// A copy of a source, which has to succeed.
+fn copied(
+    rt: &(impl Abort + AllocGlobal),
+    source: &mut Source<MemoryDisk>,
+    disk: MemoryDisk,
+) -> Source<MemoryDisk> {
+    match source.copy_to(disk) {
+        Ok(copy) => copy,
+        Err((_, fault)) => panic!(rt; "not copied: {fault}"),
+    }
+}
+
+/// Why a source is not copied, and the disk.
+fn refused(
+    rt: &(impl Abort + AllocGlobal),
+    source: &mut Source<MemoryDisk>,
+    disk: MemoryDisk,
+) -> (MemoryDisk, CopyFault) {
+    match source.copy_to(disk) {
+        Ok(_) => panic!(rt; "copied"),
+        Err(refused) => refused,
+    }
+}
+
+// The choices that make images.
+const CHOICES: [&[u8]; 4] = [&[], &[0], &[1], &[0, 1]];
+
+/// Looks whether each of these images of a disk holds no source, or one that tells this.
+fn images_tell(rt: &(impl Abort + AllocGlobal), disk: &MemoryDisk, want: &str) {
+    for choice in &CHOICES {
+        let image = disk.image(choice).expect(rt, "memory for an image");
+        let disk = MemoryDisk::from_bytes(rt.alloc(), &image).expect(rt, "memory for a disk");
+        match Source::open(rt.alloc(), disk) {
+            Ok(mut source) => assert_eq!(rt; told(rt, &mut source).as_str(), want, "{choice:?}"),
+            Err((_disk, fault)) => assert_eq!(rt; fault, OpenFault::NotASource, "{choice:?}"),
+        }
+    }
+}
+
+// Two gates and a sync; a body, a page of each list and the directory; the root, a sync, its gate, a sync.
+const CALLS: u64 = 12;
+
+#[test]
+fn a_copy_is_whole_or_none(rt: HostRuntime) {
+    let mut source = filled(&rt);
+    let want = told(&rt, &mut source);
+    assert_eq!(rt;
+        want.as_str(),
+        "held: b=two; changes: Created a Created b Deleted a; published 1: a"
+    );
+    for k in 0..CALLS {
+        let mut disk = disk_of(&rt, 32768);
+        disk.stop_after(k);
+        let (disk, fault) = refused(&rt, &mut source, disk);
+        assert_eq!(rt; fault, Device, "after {k} calls");
+        images_tell(&rt, &disk, want.as_str());
+    }
+    let mut copy = copied(&rt, &mut source, disk_of(&rt, 32768));
+    assert_eq!(rt; told(&rt, &mut copy).as_str(), want.as_str());
+    let disk = copy.into_disk();
+    assert_eq!(rt; disk.calls(), CALLS + 1, "with the read of a body");
+    let mut copy = opened(&rt, disk);
+    assert_eq!(rt; told(&rt, &mut copy).as_str(), want.as_str());
+    assert_eq!(rt; told(&rt, &mut source).as_str(), want.as_str());
+}
+
+const BODY: [u8; 5633] = [7; 5633];
+
+// How many bytes a disk has, and why a source with a body of 5,633 bytes is not copied to it.
+const SMALL: [(u64, CopyFault); 3] = [(0, TooSmall), (8191, TooSmall), (8192, Full)];
+
+#[test]
+fn a_disk_is_too_small_for_a_copy(rt: HostRuntime) {
+    let mut source = made(&rt, disk_of(&rt, 16384));
+    let _answer = ask(&rt, &mut source, Put(b"a", &BODY));
+    for (size, want) in &SMALL {
+        let (disk, fault) = refused(&rt, &mut source, disk_of(&rt, *size));
+        assert_eq!(rt; fault, *want, "{size} bytes");
+        assert_eq!(rt; disk.calls(), 0);
+    }
+    let copy = copied(&rt, &mut source, disk_of(&rt, 8704));
+    assert_eq!(rt; copy.status().expect(&rt, "a status").resources, 1);
+}
+
+#[test]
+fn a_damaged_body_is_not_copied(rt: HostRuntime) {
+    let mut disk = filled(&rt).into_disk();
+    let at = 3_072;
+    disk.write(at, b"TWO").expect(&rt, "a write");
+    let mut source = opened(&rt, disk);
+    let (disk, fault) = refused(&rt, &mut source, disk_of(&rt, 32768));
+    assert_eq!(rt; fault, Damaged);
+    images_tell(&rt, &disk, "nothing");
+}
