@@ -10,6 +10,8 @@ that notes each call on a file, takes and gives only a few bytes at once where i
     the file-size limit, the command is refused;
   - each sync that fails, also that of the folder, is answered, and after it nothing more is asked of the file but to
     close it; opened again, it has the state before that command or after it;
+  - a copy only reads the old file; the new one is made as any is, takes the same bytes however few go at once, and each
+    sync that fails, of either, is answered: what is there then is no source, or the whole one;
   - a file that got the number of a closed standard stream is moved, and no message lands in it;
   - what is no regular file is refused.
 usage: check_calls.py [PROGRAM]     exit status 1 where anything differs
@@ -80,6 +82,7 @@ ssize_t pwrite64(int fd, const void *from, size_t n, off_t at) { return pwrite(f
 """
 FORMAT = ["format", "source.disk", "8192", "http://127.0.0.1:8080", "2"]
 RUN = ["run", "source.disk"]
+COPY = ["copy", "source.disk", "copy.disk", "16384"]
 SCRIPT = b"at 951782400000\nput a 616263 text/plain\nput a - text/plain\npublish\ndelete a\nstatus\nshow /changelist.xml\n"
 Call = collections.namedtuple("Call", "name fd result")
 Ran = collections.namedtuple("Ran", "status output error calls")
@@ -137,6 +140,12 @@ class Room:
 
     def clear(self):
         (self.folder / "source.disk").unlink(missing_ok=True)
+
+    def copied(self, path="copy.disk", **asked):
+        """A copy of the source to a new file, with its calls on the file of this path, and the new file's bytes."""
+        copy = self.folder / "copy.disk"
+        copy.unlink(missing_ok=True)
+        return self.run(COPY, path=path, **asked), copy.read_bytes() if copy.exists() else b""
 
     def made(self):
         """A new source, and the bytes of its file."""
@@ -238,6 +247,34 @@ def check_failed_sync(room, n, ran):
         wrong(f"run, sync {n}: opened again, {found!r} is none of {wanted}")
 
 
+def check_copy(room):
+    """A copy, with few bytes at once, and with each sync of either file failing in turn."""
+    room.made()
+    room.run(RUN, SCRIPT)
+    old, told = room.disk(), room.run(RUN, b"status\nshow /changelist.xml\n").output
+    whole, copy = room.copied()
+    before = whole.calls[: names(whole.calls).index("pwrite")]
+    in_order("copy: the new file", before, ["make", "flock", "ftruncate", "fsync", "advise"])
+    in_order("copy: its folder", room.copied(path=".")[0].calls, ["open", "fsync", "close"])
+    read = room.copied(path="source.disk")[0]
+    if {"pwrite", "ftruncate", "make"} & {*names(read.calls)} or "pread" not in names(read.calls):
+        wrong(f"copy: the old file: {' '.join(names(read.calls))}")
+    for at_once in (1, 7, 50):
+        parts, bytes_copied = room.copied(AT_ONCE=at_once)
+        if (parts.status, parts.output, bytes_copied) != (0, b"copied 16384\n", copy):
+            wrong(f"copy, {at_once} bytes at once: status {parts.status}, {parts.output!r}")
+    syncs = names(read.calls).count("fsync") + names(whole.calls).count("fsync") + 1
+    for n in range(1, syncs + 1):
+        failed, found = room.copied(FAILING_SYNC=n)
+        if (failed.status, failed.output, failed.error) != (1, b"", b"rs_source: Device\n"):
+            wrong(f"copy, sync {n}: {failed}")
+        opened = room.run(["run", "copy.disk"], b"status\nshow /changelist.xml\n") if found else None
+        if opened and (opened.status, opened.output) != (0, told) and opened.error != b"rs_source: NotASource\n":
+            wrong(f"copy, sync {n}: the new file: {opened}")
+    if room.disk() != old or syncs < 6:
+        wrong(f"copy: the old file changed, or only {syncs} syncs")
+
+
 def check_streams(room):
     for closed in [(0,), (1,), (2,), (0, 1, 2)]:
         room.clear()
@@ -265,7 +302,7 @@ def main():
         source.write_text(SHIM)
         subprocess.run(["cc", "-O1", "-shared", "-fPIC", "-o", shim, str(source)], check=True)
         room = Room(program, shim, folder)
-        for check in (check_opening, check_parts, check_syncs, check_streams, check_kinds):
+        for check in (check_opening, check_parts, check_syncs, check_copy, check_streams, check_kinds):
             check(room)
     print(f"calls of the system: {len(FAULTS) or 'nothing'} other than it is to be in {room.runs} runs")
     sys.exit(1 if FAULTS else 0)

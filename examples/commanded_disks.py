@@ -79,6 +79,16 @@ def five_published():
     return commanded(before, 1, 2, 7, pages, start=0, last=9, publication=4, at=9, first=2, begin=6)
 
 
+# A copy of the disk after the deletion, of 32 blocks: bodies in the order of their names, then the pages, none of them shared, each in
+# the lowest free run, and the directory; a root of generation 1 in the first slot, and a second slot whose gate is closed. The
+# published record of `a`, which is not held any more, has the block 0 and as many blocks as its length needs.
+def copied():
+    b, c = record_fields(b"b", LONG, 1007, 2), record_fields(b"c", b"abc", 2000, 4)
+    listed = page_fields(RECORDS, {"a": record_fields(b"a", HELLO, 1006, 0), "b": b, "c": c})
+    pages = {"held": (5, page_fields(RECORDS, {"b": b, "c": c})), "changes": (6, page_fields(CHANGES, AFTER_DELETE)), "listed": (7, listed)}
+    return commanded(bytes(32 * 512), 0, 1, 8, pages, [(2, LONG), (4, b"abc")], last=2002, publication=2, at=2001, first=1, begin=1002)
+
+
 DISKS = {
     "formatted": lambda: formatted(2, b"http://127.0.0.1:8080"),
     "after_put": after_put,
@@ -88,4 +98,5 @@ DISKS = {
     "after_all": after_all,
     "after_put_on_version_1": lambda: after_put("sound_of_version_1"),
     "five_published": five_published,
+    "copied": copied,
 }

@@ -61,13 +61,18 @@ def lines_of_rows(rows):
     return [it for it in lines if it.split(" ")[0] in ("at", "put", "delete", "publish")]
 
 
+def change_at_random(rng):
+    name, length = rng.choice(NAMES), rng.choice(LENGTHS)
+    body = bytes(rng.randrange(256) for _ in range(length)).hex() or "-"
+    return f"put {name} {body} {rng.choice(TYPES)}" if rng.random() < 0.7 else f"delete {name}"
+
+
 def lines_at_random(rng, count):
     lines = [f"at {951_782_400_000 + rng.randrange(10**9)}"]
     for _ in range(count):
-        choice, name = rng.random(), rng.choice(NAMES)
-        body = bytes(rng.randrange(256) for _ in range(rng.choice(LENGTHS))).hex() or "-"
-        line = f"put {name} {body} {rng.choice(TYPES)}" if choice < 0.6 else f"delete {name}"
-        lines.append(line if choice < 0.85 else "publish")
+        choice, changes = rng.random(), [change_at_random(rng) for _ in range(rng.choice((1, 2, 3)))]
+        group = "\n".join([f"group {len(changes)}", *changes])
+        lines.append(changes[0] if choice < 0.75 else "publish" if choice < 0.88 else group)
     return lines
 
 

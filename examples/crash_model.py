@@ -75,7 +75,9 @@ class State:
     begin: int = 0
 
     def after(self, line, now):
-        """The answer to a line, and the next state, or None where the line is refused."""
+        """The answer to a line, and the next state, or None where the line is refused. A group is one line with all of its lines."""
+        if line.startswith("group "):
+            return self.after_group(line.split("\n")[1:], now)
         words = line.split(" ", 3)
         moment = max(now, self.last + 1)
         if words[0] == "put":
@@ -104,6 +106,14 @@ class State:
         changes = self.changes + (Change("deleted", name, moment, None),)
         then = dataclasses.replace(self, last=moment, held=held, changes=changes)
         return f"deleted {moment_text(moment)}", then
+
+    def after_group(self, lines, now):
+        then = self
+        for line in lines:
+            answer, then = then.after(line, now)
+            if then is None:
+                return answer, None
+        return f"grouped {len(lines)} {moment_text(max(now, self.last + 1))}", then
 
     def dropped_parts(self):
         """How many parts the next publication drops: the full ones that end with a change not after the one before it."""

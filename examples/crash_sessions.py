@@ -20,8 +20,10 @@ TOLD = 10
 # 128 names in ascending order fill pages of 32, 32 and 64 records, and their changes two pages of 64.
 FILLING = [f"put n{i:03d} - text/plain" for i in range(128)]
 # A put that cuts a page and begins a new one of changes, a publication of four pages, a put into one of those, a delete in
-# another, and a publication that drops three parts of 40 changes: a page of them goes, and one is cut.
-PAGED = ["put n128 6e6577 text/plain", "publish", "put n040 61 text/plain", "delete n000", "publish"]
+# another, a group over three pages, whose first body is replaced by its last item, and a publication that drops three parts of 40
+# changes: a page of them goes, and one is cut.
+GROUP = "group 4\nput n041 6f6c64 text/plain\nput n100 6e6577 text/plain\ndelete n001\nput n041 6e6577 text/plain"
+PAGED = ["put n128 6e6577 text/plain", "publish", "put n040 61 text/plain", "delete n000", GROUP, "publish"]
 # What is done on a disk of version 1: its first command drops parts.
 ON_VERSION_1 = ["publish", "put a 61 text/plain", "publish"]
 # A session over a disk of these bytes: the record of its calls and answers, the states that its

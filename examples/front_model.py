@@ -12,6 +12,7 @@ from disk_judge import LAST_MOMENT, LONGEST_BODY, MOST_ITEMS, NAME, TYPE, is_law
 
 # The last number of a publication, and the last one that the first kept part of the changes may have.
 LAST_NUMBER, LAST_PART = 2**64 - 1, LAST_MOMENT
+MOST_GROUPED = 16
 RESOURCE = b"/resource/"
 NUMBER = rb"(0|[1-9][0-9]*)"
 HEADS = rb"/(?:\.well-known/resourcesync|capabilitylist\.xml|resourcelist\.xml|changelist\.xml)"
@@ -86,6 +87,19 @@ class Source:
         answer, state = self.state.after_delete(name, self.moment(now))
         self.become(state)
         return answer
+
+    def group(self, items, now):
+        """What is answered to a group of items, each a put's or a delete's name, and of a put its type and its body."""
+        if not 1 <= len(items) <= MOST_GROUPED:
+            raise Refused("BadGroup")
+        then, answers = Source(self.state, 2 * LONGEST_BODY), []
+        for name, *put in items:
+            answers.append(then.put(name, put[0], len(put[1]), put[1], now) if put else then.delete(name, now))
+        written = [it for at, it in enumerate(items) if it[1:] and it[0] not in {name for name, *_ in items[at + 1 :]}]
+        if any(len(body) > self.size // BLOCK * BLOCK for _, _, body in written):
+            raise Refused("Full")
+        self.become(then.state)
+        return f"grouped {len(items)} {answers[0].split()[1]}"
 
     def publish(self, now):
         moment = self.moment(now)

@@ -2,13 +2,14 @@
 import re
 
 from disk_judge import LAST_MOMENT
-from front_model import RESOURCE, Refused, name_of, type_of
+from front_model import MOST_GROUPED, RESOURCE, Refused, name_of, type_of
 
 LONGEST_LINE = 33_600_000
 DIGITS = re.compile(rb"[0-9]{1,15}")
+COUNT = re.compile(rb"[0-9]{1,2}")
 HEXADECIMAL = re.compile(rb"[0-9A-Fa-f]+")
 # How many fields a line has that begins with this word; the last field of a `put` is the rest of its line.
-FIELDS = {b"at": 2, b"put": 4, b"delete": 2, b"publish": 1, b"show": 2, b"status": 1, b"verify": 1}
+FIELDS = {b"at": 2, b"put": 4, b"delete": 2, b"publish": 1, b"show": 2, b"status": 1, b"verify": 1, b"group": 2}
 
 
 def lines_of(script):
@@ -36,16 +37,61 @@ def body_of(text):
     return bytes.fromhex(text.decode())
 
 
+def item_of(line):
+    """What a line of a group asks for: a name, and of a put its type and its body."""
+    if len(line) > LONGEST_LINE:
+        raise Refused("LongLine")
+    word, *fields = fields_of(line)
+    if word == b"delete":
+        return (name_of(*fields),)
+    if word != b"put":
+        raise Refused("BadLine")
+    name, body, kind = name_of(fields[0]), body_of(fields[1]), type_of(fields[2])
+    return name, kind, body
+
+
 class Judge:
     """Answers lines, one after another."""
 
     def __init__(self, source):
         self.source, self.now = source, 0
+        # How many lines a group still takes, the items so far, and the first fault of its lines.
+        self.left, self.items, self.fault = 0, [], None
 
     def answer(self, line):
-        """The answer to a line, with the line feed at its end."""
+        """The answer to a line, with the line feed at its end. A group is answered with its last line."""
+        if self.left:
+            return self.taken(line)
         try:
-            return self.accepted(line) + b"\n"
+            answer = self.accepted(line)
+            return b"" if answer is None else answer + b"\n"
+        except Refused as it:
+            return f"refused {it.word}\n".encode()
+
+    def end(self):
+        """The answer to a group that the end of the input cuts."""
+        is_cut, self.left = self.left > 0, 0
+        return b"refused BadGroup\n" if is_cut else b""
+
+    def group(self, text):
+        if not COUNT.fullmatch(text) or not 1 <= int(text) <= MOST_GROUPED:
+            raise Refused("BadGroup")
+        self.left, self.items, self.fault = int(text), [], None
+
+    def taken(self, line):
+        """The answer to a line of a group."""
+        self.left -= 1
+        try:
+            self.items.append(item_of(line))
+        except Refused as it:
+            self.fault = self.fault or it
+        return b"" if self.left else self.grouped()
+
+    def grouped(self):
+        try:
+            if self.fault:
+                raise self.fault
+            return self.source.group(self.items, self.now).encode() + b"\n"
         except Refused as it:
             return f"refused {it.word}\n".encode()
 

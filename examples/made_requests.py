@@ -63,6 +63,7 @@ TEMPLATES = [
     b"Expect: 100-continue\r\n\r\nabc",
     b"HEAD http://a/resource/a/b HTTP/1.0\r\nA:b\r\n\r\n", b"POST /publish HTTP/1.1\nHost:a\n\n",
     b"DELETE /resource/a/b HTTP/1.1\r\nHost: a\r\n\r\n", b"GET /changelist/1.xml HTTP/1.0\n\n",
+    b"POST /group HTTP/1.1\nHost:a\nContent-Length: 23\n\nput c - a/b\r\ndelete a/b",
 ]
 
 
@@ -125,6 +126,19 @@ def edges_of_fields():
     return found + [put((b"Expect", b"100-continue"), (b"Expect", b"x"))]
 
 
+def edges_of_groups():
+    """Posted groups, each with one part at its edge."""
+    lines = (b"", b"\n", b"\r\n", b"put a - a/b", b"put a - a/b\n", b"put a - a/b\r\n", b"put a - a/b\r", b"put a - a/b\n\n")
+    lines += (b"delete none", b"put a 6 a/b\nput", b"put a - a\nput a 6 a/b", b"at 5", b"publish", b"group 1\nput a - a/b")
+    lines += tuple(b"put a - a/b\n" * count for count in (16, 17, 40))
+    found = [request(b"POST", b"/group", fields=[HOST, (b"Content-Length", b"%d" % len(it))], body=it) for it in lines]
+    lengths = [(b"Content-Length", it) for it in LENGTHS]
+    found += [request(b"POST", b"/group", fields=[HOST, it], body=b"put a - a/b") for it in lengths]
+    found += [request(it, b"/group", fields=[HOST, (b"Content-Length", b"0")]) for it in METHODS]
+    kinds = [(b"Content-Type", it) for it in BAD_TYPES]
+    return found + [request(b"POST", b"/group", fields=[HOST, (b"Content-Length", b"11"), it], body=b"put a - a/b") for it in kinds]
+
+
 def edges_of_heads():
     """Heads that are too long, or that have too many fields, or a line that is none, each at its edge."""
     styles = list(itertools.product((b"GET", b"HEAD", b"PUT"), (b"\r\n", b"\n"), (True, False)))
@@ -152,7 +166,7 @@ def edges_of_first_lines():
     return found + [request(target=scheme + b"a" + it) for scheme in SCHEMES for it in paths]
 
 
-EDGES = [*edges_of_fields(), *edges_of_heads(), *edges_of_first_lines()]
+EDGES = [*edges_of_fields(), *edges_of_groups(), *edges_of_heads(), *edges_of_first_lines()]
 CHANGES = all_changes(len(TEMPLATES), [len(it) for it in TEMPLATES])
 random.Random(3).shuffle(EDGES)
 random.Random(4).shuffle(CHANGES)
@@ -182,12 +196,21 @@ class Maker:
         self.lines.number += 1
         return b"POST", b"/publish", [], b""
 
+    def group(self):
+        """The items of a group of a script, and rarely more of them than there may be."""
+        body = self.lines.group().split(b"\n", 1)[1]
+        body = b"\n".join([body] * 9) if self.rng.random() < 0.05 else body
+        body += self.rng.choice((b"\n", b"\r\n", b"", b"\n\n"))
+        fields = [(b"Content-Length", b"%d" % len(body))]
+        fields += [(b"Expect", b"100-continue")] if self.rng.random() < 0.3 else []
+        return b"POST", b"/group", fields, body
+
     def get(self):
         return self.rng.choice((b"GET", b"GET", b"GET", b"HEAD")), self.lines.show()[len(b"show ") :], [], b""
 
     def lawful(self):
         """The parts of a request that is mostly accepted."""
-        kinds = ((self.put, 35), (self.delete, 9), (self.publish, 8), (self.get, 48))
+        kinds = ((self.put, 35), (self.delete, 9), (self.group, 6), (self.publish, 8), (self.get, 42))
         method, target, fields, body = self.rng.choices([it for it, _ in kinds], [it for _, it in kinds])[0]()
         target = self.rng.choice(SCHEMES[:4]) + b"a:1" + target if self.rng.random() < 0.05 else target
         fields = [HOST, *fields, *self.rng.sample(OTHERS, self.rng.choice((0, 0, 1, 3)))]

@@ -36,6 +36,7 @@ TEMPLATES = [
     b"at 951782400000", b"put a/b%41 6a6B text/plain; a=b", b"put c - a/b", b"delete a/b%41", b"publish",
     b"status", b"verify", b"show /resourcelist.xml", b"show /resource/a/b%41", b"show /changelist/1.xml",
     b"show /resourcelist/1/0.xml", b"show /.well-known/resourcesync", b"show /capabilitylist.xml",
+    b"group 2\nput c - a/b\ndelete a/b%41",
 ]
 NONE = [
     b"", b" ", b"  ", b"\t", b"\0", b"a", b"put", b"put ", b"put a", b"put a ", b"put a -", b"put a - ",
@@ -49,8 +50,12 @@ NONE = [
     b"\xef\xbb\xbfstatus", b"refused BadLine", b"ok", b"bytes 0", b"GET / HTTP/1.1", b"PUT /resource/a HTTP/1.1",
     b"Host: a", b"%s%n", b"\x1b[A",
 ]
+COUNTS = [
+    b"", b"0", b"00", b"1", b"01", b"2", b"16", b"17", b"99", b"001", b"016", b"1x", b"-1", b"+1", b"1 ", b" 1", b"1\t", b"\xd9\xa1",
+]
 EDGES = [
     *NONE,
+    b"group", *(b"group " + it for it in COUNTS), b"groups 1", b"GROUP 1", b"group 1 1",
     *(b"at " + it for it in MOMENTS + BAD_MOMENTS),
     *(b"put %s - a/b" % it for it in NAMES + BAD_NAMES),
     *(b"put e %s a/b" % it for it in BODIES + BAD_BODIES),
@@ -85,6 +90,13 @@ class Maker:
         self.changes += 1
         return b"delete " + self.rng.choice(self.names)
 
+    def group(self):
+        """Up to five items, most of which a source accepts, and rarely a line that is none."""
+        lines = [self.put() if self.rng.random() < 0.8 else self.delete() for _ in range(self.rng.choice((1, 2, 2, 3, 5)))]
+        if self.rng.random() < 0.1:
+            lines[self.rng.randrange(len(lines))] = self.rng.choice((b"status", b"", b"put", b"publish", self.rng.choice(EDGES)))
+        return b"\n".join([b"group %d" % len(lines), *lines])
+
     def publish(self):
         self.number += 1
         return b"publish"
@@ -102,11 +114,11 @@ class Maker:
         listed = b"/resourcelist/%d/%d.xml" % (number, self.rng.randrange(5))
         paths = [*HEADS, listed, b"/changelist/%d.xml" % part, self.resource()]
         path = self.rng.choice(paths)
-        return b"show " + (path if self.rng.random() < 0.95 else re.sub(rb"/(?=[0-9])", b"/0", path))
+        return b"show " + (path if self.rng.random() < 0.85 else re.sub(rb"/(?=[0-9])", b"/0", path))
 
     def lawful(self):
         """One of the lines that are mostly accepted."""
-        counts = ((self.put, 30), (self.delete, 9), (self.publish, 8), (self.at, 5), (self.show, 40))
+        counts = ((self.put, 30), (self.delete, 9), (self.group, 5), (self.publish, 8), (self.at, 5), (self.show, 40))
         kinds = [*counts, (lambda: b"status", 5), (lambda: b"verify", 3)]
         return self.rng.choices([it for it, _ in kinds], [it for _, it in kinds])[0]()
 

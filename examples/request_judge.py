@@ -6,6 +6,7 @@ import datetime
 import email.utils
 import re
 
+import line_judge
 import request_heads
 from disk_judge import LONGEST_BODY
 from front_model import RESOURCE, Refused, is_document, name_of, type_of
@@ -33,7 +34,7 @@ REASONS = {
 }
 STATUSES = {
     431: ["HeadTooLong", "ManyFields"],
-    400: ["BadHead", "BadHost", "BadLength", "BadName", "BadType", "ShortBody"],
+    400: ["BadHead", "BadHost", "BadLength", "BadName", "BadType", "ShortBody", "BadLine", "BadHex", "BadGroup"],
     404: ["NoSuchDocument", "NotHeld"],
     405: ["BadMethod"],
     411: ["NoLength"],
@@ -114,7 +115,7 @@ class Request:
         if self.path.startswith(RESOURCE):
             name_of(self.path[len(RESOURCE) :])
             return OF_RESOURCES
-        if self.path == b"/publish":
+        if self.path in (b"/publish", b"/group"):
             return OF_PUBLISH
         if not is_document(self.path):
             raise Refused("NoSuchDocument")
@@ -145,6 +146,8 @@ class Judge:
                 raise Refused("BadMethod")
             if request.method == "PUT":
                 return self.put(request, date, now)
+            if request.path == b"/group":
+                return self.group(request, date, now)
             return response(*self.asked(request, date, now), is_head=request.method == "HEAD")
         except Refused as it:
             is_head = request is not None and request.method == "HEAD"
@@ -162,6 +165,22 @@ class Judge:
             return 204, date, "", b""
         body, kind = self.source.resource(name)
         return 200, date, kind, body
+
+    def group(self, request, date, now):
+        """The answer to a group: the word to go on comes before its body is read."""
+        length = request.length()
+        if length is None:
+            raise Refused("NoLength")
+        if length > LONGEST_BODY:
+            raise Refused("TooLong")
+        before = CONTINUE if request.waits(length) else b""
+        try:
+            if len(request.rest) < length:
+                raise Refused("ShortBody")
+            items = [line_judge.item_of(it) for it in line_judge.lines_of(request.rest[:length])]
+            return before + response(200, date, "text/plain", self.source.group(items, now).encode() + b"\n")
+        except Refused as it:
+            return before + response(STATUS_OF[it.word], date, "text/plain", f"{it.word}\n".encode())
 
     def put(self, request, date, now):
         """The answer to a PUT: the word to go on comes before the source is asked."""

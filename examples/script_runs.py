@@ -52,7 +52,8 @@ def wanted_of(made):
     """The lines of a script, and the answer to each."""
     judge = line_judge.Judge(Source(crash_model.State(made.base, made.limit), made.size))
     lines = line_judge.lines_of(made.data)
-    return lines, [judge.answer(it) for it in lines]
+    answers = [judge.answer(it) for it in lines]
+    return lines, [*answers[:-1], answers[-1] + judge.end()] if lines else []
 
 
 def faults(lines, answers, ran):

@@ -1,0 +1,115 @@
+#!/usr/bin/env python3
+"""Groups beside single puts, and a copy beside reading, hashing and writing the same bytes.
+
+  groups   16 puts of 4 KiB one by one, and a group of 16 such, in turn, on one file: medians.
+  copy     `copy` of 10,000 resources of 4 KiB to a new file, and the floor: the same bodies, pages and directory read from the old
+           file and written to a new one, body by body, with three syncs, and to it the time of their SHA-256 at the kit's rate.
+
+usage: copying.py [PROGRAM]     the built program, where none is given. ROOM in the environment is the folder for the files.
+"""
+import os
+import pathlib
+import random
+import statistics
+import subprocess
+import sys
+import tempfile
+import time
+
+import hashing
+from many import MIB, PROGRAM, Asked, timed
+
+# many.py has put the folder of these on the path.
+from disk_formats import BLOCK
+from disk_reader import source_of
+
+IN_A_GROUP, ROUNDS, COPIED, TIMES = 16, 60, 10_000, 5
+
+
+def puts(rng, names):
+    return [f"put {it} {rng.randbytes(4096).hex()} text/plain" for it in names]
+
+
+def grouped(lines):
+    return "\n".join([f"group {len(lines)}", *lines])
+
+
+def made(program, file, size):
+    subprocess.run([program, "format", file, str(size), "http://a", "1000"], check=True, capture_output=True)
+    return Asked(program, file)
+
+
+def groups(program, room):
+    rng, ours = random.Random(1), made(program, f"{room}/groups.disk", 16 * MIB)
+    names, alone, together = [f"n{i:03d}" for i in range(200)], [], []
+    for _ in range(ROUNDS):
+        lines = puts(rng, rng.sample(names, IN_A_GROUP))
+        alone.append(sum(timed(ours, it, ("created", "updated")) for it in lines))
+        together.append(timed(ours, grouped(puts(rng, rng.sample(names, IN_A_GROUP))), "grouped 16 "))
+    ours.end()
+    one, all_of_them = statistics.median(alone), statistics.median(together)
+    print(f"groups: 16 puts of 4 KiB {1000 * one:.1f} ms, a group of 16 {1000 * all_of_them:.1f} ms: {all_of_them / one:.2f} of it", flush=True)
+
+
+def filled(program, file):
+    rng, ours = random.Random(2), made(program, file, 96 * MIB)
+    for first in range(0, COPIED, IN_A_GROUP):
+        timed(ours, grouped(puts(rng, [f"n{i:05d}" for i in range(first, first + IN_A_GROUP)])), "grouped")
+    timed(ours, "publish", "published")
+    ours.end()
+
+
+def parts_of(file):
+    """Where each body, page and directory of a file lies, in bytes."""
+    source = source_of(pathlib.Path(file).read_bytes())
+    records = [record for page in source.catalogue for record in page.items]
+    pages = [it.entry for part in (source.catalogue, source.changes, source.published) for it in part]
+    return [(it.first * BLOCK, it.length) for it in [*records, *pages, source.directory]]
+
+
+def floor(file, to, parts):
+    """The seconds of the calls of a copy."""
+    pathlib.Path(to).unlink(missing_ok=True)
+    began = time.perf_counter()
+    old, new = os.open(file, os.O_RDONLY), os.open(to, os.O_RDWR | os.O_CREAT, 0o600)
+    os.ftruncate(new, os.stat(file).st_size)
+    os.fsync(new)
+    for at, length in parts:
+        os.pwrite(new, os.pread(old, length, at), at)
+    os.fsync(new)
+    os.pwrite(new, b"\1", 0)
+    os.fsync(new)
+    os.close(old)
+    os.close(new)
+    return time.perf_counter() - began
+
+
+def copied(program, file, to):
+    pathlib.Path(to).unlink(missing_ok=True)
+    began = time.perf_counter()
+    subprocess.run([program, "copy", file, to, str(96 * MIB)], check=True, capture_output=True)
+    return time.perf_counter() - began
+
+
+def copies(program, room, rate):
+    file = f"{room}/old.disk"
+    filled(program, file)
+    parts = parts_of(file)
+    digests = sum(length for _, length in parts) * rate
+    rows = [(copied(program, file, f"{room}/copy.disk"), floor(file, f"{room}/floor.disk", parts)) for _ in range(TIMES)]
+    took, calls = (statistics.median(it) for it in zip(*rows))
+    print(f"copy: 10,000 of 4 KiB {1000 * took:.0f} ms; the floor {1000 * (calls + digests):.0f} ms (calls {1000 * calls:.0f}, "
+          f"SHA-256 {1000 * digests:.0f}): {(calls + digests) / took:.2f} of its rate")
+
+
+def main():
+    program = os.path.abspath(sys.argv[1] if len(sys.argv) > 1 else PROGRAM)
+    _, _, alone = (it / (16 * MIB) for it in hashing.seconds())
+    with tempfile.TemporaryDirectory(dir=os.environ.get("ROOM")) as room:
+        groups(program, room)
+        copies(program, room, alone)
+    return 0
+
+
+if __name__ == "__main__":
+    sys.exit(main())
