@@ -105,6 +105,7 @@ fn a_disk_is_too_small_for_a_copy(rt: HostRuntime) {
 fn a_damaged_body_is_not_copied(rt: HostRuntime) {
     let mut disk = filled(&rt).into_disk();
     let at = 3_072;
+    assert!(&rt; at + 3 <= disk.size());
     disk.write(at, b"TWO").expect(&rt, "a write");
     let mut source = opened(&rt, disk);
     let (disk, fault) = refused(&rt, &mut source, disk_of(&rt, 32768));
