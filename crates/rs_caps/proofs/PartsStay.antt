@@ -13,7 +13,7 @@ use Rattle.rs_model.specs.Lawful.{IsLawful, IsLawfulTimed}
 use Rattle.rs_model.specs.Names.{Names}
 use Rattle.rs_model.specs.State.{Source}
 use Rattle.rs_model.specs.Step.{fold_of}
-use Rattle.rs_model.specs.Kept.{KeepsChanges}
+use Rattle.rs_model.specs.LaterChanges.{KeepsChanges}
 use Rattle.rs_model.specs.Laws.{FoldIsLawful, ChangesAreKept}
 use Rattle.rs_lists.specs.declared.doc.Doc.TheVariants.{ResourcePart, ChangePart}
 use Rattle.rs_lists.specs.Chunks.{part_at}

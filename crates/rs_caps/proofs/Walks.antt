@@ -6,7 +6,7 @@ use Rattle.std.proofs.Math.Seq.{take-append_seam}
 use Rattle.rs_record.specs.declared.record.Record.{Record}
 use Rattle.rs_record.specs.declared.change.Change.{Change}
 use Rattle.rs_model.specs.declared.event.Event.{Event}
-use Rattle.rs_model.specs.Kept.{KeepsChanges}
+use Rattle.rs_model.specs.LaterChanges.{KeepsChanges}
 use Rattle.rs_model.specs.Lawful.{IsLawful}
 use Rattle.rs_model.specs.State.{Source, start_of}
 use Rattle.rs_model.specs.Step.{fold_of}

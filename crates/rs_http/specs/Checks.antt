@@ -100,24 +100,24 @@ field_causes p =
     ∷ (is_bad_length (values_of (codes "content-length") p.fields), BadLength) ∷ []
 
 -- Those of a PUT alone, in their order: no length, an unlawful type or a second one, and too long a body.
-abbrev pub put_causes : Option ℕ → List (List ℕ) → Causes
-put_causes stated kinds = (is_none stated, NoLength) ∷ (is_bad_type kinds, BadType) ∷ (is_too_long stated, TooLong) ∷ []
+abbrev pub put_head_causes : Option ℕ → List (List ℕ) → Causes
+put_head_causes stated kinds = (is_none stated, NoLength) ∷ (is_bad_type kinds, BadType) ∷ (is_too_long stated, TooLong) ∷ []
 
-abbrev pub put_causes_in : Parts → Causes
-put_causes_in p = put_causes (stated_in p) (values_of (codes "content-type") p.fields)
+abbrev pub put_head_causes_in : Parts → Causes
+put_head_causes_in p = put_head_causes (stated_in p) (values_of (codes "content-type") p.fields)
 
 -- Those of a group, in their order: no length, and too long a body.
-abbrev pub group_causes : Option ℕ → Causes
-group_causes stated = (is_none stated, NoLength) ∷ (is_too_long stated, TooLong) ∷ []
+abbrev pub group_head_causes : Option ℕ → Causes
+group_head_causes stated = (is_none stated, NoLength) ∷ (is_too_long stated, TooLong) ∷ []
 
 -- Those that lie in what the target names and in the method; and then those of a PUT, which resources alone allow, and of a group.
 abbrev pub place_causes : Place → Parts → Causes
 place_causes (Resource name) p =
-    (not (is_get p.method || is_put p.method || is_delete p.method), BadMethod OfResources) ∷ (if is_put p.method then put_causes_in p else [])
+    (not (is_get p.method || is_put p.method || is_delete p.method), BadMethod OfResources) ∷ (if is_put p.method then put_head_causes_in p else [])
 place_causes Unlawful p = (true, BadName) ∷ []
 place_causes (Document doc) p = (not (is_get p.method), BadMethod OfDocuments) ∷ []
 place_causes Publishing p = (not (is_post p.method), BadMethod OfPosts) ∷ []
-place_causes Grouping p = (not (is_post p.method), BadMethod OfPosts) ∷ group_causes (stated_in p)
+place_causes Grouping p = (not (is_post p.method), BadMethod OfPosts) ∷ group_head_causes (stated_in p)
 place_causes Nowhere p = (true, NoSuchDocument) ∷ []
 
 -- all of them

@@ -4,7 +4,7 @@ ghost use Rattle.std.specs.Prelude.{◌≡◌, ◌≤◌, ◌∷◌, [], ℕ, Li
 ghost use Rattle.httparse.specs.Grammar.{HasNoRequest};
 ghost use Rattle.httparse.specs.Spans.{IsHeaderWithin, IsWithin, IsRequestWithin, IsRequestOf, header_bytes};
 ghost use Rattle.rs_http.specs.Fields.{LoneIs, values_of, head_parts_at};
-ghost use Rattle.rs_http.specs.Checks.{is_get as gets, is_post as posts, stated_in, put_causes, put_plan as plan_of_put, group_causes, group_plan as plan_of_group, place_causes, causes_of, plan_at as plan_there, place_in};
+ghost use Rattle.rs_http.specs.Checks.{is_get as gets, is_post as posts, stated_in, put_head_causes, put_plan as plan_of_put, group_head_causes, group_plan as plan_of_group, place_causes, causes_of, plan_at as plan_there, place_in};
 ghost use Rattle.rs_http.specs.Requests.{TypeIs, IsPlanFor, AsksFor, Asks, refused_for};
 
 use crate::checks::{check_fields, expects_word};
@@ -52,7 +52,7 @@ fn put_plan(
     requires { All (IsHeaderWithin (length head.now)) headers.now }
     ensures { let kinds = values_of (codes "content-type")
         (map (header_bytes head.now) headers.now) in
-        IsPlanFor (put_causes stated kinds)
+        IsPlanFor (put_head_causes stated kinds)
         (Some (plan_of_put name kinds (unwrap_or stated 0) expects)) result }
 {
     let Some(length) = stated else {
@@ -72,7 +72,7 @@ fn put_plan(
 
 // The plan of a group, with the length that the fields state.
 fn group_plan(stated: Option<u64>, expects: bool) -> Result<Plan, NoPlan>
-    ensures { IsPlanFor (group_causes stated)
+    ensures { IsPlanFor (group_head_causes stated)
         (Some (plan_of_group (unwrap_or stated 0) expects)) result }
 {
     let Some(length) = stated else {

@@ -16,7 +16,7 @@ use Rattle.rs_model.specs.Names.{by_bytes, value_of, bind, unbind, is_ordered}
 use Rattle.rs_record.specs.Limits.{longest_body}
 use Rattle.rs_model.specs.State.{Source, most_resources}
 use Rattle.rs_model.specs.Step.{first_cause, is_held, item_causes, items_causes, is_bad_group, refusal_of, moment_at, after_item, after_items}
-use Rattle.rs_model.specs.Grouping.{name_of, is_put, held_after, change_refusal_by, item_refusal_by, resources_after, counts_after_item, IsBefore}
+use Rattle.rs_model.specs.Grouping.{name_of, leaves_held, held_after, change_refusal_by, item_refusal_by, resources_after, counts_after_item, IsBefore}
 use Rattle.rs_model.proofs.MapLemmas.{same_name, is_equal, itself, value-bind, other-bind, value-unbind, other-unbind}
 use Rattle.rs_model.proofs.OrderLemmas.{ordered-bind, ordered-unbind}
 use Rattle.rs_model.proofs.RoomLemmas.{length-bind, length-unbound}
@@ -54,7 +54,7 @@ delete_holds true s name other e o =
 delete_holds false s name other e o = ap is_some (other-unbind name other s.held (differ other name e) o)
 
 item_holds : (s : Source) (item : Item) (t : ℕ) (name : List ℕ) → IsTrue (is_ordered s.held)
-    → is_held (after_item s item t) name ≡ cond (is_eq (by_bytes name (name_of item))) (is_put item) (is_held s name)
+    → is_held (after_item s item t) name ≡ cond (is_eq (by_bytes name (name_of item))) (leaves_held item) (is_held s name)
 item_holds s (single.Put other kind bytes) t name o = put_holds (is_eq (by_bytes name other)) s other name _ refl
 item_holds s (single.Delete other) t name o = delete_holds (is_eq (by_bytes name other)) s other name refl o
 

@@ -2,7 +2,7 @@ pub mod DropLemmas
 pub mod ItemLemmas
 pub mod GroupLemmas
 pub mod DecidedLemmas
-pub mod KeptLemmas
+pub mod LaterChangesLemmas
 pub mod MirrorLemmas
 pub mod RegularLemmas
 pub mod Places

@@ -16,7 +16,7 @@ use Rattle.rs_model.specs.declared.command.Reply.{Reply}
 use Rattle.rs_model.specs.declared.event.Event.{Event}
 use Rattle.rs_model.specs.declared.event.Event.TheVariants.{Tried, Refused, Stopped, Idle, Fetch}
 use Rattle.rs_model.specs.declared.value.Entry.{Entry}
-use Rattle.rs_model.specs.Kept.{gone_between, KeepsChanges}
+use Rattle.rs_model.specs.LaterChanges.{gone_between, KeepsChanges}
 use Rattle.rs_model.specs.Names.{Names, bind, unbind}
 use Rattle.rs_model.specs.State.{Source, start_of, facts_of, entries}
 use Rattle.rs_model.specs.Step.{step, state_after, next_state, accepted_unless, refusal_of, reply_to, moment_at, after_item, after_items, mirror_of, mirror_step, applied, put_change}
@@ -24,7 +24,7 @@ use Rattle.rs_model.specs.Regular.{rises_from, IsAfter, IsChangeUpTo}
 use Rattle.rs_model.specs.Walk.{after_event, walk_of, state_at, recorded_by, recorded, count_at, catalogue}
 use Rattle.rs_model.proofs.DropLemmas.{all_taken, all_after, up_to_last}
 use Rattle.rs_model.proofs.ItemLemmas.{change_of, item_changes, item_last, change_moment, AppendTo, items_append}
-use Rattle.rs_model.proofs.KeptLemmas.{none_published}
+use Rattle.rs_model.proofs.LaterChangesLemmas.{none_published}
 use Rattle.rs_model.proofs.LawfulLemmas.{all_appended}
 use Rattle.rs_model.proofs.MirrorLemmas.{rises-append, mirror-append, mirror_before, entries-bind, entries-unbind}
 use Rattle.rs_model.proofs.RegularLemmas.{changes_later}

@@ -9,10 +9,10 @@ use Rattle.rs_model.specs.declared.event.Event.{Event}
 use Rattle.rs_model.specs.declared.event.Event.TheVariants.{Tried, Refused, Stopped, Idle, Fetch}
 use Rattle.rs_model.specs.State.{Source}
 use Rattle.rs_model.specs.Step.{fold_of}
-use Rattle.rs_model.specs.Kept.{KeepsChanges}
+use Rattle.rs_model.specs.LaterChanges.{KeepsChanges}
 use Rattle.rs_model.specs.Lawful.{IsLawful, IsLawfulTimed}
 use Rattle.rs_model.specs.Walk.{after_event, walk_of, state_at, done_by, commands_of, IsLawfulEvent, recorded_by, recorded, count_at, IsPassed}
-use Rattle.rs_model.proofs.KeptLemmas.{IsNext, itself, joined, none_more, step_more}
+use Rattle.rs_model.proofs.LaterChangesLemmas.{IsNext, itself, joined, none_more, step_more}
 use Rattle.rs_model.proofs.LawfulLemmas.{fold_lawful}
 
 pub walk-append : (s : Source) (a b : List Event) → walk_of s (a ++ b) ≡ walk_of (walk_of s a) b

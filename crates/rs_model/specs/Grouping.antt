@@ -26,15 +26,15 @@ pub record IsBefore (s : Source) (items : List Item) (held : List Bool) (counts 
   pub changes : counts.changes ≡ length s.changes
   pub last : counts.last ≡ s.last
 
--- it is a put
-abbrev pub is_put : Item → Bool
-is_put (single.Put name kind bytes) = true
-is_put (single.Delete name) = false
+-- its name is held after it
+abbrev pub leaves_held : Item → Bool
+leaves_held (single.Put name kind bytes) = true
+leaves_held (single.Delete name) = false
 
 -- whether a name is held after these items, if it is so or not before them: as the last of them that has the name leaves it
 abbrev pub held_after : List Item → Bool → List ℕ → Bool
 held_after [] held name = held
-held_after (item ∷ items) held name = held_after items (if is_eq (by_bytes name (name_of item)) then is_put item else held) name
+held_after (item ∷ items) held name = held_after items (if is_eq (by_bytes name (name_of item)) then leaves_held item else held) name
 
 -- why a change is refused that the resources allow, by what is known
 abbrev pub change_refusal_by : Counts → Option Refusal

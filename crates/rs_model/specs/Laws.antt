@@ -6,7 +6,7 @@ use Rattle.rs_record.specs.Base.{is_base}
 use Rattle.rs_record.specs.declared.change.Change.{Change}
 use Rattle.rs_model.specs.State.{Source, start_of}
 use Rattle.rs_model.specs.Step.{step, state_after, fold_of, mirror_of, is_out_of_parts, is_bad_group, refusal_of, moment_at, after_items}
-use Rattle.rs_model.specs.Kept.{KeepsChanges}
+use Rattle.rs_model.specs.LaterChanges.{KeepsChanges}
 use Rattle.rs_model.specs.Regular.{IsRegular, IsTimely}
 use Rattle.rs_model.specs.Lawful.{IsLawful, IsLawfulCommand, IsLawfulTimed}
 use Rattle.rs_model.specs.Names.{Names, value_of, bind, unbind, is_ordered}

@@ -6,7 +6,7 @@ pub mod StateFields
 pub mod Step
 pub mod Grouping
 pub mod Regular
-pub mod Kept
+pub mod LaterChanges
 pub mod Laws
 pub mod Walk
 pub mod WalkLaws

@@ -4,7 +4,7 @@ use Rattle.std.specs.List.{AllByRecursion}
 use Rattle.rs_model.specs.declared.event.Event.{Event}
 use Rattle.rs_model.specs.State.{Source, start_of, entries}
 use Rattle.rs_model.specs.Step.{fold_of, mirror_of}
-use Rattle.rs_model.specs.Kept.{KeepsChanges}
+use Rattle.rs_model.specs.LaterChanges.{KeepsChanges}
 use Rattle.rs_model.specs.Lawful.{IsLawful}
 use Rattle.rs_model.specs.Walk.{walk_of, state_at, commands_of, IsLawfulEvent, recorded, count_at, catalogue, IsPassed}
 

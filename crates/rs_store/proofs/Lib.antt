@@ -11,7 +11,7 @@ pub mod Turns
 pub mod Moments
 pub mod Replies
 pub mod Early
-pub mod Kept
+pub mod UsedBlocks
 pub mod Finished
 pub mod Begun
 pub mod Damaged

@@ -1,4 +1,4 @@
-use Rattle.rs_model.proofs.KeptLemmas.{fold_keeps}
+use Rattle.rs_model.proofs.LaterChangesLemmas.{fold_keeps}
 use Rattle.rs_model.proofs.laws.changes_are_kept.Goals as goal
 
 pub returns : goal.returns

@@ -19,7 +19,7 @@ use Rattle.rs_plan.specs.Plans.{places, once_stored, planned_root, planned_listi
 use Rattle.rs_plan.specs.declared.plan.Plan.{Plan}
 use Rattle.rs_store.specs.Writing.{IsDigestOf, IsPlanOfSome}
 use Rattle.rs_store.proofs.Finished.{Promised, stopped_behind, broken_behind, not_committed_behind, committed_behind}
-use Rattle.rs_store.proofs.Kept.{taken_places, can_take, can_give, used_next, sound_next}
+use Rattle.rs_store.proofs.UsedBlocks.{taken_places, can_take, can_give, used_next, sound_next}
 use Rattle.rs_store.proofs.source.Source.finish.Goals as goal
 
 same_root : (r : Root) (p : Plan) (directory : Extent) (w : Written) → directory ≡ p.directory → IsDigestOf (once_stored p.contents) w

@@ -10,7 +10,7 @@ use Rattle.rs_model.specs.declared.command.Item.{Item}
 use Rattle.rs_model.specs.declared.command.Item.TheVariants as single
 use Rattle.rs_model.specs.declared.command.Refusal.{Refusal}
 use Rattle.rs_model.specs.declared.command.Reply.{Reply}
-use Rattle.rs_model.specs.Kept.{gone_between, KeepsChanges}
+use Rattle.rs_model.specs.LaterChanges.{gone_between, KeepsChanges}
 use Rattle.rs_model.specs.State.{Source}
 use Rattle.rs_model.specs.Step.{step, state_after, fold_of, next_state, accepted_unless, refusal_of, reply_to, moment_at, after_items, dropped_parts, dropped_changes}
 use Rattle.rs_model.proofs.DropLemmas.{last_joined, dropped_within}
