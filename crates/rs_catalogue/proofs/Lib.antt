@@ -1,4 +1,4 @@
 pub mod Shown
-pub mod Held
+pub mod BoundRecords
 pub mod Joined
-pub mod Kept
+pub mod MovedPages

@@ -19,7 +19,7 @@ use rs_fixity::Digests;
 use rs_page::PageRef;
 use rs_pages::Pages;
 use rs_pages::laws::{items_are_filled_as_one, one_page_is_touched, pages_are_one_map};
-use rs_record::{Name, Record, duplicate_all};
+use rs_record::{Name, Record};
 use std::alloc::{AllocError, Global};
 use std::marker::Model;
 
@@ -66,7 +66,6 @@ impl Catalogue {
         ensures unplaced { IfOk result (λ made. placed_extents made ≡ []) }
         ensures unstored { IfOk result (λ made. stored_refs made ≡ []) }
     {
-        let records = duplicate_all(alloc, records)?;
         let pages = Pages::of_items(alloc, records)?;
         Ok(Catalogue { pages })
     }

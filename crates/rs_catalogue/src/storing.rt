@@ -8,8 +8,8 @@ ghost use Rattle.rs_record.specs.declared.record.Record.{Record};
 ghost use Rattle.rs_page.specs.Items.{record_format};
 ghost use Rattle.rs_page.specs.Placing.{Places, HasNoPlace};
 ghost use Rattle.rs_page.specs.DiskPages.{IsWritten, Stands};
-ghost use Rattle.rs_page.specs.Pages.{IsStored, IsTouched, placed_extents, stored, stored_refs};
-ghost use Rattle.rs_pages.specs.Storing.{StaysOrIsStored, WritesPages, ReadsPages, unshared};
+ghost use Rattle.rs_page.specs.Pages.{IsTouched, placed_extents, stored, stored_refs};
+ghost use Rattle.rs_pages.specs.Storing.{StaysOrIsStored, AreStoredAt, WritesPages, ReadsPages, unshared};
 ghost use Rattle.rs_catalogue.specs.Catalogue.{records_of, StandsUnstored, HoldsCatalogue};
 
 use crate::Catalogue;
@@ -105,8 +105,7 @@ impl Catalogue {
         disk: &mut D,
         pages: &[PageRef],
     ) -> Result<Catalogue, LoadFault>
-        ensures pages { IfOk result (λ loaded. stored_refs loaded ≡ pages.now) }
-        ensures stored { IfOk result (All IsStored) }
+        ensures pages { IfOk result (AreStoredAt pages.now) }
 
         // What the disk holds is said of a device that has followed the model.
         ensures found { IfOk result (λ loaded. IsTrue (D.state disk.new).honest
@@ -145,8 +144,7 @@ impl Catalogue {
         pages: &[PageRef],
         beside: &Catalogue,
     ) -> Result<Catalogue, LoadFault>
-        ensures pages { IfOk result (λ loaded. stored_refs loaded ≡ pages.now) }
-        ensures stored { IfOk result (All IsStored) }
+        ensures pages { IfOk result (AreStoredAt pages.now) }
 
         // What the disk holds is said of a device that has followed the model, on which the pages of
         // the catalogue that is held stand.

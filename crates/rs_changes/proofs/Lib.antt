@@ -1,5 +1,5 @@
 pub mod Rising
 pub mod Filled
 pub mod Joined
-pub mod Kept
+pub mod MovedPages
 pub mod Passed

@@ -1,5 +1,5 @@
 -- A history: changes in the order of their moments, in pages.
-use Rattle.std.specs.Prelude.{◌≤◌, ◌+◌, ◌-◌, ◌*◌, ℕ, min, IsTrue, List, length, flat_map, slice_get, All, Option}
+use Rattle.std.specs.Prelude.{◌≡◌, ◌≤◌, ◌+◌, ◌-◌, ◌*◌, ℕ, min, IsTrue, List, length, flat_map, slice_get, All, Option}
 use Rattle.rs_record.specs.declared.change.Change.{Change}
 use Rattle.rs_model.specs.State.{most_changes}
 use Rattle.rs_model.specs.Regular.{is_rising}
@@ -46,6 +46,11 @@ with_pages h pages = record h { pages = pages }
 -- the history without its first parts: so many, of so many changes each
 abbrev pub without_parts : ℕ → ℕ → Numbered → Numbered
 without_parts count limit h = record { first = h.first + count; pages = dropped_front (count * limit) h.pages }
+
+-- Two histories have the same changes and the same number of the first part, wherever their pages stand.
+pub record HaveSameChanges (h other : Numbered) : Type 0 where
+  pub changes : changes_of h.pages ≡ changes_of other.pages
+  pub first : h.first ≡ other.first
 
 -- the last change stands in a page that is not on the disk
 abbrev pub EndsUnstored : List (Page Change) → Type 0

@@ -10,7 +10,7 @@ ghost use Rattle.rs_page.specs.Pages.{placed_extents, stored_refs};
 ghost use Rattle.rs_page.specs.SharedPages.{KeepsPages};
 ghost use Rattle.rs_pages.specs.Rule.{appended_to};
 ghost use Rattle.rs_pages.specs.Entries.{open_entry};
-ghost use Rattle.rs_pages.specs.Dropped.{dropped_front, front_pages, full_pages, TouchesFew};
+ghost use Rattle.rs_pages.specs.Dropped.{front_pages, full_pages, TouchesFew};
 ghost use Rattle.rs_changes.specs.Filled.{history_filled};
 ghost use Rattle.rs_changes.specs.History.{Numbered, AreKept, with_pages, without_parts, changes_of, last_of, IsHistory, EndsUnstored, part_start, part_end};
 
@@ -18,7 +18,7 @@ use rs_fixity::Digests;
 use rs_page::PageRef;
 use rs_pages::Pages;
 use rs_pages::laws::{first_items_are_dropped_as_one, last_items_are_filled, pages_are_one_list};
-use rs_record::{Change, duplicate_all};
+use rs_record::Change;
 use rs_time::Moment;
 use std::alloc::{AllocError, Global};
 use std::marker::Model;
@@ -75,7 +75,6 @@ impl History {
         ensures unplaced { IfOk result (λ made. placed_extents made.pages ≡ []) }
         ensures unstored { IfOk result (λ made. stored_refs made.pages ≡ []) }
     {
-        let changes = duplicate_all(alloc, changes)?;
         let pages = Pages::of_items(alloc, changes)?;
         Ok(History { first, pages })
     }

@@ -8,11 +8,11 @@ ghost use Rattle.rs_record.specs.declared.change.Change.{Change};
 ghost use Rattle.rs_page.specs.Items.{change_format};
 ghost use Rattle.rs_page.specs.Placing.{Places, HasNoPlace};
 ghost use Rattle.rs_page.specs.DiskPages.{IsWritten};
-ghost use Rattle.rs_page.specs.Pages.{IsStored, IsTouched, items_of, placed_extents, stored, stored_refs};
-ghost use Rattle.rs_pages.specs.Storing.{StaysOrIsStored, WritesPages, ReadsPages};
+ghost use Rattle.rs_page.specs.Pages.{IsTouched, items_of, placed_extents, stored};
+ghost use Rattle.rs_pages.specs.Storing.{StaysOrIsStored, AreStoredAt, WritesPages, ReadsPages};
 ghost use Rattle.rs_time.specs.Moment.{greatest};
 ghost use Rattle.rs_model.specs.Regular.{is_rising as rising};
-ghost use Rattle.rs_changes.specs.History.{with_pages, changes_of, EndsUnstored, HoldsHistory};
+ghost use Rattle.rs_changes.specs.History.{with_pages, HaveSameChanges, EndsUnstored, HoldsHistory};
 
 use crate::History;
 use rs_disk::Disk;
@@ -40,8 +40,7 @@ impl History {
         ensures full { OnErr result (HasNoPlace change_format used.old self.old.pages) }
         ensures used { OnErr result (used.new ≡ used.old) }
         ensures unchanged { OnErr result (self.new ≡ self.old) }
-        ensures changes { changes_of self.new.pages ≡ changes_of self.old.pages }
-        ensures first { self.new.first ≡ self.old.first }
+        ensures changes { HaveSameChanges self.new self.old }
     {
         self.pages.place_touched(used)
     }
@@ -81,11 +80,10 @@ impl History {
             (self.new ≡ with_pages self.old (stored change_format self.old.pages)) }
         ensures reads { OnOk result
             (All (IsWritten change_format (D.state disk.new).now.seen) self.old.pages) }
-        ensures changes { OnErr result (changes_of self.new.pages ≡ changes_of self.old.pages) }
+        ensures changes { OnErr result (HaveSameChanges self.new self.old) }
         ensures places { OnErr result
             (AllZip (StaysOrIsStored change_format (D.state disk.new).now.seen)
             self.old.pages self.new.pages) }
-        ensures first { OnErr result (self.new.first ≡ self.old.first) }
         ensures device { TellsFaults (IsErrOf result StoreFault.Device)
             (D.state disk.old) (D.state disk.new) }
         ensures writes { WritesPages self.old.pages (D.state disk.old) (D.state disk.new) }
@@ -114,8 +112,7 @@ impl History {
     ) -> Result<History, LoadFault>
         requires { first ≤ greatest }
         ensures first { IfOk result (λ loaded. loaded.first ≡ first) }
-        ensures pages { IfOk result (λ loaded. stored_refs loaded.pages ≡ pages.now) }
-        ensures stored { IfOk result (λ loaded. All IsStored loaded.pages) }
+        ensures pages { IfOk result (λ loaded. AreStoredAt pages.now loaded.pages) }
 
         // What the disk holds is said of a device that has followed the model.
         ensures found { IfOk result (λ loaded. IsTrue (D.state disk.new).honest

@@ -9,3 +9,4 @@ pub mod Once
 pub mod Frame
 pub mod Found
 pub mod Standing
+pub mod ListsRead

@@ -78,6 +78,16 @@ pub record ReadsBehind (root : Root) (old new : DiskState) : Type 0 where
   pub once : old.calls + 1 < new.calls → (d : Directory) × ((digests (spelled root.version d)).sha256 ≡ root.sha256) × (new.calls ≤ old.calls + 1 + pages_read d)
   pub placed : old.calls + 1 < new.calls → IsTrue new.honest → NamesPlaced new.size root new.now.seen
 
+-- What reading the lists of a directory leaves, whatever it answers.
+-- `rests`: nothing changes but what the disk counts.
+-- `once`: each page that the directory names costs one call at most.
+-- `placed`: no page is read unless all of them are placed, and otherwise the disk is left alone.
+pub record ReadsLists (d : Directory) (old new : DiskState) : Type 0 where
+  pub rests : Rests old new
+  pub once : new.calls ≤ old.calls + pages_read d
+  pub placed : old.calls < new.calls → ArePlaced new.size d
+  pub unplaced : ¬ ArePlaced new.size d → new ≡ old
+
 -- What the pages of a directory hold in an image: these records, changes and published records, page for page.
 pub record Hold (d : Directory) (image : List ℕ) (records : List (List Record)) (moves : List (List Change)) (listed : List (List Record)) : Type 0 where
   pub catalogue : HoldsCatalogue d.catalogue.items image records

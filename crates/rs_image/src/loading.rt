@@ -13,7 +13,7 @@ ghost use Rattle.rs_image.specs.declared.contents.Contents.{Contents};
 ghost use Rattle.rs_image.specs.Reach.{blocks_of_disk};
 ghost use Rattle.rs_image.specs.StateOfImage.{Tells, state_in};
 ghost use Rattle.rs_image.specs.Rooted.{MemoryIsSound, rooted};
-ghost use Rattle.rs_image.specs.Loading.{IsPlaced, IsDirectoryPlaced, IsPagePlaced, ArePlaced, ReadsBehind, spelled, pages_read, IsLawfulDirectory, AreOf, Hold};
+ghost use Rattle.rs_image.specs.Loading.{IsPlaced, IsDirectoryPlaced, IsPagePlaced, ArePlaced, ReadsBehind, ReadsLists, spelled, IsLawfulDirectory, AreOf, Hold};
 
 use crate::used::block_count;
 use crate::whole::{has_first_part, whole_set};
@@ -44,7 +44,8 @@ use std::alloc::Global;
 /// - [`LoadFault::NoMemory`] where the memory is refused.
 pub fn load<D: Disk>(alloc: Global, disk: &mut D, root: &Root) -> Result<Loaded, LoadFault>
     ensures sound { IfOk result
-        (λ found. MemoryIsSound (rooted (D.state disk.new).size root.now found.contents) found.used) }
+        (λ found. MemoryIsSound (rooted (D.state disk.new).size root.now found.contents)
+        found.used) }
 
     // What the disk holds is said of a device that has followed the model.
     ensures told { IfOk result (λ found. IsTrue (D.state disk.new).honest
@@ -158,14 +159,9 @@ fn load_lists<D: Disk>(
         → ¬ Hold directory (D.state disk.new).now.seen catalogue changes published }
     ensures device { TellsFaults (IsErrOf result LoadFault.Device)
         (D.state disk.old) (D.state disk.new) }
-    ensures no_memory { IsErrOf result LoadFault.NoMemory
+    ensures placed { ¬ IsErrOf result LoadFault.Damaged
         → ArePlaced (D.state disk.new).size directory }
-    ensures read { (D.state disk.old).calls < (D.state disk.new).calls
-        → ArePlaced (D.state disk.new).size directory }
-    ensures unplaced { ¬ ArePlaced (D.state disk.new).size directory
-        → IsErrOf result LoadFault.Damaged × (D.state disk.new ≡ D.state disk.old) }
-    ensures once { (D.state disk.new).calls ≤ (D.state disk.old).calls + pages_read directory }
-    ensures rests { Rests (D.state disk.old) (D.state disk.new) }
+    ensures reads { ReadsLists directory (D.state disk.old) (D.state disk.new) }
 {
     let size = disk.size();
     let all_placed = are_placed(&directory.catalogue, size)

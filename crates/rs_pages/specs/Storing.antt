@@ -1,5 +1,5 @@
 -- What reading and writing pages leaves.
-use Rattle.std.specs.Prelude.{◌≡◌, ◌≤◌, ◌+◌, ◌⊎◌, ℕ, Bool, not, List, length, filter, flat_map}
+use Rattle.std.specs.Prelude.{◌≡◌, ◌≤◌, ◌+◌, ◌⊎◌, ℕ, Bool, not, List, length, filter, flat_map, All}
 use Rattle.std.specs.List.{list_any}
 use Rattle.rs_disk.specs.Medium.{DiskState}
 use Rattle.rs_disk.specs.Leaves.{Advances, Rests}
@@ -8,7 +8,7 @@ use Rattle.rs_body.specs.Outside.{WritesOutside}
 use Rattle.rs_record.specs.Limits.{most_items}
 use Rattle.rs_page.specs.declared.place.PageRef.{PageRef}
 use Rattle.rs_page.specs.Format.{ItemFormat}
-use Rattle.rs_page.specs.Pages.{Page, same_page, placed_extents, page_stored}
+use Rattle.rs_page.specs.Pages.{Page, IsStored, items_of, same_page, placed_extents, page_stored, stored_refs}
 use Rattle.rs_page.specs.DiskPages.{IsWritten, ArePages}
 
 -- a page is as it was, or it is written and stored
@@ -26,6 +26,12 @@ pub record WritesPages {T : Type 0} (pages : List (Page T)) (old new : DiskState
 pub record ReadsPages (refs : List PageRef) (old new : DiskState) : Type 0 where
   pub rests : Rests old new
   pub one_each : new.calls ≤ old.calls + length refs
+
+-- These pages are on the disk, one for each of these references, which tells where it stands, and they have no more than 50,000 items.
+pub record AreStoredAt {T : Type 0} (refs : List PageRef) (pages : List (Page T)) : Type 0 where
+  pub named : stored_refs pages ≡ refs
+  pub stored : All IsStored pages
+  pub room : length (items_of pages) ≤ most_items
 
 -- the references to pages that are none of these
 abbrev pub unshared : List PageRef → List PageRef → List PageRef

@@ -1,14 +1,13 @@
 //! Pages that are read beside a list that is held.
-ghost use Rattle.std.specs.Prelude.{◌≡◌, ◌≤◌, List, [], ◌∷◌, false, length, map, All, Some, IfOk, IfSome, IsNone, IsErrOf, IsTrue};
+ghost use Rattle.std.specs.Prelude.{◌≡◌, List, [], ◌∷◌, false, map, All, Some, IfOk, IfSome, IsNone, IsErrOf, IsTrue};
 ghost use Rattle.std.specs.List.{list_any, Contains};
 ghost use Rattle.std.specs.List.Sorted.{IsSortedByKey};
 ghost use Rattle.rs_disk.specs.Leaves.{TellsFaults};
-ghost use Rattle.rs_record.specs.Limits.{most_items};
 ghost use Rattle.rs_page.specs.DiskPages.{IsPage, Stands};
-ghost use Rattle.rs_page.specs.Pages.{IsStored, items_of, same_page, stored_ref, stored_refs};
+ghost use Rattle.rs_page.specs.Pages.{same_page, stored_ref, stored_refs};
 ghost use Rattle.rs_pages.specs.Beside.{AreEntries};
 ghost use Rattle.rs_pages.specs.Rule.{HaveItems};
-ghost use Rattle.rs_pages.specs.Storing.{HoldItems, ReadsPages, unshared};
+ghost use Rattle.rs_pages.specs.Storing.{AreStoredAt, HoldItems, ReadsPages, unshared};
 
 use crate::entries::entry_of;
 use rs_disk::Disk;
@@ -85,10 +84,8 @@ pub(crate) fn load_all_beside<T: PageItem + Duplicate, D: Disk>(
     pages: &[PageRef],
     beside: &[Page<T>],
 ) -> Result<Vec<Page<T>>, LoadFault>
-    ensures pages { IfOk result (λ loaded. (stored_refs loaded.items ≡ pages.now)
-        × HaveItems loaded.items) }
-    ensures stored { IfOk result (λ loaded. All IsStored loaded.items) }
-    ensures room { IfOk result (λ loaded. length (items_of loaded.items) ≤ most_items) }
+    ensures pages { IfOk result (λ loaded. AreStoredAt pages.now loaded.items) }
+    ensures some { IfOk result (λ loaded. HaveItems loaded.items) }
     ensures found { IfOk result (λ loaded. IsTrue (D.state disk.new).honest
         → All (Stands T.format (D.state disk.new).now.seen) beside.now
         → HoldItems T.format pages.now (D.state disk.new).now.seen

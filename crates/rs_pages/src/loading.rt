@@ -1,11 +1,10 @@
 //! Pages that are read.
-ghost use Rattle.std.specs.Prelude.{◌≡◌, ◌≤◌, List, length, map, All, IfOk, IsErrOf, IsTrue};
+ghost use Rattle.std.specs.Prelude.{List, map, All, IfOk, IsErrOf, IsTrue};
 ghost use Rattle.rs_disk.specs.Leaves.{TellsFaults};
-ghost use Rattle.rs_record.specs.Limits.{most_items};
 ghost use Rattle.rs_page.specs.DiskPages.{Stands};
-ghost use Rattle.rs_page.specs.Pages.{IsStored, items_of, stored_refs};
+ghost use Rattle.rs_page.specs.Pages.{stored_refs};
 ghost use Rattle.rs_pages.specs.Rule.{HaveItems};
-ghost use Rattle.rs_pages.specs.Storing.{HoldItems, ReadsPages, unshared};
+ghost use Rattle.rs_pages.specs.Storing.{AreStoredAt, HoldItems, ReadsPages, unshared};
 
 use crate::Pages;
 use crate::beside::load_all_beside;
@@ -32,9 +31,7 @@ impl<T: PageItem> Pages<T> {
         disk: &mut D,
         pages: &[PageRef],
     ) -> Result<Pages<T>, LoadFault>
-        ensures pages { IfOk result (λ loaded. stored_refs loaded ≡ pages.now) }
-        ensures stored { IfOk result (All IsStored) }
-        ensures room { IfOk result (λ loaded. length (items_of loaded) ≤ most_items) }
+        ensures pages { IfOk result (AreStoredAt pages.now) }
 
         // What the disk holds is said of a device that has followed the model.
         ensures found { IfOk result (λ loaded. IsTrue (D.state disk.new).honest
@@ -71,9 +68,7 @@ impl<T: PageItem + Duplicate> Pages<T> {
         pages: &[PageRef],
         beside: &Pages<T>,
     ) -> Result<Pages<T>, LoadFault>
-        ensures pages { IfOk result (λ loaded. stored_refs loaded ≡ pages.now) }
-        ensures stored { IfOk result (All IsStored) }
-        ensures room { IfOk result (λ loaded. length (items_of loaded) ≤ most_items) }
+        ensures pages { IfOk result (AreStoredAt pages.now) }
 
         // What the disk holds is said of a device that has followed the model, on which the pages of
         // the list that is held stand.
@@ -101,10 +96,8 @@ fn load_all<T: PageItem, D: Disk>(
     disk: &mut D,
     pages: &[PageRef],
 ) -> Result<Vec<Page<T>>, LoadFault>
-    ensures pages { IfOk result (λ loaded. (stored_refs loaded.items ≡ pages.now)
-        × HaveItems loaded.items) }
-    ensures stored { IfOk result (λ loaded. All IsStored loaded.items) }
-    ensures room { IfOk result (λ loaded. length (items_of loaded.items) ≤ most_items) }
+    ensures pages { IfOk result (λ loaded. AreStoredAt pages.now loaded.items) }
+    ensures some { IfOk result (λ loaded. HaveItems loaded.items) }
     ensures found { IfOk result (λ loaded. IsTrue (D.state disk.new).honest
         → HoldItems T.format pages.now (D.state disk.new).now.seen
         (map (λ page. page.items) loaded.items)) }

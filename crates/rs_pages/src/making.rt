@@ -1,9 +1,9 @@
 //! Pages that are made and copied.
-ghost use Rattle.std.specs.Prelude.{◌≡◌, ◌++◌, ◌≤◌, map, IfOk, OnOk};
+ghost use Rattle.std.specs.Prelude.{◌≡◌, ◌+◌, ◌++◌, ◌∷◌, ◌≤◌, [], length, take, drop, map, IfOk, OnOk};
 ghost use Rattle.rs_pages.specs.Rule.{cut_into_pieces_of, touched, touched_pages};
 
 use rs_page::{Page, PageItem};
-use rs_record::Duplicate;
+use rs_record::{Duplicate, duplicate_all};
 use std::alloc::{AllocError, Global};
 
 /// The most items of a page that is touched: a last page with fewer takes one more at its end.
@@ -43,6 +43,53 @@ pub(crate) fn cut_into_pieces<T: PageItem>(
         rest = later;
     }
     pages.push(Page::new(rest))?;
+    Ok(())
+}
+
+/// Appends pages of copies of these items, 64 each, of which the last has the rest. Each item is copied
+/// once.
+pub(crate) fn copy_in_pages<T: PageItem + Duplicate>(
+    alloc: Global,
+    pages: &mut Vec<Page<T>>,
+    items: &[T],
+) -> Result<(), AllocError>
+    ensures { OnOk result
+        (pages.new.items ≡ pages.old.items ++ map touched (cut_into_pieces_of 64 items.now)) }
+{
+    if items.is_empty() {
+        return Ok(());
+    }
+    let mut rest = items;
+    while rest.len() > MOST {
+        let (page, later) = split_off_page(rest);
+        add_copy(alloc, pages, page)?;
+        rest = later;
+    }
+    add_copy(alloc, pages, rest)
+}
+
+// The first 64 of these items, and those behind them.
+fn split_off_page<T>(items: &[T]) -> (&[T], &[T])
+    requires { 64 ≤ length items.now }
+    ensures page { result.0.now ≡ take 64 items.now }
+    ensures size { length result.0.now ≡ 64 }
+    ensures later { result.1.now ≡ drop 64 items.now }
+    ensures left { length result.1.now + 64 ≡ length items.now }
+{
+    items.split_at(MOST)
+}
+
+// Appends a page of copies of these items.
+fn add_copy<T: PageItem + Duplicate>(
+    alloc: Global,
+    pages: &mut Vec<Page<T>>,
+    items: &[T],
+) -> Result<(), AllocError>
+    requires some { 1 ≤ length items.now }
+    requires few { length items.now ≤ 64 }
+    ensures { OnOk result (pages.new.items ≡ pages.old.items ++ touched items.now ∷ []) }
+{
+    pages.push(Page::new(duplicate_all(alloc, items)?))?;
     Ok(())
 }
 

@@ -8,7 +8,7 @@ ghost use Rattle.rs_pages.specs.Items.{keyed};
 ghost use Rattle.rs_pages.specs.Rule.{HaveItems, items_at, with_page, begins_by, home, bound_in, unbound_in, appended_to};
 
 use crate::Named;
-use crate::making::{MOST, copy_into, cut_into, cut_into_pieces, spliced};
+use crate::making::{MOST, copy_in_pages, copy_into, cut_into, spliced};
 use crate::within::{place_of, with_item, without_place};
 use rs_page::{Page, PageItem};
 use rs_record::{Duplicate, Name, duplicate_all};
@@ -50,23 +50,6 @@ impl<T: PageItem> Pages<T> {
             starts: Vec::new(alloc),
             len: 0,
         }
-    }
-
-    /// The list of these items, cut into pages of 64, of which the last has the rest. All of them are
-    /// touched.
-    ///
-    /// # Errors
-    ///
-    /// [`AllocError`] where the memory is refused.
-    pub fn of_items(alloc: Global, items: Vec<T>) -> Result<Pages<T>, AllocError>
-        ensures pages { IfOk result (λ made. made ≡ full_pages items.items) }
-        ensures items { IfOk result (λ made. items_of made ≡ items.items) }
-        ensures unplaced { IfOk result (λ made. placed_extents made ≡ []) }
-        ensures unstored { IfOk result (λ made. stored_refs made ≡ []) }
-    {
-        let mut pages = Vec::new(alloc);
-        cut_into_pieces(&mut pages, items, MOST)?;
-        Pages::of_pages(alloc, pages)
     }
 
     /// How many items there are.
@@ -143,6 +126,23 @@ impl<T: PageItem> Pages<T> {
 }
 
 impl<T: PageItem + Duplicate> Pages<T> {
+    /// The list of copies of these items, cut into pages of 64, of which the last has the rest. All of them are
+    /// touched.
+    ///
+    /// # Errors
+    ///
+    /// [`AllocError`] where the memory is refused.
+    pub fn of_items(alloc: Global, items: &[T]) -> Result<Pages<T>, AllocError>
+        ensures pages { IfOk result (λ made. made ≡ full_pages items.now) }
+        ensures items { IfOk result (λ made. items_of made ≡ items.now) }
+        ensures unplaced { IfOk result (λ made. placed_extents made ≡ []) }
+        ensures unstored { IfOk result (λ made. stored_refs made ≡ []) }
+    {
+        let mut pages = Vec::new(alloc);
+        copy_in_pages(alloc, &mut pages, items)?;
+        Pages::of_pages(alloc, pages)
+    }
+
     /// The same list once more, in the same pages.
     ///
     /// # Errors

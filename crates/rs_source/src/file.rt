@@ -102,7 +102,8 @@ pub fn copy_to_file<R: Files<File = File>, D: Disk, S: Start>(
     start: S,
 ) -> Result<Source<FileDisk<S>>, ProgramError>
     // It is said of a device that has followed the model.
-    ensures holds { (s : State) → Holds D.state source.old s → IsTrue (D.state source.new.disk).honest
+    ensures holds { (s : State) → Holds D.state source.old s
+        → IsTrue (D.state source.new.disk).honest
         → IfOk result (λ copy. Holds (device_of S.Start) copy s) }
     ensures size { IfOk result (λ copy. (device_of S.Start copy.disk).size ≡ size) }
     ensures too_small { IsErrOf result ProgramError.TooSmall → size < 8192 }

@@ -14,7 +14,7 @@ returns-in_err-contents-clause-damaged g c is honest lists s tells =
     let d = c.in_ok-directory.directory in
     let mid = g.D.Disk.state c.load_directory.new.disk in
     let new = g.D.Disk.state c.load_lists.new.disk in
-    let found = still_read root (spelled root.version d) mid new c.load_lists.ensures.rests (c.in_ok-directory.ensures.found (c.load_lists.ensures.rests.lasts honest)) in
+    let found = still_read root (spelled root.version d) mid new c.load_lists.ensures.reads.rests (c.in_ok-directory.ensures.found (c.load_lists.ensures.reads.rests.lasts honest)) in
     let of = told_of root d lists new.now.seen s c.in_ok-directory.ensures.lawful found tells in
     let fault = handed_on c.in_err-contents.field-0.0 c.from_residual-in_err-contents.result c.from_residual-in_err-contents.ensures.1 is in
     let long : new.size ≡ length new.now.seen = size_seen new.size new.now (g.met.D.Disk.holds c.load_lists.new.disk) in
@@ -27,7 +27,7 @@ returns-in-Ok-Some-clause-told g c honest =
     let d = c.in_ok-directory.directory in
     let mid = g.D.Disk.state c.load_directory.new.disk in
     let new = g.D.Disk.state c.load_lists.new.disk in
-    let found = still_read root (spelled root.version d) mid new c.load_lists.ensures.rests (c.in_ok-directory.ensures.found (c.load_lists.ensures.rests.lasts honest)) in
+    let found = still_read root (spelled root.version d) mid new c.load_lists.ensures.reads.rests (c.in_ok-directory.ensures.found (c.load_lists.ensures.reads.rests.lasts honest)) in
     let long : c.size.result ≡ length new.now.seen = c.size.ensures ∙ size_seen new.size new.now (g.met.D.Disk.holds c.load_lists.new.disk) in
     let whole = rw c.in-Ok-Some.field-0-is at c.in-Ok-Some.ensures.whole in
     are_told root d c.in_ok-contents.contents new.now.seen c.size.result c.in_ok-directory.ensures.lawful c.in_ok-directory.ensures.digest found
@@ -39,7 +39,7 @@ returns-in-Ok-None-clause-damaged g c is honest lists s tells =
     let d = c.in_ok-directory.directory in
     let mid = g.D.Disk.state c.load_directory.new.disk in
     let new = g.D.Disk.state c.load_lists.new.disk in
-    let found = still_read root (spelled root.version d) mid new c.load_lists.ensures.rests (c.in_ok-directory.ensures.found (c.load_lists.ensures.rests.lasts honest)) in
+    let found = still_read root (spelled root.version d) mid new c.load_lists.ensures.reads.rests (c.in_ok-directory.ensures.found (c.load_lists.ensures.reads.rests.lasts honest)) in
     let long : c.size.result ≡ length new.now.seen = c.size.ensures ∙ size_seen new.size new.now (g.met.D.Disk.holds c.load_lists.new.disk) in
     let broken = rw c.in-Ok-None.field-0-is at c.in-Ok-None.ensures.none in
     none_told root d c.in_ok-contents.contents new.now.seen c.size.result c.in_ok-directory.ensures.lawful found
@@ -66,25 +66,25 @@ returns-in_err-contents-clause-reads g c =
     let state = g.D.Disk.state in
     reads_behind (state c.args.disk.now) (state c.load_directory.new.disk) (state c.load_lists.new.disk) c.args.root.now c.in_ok-directory.directory
     c.in_ok-directory.ensures.lawful c.in_ok-directory.ensures.digest c.in_ok-directory.ensures.found c.load_directory.ensures.rests c.load_directory.ensures.one_call
-    c.load_lists.ensures.rests c.load_lists.ensures.once c.load_lists.ensures.read
+    c.load_lists.ensures.reads.rests c.load_lists.ensures.reads.once c.load_lists.ensures.reads.placed
 
 pub returns-in-Ok-Some-clause-reads : goal.returns-in-Ok-Some-clause-reads
 returns-in-Ok-Some-clause-reads g c =
     let state = g.D.Disk.state in
     reads_behind (state c.args.disk.now) (state c.load_directory.new.disk) (state c.load_lists.new.disk) c.args.root.now c.in_ok-directory.directory
     c.in_ok-directory.ensures.lawful c.in_ok-directory.ensures.digest c.in_ok-directory.ensures.found c.load_directory.ensures.rests c.load_directory.ensures.one_call
-    c.load_lists.ensures.rests c.load_lists.ensures.once c.load_lists.ensures.read
+    c.load_lists.ensures.reads.rests c.load_lists.ensures.reads.once c.load_lists.ensures.reads.placed
 
 pub returns-in-Ok-None-clause-reads : goal.returns-in-Ok-None-clause-reads
 returns-in-Ok-None-clause-reads g c =
     let state = g.D.Disk.state in
     reads_behind (state c.args.disk.now) (state c.load_directory.new.disk) (state c.load_lists.new.disk) c.args.root.now c.in_ok-directory.directory
     c.in_ok-directory.ensures.lawful c.in_ok-directory.ensures.digest c.in_ok-directory.ensures.found c.load_directory.ensures.rests c.load_directory.ensures.one_call
-    c.load_lists.ensures.rests c.load_lists.ensures.once c.load_lists.ensures.read
+    c.load_lists.ensures.reads.rests c.load_lists.ensures.reads.once c.load_lists.ensures.reads.placed
 
 pub returns-in-Err-clause-reads : goal.returns-in-Err-clause-reads
 returns-in-Err-clause-reads g c =
     let state = g.D.Disk.state in
     reads_behind (state c.args.disk.now) (state c.load_directory.new.disk) (state c.load_lists.new.disk) c.args.root.now c.in_ok-directory.directory
     c.in_ok-directory.ensures.lawful c.in_ok-directory.ensures.digest c.in_ok-directory.ensures.found c.load_directory.ensures.rests c.load_directory.ensures.one_call
-    c.load_lists.ensures.rests c.load_lists.ensures.once c.load_lists.ensures.read
+    c.load_lists.ensures.reads.rests c.load_lists.ensures.reads.once c.load_lists.ensures.reads.placed

@@ -1,36 +1,32 @@
-use Rattle.std.proofs.Common.{rules, sym, subst}
+use Rattle.std.proofs.Common.{rules, sym, subst, ◌∙◌}
 use Rattle.std.specs.Prelude.{map, List}
 use Rattle.std.proofs.lemmas.Result.{err_from_is_err_and}
 use Rattle.rs_disk.proofs.Steps.{rest_on}
 use Rattle.rs_page.specs.declared.place.PageRef.{PageRef}
 use Rattle.rs_catalogue.specs.Catalogue.{HoldsCatalogue}
+use Rattle.rs_image.proofs.ListsRead.{two_read, three_read}
 use Rattle.rs_image.proofs.Standing.{still_held, catalogue_stands}
 use Rattle.rs_image.proofs.loading.load_lists.Goals as goal
 
-pub returns-in_err-published-clause-rests : goal.returns-in_err-published-clause-rests
-returns-in_err-published-clause-rests g c =
+-- the lists are read one after the other, and only where all of their pages are placed
+pub returns-in_err-history-clause-reads : goal.returns-in_err-history-clause-reads
+returns-in_err-history-clause-reads g c =
     let state = g.D.Disk.state in
-    rest_on (state c.args.disk.now) (state c.load-2.new.disk) (state c.load_beside.new.disk)
-    (rest_on (state c.args.disk.now) (state c.load.new.disk) (state c.load-2.new.disk) c.load.ensures.reads.rests c.load-2.ensures.reads.rests) c.load_beside.ensures.reads.rests
+    two_read _ _ _ (state c.args.disk.now) (state c.load.new.disk) (state c.load-2.new.disk) c.deref-2.ensures.value c.deref-3.ensures.value (search rules) c.load.ensures.reads c.load-2.ensures.reads
 
-pub returns-clause-rests : goal.returns-clause-rests
-returns-clause-rests g c =
+pub returns-in_err-published-clause-reads : goal.returns-in_err-published-clause-reads
+returns-in_err-published-clause-reads g c =
     let state = g.D.Disk.state in
-    rest_on (state c.args.disk.now) (state c.load-2.new.disk) (state c.load_beside.new.disk)
-    (rest_on (state c.args.disk.now) (state c.load.new.disk) (state c.load-2.new.disk) c.load.ensures.reads.rests c.load-2.ensures.reads.rests) c.load_beside.ensures.reads.rests
+    three_read _ _ _ _ _ (state c.args.disk.now) (state c.load.new.disk) (state c.load-2.new.disk) (state c.load_beside.new.disk)
+    c.deref-2.ensures.value c.deref-3.ensures.value c.deref-4.ensures.value (c.in_ok-catalogue.ensures.pages.named ∙ c.deref-2.ensures.value) (search rules)
+    c.load.ensures.reads c.load-2.ensures.reads c.load_beside.ensures.reads
 
--- pages are loaded only where all of them are placed
-pub returns-in_err-catalogue-clause-unplaced : goal.returns-in_err-catalogue-clause-unplaced
-returns-in_err-catalogue-clause-unplaced g c unplaced = absurd (unplaced (search rules))
-
-pub returns-in_err-history-clause-unplaced : goal.returns-in_err-history-clause-unplaced
-returns-in_err-history-clause-unplaced g c unplaced = absurd (unplaced (search rules))
-
-pub returns-in_err-published-clause-unplaced : goal.returns-in_err-published-clause-unplaced
-returns-in_err-published-clause-unplaced g c unplaced = absurd (unplaced (search rules))
-
-pub returns-clause-unplaced : goal.returns-clause-unplaced
-returns-clause-unplaced g c unplaced = absurd (unplaced (search rules))
+pub returns-clause-reads : goal.returns-clause-reads
+returns-clause-reads g c =
+    let state = g.D.Disk.state in
+    three_read _ _ _ _ _ (state c.args.disk.now) (state c.load.new.disk) (state c.load-2.new.disk) (state c.load_beside.new.disk)
+    c.deref-2.ensures.value c.deref-3.ensures.value c.deref-4.ensures.value (c.in_ok-catalogue.ensures.pages.named ∙ c.deref-2.ensures.value) (search rules)
+    c.load.ensures.reads c.load-2.ensures.reads c.load_beside.ensures.reads
 
 -- the catalogue that was read stands where the published list is read beside it
 pub returns-in_err-published-clause-damaged : goal.returns-in_err-published-clause-damaged
@@ -42,7 +38,7 @@ returns-in_err-published-clause-damaged g c =
     (λ damaged honest catalogue changes published placed holds.
     c.in_err-published.ensures.damaged (cc) honest
     (catalogue_stands c.deref-2.result.now c.in_ok-catalogue.catalogue (state c.load.new.disk) (state c.load_beside.new.disk) rest
-    c.in_ok-catalogue.ensures.pages c.in_ok-catalogue.ensures.stored c.in_ok-catalogue.ensures.found honest)
+    c.in_ok-catalogue.ensures.pages.named c.in_ok-catalogue.ensures.pages.stored c.in_ok-catalogue.ensures.found honest)
     published (subst (λ (refs : List PageRef). HoldsCatalogue refs (state c.load_beside.new.disk).now.seen published) (sym c.deref-4.ensures.value) holds.published))
 
 pub returns-clause-found : goal.returns-clause-found
@@ -50,7 +46,7 @@ returns-clause-found g c honest =
     let state = g.D.Disk.state in
     let rest = rest_on (state c.load.new.disk) (state c.load-2.new.disk) (state c.load_beside.new.disk) c.load-2.ensures.reads.rests c.load_beside.ensures.reads.rests in
     let stand = catalogue_stands c.deref-2.result.now c.in_ok-catalogue.catalogue (state c.load.new.disk) (state c.load_beside.new.disk) rest
-    c.in_ok-catalogue.ensures.pages c.in_ok-catalogue.ensures.stored c.in_ok-catalogue.ensures.found honest in
+    c.in_ok-catalogue.ensures.pages.named c.in_ok-catalogue.ensures.pages.stored c.in_ok-catalogue.ensures.found honest in
     record {
       catalogue = subst (λ (refs : List PageRef). HoldsCatalogue refs (state c.load_beside.new.disk).now.seen (map (λ page. page.items) c.in_ok-catalogue.catalogue)) c.deref-2.ensures.value
           (still_held c.deref-2.result.now c.in_ok-catalogue.catalogue (state c.load.new.disk) (state c.load_beside.new.disk) rest c.in_ok-catalogue.ensures.found honest);

@@ -1,4 +1,5 @@
 use Rattle.std.proofs.Common.{true≢false, is_ok, rules, ◌≡◌, ◌<◌, [], ◌∷◌, ◌++◌, ◌+◌, length, ◌∙◌, ap, arith}
+use Rattle.std.proofs.lemmas.List.{take_all}
 use Rattle.std.proofs.lemmas.Result.{err_from_is_err_and}
 use Rattle.rs_pages.proofs.LoadedUpTo.{load_step, damaged_at, too_many, reads_next, sum_is}
 use Rattle.rs_pages.proofs.loading.load_all.Goals as goal
@@ -15,8 +16,13 @@ loop-page-preserved g c =
       sound = c.in_ok-page.ensures.device.sound (λ is. true≢false (ap is_ok is)) ∙ c.loop-page.invariant.sound;
     }
 
-pub returns-clause-room : goal.returns-clause-room
-returns-clause-room g c = omega (arith, sum_is g.T.PageItem.format c.loop-page.loaded.items, c.loop-page.invariant.so_far.fits)
+pub returns-clause-pages : goal.returns-clause-pages
+returns-clause-pages g c =
+    record {
+      named = c.loop-page.invariant.so_far.refs_are ∙ take_all c.loop-page.page-index c.args.pages.now (omega arith);
+      stored = c.loop-page.invariant.so_far.are_stored;
+      room = omega (arith, sum_is g.T.PageItem.format c.loop-page.loaded.items, c.loop-page.invariant.so_far.fits);
+    }
 
 pub returns-in_err-page-clause-damaged : goal.returns-in_err-page-clause-damaged
 returns-in_err-page-clause-damaged g c =

@@ -17,7 +17,7 @@ returns-then-not-is_ordered-clause-damaged g c damaged honest records holds =
 pub returns-clause-found : goal.returns-clause-found
 returns-clause-found g c honest =
     let pages : List (Page Record) = c.in_ok-pages.pages in
-    let held : AreHeld (records_of pages) = record { ordered = c.is_ordered.ensures.0 c.if-not-is_ordered.false; room = c.in_ok-pages.ensures.room } in
+    let held : AreHeld (records_of pages) = record { ordered = c.is_ordered.ensures.0 c.if-not-is_ordered.false; room = c.in_ok-pages.ensures.pages.room } in
     record {
       hold = (c.in_ok-pages.ensures.found honest).hold;
       held = subst AreHeld (sym (joined pages)) held;

@@ -21,7 +21,7 @@ pub returns-then-is_ordered-clause-found : goal.returns-then-is_ordered-clause-f
 returns-then-is_ordered-clause-found g c honest stand =
     let pages : List (Page Record) = c.in_ok-found.found in
     let there = subst (λ (ps : List (Page Record)). All (Stands record_format (g.D.Disk.state c.load_beside.new.disk).now.seen) ps) (sym c.beside.view_is) stand in
-    let held : AreHeld (records_of pages) = record { ordered = c.is_ordered.ensures.0 c.if-is_ordered.true; room = c.in_ok-found.ensures.room } in
+    let held : AreHeld (records_of pages) = record { ordered = c.is_ordered.ensures.0 c.if-is_ordered.true; room = c.in_ok-found.ensures.pages.room } in
     record {
       hold = (c.in_ok-found.ensures.found honest there).hold;
       held = subst AreHeld (sym (joined pages)) held;

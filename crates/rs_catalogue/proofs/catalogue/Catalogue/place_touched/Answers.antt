@@ -2,7 +2,7 @@ use Rattle.std.proofs.Common.{List, sym, ap, ◌∙◌, subst}
 use Rattle.rs_record.specs.declared.record.Record.{Record}
 use Rattle.rs_page.specs.Pages.{Page}
 use Rattle.rs_catalogue.specs.Catalogue.{StandsUnstored, records_of}
-use Rattle.rs_catalogue.proofs.Kept.{same_held, same_records, stands_again}
+use Rattle.rs_catalogue.proofs.MovedPages.{same_held, same_records, stands_again}
 use Rattle.rs_catalogue.proofs.catalogue.Catalogue.place_touched.Goals as goal
 
 pub invariant_of-self : goal.invariant_of-self

@@ -3,7 +3,7 @@ use Rattle.std.specs.Prelude.{OnErr}
 use Rattle.rs_record.specs.declared.record.Record.{Record}
 use Rattle.rs_page.specs.Pages.{Page}
 use Rattle.rs_catalogue.specs.Catalogue.{records_of}
-use Rattle.rs_catalogue.proofs.Kept.{same_held, same_records}
+use Rattle.rs_catalogue.proofs.MovedPages.{same_held, same_records}
 use Rattle.rs_catalogue.proofs.catalogue.Catalogue.store_touched.Goals as goal
 
 on_err : {T E : Type 0} (P : Type 0) (r : Result T E) → P → OnErr r P

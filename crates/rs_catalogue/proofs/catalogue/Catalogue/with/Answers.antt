@@ -6,7 +6,7 @@ use Rattle.rs_model.specs.State.{most_resources}
 use Rattle.rs_page.specs.Pages.{Page}
 use Rattle.rs_catalogue.specs.Named.{named}
 use Rattle.rs_catalogue.specs.Catalogue.{records_of}
-use Rattle.rs_catalogue.proofs.Held.{held-bind}
+use Rattle.rs_catalogue.proofs.BoundRecords.{held-bind}
 use Rattle.rs_catalogue.proofs.catalogue.Catalogue.with.Goals as goal
 
 pub invariant_of-result : goal.invariant_of-result

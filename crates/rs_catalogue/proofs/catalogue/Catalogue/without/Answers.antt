@@ -3,7 +3,7 @@ use Rattle.rs_record.specs.declared.record.Record.{Record}
 use Rattle.rs_page.specs.Pages.{Page}
 use Rattle.rs_catalogue.specs.Named.{named}
 use Rattle.rs_catalogue.specs.Catalogue.{records_of}
-use Rattle.rs_catalogue.proofs.Held.{held-unbind}
+use Rattle.rs_catalogue.proofs.BoundRecords.{held-unbind}
 use Rattle.rs_catalogue.proofs.catalogue.Catalogue.without.Goals as goal
 
 pub invariant_of-result : goal.invariant_of-result

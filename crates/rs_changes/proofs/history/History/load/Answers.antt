@@ -17,7 +17,7 @@ returns-then-not-is_rising-clause-damaged g c damaged honest changes holds =
 pub returns-clause-found : goal.returns-clause-found
 returns-clause-found g c honest =
     let pages : List (Page Change) = c.in_ok-pages.pages in
-    let kept : AreKept (changes_of pages) = record { rising = c.is_rising.ensures.0 c.if-not-is_rising.false; room = c.in_ok-pages.ensures.room } in
+    let kept : AreKept (changes_of pages) = record { rising = c.is_rising.ensures.0 c.if-not-is_rising.false; room = c.in_ok-pages.ensures.pages.room } in
     record {
       hold = (c.in_ok-pages.ensures.found honest).hold;
       kept = subst AreKept (sym (joined pages)) kept;

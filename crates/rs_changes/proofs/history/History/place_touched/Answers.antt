@@ -1,6 +1,6 @@
 use Rattle.std.proofs.Common.{sym, ap, ◌∙◌, subst}
 use Rattle.rs_changes.specs.History.{Numbered, EndsUnstored, changes_of}
-use Rattle.rs_changes.proofs.Kept.{same_kept, same_changes, ends_again}
+use Rattle.rs_changes.proofs.MovedPages.{same_kept, same_changes, ends_again}
 use Rattle.rs_changes.proofs.history.History.place_touched.Goals as goal
 
 pub invariant_of-self : goal.invariant_of-self
@@ -15,4 +15,7 @@ returns-clause-unstored c h = ends_again c.self.inside.pages c.place_touched.new
 
 pub returns-clause-changes : goal.returns-clause-changes
 returns-clause-changes c =
-    same_changes c.self.inside.pages c.place_touched.new.self c.place_touched.ensures.items ∙ ap (λ (now : Numbered). changes_of now.pages) c.self.view_is
+    record {
+      changes = same_changes c.self.inside.pages c.place_touched.new.self c.place_touched.ensures.items ∙ ap (λ (now : Numbered). changes_of now.pages) c.self.view_is;
+      first = ap (λ (now : Numbered). now.first) c.self.view_is;
+    }
