@@ -60,6 +60,7 @@ bench: build
 	python3 bench/many.py
 	python3 bench/dropping.py
 	python3 bench/copying.py
+	python3 bench/grouping.py
 	python3 bench/loopback.py
 	/usr/bin/python3 bench/durable.py
 

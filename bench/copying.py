@@ -1,7 +1,8 @@
 #!/usr/bin/env python3
 """Groups beside single puts, and a copy beside reading, hashing and writing the same bytes.
 
-  groups   16 puts of 4 KiB one by one, and a group of 16 such, in turn, on one file: medians.
+  groups   16 puts of 4 KiB one by one, and a group of 16 such, in turn, on one file, by lines of a script and over HTTP: medians.
+           A line and a group carry hexadecimal text, a PUT the bytes. bench/grouping.py times the calls of a source alone.
   copy     `copy` of 10,000 resources of 4 KiB to a new file, and the floor: the same bodies, pages and directory read from the old
            file and written to a new one, body by body, with three syncs, and to it the time of their SHA-256 at the kit's rate.
 
@@ -10,6 +11,7 @@ usage: copying.py [PROGRAM]     the built program, where none is given. ROOM in 
 import os
 import pathlib
 import random
+import socket
 import statistics
 import subprocess
 import sys
@@ -49,6 +51,32 @@ def groups(program, room):
     ours.end()
     one, all_of_them = statistics.median(alone), statistics.median(together)
     print(f"groups: 16 puts of 4 KiB {1000 * one:.1f} ms, a group of 16 {1000 * all_of_them:.1f} ms: {all_of_them / one:.2f} of it", flush=True)
+
+
+def answer(port, head, body):
+    """The seconds from a request to the end of its response, over a connection of its own."""
+    began, found = time.perf_counter(), b""
+    with socket.create_connection(("127.0.0.1", port)) as connection:
+        connection.sendall(f"{head} HTTP/1.1\r\nHost: a\r\nContent-Type: text/plain\r\nContent-Length: {len(body)}\r\n\r\n".encode() + body)
+        while come := connection.recv(4096):
+            found += come
+    assert found[9:10] == b"2", found
+    return time.perf_counter() - began
+
+
+def groups_over_http(program, room):
+    file, rng = f"{room}/served.disk", random.Random(3)
+    made(program, file, 16 * MIB).end()
+    server = subprocess.Popen([program, "serve", file, "0", str(ROUNDS * (IN_A_GROUP + 1))], stdout=subprocess.PIPE, text=True)
+    port = int(server.stdout.readline().rsplit(":", 1)[1])
+    names, alone, together = [f"n{i:03d}" for i in range(200)], [], []
+    for _ in range(ROUNDS):
+        alone.append(sum(answer(port, f"PUT /resource/{it}", rng.randbytes(4096)) for it in rng.sample(names, IN_A_GROUP)))
+        lines = puts(rng, rng.sample(names, IN_A_GROUP))
+        together.append(answer(port, "POST /group", "".join(f"{it}\n" for it in lines).encode()))
+    server.wait()
+    one, all_of_them = statistics.median(alone), statistics.median(together)
+    print(f"groups over HTTP: 16 PUTs of 4 KiB {1000 * one:.1f} ms, a group of 16 {1000 * all_of_them:.1f} ms: {all_of_them / one:.2f} of it", flush=True)
 
 
 def filled(program, file):
@@ -107,6 +135,7 @@ def main():
     _, _, alone = (it / (16 * MIB) for it in hashing.seconds())
     with tempfile.TemporaryDirectory(dir=os.environ.get("ROOM")) as room:
         groups(program, room)
+        groups_over_http(program, room)
         copies(program, room, alone)
     return 0
 

@@ -1,6 +1,7 @@
 #!/usr/bin/env python3
 """GETs on loopback, one connection each, beside lighttpd (one thread) on the same machine; and PUTs and GETs of 16 MiB to a client on
-a bare socket, each ten times in turn with the kit's own hashing, of which the medians are told.
+a bare socket, each ten times in turn with the kit's own hashing, of which the medians are told. Beside a PUT stand the calls that it
+cannot do without: the same bytes written to a file in pieces of 4 KiB, and three syncs.
 
 Needs Debian's wrk and lighttpd. ROOM in the environment is the folder for the source's file: /dev/shm shows what is left without the disk's syncs.
 """
@@ -20,7 +21,7 @@ import hashing
 PROGRAM = pathlib.Path(__file__).resolve().parent.parent / "crates/rs_source/out/rs_source"
 LENGTHS = (100, 4096, 65_536)
 SECONDS = 5
-LARGE, TIMES = 16 << 20, 10
+LARGE, PIECE, TIMES = 16 << 20, 4_096, 10
 
 
 def serve(file, count):
@@ -80,21 +81,35 @@ def raw(port, *pieces):
         return time.perf_counter() - began, bytes(found[:n])
 
 
+def calls(file, data):
+    """The seconds of the writes and syncs of a put of these bytes, over what the file held before."""
+    with open(file, "r+b", buffering=0) as held:
+        began = time.perf_counter()
+        for at in range(0, len(data), PIECE):
+            os.pwrite(held.fileno(), data[at:at + PIECE], at)
+        for _ in range(3):
+            os.fsync(held.fileno())
+            os.pwrite(held.fileno(), b"1", 0)
+        return time.perf_counter() - began
+
+
 def big(file, hasher):
     """PUTs and GETs in turn with the hashing, so that what else the machine does meets both alike."""
     server, port = serve(file, 2 * TIMES)
-    data, rows = os.urandom(LARGE), []
+    data, rows, beside_it = os.urandom(LARGE), [], f"{file}.calls"
+    pathlib.Path(beside_it).write_bytes(bytes(LARGE))
     head = f"PUT /resource/big HTTP/1.1\r\nHost: a\r\nContent-Length: {LARGE}\r\n\r\n".encode()
     for _ in range(TIMES):
         put, found = raw(port, head, data)
         assert found[9:12] in (b"201", b"204"), found[:80]
         get, found = raw(port, b"GET /resource/big HTTP/1.1\r\nHost: a\r\n\r\n")
         assert found.endswith(data)
-        rows.append((put, hashing.once(hasher), get, hashing.once(hasher, "sha256", "alone")))
+        rows.append((put, hashing.once(hasher), calls(beside_it, data), get, hashing.once(hasher, "sha256", "alone")))
     server.wait()
-    put, both, get, sha256 = (statistics.median(column) for column in zip(*rows))
+    put, both, written, get, sha256 = (statistics.median(column) for column in zip(*rows))
     for name, took, than, least in (("PUT", put, "MD5 and SHA-256", both), ("GET", get, "SHA-256", sha256)):
         print(f"16 MiB: {name} {1000 * took:.0f} ms, {took / least:.2f} times the kit's {than} over it ({1000 * least:.0f} ms)")
+    print(f"16 MiB: the writes and syncs of a PUT {1000 * written:.0f} ms; it took {put / (both + written):.2f} times as long as these and its hashing")
 
 
 def main():
