@@ -6,10 +6,11 @@ from dataclasses import dataclass, field
 from enum import Enum
 from pathlib import Path
 
+import copies
 import source
 
 # At most so many edits in one check.
-MOST = 12
+MOST = 24
 
 
 class Outcome(Enum):
@@ -25,13 +26,16 @@ class Outcome(Enum):
 
 @dataclass
 class Edit:
-    """An edit of a crate: pairs of texts, and the symbols of the functions whose bodies alone it changes."""
+    """An edit of a crate: pairs of texts, the symbols of the functions whose bodies alone it changes, and the first of these as it stands in its text."""
 
     label: str
     pairs: list
     outcome: Outcome = Outcome.NOT_TRIED
     why: str = ""
     symbols: set = field(default_factory=set)
+    function: source.Function | None = None
+    # The goals by which it was last seen refused, the one first that is tried: empty where answers by hand were refused too.
+    goals: list | None = None
 
     def judged(self, outcome, why):
         self.outcome, self.why = outcome, why
@@ -70,9 +74,9 @@ def applied(edit, folder, texts=None):
     return texts if edit.pairs else None
 
 
-def touched(edit, folder, symbols):
-    """The symbols of the functions in whose bodies all that the edit changes lies, none where it changes anything else."""
-    found, texts = set(), {}
+def look(edit, folder, symbols):
+    """Finds the functions in whose bodies all that the edit changes lies: none where it changes anything else."""
+    edit.symbols, texts = set(), {}
     for path, old, new in edit.pairs:
         text = texts.get(path) or Path(folder, path).read_text()
         texts[path] = text.replace(old, new)
@@ -83,22 +87,42 @@ def touched(edit, folder, symbols):
         # Of a function inside another one it could not be told which of them fails.
         symbol = source.symbol_of(path, inside[0], symbols) if len(inside) == 1 else None
         if not symbol:
-            return set()
-        found.add(symbol)
-    return found
+            edit.symbols = set()
+            return
+        edit.symbols.add(symbol)
+        edit.function = edit.function or inside[0]
+
+
+@dataclass
+class Group:
+    """Edits that are tried in one check: the edit of each function or copy by its symbol, and the texts that they make together."""
+
+    tried: dict = field(default_factory=dict)
+    texts: dict = field(default_factory=dict)
+
+    def takes(self, edit, folder):
+        """Takes an edit, in its place or, where another edit has that, on a copy of its function. False where it can't."""
+        if len(self.tried) >= MOST:
+            return False
+        if not edit.symbols & {*self.tried}:
+            texts, symbols = applied(edit, folder, self.texts), edit.symbols
+        elif copies.can_be_copied(edit, folder):
+            edited = applied(edit, folder)[edit.pairs[0][0]]
+            texts, symbol = copies.with_copy(self.texts, folder, edit, edited, len(self.tried))
+            symbols = {symbol}
+        else:
+            return False
+        if texts:
+            self.texts = texts
+            self.tried.update(dict.fromkeys(symbols, edit))
+        return bool(texts)
 
 
 def grouped(edits, folder):
-    """Groups of edits, each with the texts that they make together. No two of a group change one function."""
+    """Groups of edits, each of which is tried in one check."""
     groups = []
     for edit in edits:
-        for members, texts in groups:
-            is_free = len(members) < MOST and not any(edit.symbols & it.symbols for it in members)
-            together = applied(edit, folder, texts) if is_free else None
-            if together:
-                members.append(edit)
-                texts.update(together)
-                break
-        else:
-            groups.append(([edit], applied(edit, folder)))
+        if not any(it.takes(edit, folder) for it in groups):
+            groups.append(Group())
+            groups[-1].takes(edit, folder)
     return groups

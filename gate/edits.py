@@ -1,7 +1,7 @@
 #!/usr/bin/env python3
 """Tries must-fail edits: wrong bodies, each of which the prover has to refuse by a goal of the function that it changes.
 
-usage: edits.py [--root FOLDER] [--jobs N] [--record] [CRATE..]     at the top of the repository, whose crates are proved
+usage: edits.py [--root FOLDER] [--jobs N] [--record] [CRATE..]     at the top of the repository
 
 An edit is a file crates/CRATE/must-fail/*.edit. Each function is proved against its own contract and those of what it
 calls, and never against another body. So edits of the bodies of different functions are tried in one check, and each is
@@ -24,10 +24,12 @@ from pathlib import Path
 from threading import Semaphore
 
 import edit as edits_of_a_crate
+import goals
 import kit
 import record
 import verdict
 from edit import Outcome
+from libraries import Libraries
 
 
 @dataclass
@@ -56,6 +58,7 @@ class Trial:
                 if os.path.isdir(f"{self.folder}/{part}"):
                     shutil.copytree(f"{self.folder}/{part}", f"{crate}/{part}")
             for path, text in texts.items():
+                Path(crate, path).parent.mkdir(parents=True, exist_ok=True)
                 Path(crate, path).write_text(text)
             return kit.check(kit.command(self.home, self.root, self.uses, self.name, kept), crate)
 
@@ -72,7 +75,7 @@ class Trial:
 
     def run(self):
         """Tries the crate's edits, and returns them."""
-        edits = [edits_of_a_crate.read(self.name, it) for it in self.files()]
+        edits, known = [edits_of_a_crate.read(self.name, it) for it in self.files()], goals.known(self.root)
         with tempfile.TemporaryDirectory(prefix="edits-") as room:
             kept = f"{room}/kept"
             kit.linked_copy(f"{self.folder}/out/incremental", kept)
@@ -84,25 +87,33 @@ class Trial:
                 elif edits_of_a_crate.applied(it, self.folder) is None:
                     it.judged(Outcome.NOT_APPLIED, "it has no pair of texts, or an 'old:' text is not in its file once")
                 else:
-                    it.symbols = edits_of_a_crate.touched(it, self.folder, symbols)
+                    edits_of_a_crate.look(it, self.folder, symbols)
+                    it.goals = known.get(it.label) if len(it.symbols) == 1 else []
             left = [it for it in edits if it.outcome is Outcome.NOT_TRIED and told.is_proved]
             groups = edits_of_a_crate.grouped([it for it in left if it.symbols], self.folder)
-            for (members, _), told in zip(groups, self.check_each(kept, [texts for _, texts in groups])):
-                self.judge(members, told)
+            for group, told in zip(groups, self.check_each(kept, [self.one_goal_each(it) for it in groups])):
+                self.judge(group, told)
             alone = [it for it in left if not it.is_refused]
             for it, told in zip(alone, self.check_each(kept, [edits_of_a_crate.applied(it, self.folder) for it in alone])):
                 self.judge_alone(it, told)
         return edits
 
-    def judge(self, members, told):
-        """Takes those edits of a group as refused of whose own functions the check has an error or an open goal."""
-        found = verdict.read(self.name, told)
-        theirs = {symbol for it in members for symbol in it.symbols}
+    def one_goal_each(self, group):
+        """The texts of a group with the answers that leave all but the first known goal of each edit out."""
+        texts = group.texts
+        for symbol, it in group.tried.items():
+            texts = goals.left_out(texts, self.folder, symbol, it)
+        return texts
+
+    def judge(self, group, told):
+        """Takes those edits of a group as refused of whose own functions, or copies of them, the check has an error or an open goal."""
+        found = verdict.read(self.name, told, {symbol: goals.beside(it) for symbol, it in group.tried.items()})
         # An error of a function that none of them changes could come from any: then each is tried alone.
-        if found.is_read and {*found.own} <= theirs:
-            for it in members:
-                for symbol in sorted(it.symbols & {*found.own}):
-                    it.judged(Outcome.REFUSED, f"{symbol}: {found.own[symbol]}")
+        if found.is_read and {*found.own} <= {*group.tried}:
+            for symbol, it in group.tried.items():
+                is_copy = symbol not in it.symbols
+                if symbol in found.own and not (is_copy and symbol in found.by_hand):
+                    self.refused(it, symbol, found)
 
     def judge_alone(self, it, told):
         """Judges an edit by a check of it alone."""
@@ -115,8 +126,14 @@ class Trial:
         elif not own:
             it.judged(Outcome.NO_GOAL, f"no goal of what it changes is left open, so it shows nothing: {found.first}")
         else:
-            symbol, text = next(iter(own.items()))
-            it.judged(Outcome.REFUSED, f"(alone) {symbol}: {text}")
+            self.refused(it, next(iter(own)), found, "(alone) ")
+
+    def refused(self, it, symbol, found, how=""):
+        """Notes that an edit is refused, and by which goals: a trial of one of them says nothing of the others."""
+        it.judged(Outcome.REFUSED, f"{how}{symbol}: {found.own[symbol]}")
+        opened = [] if symbol in found.by_hand else found.goals.get(symbol, [])
+        if it.goals is None or it.goals[:1] != opened[:1]:
+            it.goals = opened
 
 
 def try_crates(root, names, jobs, when_done=lambda name, edits: None):
@@ -147,10 +164,15 @@ def main():
 
     def noted(name, edits):
         """Writes the record's line of a crate of which every edit was refused."""
+        if given.record:
+            goals.write(given.root, name, edits)
         if given.record and all(it.is_refused for it in edits):
             record.write(given.root, [name])
 
-    tried = try_crates(given.root, given.crates or [*kit.crates_of(given.root)], given.jobs, noted)
+    names = given.crates or [*kit.crates_of(given.root)]
+    if wrong := Libraries(given.root, given.jobs).build_below(names):
+        sys.exit(wrong)
+    tried = try_crates(given.root, names, given.jobs, noted)
     every = [it for edits in tried.values() for it in edits]
     refused = sum(it.is_refused for it in every)
     print(f"{refused} refused, {len(every) - refused} not refused")

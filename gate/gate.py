@@ -10,7 +10,7 @@
     memory at an opening, the documents read by tools that are not ours, the pages that it leaves on a file, the blocks that it takes, the tour, mirrors of
     sources that are killed meanwhile, folders that are published, the sizes of disks, the pictures of docs/, what is installed
     beside it, the images of crashes at its calls on a file, hostile disks, lines and requests, ends that fail;
-  - the tests of the gate itself, the layout of the files, and the list of proofs by hand.
+  - the tests of the gate itself, the layout of the files, the texts of edits, and the list of proofs by hand.
 
 N counts crates, edits and the other parts. The minutes of a processor of each part are told before.
 """
@@ -25,6 +25,7 @@ import tempfile
 import time
 from pathlib import Path
 
+import edit
 import edits
 import kit
 import record
@@ -97,6 +98,13 @@ def dates():
     return (0 if old else 1), [f"gate/record.txt is older than {it}: make edits CRATES={it}" for it in old]
 
 
+def fitting():
+    """Whether each edit still fits the code that it changes."""
+    every = [edit.read(it.parts[-3], it) for it in sorted(Path(ROOT, "crates").glob("*/must-fail/*.edit"))]
+    left = [it.label for it in every if edit.applied(it, Path(ROOT, "crates", it.label.split("/")[0])) is None]
+    return (0 if left else 1), [f"{it} fits its code no more" for it in left]
+
+
 def some_edits(copy):
     """The edits that the record does not cover, and those of the crates that the commit picks."""
     names = record.uncovered(ROOT)
@@ -146,6 +154,7 @@ def main():
         copy = copied(room)
         parts.run("the gate's own tests", script(ROOT / "gate" / "test_gate.py"))
         parts.run("the layout", layout)
+        parts.run("the texts of edits", fitting)
         parts.run("the record of edits", dates)
         parts.run("proofs by hand", script(copy / "examples" / "check_hand_proofs.py"))
         if parts.run("proofs, tests and builds", lambda: toolchain(copy)):

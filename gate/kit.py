@@ -27,8 +27,10 @@ def folder():
 
 
 def identity():
-    """The kit's one-line identity, which a record of what was proved has to name."""
-    return subprocess.run(["rt", "version"], capture_output=True, text=True, check=True).stdout.strip()
+    """The kit's name, and the sum of the program logic that it proves in: several kits can have one logic."""
+    told = subprocess.run(["rt", "version"], capture_output=True, text=True, check=True).stdout
+    found = re.fullmatch(r"(\S+) logic (\w+)\s*", told)
+    return found[1], found[2]
 
 
 def crates_of(root):

@@ -1,7 +1,7 @@
 """The record of the crates all of whose must-fail edits were seen refused (gate/record.txt).
 
-A crate's line holds a hash of its code, specs, proofs and edits, of what the crates below say to it (says.py), and of the
-kit. `make edits` alone writes it.
+A crate's line names the kit with which they were seen, and holds a hash of the crate's code, specs, proofs and edits, of
+what the crates below say to it (says.py), and of the program logic. `make edits` alone writes it.
 """
 
 import datetime
@@ -11,7 +11,7 @@ from pathlib import Path
 import kit
 import says
 
-HEAD = "# Crates all of whose must-fail edits were seen refused: name, number of edits, day, hash. Written by `make edits`.\n"
+HEAD = "# Crates all of whose must-fail edits were seen refused: name, number of edits, day, kit, hash. Written by `make edits`.\n"
 
 
 def path(root):
@@ -28,9 +28,9 @@ def edits_of(root, name):
     return files(Path(root, "crates", name), "must-fail")
 
 
-def hash_of(root, uses, name, identity):
+def hash_of(root, uses, name, logic):
     """The hash that a crate's line of the record must have now."""
-    total = hashlib.sha256(identity.encode())
+    total = hashlib.sha256(logic.encode())
 
     def add(label, data):
         total.update(f"{label} {len(data)}\n".encode())
@@ -46,17 +46,17 @@ def hash_of(root, uses, name, identity):
 
 
 def lines(root):
-    """The record's lines by crate: number of edits, day and hash."""
+    """The record's lines by crate: number of edits, day, kit and hash."""
     text = path(root).read_text() if path(root).is_file() else ""
     rows = [it.split() for it in text.splitlines() if it and not it.startswith("#")]
-    return {it[0]: tuple(it[1:]) for it in rows if len(it) == 4}
+    return {it[0]: tuple(it[1:]) for it in rows if len(it) == 5}
 
 
 def uncovered(root):
     """The crates with edits that the record does not cover as they stand."""
-    uses, known, identity = kit.crates_of(root), lines(root), kit.identity()
+    uses, known, (_, logic) = kit.crates_of(root), lines(root), kit.identity()
     with_edits = [name for name in uses if edits_of(root, name)]
-    return [name for name in with_edits if known.get(name, ("",) * 3)[2] != hash_of(root, uses, name, identity)]
+    return [name for name in with_edits if known.get(name, ("",))[-1] != hash_of(root, uses, name, logic)]
 
 
 def outdated(root):
@@ -74,9 +74,9 @@ def picked(root, commit, number=2):
 
 def write(root, names):
     """Writes the lines of these crates anew, and drops those of crates that are gone."""
-    uses, known, identity = kit.crates_of(root), lines(root), kit.identity()
+    uses, known, (named, logic) = kit.crates_of(root), lines(root), kit.identity()
     today = datetime.date.today().isoformat()
     for name in names:
-        known[name] = (str(len(edits_of(root, name))), today, hash_of(root, uses, name, identity))
+        known[name] = (str(len(edits_of(root, name))), today, named, hash_of(root, uses, name, logic))
     rows = [f"{name} {' '.join(known[name])}\n" for name in uses if name in known]
     path(root).write_text(HEAD + "".join(rows))

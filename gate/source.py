@@ -15,9 +15,10 @@ TESTS = re.compile(r"#\[cfg\(test\)\]\s*mod \w+\s*[;{]")
 
 @dataclass(frozen=True)
 class Function:
-    """A function: its name, the head of the block around it ('' for none), and where its body begins and ends."""
+    """A function: its name and where that stands, the head of the block around it ('' for none), and where its body begins and ends."""
 
     name: str
+    at: int
     block: str
     start: int
     end: int
@@ -55,7 +56,7 @@ def functions_of(text):
         at = body_of(code, it.end())
         if code[at : at + 1] == "{":
             around = [head for start, end, head in blocks if start <= it.start() < end]
-            found.append(Function(it[1], around[-1] if around else "", at, closed(code, at)))
+            found.append(Function(it[1], it.start(1), around[-1] if around else "", at, closed(code, at)))
     return found
 
 
@@ -72,6 +73,14 @@ def symbol_of(path, function, symbols):
     end = "::" + "::".join(parts)
     found = [it for it in symbols if it.endswith(end) and (is_plain or it.count("::") == end.count("::"))]
     return found[0] if len(found) == 1 and (owner or not function.block) else None
+
+
+def item_of(text, function):
+    """Where a function begins, with its attributes, its words before `fn` and the comments above them."""
+    at = text.rfind("\n", 0, function.at) + 1
+    while at and not re.search(r"(\A|[{};]|//![^\n]*|\n)\n\Z", text[:at]):
+        at = text.rfind("\n", 0, at - 1) + 1
+    return at
 
 
 def outline(text):

@@ -6,11 +6,14 @@ import subprocess
 import sys
 import tempfile
 import unittest
+import unittest.mock
 from pathlib import Path
 
+import copies
 import edit
 import edits
 import gate
+import goals
 import kit
 import record
 import says
@@ -99,6 +102,30 @@ class Trying(unittest.TestCase):
             came = {it.label: it.outcome for it in tried}
             self.assertEqual(came, {f"sample/{name}.edit": outcome for name, (_, _, outcome) in EDITS.items()})
 
+    def test_one_goal_of_each_edit_in_one_check(self):
+        """Where their goals are known, edits of one function stand in one check, and each is tried by one goal; a goal that is not left open refuses nothing."""
+        first, second = "returns-clause-first", "returns-then-b-a-clause-second"
+        known = {
+            "always_the_first": ("if a < b { a } else { b }", "a", ["returns-clause-second"], Outcome.REFUSED),
+            "the_greater": ("if a < b {", "if b < a {", [second, first], Outcome.REFUSED),
+            "known_by_a_goal_that_holds": ("else { b }", "else { a }", [first, "returns-else-a-b-clause-second"], Outcome.REFUSED),
+            "harmless": ("a < b", "a <= b", [first, second], Outcome.PROVED),
+            "kept": ("x - x", "x", ["returns"], Outcome.REFUSED),
+        }
+        with tempfile.TemporaryDirectory() as room:
+            folder = Path(repository(room, {"sample": CODE}), "crates", "sample", "must-fail")
+            (folder / "one.edit").unlink()
+            for name, (old, new, goals_of_it, _) in known.items():
+                (folder / f"{name}.edit").write_text(f"file: src/lib.rt\nold: {old}\nnew: {new}\n")
+            lines = [f"sample/{name}.edit: {' '.join(goals_of_it)}\n" for name, (_, _, goals_of_it, _) in known.items()]
+            goals.path(room).write_text("".join(lines))
+            tried = edits.try_crates(room, ["sample"], 1)["sample"]
+            self.assertEqual({it.label: it.outcome for it in tried}, {f"sample/{name}.edit": it[-1] for name, it in known.items()})
+            alone = {it.label for it in tried if "(alone)" in it.why or it.outcome is Outcome.PROVED}
+            self.assertEqual(alone, {"sample/harmless.edit", "sample/known_by_a_goal_that_holds.edit"})
+            goals.write(room, "sample", tried)
+            self.assertEqual(goals.known(room)["sample/the_greater.edit"], [second, first])
+
     def test_a_crate_that_is_not_proved(self):
         with tempfile.TemporaryDirectory() as room:
             repository(room, {"sample": CODE.replace("x - x", "x")})
@@ -143,6 +170,16 @@ class Recording(unittest.TestCase):
             self.assertEqual(record.uncovered(room), ["high"])
             self.assertEqual(record.outdated(room), [])
 
+    def test_another_kit_with_the_same_logic(self):
+        name, logic = kit.identity()
+        with tempfile.TemporaryDirectory() as room:
+            repository(room, {"low": CODE})
+            record.write(room, ["low"])
+            self.assertEqual(record.lines(room)["low"][2], name)
+            for identity, left in ((("other", logic), []), ((name, "other"), ["low"])):
+                with unittest.mock.patch.object(kit, "identity", lambda: identity):
+                    self.assertEqual(record.uncovered(room), left)
+
     def test_two_crates_are_picked(self):
         with tempfile.TemporaryDirectory() as room:
             repository(room, {it: CODE for it in "abcdefgh"})
@@ -150,6 +187,16 @@ class Recording(unittest.TestCase):
             self.assertTrue(all(len({*it}) == 2 for it in picks))
             self.assertEqual({name for it in picks for name in it}, {*"abcdefgh"})
 
+
+# What a check tells of a function and of a copy of it, of which one answer each is left out of the trial.
+LEFT_OUT = """./proofs/m/open/Answers.antt:3:1: error: `returns-clause-size`: no answer at all
+./proofs/m/open_tried_1/Answers.antt:3:1: error: `returns-clause-size`: no answer at all
+./proofs/m/open_tried_1/Invariants.antt:3:1: error: `invariant-loop-n`: `gone` is not in scope
+note: src/m.rt:9:5: it is not proved that what the function ensures holds when it returns (`returns-clause-found`)
+fn low::m::open_tried_1: no proof: `search` did not prove `returns-clause-found`
+fn low::m::open: not proved
+logic=not-proved
+"""
 
 TOLD = """note: src/m.rt:4:5: it is not proved that what the function ensures holds when it returns (`returns`)
 fn low::m::open: no proof: `search` did not prove `returns`
@@ -207,6 +254,18 @@ class Reading(unittest.TestCase):
         self.assertFalse(verdict.read("low", kit.Told(1, "src/m.rt:1:1: error[unexpected-token]: no\n" + TOLD)).is_read)
         self.assertFalse(verdict.read("low", kit.Told(2, TOLD)).is_read)
 
+    def test_an_answer_that_is_left_out_is_no_error_and_another_one_is_told(self):
+        found = verdict.read("low", kit.Told(1, LEFT_OUT), dict.fromkeys(["low::m::open", "low::m::open_tried_1"], ["returns-clause-size"]))
+        self.assertEqual({*found.own}, {"low::m::open_tried_1"})
+        self.assertEqual(found.goals["low::m::open_tried_1"], ["returns-clause-found"])
+        self.assertEqual(found.by_hand, {"low::m::open_tried_1"})
+        self.assertEqual({*verdict.read("low", kit.Told(1, LEFT_OUT)).own}, {"low::m::open", "low::m::open_tried_1"})
+
+    def test_which_goal_of_several_is_tried(self):
+        """First one that the prover found to be false, then one of what the function ensures."""
+        told = ["that a sum fits (`sum-fits`)", "what it ensures (`returns-clause-size`)", f"what it ensures (`returns-clause-found`); the facts known there {verdict.IS_FALSE}"]
+        self.assertEqual(verdict.named(told), ["returns-clause-found", "returns-clause-size", "sum-fits"])
+
     def test_functions(self):
         names = [it.name for it in source.functions_of(CODE)]
         self.assertEqual(names, ["next", "after_next", "smaller", "nothing"])
@@ -234,6 +293,26 @@ class Reading(unittest.TestCase):
         self.assertEqual(found, [(["Kind"], "impl Kind { ghost use Low.{Is}; }"), *methods])
         self.assertEqual([sorted(names) for names, _ in says.shown("impl Kind { pub fn at(&self); }")], [["at"]])
 
+    def test_a_copy_of_a_function(self):
+        """It stands behind its function, as the edit has it, and its proof files speak of it; an answer is left out once."""
+        text = CODE.replace("pub fn next", "#[inline]\npub fn next")
+        with tempfile.TemporaryDirectory() as room:
+            folder = Path(repository(room, {"sample": text}), "crates", "sample")
+            answers = "use Rattle.sample.proofs.next.Goals as goal\n\npub returns : goal.returns\nreturns c = tt\n"
+            (folder / "proofs" / "next").mkdir(parents=True)
+            (folder / "proofs" / "next" / "Answers.antt").write_text(answers)
+            found = edit.Edit("", [("src/lib.rt", "u16::from(x) + 1", "u16::from(x) + 2")], goals=["value", "returns", "other"])
+            edit.look(found, folder, ["sample::next"])
+            self.assertTrue(copies.can_be_copied(found, folder))
+            texts, symbol = copies.with_copy({}, folder, found, edit.applied(found, folder)["src/lib.rt"], 7)
+            texts = goals.left_out(texts, folder, symbol, found)
+        self.assertEqual(symbol, "sample::next_tried_7")
+        copy = "/// One more.\n#[inline]\npub fn next_tried_7(x: u8) -> u16\n    ensures value { result ≡ x + 1 }\n{\n    u16::from(x) + 2\n}"
+        function = copy.replace("_tried_7", "").replace("+ 2", "+ 1")
+        self.assertEqual(texts["src/lib.rt"], text.replace(function, f"{function}\n\n{copy}"))
+        left = "".join(f"\npub {it} : goal.{it}\n{it} = {goals.NO_ANSWER}\n" for it in ("other", goals.NO_GOAL))
+        self.assertEqual(texts["proofs/next_tried_7/Answers.antt"], answers.replace("proofs.next.", "proofs.next_tried_7.") + left)
+
     def test_symbols(self):
         text = "impl<T: Disk> Disk for Box<T> {\n    fn read(&self) {}\n}\nimpl Used {\n    fn take(&self) {}\n}\nfn take() {}\n"
         symbols = ["a::m::BoxTDisk::read", "a::m::n::Used::take", "a::m::take", "a::take"]
@@ -243,9 +322,10 @@ class Reading(unittest.TestCase):
     def test_an_edit_outside_of_bodies_has_no_symbol(self):
         with tempfile.TemporaryDirectory() as room:
             folder = Path(repository(room, {"sample": CODE}), "crates", "sample")
-            of = lambda old, new: edit.touched(edit.Edit("", [("src/lib.rt", old, new)]), folder, ["sample::next", "sample::smaller"])
-            self.assertEqual(of("u16::from(x) + 1", "u16::from(x) + 2"), {"sample::next"})
-            self.assertEqual(of("result ≤ a", "result ≤ b"), set())
+            for old, new, wanted in (("u16::from(x) + 1", "u16::from(x) + 2", {"sample::next"}), ("result ≤ a", "result ≤ b", set())):
+                found = edit.Edit("", [("src/lib.rt", old, new)])
+                edit.look(found, folder, ["sample::next", "sample::smaller"])
+                self.assertEqual(found.symbols, wanted)
 
 
 if __name__ == "__main__":

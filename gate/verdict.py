@@ -6,6 +6,9 @@ from dataclasses import dataclass
 # The lines of a check: an error, a goal that stays open, and that goal's function, or another item, which comes after it.
 ERROR = re.compile(r"(?:\./)?((?:src|specs|proofs)/\S+?):\d+:\d+: error:? ?(.*)")
 OPEN = re.compile(r"note: src/\S+:\d+:\d+: (it is not proved that .*|`search` found no proof .*)")
+NAME = re.compile(r"\(`([^`\s]+)`\)")
+# What is told of a goal that fails at values that the prover found.
+IS_FALSE = "allow values at which this goal is false"
 ITEM = re.compile(r"(?:fn|impl|struct|enum|trait) (\S+): (?:(proved)|not proved|no proof)")
 # Errors of a proof that names what is gone or rests on what was refused: they say nothing of its function's own goals.
 SECOND_HAND = re.compile(r"has no field|is not in scope|has no `|was not admitted|that depends? on|\(nearest:")
@@ -13,11 +16,14 @@ SECOND_HAND = re.compile(r"has no field|is not in scope|has no `|was not admitte
 
 @dataclass(frozen=True)
 class Verdict:
-    """Whether the prover read all and refused some of it, and the first error or open goal of each function's own."""
+    """Whether the prover read all and refused some of it; of each function the first error or open goal of its own, the names of
+    its open goals, and whether any answer of its proof files is refused; and the first error of all."""
 
     is_proved: bool
     is_read: bool
     own: dict
+    goals: dict
+    by_hand: set
     first: str
 
 
@@ -26,27 +32,37 @@ def owner(symbol):
     return re.sub(r"::fn::((?:[A-Z]\w*::)?\w+)::.*", r"::\1", symbol)
 
 
-def read(crate, told):
-    """Reads what a check of a crate told."""
-    own, in_files, goals = {}, {}, []
+def named(goals):
+    """The names of open goals: first those that the prover found to be false, then those of what a function ensures."""
+    names = [(IS_FALSE not in it, not name[1].startswith("returns"), name[1]) for it in goals if (name := NAME.search(it))]
+    return [it[-1] for it in sorted(names, key=lambda it: it[:-1])]
+
+
+def read(crate, told, left_out={}):
+    """Reads what a check of a crate told, but for the answers of these goals, by function."""
+    own, in_files, goals, opened, by_hand = {}, {}, [], {}, set()
     is_read = told.status == 1 and re.search(r"(?m)^logic=not-proved", told.text) is not None
     for line in told.text.split("\n"):
         if found := ERROR.match(line):
-            is_own = not SECOND_HAND.search(found[2])
+            # The folder of a function that calls itself has a + before its name.
+            place = owner("::".join([crate, *(it.removeprefix("+") for it in found[1].split("/")[1:-1])]))
+            is_left_out = any(found[2].startswith(f"`{it}`") for it in left_out.get(place, []))
+            is_own = not SECOND_HAND.search(found[2]) and not is_left_out
             is_read = is_read and (found[1].startswith("proofs/") or (found[2].startswith("`") and is_own))
+            if found[1].startswith("proofs/") and not is_left_out:
+                by_hand.add(place)
             if is_own:
-                # The folder of a function that calls itself has a + before its name.
-                place = "::".join([crate, *(it.removeprefix("+") for it in found[1].split("/")[1:-1])])
-                in_files.setdefault(owner(place), found[2])
+                in_files.setdefault(place, found[2])
         elif found := OPEN.match(line):
             goals.append(found[1])
         elif found := ITEM.match(line):
             symbol = owner(found[1])
+            opened.setdefault(symbol, []).extend(named(goals))
             errors, goals = [*goals, *([in_files[symbol]] if symbol in in_files else [])], []
             if errors and not found[2]:
                 own.setdefault(symbol, errors[0])
     first = re.search(r"(?m)^.*: (error|not proved|no proof)\b.*$", told.text)
-    return Verdict(told.is_proved, is_read, own, first[0] if first else told.text[:200])
+    return Verdict(told.is_proved, is_read, own, opened, by_hand, first[0] if first else told.text[:200])
 
 
 def proved(told):

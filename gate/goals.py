@@ -1,0 +1,61 @@
+"""The goals by which each must-fail edit was last seen refused (gate/goals.txt), and how all but one of them are left out of a trial.
+
+One goal that stays open refuses an edit, and the prover searches long for each that does not hold. So of an edited function
+only the first goal of its line is tried: the others get an answer by hand that no check takes. An edit whose first goal is
+not left open so is tried again alone, with nothing left out: a line can be old, and still refuses nothing.
+"""
+
+import re
+from pathlib import Path
+
+import copies
+
+HEAD = "# The goals by which each must-fail edit was last seen refused, the one first that is tried. Written by `make edits`.\n"
+# No name that is in scope, so an answer that is no answer; and no goal of any function.
+NO_ANSWER = "left_out_of_this_trial"
+NO_GOAL = "no_goal_of_any_function"
+
+
+def beside(edit):
+    """The goals that get an answer by hand in a trial of an edit."""
+    return [*(edit.goals or [])[1:], NO_GOAL]
+
+
+def path(root):
+    return Path(root, "gate", "goals.txt")
+
+
+def known(root):
+    """The goals of each edit that has a line, by its label: none where answers by hand are refused with it."""
+    text = path(root).read_text() if path(root).is_file() else ""
+    rows = [it.split() for it in text.splitlines() if it and not it.startswith("#")]
+    return {label.removesuffix(":"): goals for label, *goals in rows}
+
+
+def write(root, crate, edits):
+    """Writes the lines of a crate's edits anew."""
+    lines = {label: goals for label, goals in known(root).items() if not label.startswith(f"{crate}/")}
+    lines.update({it.label: it.goals for it in edits if it.is_refused and len(it.symbols) == 1})
+    path(root).write_text(HEAD + "".join(f"{' '.join([f'{label}:', *lines[label]])}\n" for label in sorted(lines)))
+
+
+def left_out(texts, folder, symbol, edit):
+    """These texts, with the answers of a function in which all but the first known goal of an edit are left out of its trial.
+
+    An answer to a goal that it has not comes last: over answers that it refuses, the prover does not run once more to print
+    what it would offer for the open ones.
+    """
+    place = copies.proof_folder(symbol)
+    if Path(folder, place.parent, f"+{place.name}").is_dir() or Path(folder, place, "Proof.antt").is_file():
+        return texts
+    path = str(place / "Answers.antt")
+    text = texts.get(path) or (Path(folder, path).read_text() if Path(folder, path).is_file() else "")
+    module = f"{copies.proof_module(symbol)}.Goals"
+    if brought := re.search(rf"(?m)^use {re.escape(module)} as (\w+)", text):
+        name = brought[1]
+    else:
+        name, text = "goals_of_this_trial", f"use {module} as goals_of_this_trial\n{text}"
+    for goal in beside(edit):
+        if not re.search(rf"(?m)^(pub )?{re.escape(goal)} :", text):
+            text += f"\npub {goal} : {name}.{goal}\n{goal} = {NO_ANSWER}\n"
+    return {**texts, path: text}

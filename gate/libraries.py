@@ -1,0 +1,55 @@
+"""Builds the libraries that trials of edits stand on, where they are not built from what stands there now."""
+
+import hashlib
+import os
+import shutil
+from concurrent.futures import ThreadPoolExecutor
+from functools import lru_cache
+from pathlib import Path
+from threading import Semaphore
+
+import kit
+
+
+class Libraries:
+    """The libraries of a repository, each of which is built once those below it are."""
+
+    def __init__(self, root, jobs):
+        self.root, self.home, self.uses = root, kit.folder(), kit.crates_of(root)
+        self.turns, self.identity = Semaphore(jobs), " ".join(kit.identity())
+        self.sum_of = lru_cache(None)(self.sum_of)
+
+    def sum_of(self, name):
+        """A sum of all that a library is made from."""
+        total, folder = hashlib.sha256(self.identity.encode()), Path(self.root, "crates", name)
+        for it in sorted(it for part in ("src", "specs", "proofs") for it in Path(folder, part).rglob("*") if it.is_file()):
+            total.update(f"{it.relative_to(folder)} {it.stat().st_size}\n".encode() + it.read_bytes())
+        total.update(" ".join(self.sum_of(it) if it in self.uses else it for it in self.uses[name]).encode())
+        return total.hexdigest()
+
+    def build(self, name, lower):
+        """Builds a library once those below it are, over the work that its last check kept, and gives what was wrong, or nothing."""
+        wrong = next(filter(None, (it.result() for it in lower)), "")
+        folder = Path(self.root, "crates", name)
+        kept, built = folder / "out" / "incremental", folder / "out" / "rlib"
+        mark = built / "made_from"
+        if wrong or mark.is_file() and mark.read_text() == self.sum_of(name):
+            return wrong
+        with self.turns:
+            shutil.rmtree(built, ignore_errors=True)
+            os.makedirs(built)
+            words = kit.command(self.home, self.root, self.uses, name, kept)
+            told = kit.check([words[0], "build", *words[2:], "-o", str(built / f"{name}.rlib")], folder)
+        if not told.is_proved:
+            return f"{name} is not proved: {told.text[-600:]}"
+        mark.write_text(self.sum_of(name))
+        return ""
+
+    def build_below(self, names):
+        """Builds each library that one of these crates stands on, and gives what was wrong, or nothing."""
+        wanted = {lower for it in names for lower in kit.below(self.uses, it)}
+        with ThreadPoolExecutor(max(1, len(wanted))) as pool:
+            running = {}
+            for name in filter(wanted.__contains__, self.uses):
+                running[name] = pool.submit(self.build, name, [running[it] for it in self.uses[name] if it in running])
+            return next(filter(None, (it.result() for it in running.values())), "")
