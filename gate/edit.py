@@ -10,7 +10,7 @@ import copies
 import source
 
 # At most so many edits in one check.
-MOST = 24
+MOST = 40
 
 
 class Outcome(Enum):
@@ -119,9 +119,9 @@ class Group:
 
 
 def grouped(edits, folder):
-    """Groups of edits, each of which is tried in one check."""
+    """Groups of edits, each of which is tried in one check. Those that no copy serves come first, and take the functions' places."""
     groups = []
-    for edit in edits:
+    for edit in sorted(edits, key=lambda it: copies.can_be_copied(it, folder)):
         if not any(it.takes(edit, folder) for it in groups):
             groups.append(Group())
             groups[-1].takes(edit, folder)

@@ -4,13 +4,14 @@
 usage: edits.py [--root FOLDER] [--jobs N] [--record] [CRATE..]     at the top of the repository
 
 An edit is a file crates/CRATE/must-fail/*.edit. Each function is proved against its own contract and those of what it
-calls, and never against another body. So edits of the bodies of different functions are tried in one check, and each is
-refused by an error or an open goal that the check reports of that very function. An edit that has none there, or that
-changes more than bodies, is checked again alone; where no function has a goal of its own left open then, it shows
-nothing of a contract, and counts as an error, like an edit that can't be applied or read, or that is proved.
+calls, and never against another body. So many edits of bodies are tried in one check, further ones of one function on
+copies of it, and each is refused by an error or an open goal that the check reports of that very function or copy. One
+that has none there is tried again in its function's place, and then alone, as is one that changes more than bodies;
+where no function has a goal of its own left open then, it shows nothing of a contract, and counts as an error, like an
+edit that can't be applied or read, or that is proved.
 
 Prints a line for each edit. The last line is 'N refused, M not refused', and the status is 1 where M is not 0.
-With --record the file gate/record.txt is written for the crates of which every edit was refused.
+With --record the file gate/goals.txt is written, and gate/record.txt for the crates of which every edit was refused.
 """
 
 import argparse
@@ -90,13 +91,21 @@ class Trial:
                     edits_of_a_crate.look(it, self.folder, symbols)
                     it.goals = known.get(it.label) if len(it.symbols) == 1 else []
             left = [it for it in edits if it.outcome is Outcome.NOT_TRIED and told.is_proved]
-            groups = edits_of_a_crate.grouped([it for it in left if it.symbols], self.folder)
-            for group, told in zip(groups, self.check_each(kept, [self.one_goal_each(it) for it in groups])):
-                self.judge(group, told)
+            self.try_together(kept, [it for it in left if it.symbols])
+            for it in left:
+                # Once more in its function's place, with nothing left out.
+                it.goals = it.goals if it.is_refused else []
+            self.try_together(kept, [it for it in left if it.symbols and not it.is_refused])
             alone = [it for it in left if not it.is_refused]
             for it, told in zip(alone, self.check_each(kept, [edits_of_a_crate.applied(it, self.folder) for it in alone])):
                 self.judge_alone(it, told)
         return edits
+
+    def try_together(self, kept, edits):
+        """Tries edits of bodies, many in one check."""
+        groups = edits_of_a_crate.grouped(edits, self.folder)
+        for group, told in zip(groups, self.check_each(kept, [self.one_goal_each(it) for it in groups])):
+            self.judge(group, told)
 
     def one_goal_each(self, group):
         """The texts of a group with the answers that leave all but the first known goal of each edit out."""
@@ -154,6 +163,13 @@ def try_crates(root, names, jobs, when_done=lambda name, edits: None):
     return tried
 
 
+def note(root, name, edits):
+    """Writes by which goals a crate's edits were refused, and the record's line of a crate of which every edit was."""
+    goals.write(root, name, edits)
+    if all(it.is_refused for it in edits):
+        record.write(root, [name])
+
+
 def main():
     words = argparse.ArgumentParser(description=__doc__, formatter_class=argparse.RawDescriptionHelpFormatter)
     words.add_argument("--root", default=os.getcwd())
@@ -162,17 +178,11 @@ def main():
     words.add_argument("crates", nargs="*")
     given = words.parse_args()
 
-    def noted(name, edits):
-        """Writes the record's line of a crate of which every edit was refused."""
-        if given.record:
-            goals.write(given.root, name, edits)
-        if given.record and all(it.is_refused for it in edits):
-            record.write(given.root, [name])
-
     names = given.crates or [*kit.crates_of(given.root)]
     if wrong := Libraries(given.root, given.jobs).build_below(names):
         sys.exit(wrong)
-    tried = try_crates(given.root, names, given.jobs, noted)
+    when_done = (lambda name, edits: note(given.root, name, edits)) if given.record else (lambda name, edits: None)
+    tried = try_crates(given.root, names, given.jobs, when_done)
     every = [it for edits in tried.values() for it in edits]
     refused = sum(it.is_refused for it in every)
     print(f"{refused} refused, {len(every) - refused} not refused")

@@ -2,7 +2,7 @@
 
 One goal that stays open refuses an edit, and the prover searches long for each that does not hold. So of an edited function
 only the first goal of its line is tried: the others get an answer by hand that no check takes. An edit whose first goal is
-not left open so is tried again alone, with nothing left out: a line can be old, and still refuses nothing.
+not left open so is tried again with nothing left out: a line can be old, and still refuses nothing.
 """
 
 import re

@@ -20,6 +20,7 @@ import says
 import source
 import verdict
 from edit import Outcome
+from libraries import Libraries
 
 CODE = """//! A sample.
 #![tactic(auto)]
@@ -121,8 +122,9 @@ class Trying(unittest.TestCase):
             goals.path(room).write_text("".join(lines))
             tried = edits.try_crates(room, ["sample"], 1)["sample"]
             self.assertEqual({it.label: it.outcome for it in tried}, {f"sample/{name}.edit": it[-1] for name, it in known.items()})
-            alone = {it.label for it in tried if "(alone)" in it.why or it.outcome is Outcome.PROVED}
-            self.assertEqual(alone, {"sample/harmless.edit", "sample/known_by_a_goal_that_holds.edit"})
+            on_copies = {it.label.removeprefix("sample/") for it in tried if "_tried_" in it.why}
+            self.assertEqual(on_copies, {"the_greater.edit"})
+            self.assertFalse(any("(alone)" in it.why for it in tried))
             goals.write(room, "sample", tried)
             self.assertEqual(goals.known(room)["sample/the_greater.edit"], [second, first])
 
@@ -180,6 +182,42 @@ class Recording(unittest.TestCase):
                 with unittest.mock.patch.object(kit, "identity", lambda: identity):
                     self.assertEqual(record.uncovered(room), left)
 
+    def test_what_is_noted_of_a_crate(self):
+        """Goals of each refused edit beside those of other crates, and a line of the record only where each edit is refused."""
+        with tempfile.TemporaryDirectory() as room:
+            repository(room, {"low": CODE, "high": ABOVE})
+            refused = edit.Edit("low/one.edit", [], Outcome.REFUSED, symbols={"low::next"}, goals=["returns"])
+            proved = edit.Edit("low/two.edit", [], Outcome.PROVED, symbols={"low::next"}, goals=["returns"])
+            edits.note(room, "high", [edit.Edit("high/one.edit", [], Outcome.REFUSED, symbols={"high::three_more"}, goals=[])])
+            edits.note(room, "low", [refused, proved])
+            self.assertEqual(goals.known(room), {"high/one.edit": [], "low/one.edit": ["returns"]})
+            self.assertEqual(record.uncovered(room), ["low"])
+            edits.note(room, "low", [refused])
+            self.assertEqual(record.uncovered(room), [])
+
+    def test_libraries_are_built_once_and_anew_where_they_or_those_below_changed(self):
+        with tempfile.TemporaryDirectory() as room:
+            repository(room, {"low": CODE, "middle": ABOVE, "high": ABOVE})
+            built, status = [], 0
+
+            def check(words, folder):
+                built.append(folder.name)
+                return kit.Told(status, "it is told")
+
+            with unittest.mock.patch.object(kit, "check", check):
+                build = lambda: (Libraries(room, 2).build_below(["high"]), [*built], built.clear())[:2]
+                self.assertEqual(build(), ("", ["low", "middle"]))
+                self.assertEqual(build(), ("", []))
+                file = Path(room, "crates", "middle", "src", "lib.rt")
+                file.write_text(file.read_text() + "// more\n")
+                self.assertEqual(build(), ("", ["middle"]))
+                file = Path(room, "crates", "low", "src", "lib.rt")
+                file.write_text(file.read_text() + "// more\n")
+                self.assertEqual(build(), ("", ["low", "middle"]))
+                file.write_text(CODE)
+                status = 1
+                self.assertEqual(build(), ("low is not proved: it is told", ["low"]))
+
     def test_two_crates_are_picked(self):
         with tempfile.TemporaryDirectory() as room:
             repository(room, {it: CODE for it in "abcdefgh"})
@@ -215,6 +253,15 @@ logic=not-proved
 
 
 class Parts(unittest.TestCase):
+    def test_an_edit_that_fits_no_more_is_told(self):
+        with tempfile.TemporaryDirectory() as room:
+            folder = Path(repository(room, {"low": CODE}), "crates", "low", "must-fail")
+            with unittest.mock.patch.object(gate, "ROOT", Path(room)):
+                (folder / "one.edit").write_text("file: src/lib.rt\nold: x - x\nnew: x\n")
+                self.assertEqual(gate.fitting(), (1, []))
+                (folder / "two.edit").write_text("file: src/lib.rt\nold: x - y\nnew: x\n")
+                self.assertEqual(gate.fitting()[1], ["low/two.edit fits its code no more"])
+
     def test_a_part_that_is_a_program_passes_by_its_status(self):
         with tempfile.TemporaryDirectory() as room:
             for status, wanted in ((0, (1, 0)), (1, (0, 1)), (3, (0, 1))):
@@ -260,6 +307,36 @@ class Reading(unittest.TestCase):
         self.assertEqual(found.goals["low::m::open_tried_1"], ["returns-clause-found"])
         self.assertEqual(found.by_hand, {"low::m::open_tried_1"})
         self.assertEqual({*verdict.read("low", kit.Told(1, LEFT_OUT)).own}, {"low::m::open", "low::m::open_tried_1"})
+
+    def test_a_copy_of_which_an_answer_is_refused_shows_nothing(self):
+        """Nor does a function of which only an answer is refused that is left out of its trial."""
+        for line, wanted in (("./proofs/m/open_tried_1/Invariants.antt", True), ("nothing", False)):
+            of_open = lambda: edit.Edit("low/it.edit", [], symbols={"low::m::open"}, goals=["returns-clause-found", "returns-clause-size"])
+            on_copy, in_place = of_open(), of_open()
+            told = "".join(f"{it}\n" for it in LEFT_OUT.splitlines() if not it.startswith(line))
+            group = edit.Group({"low::m::open_tried_1": on_copy, "low::m::open": in_place})
+            edits.Trial("", "low", {}, Path(), None).judge(group, kit.Told(1, told))
+            self.assertEqual((on_copy.is_refused, in_place.is_refused), (wanted, False))
+
+    def test_which_functions_are_copied(self):
+        for head, place, known, wanted in (
+            ("impl Kind", None, None, True),
+            ("impl Kind", None, ["returns"], True),
+            ("impl Kind", None, [], False),
+            ("impl Turns for Kind", None, None, False),
+            ("trait Kind", None, None, False),
+            ("impl Kind", "Kind/+turn/Answers.antt", None, False),
+            ("impl Kind", "Kind/turn/Proof.antt", None, False),
+            ("impl Kind", "Kind/fn/turn/map/Answers.antt", None, False),
+            ("impl Kind", "Kind/turn/Answers.antt", None, True),
+        ):
+            with tempfile.TemporaryDirectory() as room:
+                file = Path(room, "proofs", place or "none")
+                file.parent.mkdir(parents=True)
+                file.write_text("")
+                function = source.functions_of(head + " {\n    fn turn() {}\n}\n")[0]
+                it = edit.Edit("", [("src/lib.rt", "", "")], symbols={"low::Kind::turn"}, function=function, goals=known)
+                self.assertEqual(copies.can_be_copied(it, room), wanted, (head, place, known))
 
     def test_which_goal_of_several_is_tried(self):
         """First one that the prover found to be false, then one of what the function ensures."""
