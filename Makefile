@@ -27,8 +27,8 @@ REQUESTS ?= 100000
 PREFIX ?= /usr/local
 DESTDIR ?=
 AT = $(DESTDIR)$(PREFIX)
-# How many checks go side by side: one a processor, with 3 GB of free memory for each.
-LANES ?= $(shell awk -v processors=$$(nproc) '/^MemAvailable:/ { fit = int($$2 / 3000000); print fit < 1 ? 1 : fit < processors ? fit : processors }' /proc/meminfo)
+# How many checks go side by side: one a processor, with 4 GB of free memory for each.
+LANES ?= $(shell awk -v processors=$$(nproc) '/^MemAvailable:/ { fit = int($$2 / 4000000); print fit < 1 ? 1 : fit < processors ? fit : processors }' /proc/meminfo)
 
 .PHONY: demo test edits build rows bench memory ends crash hostile mirror operate pictures install uninstall
 

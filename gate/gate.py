@@ -119,9 +119,9 @@ def some_edits(copy):
 
 
 def lanes():
-    """How many checks go side by side: one a processor, with 3 GB of free memory for each. None was seen to take more than 2.3 GB."""
+    """How many checks go side by side: one a processor, with 4 GB of free memory for each. None was seen to take more than 3.1 GB."""
     free = int(re.search(r"MemAvailable:\s+(\d+)", Path("/proc/meminfo").read_text())[1])
-    return max(1, min(len(os.sched_getaffinity(0)), free // 3_000_000))
+    return max(1, min(len(os.sched_getaffinity(0)), free // 4_000_000))
 
 
 def script(*words):
