@@ -1,11 +1,12 @@
-"""Copies of a function, beside it and each under a name of its own: on them further edits of the function are tried in one check.
+"""Copies of a function, beside it and each under a name of its own: on them edits of the function are tried, many in one check.
 
-A copy has the function's contract and proof files, and an edit's body. What the prover's search leaves open of it, it leaves
-open of the function, since names alone differ. Of an answer by hand that could not be said (a lemma may name the function):
-a copy of which one is refused shows nothing.
+A copy has the function's contract and proof files, and an edit's body. What the prover leaves open of it, or refuses of its
+answers by hand, it would of the function, since names alone differ: a function that any other text of the crate's contracts,
+specs or proofs names is not copied.
 """
 
 import re
+from functools import lru_cache
 from pathlib import Path
 
 import source
@@ -27,17 +28,32 @@ def proof_module(symbol):
 
 
 def can_be_copied(edit, folder):
-    """Whether an edit changes one function alone, which is no method of a trait, calls not itself and has no proof by hand, and is not known to be refused by answers by hand."""
-    if len(edit.symbols) != 1 or edit.goals == [] or len({path for path, _, _ in edit.pairs}) != 1:
+    """Whether an edit changes one function alone, which is no method of a trait, calls not itself, has no proof by hand, and is named in no text but its own proof files."""
+    if len(edit.symbols) != 1 or len({path for path, _, _ in edit.pairs}) != 1:
         return False
-    function, place = edit.function, Path(folder, proof_folder(next(iter(edit.symbols))))
+    function, symbol = edit.function, next(iter(edit.symbols))
+    place = Path(folder, proof_folder(symbol))
     is_plain = function.name != "main" and not re.search(r"\bfor\b|\Atrait\b", function.block)
     by_hand = [place / "Proof.antt", place.parent / f"+{place.name}", place.parent / "fn" / place.name]
-    return is_plain and not any(it.exists() for it in by_hand)
+    return is_plain and not any(it.exists() for it in by_hand) and not is_named_elsewhere(symbol, folder)
+
+
+def is_named_elsewhere(symbol, folder):
+    """Whether a text of the crate beside the function's own proof files names the function's proof or contract."""
+    place = Path(folder, proof_folder(symbol))
+    named = re.compile(rf"\b(?:proofs|contracts)\.{re.escape('.'.join(symbol.split('::')[1:]))}\b")
+    return any(named.search(text) for file, text in texts_of(folder) if file.parent != place)
+
+
+@lru_cache
+def texts_of(folder):
+    """The texts of a crate's code, specs and proofs, by their files."""
+    files = [it for part in ("src", "specs", "proofs") for it in Path(folder, part).rglob("*") if it.is_file()]
+    return [(it, it.read_text()) for it in files]
 
 
 def with_copy(texts, folder, edit, edited, number):
-    """These texts with a copy of the function that the edit changes, as the edit has it, and with the copy's proof files; and the copy's symbol."""
+    """These texts with a copy of the function that the edit changes, as the text `edited` of its file has it, and with the copy's proof files; and the copy's symbol."""
     symbol, path = next(iter(edit.symbols)), edit.pairs[0][0]
     text = texts.get(path) or Path(folder, path).read_text()
     is_it = lambda it: (it.name, it.block) == (edit.function.name, edit.function.block)

@@ -10,7 +10,7 @@ import copies
 import source
 
 # At most so many edits in one check.
-MOST = 40
+MOST = 32
 
 
 class Outcome(Enum):
@@ -34,7 +34,7 @@ class Edit:
     why: str = ""
     symbols: set = field(default_factory=set)
     function: source.Function | None = None
-    # The goals by which it was last seen refused, the one first that is tried: empty where answers by hand were refused too.
+    # The goals by which it was last seen refused, as its line has them, or None where it has no line.
     goals: list | None = None
 
     def judged(self, outcome, why):
@@ -101,17 +101,16 @@ class Group:
     texts: dict = field(default_factory=dict)
 
     def takes(self, edit, folder):
-        """Takes an edit, in its place or, where another edit has that, on a copy of its function. False where it can't."""
+        """Takes an edit, on a copy of its function or, where that can't be copied, in its place. False where it can't."""
         if len(self.tried) >= MOST:
             return False
-        if not edit.symbols & {*self.tried}:
-            texts, symbols = applied(edit, folder, self.texts), edit.symbols
-        elif copies.can_be_copied(edit, folder):
+        if copies.can_be_copied(edit, folder):
             edited = applied(edit, folder)[edit.pairs[0][0]]
             texts, symbol = copies.with_copy(self.texts, folder, edit, edited, len(self.tried))
             symbols = {symbol}
         else:
-            return False
+            symbols = edit.symbols
+            texts = None if symbols & {*self.tried} else applied(edit, folder, self.texts)
         if texts:
             self.texts = texts
             self.tried.update(dict.fromkeys(symbols, edit))
@@ -119,7 +118,7 @@ class Group:
 
 
 def grouped(edits, folder):
-    """Groups of edits, each of which is tried in one check. Those that no copy serves come first, and take the functions' places."""
+    """Groups of edits, each of which is tried in one check. Those that no copy serves come first, while each text stands once."""
     groups = []
     for edit in sorted(edits, key=lambda it: copies.can_be_copied(it, folder)):
         if not any(it.takes(edit, folder) for it in groups):

@@ -4,9 +4,9 @@
 usage: edits.py [--root FOLDER] [--jobs N] [--record] [CRATE..]     at the top of the repository
 
 An edit is a file crates/CRATE/must-fail/*.edit. Each function is proved against its own contract and those of what it
-calls, and never against another body. So many edits of bodies are tried in one check, further ones of one function on
-copies of it, and each is refused by an error or an open goal that the check reports of that very function or copy. One
-that has none there is tried again in its function's place, and then alone, as is one that changes more than bodies;
+calls, and never against another body. So many edits of bodies are tried in one check, each on a copy of its function where
+that can be copied, and each is refused by an error or an open goal that the check reports of that very copy. One that has
+none there is tried again with others, and then alone in its function's place, as is one that changes more than bodies;
 where no function has a goal of its own left open then, it shows nothing of a contract, and counts as an error, like an
 edit that can't be applied or read, or that is proved.
 
@@ -16,6 +16,7 @@ With --record the file gate/goals.txt is written, and gate/record.txt for the cr
 
 import argparse
 import os
+import resource
 import shutil
 import sys
 import tempfile
@@ -43,6 +44,7 @@ class Trial:
     home: Path
     turns: Semaphore
     checks: int = 0
+    seconds: float = 0.0
 
     @property
     def folder(self):
@@ -61,7 +63,9 @@ class Trial:
             for path, text in texts.items():
                 Path(crate, path).parent.mkdir(parents=True, exist_ok=True)
                 Path(crate, path).write_text(text)
-            return kit.check(kit.command(self.home, self.root, self.uses, self.name, kept), crate)
+            told = kit.check(kit.command(self.home, self.root, self.uses, self.name, kept), crate)
+        self.seconds += told.seconds
+        return told
 
     def check_each(self, kept, every):
         """Checks each of these texts in a copy of its own, side by side as turns come free, and gives what was told of each."""
@@ -93,7 +97,7 @@ class Trial:
             left = [it for it in edits if it.outcome is Outcome.NOT_TRIED and told.is_proved]
             self.try_together(kept, [it for it in left if it.symbols])
             for it in left:
-                # Once more in its function's place, with nothing left out.
+                # Once more with nothing left out.
                 it.goals = it.goals if it.is_refused else []
             self.try_together(kept, [it for it in left if it.symbols and not it.is_refused])
             alone = [it for it in left if not it.is_refused]
@@ -115,13 +119,12 @@ class Trial:
         return texts
 
     def judge(self, group, told):
-        """Takes those edits of a group as refused of whose own functions, or copies of them, the check has an error or an open goal."""
-        found = verdict.read(self.name, told, {symbol: goals.beside(it) for symbol, it in group.tried.items()})
+        """Takes those edits of a group as refused of whose own functions, or copies of them, the check has an error or an open goal: the first of their line, where they have one."""
+        found = verdict.read(self.name, told, {symbol: goals.beside(it, self.folder) for symbol, it in group.tried.items()})
         # An error of a function that none of them changes could come from any: then each is tried alone.
         if found.is_read and {*found.own} <= {*group.tried}:
             for symbol, it in group.tried.items():
-                is_copy = symbol not in it.symbols
-                if symbol in found.own and not (is_copy and symbol in found.by_hand):
+                if symbol in found.own and (not it.goals or it.goals[0] in found.refused(symbol)):
                     self.refused(it, symbol, found)
 
     def judge_alone(self, it, told):
@@ -138,17 +141,20 @@ class Trial:
             self.refused(it, next(iter(own)), found, "(alone) ")
 
     def refused(self, it, symbol, found, how=""):
-        """Notes that an edit is refused, and by which goals: a trial of one of them says nothing of the others."""
+        """Notes that an edit is refused, and by which goals: a trial of the first of them says nothing of the others."""
         it.judged(Outcome.REFUSED, f"{how}{symbol}: {found.own[symbol]}")
-        opened = [] if symbol in found.by_hand else found.goals.get(symbol, [])
+        opened = found.refused(symbol)
         if it.goals is None or it.goals[:1] != opened[:1]:
             it.goals = opened
+        else:
+            it.goals = [*it.goals, *(goal for goal in opened if goal not in it.goals)]
 
 
 def try_crates(root, names, jobs, when_done=lambda name, edits: None):
     """Tries the edits of these crates, so many checks side by side, prints what came of each, and returns the edits by crate. Each crate is told of when it is done."""
     home, uses, turns = kit.folder(), kit.crates_of(root), Semaphore(jobs)
-    trials = [it for it in (Trial(root, name, uses, home, turns) for name in names) if it.files()]
+    # The crates with the most edits begin, since their checks are the longest.
+    trials = sorted((it for it in (Trial(root, name, uses, home, turns) for name in names) if it.files()), key=lambda it: -len(it.files()))
     tried = {}
     # A crate's own checks go side by side too, so that the last one leaves no processor idle.
     with ThreadPoolExecutor(jobs) as pool:
@@ -158,7 +164,7 @@ def try_crates(root, names, jobs, when_done=lambda name, edits: None):
             tried[trial.name] = edits
             for it in edits:
                 print(f"{it.outcome.value}: {it.label}: {it.why[:200]}")
-            print(f"-- {trial.name}: {len(edits)} edits by {trial.checks} checks", flush=True)
+            print(f"-- {trial.name}: {len(edits)} edits by {trial.checks} checks, {trial.seconds:.0f} seconds of a processor", flush=True)
             when_done(trial.name, edits)
     return tried
 
@@ -168,6 +174,12 @@ def note(root, name, edits):
     goals.write(root, name, edits)
     if all(it.is_refused for it in edits):
         record.write(root, [name])
+
+
+def seconds():
+    """What the checks that have ended took of a processor."""
+    used = resource.getrusage(resource.RUSAGE_CHILDREN)
+    return used.ru_utime + used.ru_stime
 
 
 def main():
@@ -181,10 +193,12 @@ def main():
     names = given.crates or [*kit.crates_of(given.root)]
     if wrong := Libraries(given.root, given.jobs).build_below(names):
         sys.exit(wrong)
+    libraries = seconds()
     when_done = (lambda name, edits: note(given.root, name, edits)) if given.record else (lambda name, edits: None)
     tried = try_crates(given.root, names, given.jobs, when_done)
     every = [it for edits in tried.values() for it in edits]
     refused = sum(it.is_refused for it in every)
+    print(f"minutes of a processor: {libraries / 60:.1f} for libraries that were not built, {(seconds() - libraries) / 60:.1f} for the edits")
     print(f"{refused} refused, {len(every) - refused} not refused")
     return 1 if refused < len(every) else 0
 

@@ -1,8 +1,10 @@
 """The goals by which each must-fail edit was last seen refused (gate/goals.txt), and how all but one of them are left out of a trial.
 
 One goal that stays open refuses an edit, and the prover searches long for each that does not hold. So of an edited function
-only the first goal of its line is tried: the others get an answer by hand that no check takes. An edit whose first goal is
-not left open so is tried again with nothing left out: a line can be old, and still refuses nothing.
+only the first goal of its line is tried, and it alone refuses the edit: the others, and those that have an answer by hand, get
+one that no check takes. A goal in parentheses is one of which the function's own answer by hand is refused: where it is the
+first, all answers by hand stay as they are, since one may cite another. An edit whose first goal is not refused so is tried
+again with nothing left out: a line can be old, and still refuses nothing.
 """
 
 import re
@@ -10,15 +12,32 @@ from pathlib import Path
 
 import copies
 
-HEAD = "# The goals by which each must-fail edit was last seen refused, the one first that is tried. Written by `make edits`.\n"
+HEAD = "# The goals by which each must-fail edit was last seen refused, the one first that is tried; (those) have an answer by hand, which is refused. Written by `make edits`.\n"
+# An answer by hand: what a file of them makes public.
+ANSWERED = re.compile(r"(?m)^pub (\S+) :")
 # No name that is in scope, so an answer that is no answer; and no goal of any function.
 NO_ANSWER = "left_out_of_this_trial"
 NO_GOAL = "no_goal_of_any_function"
 
 
-def beside(edit):
-    """The goals that get an answer by hand in a trial of an edit."""
-    return [*(edit.goals or [])[1:], NO_GOAL]
+def is_by_hand(goal):
+    """Whether a goal of a line is one of which the answer by hand is refused."""
+    return goal.startswith("(")
+
+
+def answers(folder, symbol):
+    """Where the answers by hand of a function stand in its crate, and their text."""
+    file = copies.proof_folder(symbol) / "Answers.antt"
+    return str(file), Path(folder, file).read_text() if Path(folder, file).is_file() else ""
+
+
+def beside(edit, folder):
+    """The goals that get an answer in a trial of an edit that is none: that of no function alone, where nothing is known."""
+    first, *others = edit.goals or [""]
+    left = [it for it in others if not is_by_hand(it)]
+    if first and not is_by_hand(first):
+        left += [it for it in ANSWERED.findall(answers(folder, next(iter(edit.symbols)))[1]) if it not in left and it != first]
+    return [*left, NO_GOAL]
 
 
 def path(root):
@@ -26,7 +45,7 @@ def path(root):
 
 
 def known(root):
-    """The goals of each edit that has a line, by its label: none where answers by hand are refused with it."""
+    """The goals of each edit that has a line, by its label."""
     text = path(root).read_text() if path(root).is_file() else ""
     rows = [it.split() for it in text.splitlines() if it and not it.startswith("#")]
     return {label.removesuffix(":"): goals for label, *goals in rows}
@@ -40,7 +59,7 @@ def write(root, crate, edits):
 
 
 def left_out(texts, folder, symbol, edit):
-    """These texts, with the answers of a function in which all but the first known goal of an edit are left out of its trial.
+    """These texts, with the answers of a function or its copy in which all but the first known goal of an edit are left out of its trial.
 
     An answer to a goal that it has not comes last: over answers that it refuses, the prover does not run once more to print
     what it would offer for the open ones.
@@ -48,14 +67,14 @@ def left_out(texts, folder, symbol, edit):
     place = copies.proof_folder(symbol)
     if Path(folder, place.parent, f"+{place.name}").is_dir() or Path(folder, place, "Proof.antt").is_file():
         return texts
-    path = str(place / "Answers.antt")
-    text = texts.get(path) or (Path(folder, path).read_text() if Path(folder, path).is_file() else "")
+    path, text = answers(folder, symbol)
+    text = "" if edit.goals and not is_by_hand(edit.goals[0]) else texts.get(path, text)
     module = f"{copies.proof_module(symbol)}.Goals"
     if brought := re.search(rf"(?m)^use {re.escape(module)} as (\w+)", text):
         name = brought[1]
     else:
         name, text = "goals_of_this_trial", f"use {module} as goals_of_this_trial\n{text}"
-    for goal in beside(edit):
-        if not re.search(rf"(?m)^(pub )?{re.escape(goal)} :", text):
+    for goal in beside(edit, folder):
+        if goal not in ANSWERED.findall(text):
             text += f"\npub {goal} : {name}.{goal}\n{goal} = {NO_ANSWER}\n"
     return {**texts, path: text}

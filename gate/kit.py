@@ -10,10 +10,11 @@ from pathlib import Path
 
 @dataclass(frozen=True)
 class Told:
-    """What a check told: its exit status and its text."""
+    """What a check told: its exit status and its text, and the seconds of a processor that it took."""
 
     status: int
     text: str
+    seconds: float = 0.0
 
     @property
     def is_proved(self):
@@ -68,8 +69,11 @@ def command(kit, root, uses, name, kept):
 def check(words, crate_folder):
     """Runs a check in a crate's folder."""
     how = {"stdin": subprocess.DEVNULL, "stdout": subprocess.PIPE, "stderr": subprocess.STDOUT}
-    ran = subprocess.run(words, cwd=crate_folder, errors="replace", **how)
-    return Told(ran.returncode, ran.stdout)
+    with subprocess.Popen(words, cwd=crate_folder, errors="replace", **how) as ran:
+        text = ran.stdout.read()
+        _, status, took = os.wait4(ran.pid, 0)
+        ran.returncode = os.waitstatus_to_exitcode(status)
+    return Told(ran.returncode, text, took.ru_utime + took.ru_stime)
 
 
 def linked_copy(kept, to):

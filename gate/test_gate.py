@@ -1,6 +1,8 @@
 #!/usr/bin/env python3
 """Tests of the gate: what its runner takes as refused, and what its record covers."""
 
+import contextlib
+import io
 import shutil
 import subprocess
 import sys
@@ -123,10 +125,10 @@ class Trying(unittest.TestCase):
             tried = edits.try_crates(room, ["sample"], 1)["sample"]
             self.assertEqual({it.label: it.outcome for it in tried}, {f"sample/{name}.edit": it[-1] for name, it in known.items()})
             on_copies = {it.label.removeprefix("sample/") for it in tried if "_tried_" in it.why}
-            self.assertEqual(on_copies, {"the_greater.edit"})
+            self.assertEqual(on_copies, {f"{name}.edit" for name, it in known.items() if it[-1] is Outcome.REFUSED})
             self.assertFalse(any("(alone)" in it.why for it in tried))
             goals.write(room, "sample", tried)
-            self.assertEqual(goals.known(room)["sample/the_greater.edit"], [second, first])
+            self.assertEqual(goals.known(room)["sample/the_greater.edit"], [second, first, "returns-else-b-a-clause-first"])
 
     def test_a_crate_that_is_not_proved(self):
         with tempfile.TemporaryDirectory() as room:
@@ -271,6 +273,34 @@ class Parts(unittest.TestCase):
                 self.assertEqual((passed, len(failed)), wanted)
             self.assertEqual(gate.script(Path(room, "none.py"))()[0], 0)
 
+    def test_what_a_check_told(self):
+        """All that it wrote to both streams, its exit status, and the seconds of a processor that it took by itself."""
+        program = "import sys, time; print('one'); print('two', file=sys.stderr); end = time.process_time() + 0.3\nwhile time.process_time() < end: pass\nsys.exit(3)"
+        told = kit.check([sys.executable, "-u", "-c", program], "/")
+        self.assertEqual((told.status, told.text, told.is_proved), (3, "one\ntwo\n", False))
+        self.assertGreater(told.seconds, 0.3)
+        self.assertLess(told.seconds, 3)
+        self.assertTrue(kit.check([sys.executable, "-c", ""], "/").is_proved)
+
+    def test_how_a_run_of_edits_ends(self):
+        """Its last line counts what is refused and what is not, by which its status goes; nothing is tried over a library that is not built."""
+        refused, proved = edit.Edit("low/one.edit", [], Outcome.REFUSED), edit.Edit("low/two.edit", [], Outcome.PROVED)
+        for every, wrong, ends in (([refused], "", (0, "1 refused, 0 not refused")), ([refused, proved], "", (1, "1 refused, 1 not refused")), ([refused], "low is not proved", None)):
+            with tempfile.TemporaryDirectory() as room, contextlib.redirect_stdout(io.StringIO()) as out, contextlib.ExitStack() as patched:
+                repository(room, {"low": CODE})
+                for where, name, value in (
+                    (sys, "argv", ["edits.py", "--root", room]),
+                    (Libraries, "build_below", lambda self, names: wrong),
+                    (edits, "try_crates", lambda root, names, jobs, when_done: {"low": every}),
+                ):
+                    patched.enter_context(unittest.mock.patch.object(where, name, value))
+                if ends:
+                    self.assertEqual((edits.main(), out.getvalue().splitlines()[-1]), ends)
+                else:
+                    with self.assertRaises(SystemExit) as ended:
+                        edits.main()
+                    self.assertEqual(ended.exception.code, wrong)
+
     def test_parts_are_counted_and_a_failed_one_stops_none(self):
         parts = gate.Parts()
         self.assertTrue(parts.run("one", lambda: (2, [])))
@@ -305,38 +335,116 @@ class Reading(unittest.TestCase):
         found = verdict.read("low", kit.Told(1, LEFT_OUT), dict.fromkeys(["low::m::open", "low::m::open_tried_1"], ["returns-clause-size"]))
         self.assertEqual({*found.own}, {"low::m::open_tried_1"})
         self.assertEqual(found.goals["low::m::open_tried_1"], ["returns-clause-found"])
-        self.assertEqual(found.by_hand, {"low::m::open_tried_1"})
+        self.assertEqual(found.by_hand, {})
         self.assertEqual({*verdict.read("low", kit.Told(1, LEFT_OUT)).own}, {"low::m::open", "low::m::open_tried_1"})
 
-    def test_a_copy_of_which_an_answer_is_refused_shows_nothing(self):
-        """Nor does a function of which only an answer is refused that is left out of its trial."""
-        for line, wanted in (("./proofs/m/open_tried_1/Invariants.antt", True), ("nothing", False)):
+    def test_an_answer_that_is_left_out_refuses_nothing(self):
+        """Neither of a copy nor of a function; nor does another answer where the line's first goal is one of the search."""
+        no_goal, an_answer = ("note:", "past:"), ("`gone` is not in scope", "the two types differ")
+        for changes, wanted in (([], True), ([no_goal], False), ([no_goal, an_answer], False)):
             of_open = lambda: edit.Edit("low/it.edit", [], symbols={"low::m::open"}, goals=["returns-clause-found", "returns-clause-size"])
             on_copy, in_place = of_open(), of_open()
-            told = "".join(f"{it}\n" for it in LEFT_OUT.splitlines() if not it.startswith(line))
+            told = LEFT_OUT
+            for old, new in changes:
+                told = told.replace(old, new)
             group = edit.Group({"low::m::open_tried_1": on_copy, "low::m::open": in_place})
             edits.Trial("", "low", {}, Path(), None).judge(group, kit.Told(1, told))
-            self.assertEqual((on_copy.is_refused, in_place.is_refused), (wanted, False))
+            self.assertEqual((on_copy.is_refused, in_place.is_refused), (wanted, False), told)
+
+    def test_the_line_of_goals_that_is_kept(self):
+        """A trial in which the first goal is left open says nothing of the others; an answer by hand that is refused is known as such."""
+        told = LEFT_OUT.replace("`gone` is not in scope", "the two types differ")
+        for known, wanted in (
+            (None, ["returns-clause-found", "(invariant-loop-n)"]),
+            ([], ["returns-clause-found", "(invariant-loop-n)"]),
+            (["returns-clause-found", "returns-clause-size"], ["returns-clause-found", "returns-clause-size", "(invariant-loop-n)"]),
+            (["gone", "returns-clause-found"], ["returns-clause-found", "(invariant-loop-n)"]),
+        ):
+            it = edit.Edit("low/it.edit", [], symbols={"low::m::open_tried_1"}, goals=known)
+            left_out = {"low::m::open_tried_1": ["returns-clause-size"]}
+            edits.Trial("", "low", {}, Path(), None).refused(it, "low::m::open_tried_1", verdict.read("low", kit.Told(1, told), left_out))
+            self.assertEqual(it.goals, wanted)
+
+    def test_only_the_first_goal_of_a_line_refuses_its_edit(self):
+        for known, wanted in ((None, True), ([], True), (["returns-clause-found"], True), (["returns-clause-lost", "returns-clause-found"], False), (["(returns-clause-found)"], False)):
+            it = edit.Edit("low/it.edit", [], symbols={"low::m::open"}, goals=known)
+            edits.Trial("", "low", {}, Path(), None).judge(edit.Group({"low::m::open_tried_1": it}), kit.Told(1, LEFT_OUT.replace("low::m::open:", "low::m::open_tried_2:")))
+            self.assertEqual(it.is_refused, wanted, known)
+
+    def test_an_error_of_a_function_that_no_edit_changes_leaves_all_open(self):
+        for changed, wanted in ((["open", "answered", "calls_itself", "Kept::change"], True), (["open", "answered", "calls_itself"], False)):
+            every = {f"low::m::{it}": edit.Edit("low/it.edit", [], symbols={f"low::m::{it}"}) for it in changed}
+            edits.Trial("", "low", {}, Path(), None).judge(edit.Group(every), kit.Told(1, TOLD))
+            self.assertEqual([it.is_refused for it in every.values()], [wanted] * len(changed))
+
+    def test_what_is_left_out_of_a_trial(self):
+        """All goals of the line but the first, and where the search has the first, all that have an answer by hand."""
+        with tempfile.TemporaryDirectory() as room:
+            file = Path(room, "proofs", "m", "open", "Answers.antt")
+            file.parent.mkdir(parents=True)
+            file.write_text("use Rattle.low.proofs.m.open.Goals as goal\n\npub returns : goal.returns\nreturns = help\n\nhelp : ℕ\nhelp = 1\n\npub second : goal.second\nsecond = tt\n")
+            for known, wanted in (
+                (None, []),
+                ([], []),
+                (["first", "third"], ["third", "returns", "second"]),
+                (["first", "third", "(second)"], ["third", "returns", "second"]),
+                (["(returns)", "first", "(second)"], ["first"]),
+            ):
+                it = edit.Edit("low/it.edit", [], symbols={"low::m::open"}, goals=known)
+                self.assertEqual(goals.beside(it, room), [*wanted, goals.NO_GOAL])
+                text = goals.left_out({}, room, "low::m::open", it)["proofs/m/open/Answers.antt"]
+                self.assertEqual(text.startswith(file.read_text()), not wanted or wanted == ["first"])
+                self.assertEqual("help" in text, "returns = help" in text)
+                self.assertEqual([text.count(f"\n{goal} = {goals.NO_ANSWER}\n") for goal in goals.beside(it, room)], [1] * (len(wanted) + 1))
+                self.assertEqual(text.count(goals.NO_ANSWER), len(wanted) + 1)
+            it = edit.Edit("low/it.edit", [], symbols={"low::m::open"}, goals=["(returns)", "second"])
+            text = goals.left_out({}, room, "low::m::open", it)["proofs/m/open/Answers.antt"]
+            self.assertEqual((text.count("pub second :"), text.count(goals.NO_ANSWER)), (1, 1))
+
+    def test_edits_that_stand_on_copies(self):
+        """Each edit stands on a copy of its own, and the function as it is; where it can't be copied, one of them stands in its place in each check."""
+        with tempfile.TemporaryDirectory() as room:
+            folder = Path(repository(room, {"sample": CODE}), "crates", "sample")
+            every = [edit.Edit(f"{i}", [("src/lib.rt", "u16::from(x) + 1", f"u16::from(x) + {i}")]) for i in (2, 3, 4)]
+            for it in every:
+                edit.look(it, folder, ["sample::next"])
+            groups = edit.grouped(every, folder)
+            self.assertEqual([len(it.tried) for it in groups], [3])
+            for symbol, number in [("sample::next", 1), *((symbol, it.label) for symbol, it in groups[0].tried.items())]:
+                text = f"pub fn {symbol.removeprefix('sample::')}(x: u8) -> u16\n    ensures value {{ result ≡ x + 1 }}\n{{\n    u16::from(x) + {number}\n}}"
+                self.assertEqual(groups[0].texts["src/lib.rt"].count(text), 1, text)
+            with unittest.mock.patch.object(copies, "can_be_copied", lambda it, folder: it.label == "4"):
+                groups = edit.grouped(every, folder)
+                self.assertEqual([[it.label for it in group.tried.values()] for group in groups], [["2", "4"], ["3"]])
+                self.assertEqual([[*group.tried][0] for group in groups], ["sample::next"] * 2)
+            with unittest.mock.patch.object(copies, "can_be_copied", lambda it, folder: False):
+                of_smaller = [edit.Edit(old, [("src/lib.rt", old, new)]) for old, new in (("if a < b {", "if b < a {"), ("else { b }", "else { a }"))]
+                for it in of_smaller:
+                    edit.look(it, folder, ["sample::smaller"])
+                self.assertEqual([len(it.tried) for it in edit.grouped(of_smaller, folder)], [1, 1])
+            with unittest.mock.patch.object(edit, "MOST", 2):
+                self.assertEqual([len(it.tried) for it in edit.grouped(every, folder)], [2, 1])
 
     def test_which_functions_are_copied(self):
-        for head, place, known, wanted in (
-            ("impl Kind", None, None, True),
-            ("impl Kind", None, ["returns"], True),
-            ("impl Kind", None, [], False),
-            ("impl Turns for Kind", None, None, False),
-            ("trait Kind", None, None, False),
-            ("impl Kind", "Kind/+turn/Answers.antt", None, False),
-            ("impl Kind", "Kind/turn/Proof.antt", None, False),
-            ("impl Kind", "Kind/fn/turn/map/Answers.antt", None, False),
-            ("impl Kind", "Kind/turn/Answers.antt", None, True),
+        for head, place, text, wanted in (
+            ("impl Kind", "none", "", True),
+            ("impl Turns for Kind", "none", "", False),
+            ("trait Kind", "none", "", False),
+            ("impl Kind", "Kind/+turn/Answers.antt", "", False),
+            ("impl Kind", "Kind/turn/Proof.antt", "", False),
+            ("impl Kind", "Kind/fn/turn/map/Answers.antt", "", False),
+            ("impl Kind", "Kind/turn/Answers.antt", "use Rattle.low.proofs.Kind.turn.Goals as goal\n", True),
+            ("impl Kind", "Kind/turns/Answers.antt", "use Rattle.low.proofs.Kind.turns.Goals as goal\n", True),
+            ("impl Kind", "Lemmas.antt", "use Rattle.low.proofs.Kind.turn.Met\n", False),
+            ("impl Kind", "Kind/turns/Answers.antt", "use Rattle.low.specs.contracts.Kind.turn\n", False),
         ):
             with tempfile.TemporaryDirectory() as room:
-                file = Path(room, "proofs", place or "none")
+                file = Path(room, "proofs", place)
                 file.parent.mkdir(parents=True)
-                file.write_text("")
+                file.write_text(text)
                 function = source.functions_of(head + " {\n    fn turn() {}\n}\n")[0]
-                it = edit.Edit("", [("src/lib.rt", "", "")], symbols={"low::Kind::turn"}, function=function, goals=known)
-                self.assertEqual(copies.can_be_copied(it, room), wanted, (head, place, known))
+                it = edit.Edit("", [("src/lib.rt", "", "")], symbols={"low::Kind::turn"}, function=function)
+                self.assertEqual(copies.can_be_copied(it, room), wanted, (head, place, text))
 
     def test_which_goal_of_several_is_tried(self):
         """First one that the prover found to be false, then one of what the function ensures."""
@@ -375,10 +483,10 @@ class Reading(unittest.TestCase):
         text = CODE.replace("pub fn next", "#[inline]\npub fn next")
         with tempfile.TemporaryDirectory() as room:
             folder = Path(repository(room, {"sample": text}), "crates", "sample")
-            answers = "use Rattle.sample.proofs.next.Goals as goal\n\npub returns : goal.returns\nreturns c = tt\n"
+            answers = "use Rattle.sample.proofs.next.Goals as goal\n\npub returns : goal.returns\nreturns c = next.tt\n"
             (folder / "proofs" / "next").mkdir(parents=True)
             (folder / "proofs" / "next" / "Answers.antt").write_text(answers)
-            found = edit.Edit("", [("src/lib.rt", "u16::from(x) + 1", "u16::from(x) + 2")], goals=["value", "returns", "other"])
+            found = edit.Edit("", [("src/lib.rt", "u16::from(x) + 1", "u16::from(x) + 2")], goals=["(returns)", "other"])
             edit.look(found, folder, ["sample::next"])
             self.assertTrue(copies.can_be_copied(found, folder))
             texts, symbol = copies.with_copy({}, folder, found, edit.applied(found, folder)["src/lib.rt"], 7)

@@ -7,6 +7,7 @@ from dataclasses import dataclass
 ERROR = re.compile(r"(?:\./)?((?:src|specs|proofs)/\S+?):\d+:\d+: error:? ?(.*)")
 OPEN = re.compile(r"note: src/\S+:\d+:\d+: (it is not proved that .*|`search` found no proof .*)")
 NAME = re.compile(r"\(`([^`\s]+)`\)")
+ANSWERED = re.compile(r"\A`([^`\s]+)`")
 # What is told of a goal that fails at values that the prover found.
 IS_FALSE = "allow values at which this goal is false"
 ITEM = re.compile(r"(?:fn|impl|struct|enum|trait) (\S+): (?:(proved)|not proved|no proof)")
@@ -17,14 +18,18 @@ SECOND_HAND = re.compile(r"has no field|is not in scope|has no `|was not admitte
 @dataclass(frozen=True)
 class Verdict:
     """Whether the prover read all and refused some of it; of each function the first error or open goal of its own, the names of
-    its open goals, and whether any answer of its proof files is refused; and the first error of all."""
+    its open goals, and of those whose answers by hand are refused; and the first error of all."""
 
     is_proved: bool
     is_read: bool
     own: dict
     goals: dict
-    by_hand: set
+    by_hand: dict
     first: str
+
+    def refused(self, symbol):
+        """The goals by which a function is refused, as a line of gate/goals.txt has them: those that are left open, then in parentheses those whose answers by hand are refused."""
+        return [*self.goals.get(symbol, []), *(f"({it})" for it in self.by_hand.get(symbol, []))]
 
 
 def owner(symbol):
@@ -40,7 +45,7 @@ def named(goals):
 
 def read(crate, told, left_out={}):
     """Reads what a check of a crate told, but for the answers of these goals, by function."""
-    own, in_files, goals, opened, by_hand = {}, {}, [], {}, set()
+    own, in_files, goals, opened, by_hand = {}, {}, [], {}, {}
     is_read = told.status == 1 and re.search(r"(?m)^logic=not-proved", told.text) is not None
     for line in told.text.split("\n"):
         if found := ERROR.match(line):
@@ -49,10 +54,9 @@ def read(crate, told, left_out={}):
             is_left_out = any(found[2].startswith(f"`{it}`") for it in left_out.get(place, []))
             is_own = not SECOND_HAND.search(found[2]) and not is_left_out
             is_read = is_read and (found[1].startswith("proofs/") or (found[2].startswith("`") and is_own))
-            if found[1].startswith("proofs/") and not is_left_out:
-                by_hand.add(place)
             if is_own:
                 in_files.setdefault(place, found[2])
+                by_hand.setdefault(place, []).extend(ANSWERED.findall(found[2]) if found[1].startswith("proofs/") else [])
         elif found := OPEN.match(line):
             goals.append(found[1])
         elif found := ITEM.match(line):
