@@ -182,6 +182,12 @@ fn tell_published(rt: &impl Abort, source: &Source<MemoryDisk>, text: &mut Strin
     }
 }
 
+/// Looks whether a source tells this of itself.
+pub(super) fn tells(rt: &(impl Abort + AllocGlobal), source: &mut Source<MemoryDisk>, want: &str) {
+    let text = told(rt, source);
+    assert_eq!(rt; text.as_str(), want);
+}
+
 /// What a source tells of itself, as `held: a=one; changes: Created a; published 1: a`.
 pub(super) fn told(rt: &(impl Abort + AllocGlobal), source: &mut Source<MemoryDisk>) -> String {
     let mut text = String::new(rt.alloc());

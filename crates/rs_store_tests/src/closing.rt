@@ -10,10 +10,9 @@ use std::process::Abort;
 
 /// Looks whether this is the answer of a closed source.
 fn is_closed<T: Drop>(rt: &impl Abort, answer: Result<T, Refusal>) {
-    match answer {
-        Ok(_) => panic!(rt; "an open source"),
-        Err(refusal) => assert_eq!(rt; (refusal, refusal.word()), (Closed, "Closed")),
-    }
+    let refusal = answer.err();
+    assert_eq!(rt; refusal, Some(Closed));
+    assert_eq!(rt; refusal.map(|it| it.word()), Some("Closed"));
 }
 
 // What is asked of a closed source.

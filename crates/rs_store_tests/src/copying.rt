@@ -1,18 +1,21 @@
 //! Copies of a source to another disk: stopped at each of its calls, to disks that are too small, and of a
 //! damaged body.
 
-use super::asking::Asked::{Delete, Publish, Put};
+use super::asking::Asked::{self, Delete, Publish, Put};
 use super::asking::{ask, disk_of, made, opened, told};
 use rs_disk::{Disk, MemoryDisk};
 use rs_store::CopyFault::{self, Damaged, Device, Full, TooSmall};
 use rs_store::{OpenFault, Source};
 use std::process::Abort;
 
+// What leaves one resource held, and another one published that was deleted since.
+const FILLING: [Asked; 4] = [Put(b"a", b"one"), Publish, Put(b"b", b"two"), Delete(b"a")];
+
 /// A source of which one resource is held, and another one that was deleted since is published.
 fn filled(rt: &(impl Abort + AllocGlobal)) -> Source<MemoryDisk> {
     let mut source = made(rt, disk_of(rt, 65536));
-    for asked in [Put(b"a", b"one"), Publish, Put(b"b", b"two"), Delete(b"a")] {
-        let _answer = ask(rt, &mut source, asked);
+    for asked in &FILLING {
+        let _answer = ask(rt, &mut source, *asked);
     }
     source
 }
@@ -44,15 +47,28 @@ fn refused(
 // The choices that make images.
 const CHOICES: [&[u8]; 4] = [&[], &[0], &[1], &[0, 1]];
 
+/// What the source on a disk tells of itself, or why there is none.
+fn told_by(rt: &(impl Abort + AllocGlobal), disk: MemoryDisk) -> Result<String, OpenFault> {
+    match Source::open(rt.alloc(), disk) {
+        Ok(mut source) => Ok(told(rt, &mut source)),
+        Err((_disk, fault)) => Err(fault),
+    }
+}
+
+/// Looks whether this is told of an image that a choice makes, or that no source is there.
+fn is_told(rt: &impl Abort, text: &Result<String, OpenFault>, want: &str, choice: &[u8]) {
+    match text {
+        Ok(text) => assert_eq!(rt; text.as_str(), want, "{choice:?}"),
+        Err(fault) => assert_eq!(rt; *fault, OpenFault::NotASource, "{choice:?}"),
+    }
+}
+
 /// Looks whether each of these images of a disk holds no source, or one that tells this.
 fn images_tell(rt: &(impl Abort + AllocGlobal), disk: &MemoryDisk, want: &str) {
     for choice in &CHOICES {
         let image = disk.image(choice).expect(rt, "memory for an image");
         let disk = MemoryDisk::from_bytes(rt.alloc(), &image).expect(rt, "memory for a disk");
-        match Source::open(rt.alloc(), disk) {
-            Ok(mut source) => assert_eq!(rt; told(rt, &mut source).as_str(), want, "{choice:?}"),
-            Err((_disk, fault)) => assert_eq!(rt; fault, OpenFault::NotASource, "{choice:?}"),
-        }
+        is_told(rt, &told_by(rt, disk), want, choice);
     }
 }
 
@@ -88,27 +104,58 @@ const BODY: [u8; 5633] = [7; 5633];
 // How many bytes a disk has, and why a source with a body of 5,633 bytes is not copied to it.
 const SMALL: [(u64, CopyFault); 3] = [(0, TooSmall), (8191, TooSmall), (8192, Full)];
 
+/// Why a source is not copied to a disk of this size, and how many calls were made of that.
+fn fault_and_calls(
+    rt: &(impl Abort + AllocGlobal),
+    source: &mut Source<MemoryDisk>,
+    size: u64,
+) -> (CopyFault, u64) {
+    let (disk, fault) = refused(rt, source, disk_of(rt, size));
+    (fault, disk.calls())
+}
+
+/// Looks whether a source is copied to no small disk.
+fn is_not_copied(rt: &(impl Abort + AllocGlobal), source: &mut Source<MemoryDisk>) {
+    for (size, want) in &SMALL {
+        assert_eq!(rt;
+            fault_and_calls(rt, source, *size),
+            (*want, 0),
+            "{size} bytes"
+        );
+    }
+}
+
+/// Looks whether a source holds one resource.
+fn holds_one(rt: &(impl Abort + AllocGlobal), source: &Source<MemoryDisk>) {
+    assert_eq!(rt; source.status().expect(rt, "a status").resources, 1);
+}
+
 #[test]
 fn a_disk_is_too_small_for_a_copy(rt: HostRuntime) {
     let mut source = made(&rt, disk_of(&rt, 16384));
     let _answer = ask(&rt, &mut source, Put(b"a", &BODY));
-    for (size, want) in &SMALL {
-        let (disk, fault) = refused(&rt, &mut source, disk_of(&rt, *size));
-        assert_eq!(rt; fault, *want, "{size} bytes");
-        assert_eq!(rt; disk.calls(), 0);
-    }
-    let copy = copied(&rt, &mut source, disk_of(&rt, 8704));
-    assert_eq!(rt; copy.status().expect(&rt, "a status").resources, 1);
+    is_not_copied(&rt, &mut source);
+    holds_one(&rt, &copied(&rt, &mut source, disk_of(&rt, 8704)));
+}
+
+/// Damages the body of `b`.
+fn damage(rt: &impl Abort, disk: &mut MemoryDisk) {
+    let at = 3_072;
+    assert!(rt; at + 3 <= disk.size());
+    disk.write(at, b"TWO").expect(rt, "a write");
+}
+
+/// Looks whether this is the fault of a damaged body.
+fn is_damage(rt: &impl Abort, fault: CopyFault) {
+    assert_eq!(rt; fault, Damaged);
 }
 
 #[test]
 fn a_damaged_body_is_not_copied(rt: HostRuntime) {
     let mut disk = filled(&rt).into_disk();
-    let at = 3_072;
-    assert!(&rt; at + 3 <= disk.size());
-    disk.write(at, b"TWO").expect(&rt, "a write");
+    damage(&rt, &mut disk);
     let mut source = opened(&rt, disk);
     let (disk, fault) = refused(&rt, &mut source, disk_of(&rt, 32768));
-    assert_eq!(rt; fault, Damaged);
+    is_damage(&rt, fault);
     images_tell(&rt, &disk, "nothing");
 }

@@ -4,8 +4,13 @@
 use super::asking::{ask_for_two_puts, disk_of, made, named, opened, tell};
 use rs_disk::{Disk, MemoryDisk};
 use rs_lists::View;
-use rs_store::Source;
+use rs_store::{Refusal, Source};
 use std::process::Abort;
+
+/// Appends why nothing is answered.
+fn tell_refusal(rt: &impl Abort, text: &mut String, refusal: Refusal) {
+    write!(text, "{refusal:?}").expect(rt, "memory for text");
+}
 
 /// Appends the body of a name and its media type, or why there is none.
 fn tell_of(
@@ -17,12 +22,12 @@ fn tell_of(
     let name = named(rt, name);
     match source.body(&name) {
         Ok(bytes) => tell(rt, text, &bytes),
-        Err(refusal) => write!(text, "{refusal:?}").expect(rt, "memory for text"),
+        Err(refusal) => tell_refusal(rt, text, refusal),
     }
     tell(rt, text, b" ");
     match source.kind(&name) {
         Ok(kind) => tell(rt, text, kind.bytes()),
-        Err(refusal) => write!(text, "{refusal:?}").expect(rt, "memory for text"),
+        Err(refusal) => tell_refusal(rt, text, refusal),
     }
     tell(rt, text, b";");
 }
@@ -64,7 +69,7 @@ fn tell_damaged(
                 tell(rt, text, b" ");
             }
         }
-        Err(refusal) => write!(text, "{refusal:?}").expect(rt, "memory for text"),
+        Err(refusal) => tell_refusal(rt, text, refusal),
     }
     tell(rt, text, b";");
 }
@@ -98,9 +103,8 @@ fn damaged_bodies_and_a_device_that_fails(rt: HostRuntime) {
     assert_eq!(rt; text.as_str(), "Device;;b ;");
 }
 
-/// Looks at what a view of a source shows.
-fn views(rt: &(impl Abort + AllocGlobal), source: &Source<MemoryDisk>) {
-    let view = source.view().expect(rt, "a view");
+/// Looks at what a view shows.
+fn views<V: View>(rt: &impl Abort, view: &V) {
     assert_eq!(rt; view.base().bytes(), b"http://127.0.0.1:8080".as_slice());
     assert_eq!(rt; (view.limit(), view.number(), view.first()), (2, 1, 0));
     assert_eq!(rt; (view.start().ms(), view.at().ms()), (0, 2));
@@ -117,5 +121,5 @@ fn views(rt: &(impl Abort + AllocGlobal), source: &Source<MemoryDisk>) {
 fn a_view_shows_the_publication(rt: HostRuntime) {
     let mut source = made(&rt, disk_of(&rt, 65536));
     ask_for_two_puts(&rt, &mut source);
-    views(&rt, &source);
+    views(&rt, &source.view().expect(&rt, "a view"));
 }

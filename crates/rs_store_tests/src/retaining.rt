@@ -12,11 +12,15 @@ use std::process::Abort;
 /// begin.
 type Kept = (usize, u64, u64, u64);
 
+/// What a view shows that is kept of the changes.
+fn shown<V: View>(view: &V) -> Kept {
+    let parts = change_parts(view);
+    (view.changes_len(), parts, view.first(), view.begin().ms())
+}
+
 /// What a source keeps of its changes.
 fn kept(rt: &impl Abort, source: &Source<MemoryDisk>) -> Kept {
-    let view = source.view().expect(rt, "a view");
-    let parts = change_parts(&view);
-    (view.changes_len(), parts, view.first(), view.begin().ms())
+    shown(&source.view().expect(rt, "a view"))
 }
 
 /// Whether there is a document of this part of the Change List.

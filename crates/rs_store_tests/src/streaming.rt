@@ -44,15 +44,19 @@ fn first_md5(rt: &impl Abort, source: &Source<MemoryDisk>) -> u128 {
     }
 }
 
+/// Looks at what a source answers to a put of these bytes, one of which comes with each read, and at the body after it.
+fn is_received(rt: &(impl Abort + AllocGlobal), source: &mut Source<MemoryDisk>, bytes: &[u8]) {
+    let reader = FaultyReader::new(bytes, 1, u64::MAX);
+    assert_eq!(rt; receive(rt, source, reader, bytes.len() as u64), Created(1));
+    let body = source.body(&named(rt, b"a")).expect(rt, "a body");
+    assert!(rt; body.as_slice() == bytes);
+    assert_eq!(rt; first_md5(rt, source), 0xbbf1c77538f97ceeb1e03126edaa3594);
+}
+
 #[test]
 fn one_byte_a_read(rt: HostRuntime) {
     let mut source = made(&rt, disk_of(&rt, 65_536));
-    let bytes = counting(&rt, 10_000);
-    let reader = FaultyReader::new(&bytes, 1, u64::MAX);
-    assert_eq!(rt; receive(&rt, &mut source, reader, 10_000), Created(1));
-    let body = source.body(&named(&rt, b"a")).expect(&rt, "a body");
-    assert!(rt; body == bytes);
-    assert_eq!(rt; first_md5(&rt, &source), 0xbbf1c77538f97ceeb1e03126edaa3594);
+    is_received(&rt, &mut source, &counting(&rt, 10_000));
 }
 
 /// How many bytes come of a body of 10,000, the number of the read that fails, and the answer.
@@ -77,18 +81,25 @@ fn a_body_that_is_cut_short_takes_no_blocks(rt: HostRuntime) {
     assert_eq!(rt; fits, Created(1));
 }
 
+/// Looks whether a put of 10,000 bytes fails by the device, and reads no more than two pieces.
+fn reads_two_pieces(
+    rt: &(impl Abort + AllocGlobal),
+    source: &mut Source<MemoryDisk>,
+    bytes: &[u8],
+) {
+    let mut reader = Watched::new(bytes);
+    let now = Moment::first();
+    let done = source.put_from(&named(rt, b"a"), &plain(rt), &mut reader, 10_000, now);
+    assert_eq!(rt; answer_of(&done), Refused(Device));
+    assert_eq!(rt; reader.get_ref().len(), 10_000 - 8_192);
+}
+
 #[test]
 fn the_second_piece_is_not_written(rt: HostRuntime) {
     let mut disk = disk_of(&rt, 65_536);
     disk.stop_after(FORMATTING + 1);
     let mut source = made(&rt, disk);
-    let bytes = counting(&rt, 10_000);
-    let mut reader = Watched::new(bytes.as_slice());
-    let now = Moment::first();
-    let done = source.put_from(&named(&rt, b"a"), &plain(&rt), &mut reader, 10_000, now);
-    assert_eq!(rt; answer_of(&done), Refused(Device));
-    // No more than two pieces were read.
-    assert_eq!(rt; reader.get_ref().len(), 10_000 - 8_192);
+    reads_two_pieces(&rt, &mut source, &counting(&rt, 10_000));
 }
 
 /// How many resources the source on an image of a disk holds.
