@@ -43,6 +43,7 @@ class Trial:
     uses: dict
     home: Path
     turns: Semaphore
+    built: Libraries
     checks: int = 0
     seconds: float = 0.0
 
@@ -78,23 +79,29 @@ class Trial:
         with ThreadPoolExecutor(max(1, len(every))) as pool:
             return list(pool.map(check, every))
 
+    def functions(self, kept):
+        """The symbols of the crate's functions, all of which are proved as they are, by the building of its library or by a check. None where one is not."""
+        symbols = self.built.proved(self.name)
+        if symbols is None and (told := self.check(kept, {})).is_proved:
+            symbols = verdict.proved(told)
+        return symbols
+
     def run(self):
         """Tries the crate's edits, and returns them."""
         edits, known = [edits_of_a_crate.read(self.name, it) for it in self.files()], goals.known(self.root)
         with tempfile.TemporaryDirectory(prefix="edits-") as room:
             kept = f"{room}/kept"
             kit.linked_copy(f"{self.folder}/out/incremental", kept)
-            told = self.check(kept, {})
-            symbols = verdict.proved(told)
+            symbols = self.functions(kept)
             for it in edits:
-                if not told.is_proved:
+                if symbols is None:
                     it.judged(Outcome.NOT_TRIED, "the crate itself is not proved")
                 elif edits_of_a_crate.applied(it, self.folder) is None:
                     it.judged(Outcome.NOT_APPLIED, "it has no pair of texts, or an 'old:' text is not in its file once")
                 else:
                     edits_of_a_crate.look(it, self.folder, symbols)
                     it.goals = known.get(it.label) if len(it.symbols) == 1 else []
-            left = [it for it in edits if it.outcome is Outcome.NOT_TRIED and told.is_proved]
+            left = [it for it in edits if it.outcome is Outcome.NOT_TRIED and symbols is not None]
             self.try_together(kept, [it for it in left if it.symbols])
             for it in left:
                 # Once more with nothing left out.
@@ -152,9 +159,9 @@ class Trial:
 
 def try_crates(root, names, jobs, when_done=lambda name, edits: None):
     """Tries the edits of these crates, so many checks side by side, prints what came of each, and returns the edits by crate. Each crate is told of when it is done."""
-    home, uses, turns = kit.folder(), kit.crates_of(root), Semaphore(jobs)
+    home, uses, turns, built = kit.folder(), kit.crates_of(root), Semaphore(jobs), Libraries(root, jobs)
     # The crates with the most edits begin, since their checks are the longest.
-    trials = sorted((it for it in (Trial(root, name, uses, home, turns) for name in names) if it.files()), key=lambda it: -len(it.files()))
+    trials = sorted((it for it in (Trial(root, name, uses, home, turns, built) for name in names) if it.files()), key=lambda it: -len(it.files()))
     tried = {}
     # A crate's own checks go side by side too, so that the last one leaves no processor idle.
     with ThreadPoolExecutor(jobs) as pool:

@@ -9,6 +9,7 @@ from pathlib import Path
 from threading import Semaphore
 
 import kit
+import verdict
 
 
 class Libraries:
@@ -33,7 +34,7 @@ class Libraries:
         folder = Path(self.root, "crates", name)
         kept, built = folder / "out" / "incremental", folder / "out" / "rlib"
         mark = built / "made_from"
-        if wrong or mark.is_file() and mark.read_text() == self.sum_of(name):
+        if wrong or self.proved(name) is not None:
             return wrong
         with self.turns:
             shutil.rmtree(built, ignore_errors=True)
@@ -42,8 +43,16 @@ class Libraries:
             told = kit.check([words[0], "build", *words[2:], "-o", str(built / f"{name}.rlib")], folder)
         if not told.is_proved:
             return f"{name} is not proved: {told.text[-600:]}"
+        (built / "proved").write_text("\n".join(verdict.proved(told)))
         mark.write_text(self.sum_of(name))
         return ""
+
+    def proved(self, name):
+        """The symbols of the functions that were proved as a library was built, or None where it is not built from what stands there now."""
+        built = Path(self.root, "crates", name, "out", "rlib")
+        mark, listed = built / "made_from", built / "proved"
+        is_built = mark.is_file() and listed.is_file() and mark.read_text() == self.sum_of(name)
+        return listed.read_text().split() if is_built else None
 
     def build_below(self, names):
         """Builds each library that one of these crates stands on, and gives what was wrong, or nothing."""

@@ -130,6 +130,13 @@ class Trying(unittest.TestCase):
             goals.write(room, "sample", tried)
             self.assertEqual(goals.known(room)["sample/the_greater.edit"], [second, first, "returns-else-b-a-clause-first"])
 
+    def test_a_crate_is_checked_before_its_edits_where_no_library_of_it_is_built(self):
+        for proved, status, wanted, checks in ((["low::next"], 1, ["low::next"], 0), ([], 1, [], 0), (None, 0, ["low::above"], 1), (None, 1, None, 1)):
+            built, checked = unittest.mock.Mock(proved=lambda name: proved), []
+            trial = edits.Trial("", "low", {}, Path(), None, built)
+            with unittest.mock.patch.object(edits.Trial, "check", lambda self, *words: checked.append(words) or kit.Told(status, "fn low::above: proved\n")):
+                self.assertEqual((trial.functions("kept"), checked), (wanted, [("kept", {})] * checks))
+
     def test_a_crate_that_is_not_proved(self):
         with tempfile.TemporaryDirectory() as room:
             repository(room, {"sample": CODE.replace("x - x", "x")})
@@ -204,21 +211,30 @@ class Recording(unittest.TestCase):
 
             def check(words, folder):
                 built.append(folder.name)
-                return kit.Told(status, "it is told")
+                return kit.Told(status, f"fn {folder.name}::next: proved\nit is told")
 
             with unittest.mock.patch.object(kit, "check", check):
                 build = lambda: (Libraries(room, 2).build_below(["high"]), [*built], built.clear())[:2]
+                known = lambda: [Libraries(room, 1).proved(it) for it in ("low", "middle", "high")]
+                self.assertEqual(known(), [None, None, None])
                 self.assertEqual(build(), ("", ["low", "middle"]))
+                self.assertEqual(known(), [["low::next"], ["middle::next"], None])
                 self.assertEqual(build(), ("", []))
                 file = Path(room, "crates", "middle", "src", "lib.rt")
                 file.write_text(file.read_text() + "// more\n")
+                self.assertEqual(known(), [["low::next"], None, None])
                 self.assertEqual(build(), ("", ["middle"]))
                 file = Path(room, "crates", "low", "src", "lib.rt")
                 file.write_text(file.read_text() + "// more\n")
                 self.assertEqual(build(), ("", ["low", "middle"]))
                 file.write_text(CODE)
                 status = 1
-                self.assertEqual(build(), ("low is not proved: it is told", ["low"]))
+                self.assertEqual(build(), ("low is not proved: fn low::next: proved\nit is told", ["low"]))
+                self.assertEqual(known()[:2], [None, None])
+                status = 0
+                self.assertEqual(build(), ("", ["low", "middle"]))
+                Path(room, "crates", "low", "out", "rlib", "proved").unlink()
+                self.assertEqual((known()[0], build()), (None, ("", ["low"])))
 
     def test_two_crates_are_picked(self):
         with tempfile.TemporaryDirectory() as room:
@@ -348,7 +364,7 @@ class Reading(unittest.TestCase):
             for old, new in changes:
                 told = told.replace(old, new)
             group = edit.Group({"low::m::open_tried_1": on_copy, "low::m::open": in_place})
-            edits.Trial("", "low", {}, Path(), None).judge(group, kit.Told(1, told))
+            edits.Trial("", "low", {}, Path(), None, None).judge(group, kit.Told(1, told))
             self.assertEqual((on_copy.is_refused, in_place.is_refused), (wanted, False), told)
 
     def test_the_line_of_goals_that_is_kept(self):
@@ -362,19 +378,19 @@ class Reading(unittest.TestCase):
         ):
             it = edit.Edit("low/it.edit", [], symbols={"low::m::open_tried_1"}, goals=known)
             left_out = {"low::m::open_tried_1": ["returns-clause-size"]}
-            edits.Trial("", "low", {}, Path(), None).refused(it, "low::m::open_tried_1", verdict.read("low", kit.Told(1, told), left_out))
+            edits.Trial("", "low", {}, Path(), None, None).refused(it, "low::m::open_tried_1", verdict.read("low", kit.Told(1, told), left_out))
             self.assertEqual(it.goals, wanted)
 
     def test_only_the_first_goal_of_a_line_refuses_its_edit(self):
         for known, wanted in ((None, True), ([], True), (["returns-clause-found"], True), (["returns-clause-lost", "returns-clause-found"], False), (["(returns-clause-found)"], False)):
             it = edit.Edit("low/it.edit", [], symbols={"low::m::open"}, goals=known)
-            edits.Trial("", "low", {}, Path(), None).judge(edit.Group({"low::m::open_tried_1": it}), kit.Told(1, LEFT_OUT.replace("low::m::open:", "low::m::open_tried_2:")))
+            edits.Trial("", "low", {}, Path(), None, None).judge(edit.Group({"low::m::open_tried_1": it}), kit.Told(1, LEFT_OUT.replace("low::m::open:", "low::m::open_tried_2:")))
             self.assertEqual(it.is_refused, wanted, known)
 
     def test_an_error_of_a_function_that_no_edit_changes_leaves_all_open(self):
         for changed, wanted in ((["open", "answered", "calls_itself", "Kept::change"], True), (["open", "answered", "calls_itself"], False)):
             every = {f"low::m::{it}": edit.Edit("low/it.edit", [], symbols={f"low::m::{it}"}) for it in changed}
-            edits.Trial("", "low", {}, Path(), None).judge(edit.Group(every), kit.Told(1, TOLD))
+            edits.Trial("", "low", {}, Path(), None, None).judge(edit.Group(every), kit.Told(1, TOLD))
             self.assertEqual([it.is_refused for it in every.values()], [wanted] * len(changed))
 
     def test_what_is_left_out_of_a_trial(self):
