@@ -36,6 +36,9 @@ class Edit:
     function: source.Function | None = None
     # The goals by which it was last seen refused, as its line has them, or None where it has no line.
     goals: list | None = None
+    # The goals of its function as it is, as far as they are known, and that of its line which was tried and did not refuse it.
+    others: list = field(default_factory=list)
+    missed: list = field(default_factory=list)
 
     def judged(self, outcome, why):
         self.outcome, self.why = outcome, why

@@ -100,12 +100,15 @@ class Trial:
                     it.judged(Outcome.NOT_APPLIED, "it has no pair of texts, or an 'old:' text is not in its file once")
                 else:
                     edits_of_a_crate.look(it, self.folder, symbols)
-                    it.goals = known.get(it.label) if len(it.symbols) == 1 else []
+                    if len(it.symbols) == 1:
+                        it.goals, it.others = known.get(it.label), goals.of_function(kept, next(iter(it.symbols)))
+                    else:
+                        it.goals = []
             left = [it for it in edits if it.outcome is Outcome.NOT_TRIED and symbols is not None]
             self.try_together(kept, [it for it in left if it.symbols])
             for it in left:
                 # Once more with nothing left out.
-                it.goals = it.goals if it.is_refused else []
+                it.missed, it.goals = ([], it.goals) if it.is_refused else ((it.goals or [])[:1], [])
             self.try_together(kept, [it for it in left if it.symbols and not it.is_refused])
             alone = [it for it in left if not it.is_refused]
             for it, told in zip(alone, self.check_each(kept, [edits_of_a_crate.applied(it, self.folder) for it in alone])):
@@ -150,7 +153,7 @@ class Trial:
     def refused(self, it, symbol, found, how=""):
         """Notes that an edit is refused, and by which goals: a trial of the first of them says nothing of the others."""
         it.judged(Outcome.REFUSED, f"{how}{symbol}: {found.own[symbol]}")
-        opened = found.refused(symbol)
+        opened = sorted(found.refused(symbol), key=it.missed.__contains__)
         if it.goals is None or it.goals[:1] != opened[:1]:
             it.goals = opened
         else:

@@ -1,12 +1,14 @@
 """The goals by which each must-fail edit was last seen refused (gate/goals.txt), and how all but one of them are left out of a trial.
 
-One goal that stays open refuses an edit, and the prover searches long for each that does not hold. So of an edited function
-only the first goal of its line is tried, and it alone refuses the edit: the others, and those that have an answer by hand, get
-one that no check takes. A goal in parentheses is one of which the function's own answer by hand is refused: where it is the
-first, all answers by hand stay as they are, since one may cite another. An edit whose first goal is not refused so is tried
-again with nothing left out: a line can be old, and still refuses nothing.
+One goal that stays open refuses an edit, and the prover searches long for each that does not hold, and for those of a large
+function that do. So of an edited function only the first goal of its line is tried, and it alone refuses the edit: the others
+of the line, those that have an answer by hand, and those that the function has as it is, get one that no check takes. A goal in
+parentheses is one of which the function's own answer by hand is refused: where it is the first, all answers by hand stay as
+they are, since one may cite another. An edit whose first goal is not refused so is tried again with nothing left out: a line
+can be old, and still refuses nothing.
 """
 
+import json
 import re
 from pathlib import Path
 
@@ -15,6 +17,8 @@ import copies
 HEAD = "# The goals by which each must-fail edit was last seen refused, the one first that is tried; (those) have an answer by hand, which is refused. Written by `make edits`.\n"
 # An answer by hand: what a file of them makes public.
 ANSWERED = re.compile(r"(?m)^pub (\S+) :")
+# Where the prover's kept work names what a module declares.
+DECLARED = re.compile(rb"(?m)^--@ interface (\{.*\})$")
 # No name that is in scope, so an answer that is no answer; and no goal of any function.
 NO_ANSWER = "left_out_of_this_trial"
 NO_GOAL = "no_goal_of_any_function"
@@ -31,12 +35,29 @@ def answers(folder, symbol):
     return str(file), Path(folder, file).read_text() if Path(folder, file).is_file() else ""
 
 
+def of_function(kept, symbol):
+    """The goals of a function as it is, as kept work names what its proof declares: none where that is kept in another way, which costs time alone."""
+    crate, *names = symbol.split("::")
+    file = next(Path(kept).glob(f"*/Rattle-{crate}-proofs.{'.'.join(names)}.Proof.oantt"), None)
+    declared = DECLARED.search(file.read_bytes()) if file else None
+    goals = [it["spelling"] for it in json.loads(declared[1])["exports"] if not it["pub"]] if declared else []
+    return [it for it in goals if not any(is_clause(other, it) for other in goals)]
+
+
+def is_clause(goal, whole):
+    """Whether a goal is one clause of another one."""
+    return goal.startswith(f"{whole}-clause-")
+
+
 def beside(edit, folder):
     """The goals that get an answer in a trial of an edit that is none: that of no function alone, where nothing is known."""
     first, *others = edit.goals or [""]
     left = [it for it in others if not is_by_hand(it)]
-    if first and not is_by_hand(first):
-        left += [it for it in ANSWERED.findall(answers(folder, next(iter(edit.symbols)))[1]) if it not in left and it != first]
+    if first:
+        tried, by_hand = first.strip("()"), ANSWERED.findall(answers(folder, next(iter(edit.symbols)))[1])
+        if not is_by_hand(first):
+            left += [it for it in by_hand if it not in left and it != first]
+        left += [it for it in edit.others if it not in [*left, *by_hand, tried] and not is_clause(it, tried) and not is_clause(tried, it)]
     return [*left, NO_GOAL]
 
 

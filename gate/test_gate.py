@@ -3,6 +3,7 @@
 
 import contextlib
 import io
+import json
 import shutil
 import subprocess
 import sys
@@ -233,8 +234,9 @@ class Recording(unittest.TestCase):
                 self.assertEqual(known()[:2], [None, None])
                 status = 0
                 self.assertEqual(build(), ("", ["low", "middle"]))
-                Path(room, "crates", "low", "out", "rlib", "proved").unlink()
-                self.assertEqual((known()[0], build()), (None, ("", ["low"])))
+                for part in ("proved", "made_from"):
+                    Path(room, "crates", "low", "out", "rlib", part).unlink()
+                    self.assertEqual((known()[0], build()), (None, ("", ["low"])))
 
     def test_two_crates_are_picked(self):
         with tempfile.TemporaryDirectory() as room:
@@ -380,6 +382,9 @@ class Reading(unittest.TestCase):
             left_out = {"low::m::open_tried_1": ["returns-clause-size"]}
             edits.Trial("", "low", {}, Path(), None, None).refused(it, "low::m::open_tried_1", verdict.read("low", kit.Told(1, told), left_out))
             self.assertEqual(it.goals, wanted)
+        it = edit.Edit("low/it.edit", [], symbols={"low::m::open_tried_1"}, goals=[], missed=["returns-clause-found"])
+        edits.Trial("", "low", {}, Path(), None, None).refused(it, "low::m::open_tried_1", verdict.read("low", kit.Told(1, told), left_out))
+        self.assertEqual(it.goals, ["(invariant-loop-n)", "returns-clause-found"])
 
     def test_only_the_first_goal_of_a_line_refuses_its_edit(self):
         for known, wanted in ((None, True), ([], True), (["returns-clause-found"], True), (["returns-clause-lost", "returns-clause-found"], False), (["(returns-clause-found)"], False)):
@@ -413,9 +418,50 @@ class Reading(unittest.TestCase):
                 self.assertEqual("help" in text, "returns = help" in text)
                 self.assertEqual([text.count(f"\n{goal} = {goals.NO_ANSWER}\n") for goal in goals.beside(it, room)], [1] * (len(wanted) + 1))
                 self.assertEqual(text.count(goals.NO_ANSWER), len(wanted) + 1)
+            for known, of_function, wanted in (
+                (None, ["first", "third"], []),
+                (["first", "third"], ["third", "fourth", "first", "returns"], ["third", "returns", "second", "fourth"]),
+                (["first"], ["first-clause-one", "firsts", "fourth-clause-one"], ["returns", "second", "firsts", "fourth-clause-one"]),
+                (["first-clause-one"], ["first", "first-clause-two"], ["returns", "second", "first-clause-two"]),
+                (["(returns)", "first"], ["second", "returns", "returns-clause-one", "first", "fourth"], ["first", "fourth"]),
+            ):
+                it = edit.Edit("low/it.edit", [], symbols={"low::m::open"}, goals=known, others=of_function)
+                self.assertEqual(goals.beside(it, room), [*wanted, goals.NO_GOAL])
             it = edit.Edit("low/it.edit", [], symbols={"low::m::open"}, goals=["(returns)", "second"])
             text = goals.left_out({}, room, "low::m::open", it)["proofs/m/open/Answers.antt"]
             self.assertEqual((text.count("pub second :"), text.count(goals.NO_ANSWER)), (1, 1))
+
+    def test_an_edit_that_its_first_goal_does_not_refuse(self):
+        """It is tried again with nothing left out, and another goal stands first in its line then."""
+        told = "".join(f"note: src/lib.rt:9:5: it is not proved that what it ensures holds (`{it}`)\n" for it in ("returns", "size")) + "fn sample::next_tried_0: not proved\nlogic=not-proved\n"
+        answers, came = [], [kit.Told(0, "fn sample::next_tried_0: proved\nlogic=proved\n"), kit.Told(1, told)]
+
+        def check_each(trial, kept, every):
+            answers.extend(goals.ANSWERED.findall(it["proofs/next_tried_0/Answers.antt"]) for it in every)
+            return [came.pop(0) for _ in every]
+
+        with tempfile.TemporaryDirectory() as room, unittest.mock.patch.object(edits.Trial, "check_each", check_each):
+            folder = Path(repository(room, {"sample": CODE}), "crates", "sample")
+            (folder / "must-fail" / "one.edit").write_text("file: src/lib.rt\nold: u16::from(x) + 1\nnew: u16::from(x) + 2\n")
+            goals.path(room).write_text("sample/one.edit: returns other\n")
+            kept = folder / "out" / "incremental" / "checked"
+            kept.mkdir(parents=True)
+            (kept / "Rattle-sample-proofs.next.Proof.oantt").write_text('--@ interface {"exports":[{"spelling":"third","pub":false}]}\n')
+            [tried] = edits.Trial(room, "sample", {}, Path(), None, unittest.mock.Mock(proved=lambda name: ["sample::next"])).run()
+        self.assertEqual(answers, [["other", "third", goals.NO_GOAL], [goals.NO_GOAL]])
+        self.assertEqual((tried.outcome, tried.goals), (Outcome.REFUSED, ["size", "returns"]))
+
+    def test_the_goals_that_a_function_has_as_it_is(self):
+        """Those that the head of its kept proof declares for itself, but where a goal is there by its clauses; none where there is no such head."""
+        declared = [("returns", False), ("returns-clause-size", False), ("size", False), ("size-clauses", False), ("open_spec", True)]
+        exports = json.dumps({"exports": [{"spelling": name, "pub": is_public} for name, is_public in declared]})
+        with tempfile.TemporaryDirectory() as room:
+            file = Path(room, "checked", "Rattle-low-proofs.m.open.Proof.oantt")
+            file.parent.mkdir()
+            for head, wanted in ((f"--@ interface {exports}\n--@ body\n", ["returns-clause-size", "size", "size-clauses"]), (f"interface {exports}\n", []), ("", [])):
+                file.write_bytes(b"--@ checked\n" + head.encode() + bytes(range(256)))
+                self.assertEqual(goals.of_function(room, "low::m::open"), wanted)
+                self.assertEqual(goals.of_function(room, "low::m::opened"), [])
 
     def test_edits_that_stand_on_copies(self):
         """Each edit stands on a copy of its own, and the function as it is; where it can't be copied, one of them stands in its place in each check."""
