@@ -23,7 +23,6 @@ import tempfile
 from concurrent.futures import ThreadPoolExecutor, as_completed
 from dataclasses import dataclass
 from pathlib import Path
-from threading import Semaphore
 
 import edit as edits_of_a_crate
 import goals
@@ -38,43 +37,41 @@ from libraries import Libraries
 class Trial:
     """The edits of one crate, tried in copies of it over the work that its last check kept."""
 
-    root: str
     name: str
-    uses: dict
-    home: Path
-    turns: Semaphore
     built: Libraries
+    # The goals of each edit that had a line of them when the trials began.
+    known: dict
     checks: int = 0
     seconds: float = 0.0
 
     @property
     def folder(self):
-        return f"{self.root}/crates/{self.name}"
+        return f"{self.built.root}/crates/{self.name}"
 
     def files(self):
         return sorted(map(str, Path(self.folder, "must-fail").glob("*.edit")))
 
-    def check(self, kept, texts):
-        """Checks a copy of the crate with these texts in place of its own, with its work kept in the folder `kept`."""
+    def check(self, kept, texts, only=()):
+        """Checks a copy of the crate with these texts in place of its own, or these functions of it alone, with its work kept in the folder `kept`."""
         self.checks += 1
-        with self.turns, tempfile.TemporaryDirectory(prefix="copy-", dir=os.path.dirname(kept)) as crate:
+        with self.built.turns, tempfile.TemporaryDirectory(prefix="copy-", dir=os.path.dirname(kept)) as crate:
             for part in ("src", "specs", "proofs"):
                 if os.path.isdir(f"{self.folder}/{part}"):
                     shutil.copytree(f"{self.folder}/{part}", f"{crate}/{part}")
             for path, text in texts.items():
                 Path(crate, path).parent.mkdir(parents=True, exist_ok=True)
                 Path(crate, path).write_text(text)
-            told = kit.check(kit.command(self.home, self.root, self.uses, self.name, kept), crate)
+            told = kit.check([*self.built.command(self.name, kept), *(word for it in only for word in ("--only", it))], crate)
         self.seconds += told.seconds
         return told
 
     def check_each(self, kept, every):
-        """Checks each of these texts in a copy of its own, side by side as turns come free, and gives what was told of each."""
+        """Checks each of these, texts with the functions that are looked at, in a copy of its own, side by side as turns come free, and gives what was told of each."""
 
-        def check(texts):
+        def check(it):
             with tempfile.TemporaryDirectory(prefix="work-", dir=os.path.dirname(kept)) as room:
                 kit.linked_copy(kept, f"{room}/work")
-                return self.check(f"{room}/work", texts)
+                return self.check(f"{room}/work", *it)
 
         with ThreadPoolExecutor(max(1, len(every))) as pool:
             return list(pool.map(check, every))
@@ -88,7 +85,7 @@ class Trial:
 
     def run(self):
         """Tries the crate's edits, and returns them."""
-        edits, known = [edits_of_a_crate.read(self.name, it) for it in self.files()], goals.known(self.root)
+        edits = [edits_of_a_crate.read(self.name, it) for it in self.files()]
         with tempfile.TemporaryDirectory(prefix="edits-") as room:
             kept = f"{room}/kept"
             kit.linked_copy(f"{self.folder}/out/incremental", kept)
@@ -101,7 +98,7 @@ class Trial:
                 else:
                     edits_of_a_crate.look(it, self.folder, symbols)
                     if len(it.symbols) == 1:
-                        it.goals, it.others = known.get(it.label), goals.of_function(kept, next(iter(it.symbols)))
+                        it.goals, it.others = self.known.get(it.label), goals.of_function(kept, next(iter(it.symbols)))
                     else:
                         it.goals = []
             left = [it for it in edits if it.outcome is Outcome.NOT_TRIED and symbols is not None]
@@ -111,14 +108,14 @@ class Trial:
                 it.missed, it.goals = ([], it.goals) if it.is_refused else ((it.goals or [])[:1], [])
             self.try_together(kept, [it for it in left if it.symbols and not it.is_refused])
             alone = [it for it in left if not it.is_refused]
-            for it, told in zip(alone, self.check_each(kept, [edits_of_a_crate.applied(it, self.folder) for it in alone])):
+            for it, told in zip(alone, self.check_each(kept, [(edits_of_a_crate.applied(it, self.folder),) for it in alone])):
                 self.judge_alone(it, told)
         return edits
 
     def try_together(self, kept, edits):
         """Tries edits of bodies, many in one check."""
         groups = edits_of_a_crate.grouped(edits, self.folder)
-        for group, told in zip(groups, self.check_each(kept, [self.one_goal_each(it) for it in groups])):
+        for group, told in zip(groups, self.check_each(kept, [(self.one_goal_each(it), [*it.tried]) for it in groups])):
             self.judge(group, told)
 
     def one_goal_each(self, group):
@@ -162,9 +159,9 @@ class Trial:
 
 def try_crates(root, names, jobs, when_done=lambda name, edits: None):
     """Tries the edits of these crates, so many checks side by side, prints what came of each, and returns the edits by crate. Each crate is told of when it is done."""
-    home, uses, turns, built = kit.folder(), kit.crates_of(root), Semaphore(jobs), Libraries(root, jobs)
+    built, known = Libraries(root, jobs), goals.known(root)
     # The crates with the most edits begin, since their checks are the longest.
-    trials = sorted((it for it in (Trial(root, name, uses, home, turns, built) for name in names) if it.files()), key=lambda it: -len(it.files()))
+    trials = sorted((it for it in (Trial(name, built, known) for name in names) if it.files()), key=lambda it: -len(it.files()))
     tried = {}
     # A crate's own checks go side by side too, so that the last one leaves no processor idle.
     with ThreadPoolExecutor(jobs) as pool:

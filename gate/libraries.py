@@ -28,6 +28,10 @@ class Libraries:
         total.update(" ".join(self.sum_of(it) if it in self.uses else it for it in self.uses[name]).encode())
         return total.hexdigest()
 
+    def command(self, name, kept):
+        """The words that check a crate of the repository, with its work kept in the folder `kept`."""
+        return kit.command(self.home, self.root, self.uses, name, kept)
+
     def build(self, name, lower):
         """Builds a library once those below it are, over the work that its last check kept, and gives what was wrong, or nothing."""
         wrong = next(filter(None, (it.result() for it in lower)), "")
@@ -39,7 +43,7 @@ class Libraries:
         with self.turns:
             shutil.rmtree(built, ignore_errors=True)
             os.makedirs(built)
-            words = kit.command(self.home, self.root, self.uses, name, kept)
+            words = self.command(name, kept)
             told = kit.check([words[0], "build", *words[2:], "-o", str(built / f"{name}.rlib")], folder)
         if not told.is_proved:
             return f"{name} is not proved: {told.text[-600:]}"

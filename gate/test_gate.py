@@ -134,9 +134,30 @@ class Trying(unittest.TestCase):
     def test_a_crate_is_checked_before_its_edits_where_no_library_of_it_is_built(self):
         for proved, status, wanted, checks in ((["low::next"], 1, ["low::next"], 0), ([], 1, [], 0), (None, 0, ["low::above"], 1), (None, 1, None, 1)):
             built, checked = unittest.mock.Mock(proved=lambda name: proved), []
-            trial = edits.Trial("", "low", {}, Path(), None, built)
+            trial = edits.Trial("low", built, {})
             with unittest.mock.patch.object(edits.Trial, "check", lambda self, *words: checked.append(words) or kit.Told(status, "fn low::above: proved\n")):
                 self.assertEqual((trial.functions("kept"), checked), (wanted, [("kept", {})] * checks))
+
+    def test_what_a_check_is_asked(self):
+        """A check of some functions names each of them, and one of a crate none; both are of the crate's own files with the texts in their place."""
+        asked = []
+        with tempfile.TemporaryDirectory() as room, unittest.mock.patch.object(kit, "check", lambda words, folder: asked.append((words, Path(folder, "src", "lib.rt").read_text())) or kit.Told(0, "", 1.5)):
+            repository(room, {"sample": CODE})
+            trial = edits.Trial("sample", Libraries(room, 1), {})
+            trial.check(f"{room}/kept", {"src/lib.rt": "fn other() {}"}, ["sample::a", "sample::b"])
+            trial.check(f"{room}/kept", {})
+        (some, edited), (whole, text) = asked
+        self.assertEqual(some, [*whole, "--only", "sample::a", "--only", "sample::b"])
+        self.assertEqual((edited, text, trial.checks, trial.seconds), ("fn other() {}", CODE, 2, 3.0))
+
+    def test_the_lines_of_goals_are_those_before_the_first_trial(self):
+        """The lines that are written for a crate whose edits were tried change no trial of another crate."""
+        seen = []
+        with tempfile.TemporaryDirectory() as room, unittest.mock.patch.object(edits.Trial, "run", lambda trial: seen.append(trial.known) or []), contextlib.redirect_stdout(io.StringIO()):
+            repository(room, {"low": CODE, "high": ABOVE})
+            goals.path(room).write_text("low/one.edit: returns\n")
+            edits.try_crates(room, ["low", "high"], 1, lambda name, found: goals.path(room).write_text(""))
+        self.assertEqual(seen, [{"low/one.edit": ["returns"]}] * 2)
 
     def test_a_crate_that_is_not_proved(self):
         with tempfile.TemporaryDirectory() as room:
@@ -348,6 +369,10 @@ class Reading(unittest.TestCase):
         self.assertTrue(found.is_read)
         self.assertFalse(verdict.read("low", kit.Told(1, "src/m.rt:1:1: error[unexpected-token]: no\n" + TOLD)).is_read)
         self.assertFalse(verdict.read("low", kit.Told(2, TOLD)).is_read)
+        of_some = TOLD.replace("logic=not-proved", "only=7 proved=1")
+        self.assertEqual(verdict.read("low", kit.Told(1, of_some)), found)
+        self.assertFalse(verdict.read("low", kit.Told(2, of_some)).is_read)
+        self.assertFalse(verdict.read("low", kit.Told(1, TOLD.replace("logic=not-proved\n", "rattle: no verdict\n"))).is_read)
 
     def test_an_answer_that_is_left_out_is_no_error_and_another_one_is_told(self):
         found = verdict.read("low", kit.Told(1, LEFT_OUT), dict.fromkeys(["low::m::open", "low::m::open_tried_1"], ["returns-clause-size"]))
@@ -366,7 +391,7 @@ class Reading(unittest.TestCase):
             for old, new in changes:
                 told = told.replace(old, new)
             group = edit.Group({"low::m::open_tried_1": on_copy, "low::m::open": in_place})
-            edits.Trial("", "low", {}, Path(), None, None).judge(group, kit.Told(1, told))
+            edits.Trial("low", unittest.mock.Mock(root=""), {}).judge(group, kit.Told(1, told))
             self.assertEqual((on_copy.is_refused, in_place.is_refused), (wanted, False), told)
 
     def test_the_line_of_goals_that_is_kept(self):
@@ -380,22 +405,22 @@ class Reading(unittest.TestCase):
         ):
             it = edit.Edit("low/it.edit", [], symbols={"low::m::open_tried_1"}, goals=known)
             left_out = {"low::m::open_tried_1": ["returns-clause-size"]}
-            edits.Trial("", "low", {}, Path(), None, None).refused(it, "low::m::open_tried_1", verdict.read("low", kit.Told(1, told), left_out))
+            edits.Trial("low", unittest.mock.Mock(root=""), {}).refused(it, "low::m::open_tried_1", verdict.read("low", kit.Told(1, told), left_out))
             self.assertEqual(it.goals, wanted)
         it = edit.Edit("low/it.edit", [], symbols={"low::m::open_tried_1"}, goals=[], missed=["returns-clause-found"])
-        edits.Trial("", "low", {}, Path(), None, None).refused(it, "low::m::open_tried_1", verdict.read("low", kit.Told(1, told), left_out))
+        edits.Trial("low", unittest.mock.Mock(root=""), {}).refused(it, "low::m::open_tried_1", verdict.read("low", kit.Told(1, told), left_out))
         self.assertEqual(it.goals, ["(invariant-loop-n)", "returns-clause-found"])
 
     def test_only_the_first_goal_of_a_line_refuses_its_edit(self):
         for known, wanted in ((None, True), ([], True), (["returns-clause-found"], True), (["returns-clause-lost", "returns-clause-found"], False), (["(returns-clause-found)"], False)):
             it = edit.Edit("low/it.edit", [], symbols={"low::m::open"}, goals=known)
-            edits.Trial("", "low", {}, Path(), None, None).judge(edit.Group({"low::m::open_tried_1": it}), kit.Told(1, LEFT_OUT.replace("low::m::open:", "low::m::open_tried_2:")))
+            edits.Trial("low", unittest.mock.Mock(root=""), {}).judge(edit.Group({"low::m::open_tried_1": it}), kit.Told(1, LEFT_OUT.replace("low::m::open:", "low::m::open_tried_2:")))
             self.assertEqual(it.is_refused, wanted, known)
 
     def test_an_error_of_a_function_that_no_edit_changes_leaves_all_open(self):
         for changed, wanted in ((["open", "answered", "calls_itself", "Kept::change"], True), (["open", "answered", "calls_itself"], False)):
             every = {f"low::m::{it}": edit.Edit("low/it.edit", [], symbols={f"low::m::{it}"}) for it in changed}
-            edits.Trial("", "low", {}, Path(), None, None).judge(edit.Group(every), kit.Told(1, TOLD))
+            edits.Trial("low", unittest.mock.Mock(root=""), {}).judge(edit.Group(every), kit.Told(1, TOLD))
             self.assertEqual([it.is_refused for it in every.values()], [wanted] * len(changed))
 
     def test_what_is_left_out_of_a_trial(self):
@@ -433,11 +458,12 @@ class Reading(unittest.TestCase):
 
     def test_an_edit_that_its_first_goal_does_not_refuse(self):
         """It is tried again with nothing left out, and another goal stands first in its line then."""
-        told = "".join(f"note: src/lib.rt:9:5: it is not proved that what it ensures holds (`{it}`)\n" for it in ("returns", "size")) + "fn sample::next_tried_0: not proved\nlogic=not-proved\n"
-        answers, came = [], [kit.Told(0, "fn sample::next_tried_0: proved\nlogic=proved\n"), kit.Told(1, told)]
+        told = "".join(f"note: src/lib.rt:9:5: it is not proved that what it ensures holds (`{it}`)\n" for it in ("returns", "size")) + "fn sample::next_tried_0: not proved\nonly=1 proved=0\n"
+        answers, asked, came = [], [], [kit.Told(0, "fn sample::next_tried_0: proved\nonly=1 proved=1\n"), kit.Told(1, told)]
 
         def check_each(trial, kept, every):
-            answers.extend(goals.ANSWERED.findall(it["proofs/next_tried_0/Answers.antt"]) for it in every)
+            answers.extend(goals.ANSWERED.findall(texts["proofs/next_tried_0/Answers.antt"]) for texts, _ in every)
+            asked.extend(only for _, only in every)
             return [came.pop(0) for _ in every]
 
         with tempfile.TemporaryDirectory() as room, unittest.mock.patch.object(edits.Trial, "check_each", check_each):
@@ -447,8 +473,9 @@ class Reading(unittest.TestCase):
             kept = folder / "out" / "incremental" / "checked"
             kept.mkdir(parents=True)
             (kept / "Rattle-sample-proofs.next.Proof.oantt").write_text('--@ interface {"exports":[{"spelling":"third","pub":false}]}\n')
-            [tried] = edits.Trial(room, "sample", {}, Path(), None, unittest.mock.Mock(proved=lambda name: ["sample::next"])).run()
+            [tried] = edits.Trial("sample", unittest.mock.Mock(root=room, proved=lambda name: ["sample::next"]), goals.known(room)).run()
         self.assertEqual(answers, [["other", "third", goals.NO_GOAL], [goals.NO_GOAL]])
+        self.assertEqual(asked, [["sample::next_tried_0"]] * 2)
         self.assertEqual((tried.outcome, tried.goals), (Outcome.REFUSED, ["size", "returns"]))
 
     def test_the_goals_that_a_function_has_as_it_is(self):

@@ -11,6 +11,8 @@ ANSWERED = re.compile(r"\A`([^`\s]+)`")
 # What is told of a goal that fails at values that the prover found.
 IS_FALSE = "allow values at which this goal is false"
 ITEM = re.compile(r"(?:fn|impl|struct|enum|trait) (\S+): (?:(proved)|not proved|no proof)")
+# The last line of a check that is not proved, of a whole crate or of some functions alone.
+ENDED = re.compile(r"(?m)^(?:logic=not-proved|only=\d+ proved=)")
 # Errors of a proof that names what is gone or rests on what was refused: they say nothing of its function's own goals.
 SECOND_HAND = re.compile(r"has no field|is not in scope|has no `|was not admitted|that depends? on|\(nearest:")
 
@@ -46,7 +48,7 @@ def named(goals):
 def read(crate, told, left_out={}):
     """Reads what a check of a crate told, but for the answers of these goals, by function."""
     own, in_files, goals, opened, by_hand = {}, {}, [], {}, {}
-    is_read = told.status == 1 and re.search(r"(?m)^logic=not-proved", told.text) is not None
+    is_read = told.status == 1 and ENDED.search(told.text) is not None
     for line in told.text.split("\n"):
         if found := ERROR.match(line):
             # The folder of a function that calls itself has a + before its name.
