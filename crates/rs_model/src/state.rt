@@ -2,6 +2,7 @@
 
 ghost use Rattle.std.specs.Prelude.{◌≡◌, ◌≤◌, ◌↔◌, IsTrue, length, map, None, IfOk, OnOk, OnErr, IsErrOf};
 ghost use Rattle.rs_record.specs.Limits.{longest_body};
+ghost use Rattle.rs_record.specs.Changes.{bound};
 ghost use Rattle.rs_model.specs.Names.{is_ordered};
 ghost use Rattle.rs_model.specs.State.{start_of, facts_of, entries};
 ghost use Rattle.rs_model.specs.Listed.{record_of};
@@ -247,7 +248,7 @@ impl State {
     {
         let again = self.holds(&name);
         let facts = facts(kind, &bytes);
-        let change = Change::bound(name.copy(alloc)?, again, moment, facts.copy(alloc)?);
+        let change = bound_change(alloc, &name, again, moment, &facts)?;
         let entry = Entry { facts, moment };
         self.changes.reserve(1)?;
         bind(&mut self.held, name, Held { bytes, entry })?;
@@ -296,6 +297,19 @@ impl State {
         self.last = moment;
         Ok(Reply::Published(self.number, moment))
     }
+}
+
+// The change that binds the name to these facts.
+fn bound_change(
+    alloc: Global,
+    name: &Name,
+    again: bool,
+    moment: Moment,
+    facts: &Facts,
+) -> Result<Change, AllocError>
+    ensures { IfOk result (λ change. change ≡ bound name.now again moment facts.now) }
+{
+    Ok(Change::bound(name.copy(alloc)?, again, moment, facts.copy(alloc)?))
 }
 
 // The facts of a body.

@@ -1,6 +1,7 @@
 //! A source on a memory disk, from its formatting through a stop to its recovery.
 
-ghost use Rattle.std.specs.Prelude.{IfOk, IfErr};
+ghost use Rattle.std.specs.Prelude.{◌≡◌, IfOk, IfErr};
+ghost use Rattle.rs_disk.specs.Medium.{IsImage, image_of, resting};
 ghost use Rattle.rs_disk.specs.Memory.{memory_state};
 ghost use Rattle.rs_model.specs.State.{start_of};
 ghost use Rattle.rs_recovery.specs.Surviving.{Survives, IsLost, HasHalted};
@@ -11,7 +12,7 @@ use rs_model::Command;
 use rs_store::laws::turns_go_on;
 use rs_store::{Ack, FormatFault, OpenFault, Refusal, Source};
 use rs_time::Moment;
-use std::alloc::Global;
+use std::alloc::{AllocError, Global};
 
 /// Where it did not come to a recovery.
 #[derive(Clone, Copy, Debug, PartialEq, Eq)]
@@ -24,6 +25,16 @@ pub enum Halt {
     Imaging,
     /// The source was not opened again.
     Opening(OpenFault),
+}
+
+/// A disk with the image of this choice of bytes that a crash of the disk `left` may leave, all settled.
+fn image_disk(alloc: Global, left: &MemoryDisk, choice: &[u8]) -> Result<MemoryDisk, AllocError>
+    ensures image { IfOk result (λ disk. IsImage (memory_state left.now).now
+        (image_of choice.now (memory_state left.now).now)) }
+    ensures resting { IfOk result (λ disk. (memory_state disk).now
+        ≡ resting (image_of choice.now (memory_state left.now).now)) }
+{
+    MemoryDisk::from_bytes(alloc, &left.image(choice)?)
 }
 
 /// Formats a memory disk, runs commands, and recovers the source from an image that a crash may leave
@@ -59,10 +70,7 @@ pub fn format_run_recover(
         Err(refusal) => return Err(Halt::Running(refusal)),
     };
     let left = source.into_disk();
-    let Ok(image) = left.image(choice) else {
-        return Err(Halt::Imaging);
-    };
-    let Ok(disk) = MemoryDisk::from_bytes(alloc, &image) else {
+    let Ok(disk) = image_disk(alloc, &left, choice) else {
         return Err(Halt::Imaging);
     };
     match recover(alloc, disk) {

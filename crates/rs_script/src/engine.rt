@@ -1,6 +1,6 @@
 //! The script engine: every statement of an input is answered in turn.
 
-ghost use Rattle.std.specs.Prelude.{◌≡◌, ◌++◌, ◌≤◌, ◌^◌, ◌*◌, true, length, ℕ, List, None, OnOk, OnErr, IsErrOf};
+ghost use Rattle.std.specs.Prelude.{◌≡◌, [], ◌++◌, ◌≤◌, ◌^◌, ◌*◌, true, length, ℕ, List, None, OnOk, OnErr, IsErrOf};
 ghost use Rattle.std.specs.Io.KnownBytes.{Consumes};
 ghost use Rattle.rs_io.specs.Watch.{watched, failures, is_flushed, EndFailed, Wrote, WritesOut};
 ghost use Rattle.rs_script.specs.Answers.{output_of};
@@ -166,6 +166,63 @@ const PIECE: usize = 65_536;
 /// The reads of a script: as many as no reader in use gives.
 const READS: u64 = 1 << 40;
 
+/// Takes each statement that the reader gives, from the moment 0 on and from a line and a group that have
+/// not begun.
+fn take_all<D: Disk, R: Read, W: Write>(
+    alloc: Global,
+    source: &mut Source<D>,
+    line: &mut Line,
+    group: &mut Option<Taking>,
+    reader: &mut Watched<R>,
+    writer: &mut Watched<W>,
+) -> Result<(), ScriptFault>
+    requires line { KeepsLine line.old [] }
+    requires group { group.old ≡ None }
+    ensures ok { OnOk result ((ran : Ran D.state source.old source.new)
+        × TookAll R.remaining reader.old reader.new ran.input
+        × Wrote W.contents writer.old writer.new (output_of ran.outcomes)) }
+    ensures read { IsErrOf result ScriptFault.Read
+        → (ran : Ran D.state source.old source.new) × (part : List ℕ)
+        × GaveStatements R.remaining reader.old reader.new ran.input part
+        × Wrote W.contents writer.old writer.new (output_of ran.outcomes)
+        × ReadsNoMore reader.old reader.new writer.new (ran.input ++ part) }
+    ensures write { IsErrOf result ScriptFault.Write → (ran : Ran D.state source.old source.new)
+        × Came R.remaining reader.old reader.new ran.input
+        × BreaksOff W.contents writer.old writer.new ran.outcomes
+        × (failures reader.new ≡ failures reader.old) }
+    ensures flushed { OnOk result (is_flushed writer.new ≡ true) }
+    ensures bound { (gave : List ℕ)
+        × Consumes (R.remaining (watched reader.old)) (R.remaining (watched reader.new)) gave
+        × (length gave ≤ 2 ^ 40 * 65536) }
+{
+    scripts_recover::<D>();
+    scripts_make_walks::<D>();
+    let mut now = Moment::first();
+    let mut buf = [0u8; PIECE];
+    for _ in 0..READS {
+        let Ok(()) = writer.flush() else {
+            return Err(ScriptFault::Write);
+        };
+        let Ok(count) = reader.read(&mut buf) else {
+            return Err(ScriptFault::Read);
+        };
+        if count == 0 {
+            let Ok(()) = take_end(alloc, source, &mut now, group, line, writer) else {
+                return Err(ScriptFault::Write);
+            };
+            let Ok(()) = writer.flush() else {
+                return Err(ScriptFault::Write);
+            };
+            return Ok(());
+        }
+        let came = &buf[..count];
+        let Ok(()) = take_piece(alloc, source, &mut now, group, line, came, writer) else {
+            return Err(ScriptFault::Write);
+        };
+    }
+    Err(ScriptFault::Read)
+}
+
 /// Runs a script: each statement that `reader` gives, a line or a group with its lines, is asked of
 /// `source`, and its answer written to `writer`, which is flushed before each read and at the end.
 /// Commands come at the moment 0 until an `at` sets another.
@@ -217,32 +274,7 @@ pub fn script<D: Disk, R: Read, W: Write>(
         × Consumes (R.remaining (watched reader.old)) (R.remaining (watched reader.new)) gave
         × (length gave ≤ 2 ^ 40 * 65536) }
 {
-    scripts_recover::<D>();
-    scripts_make_walks::<D>();
     let mut line = Line::new(alloc);
     let mut group = None;
-    let mut now = Moment::first();
-    let mut buf = [0u8; PIECE];
-    for _ in 0..READS {
-        let Ok(()) = writer.flush() else {
-            return Err(ScriptFault::Write);
-        };
-        let Ok(count) = reader.read(&mut buf) else {
-            return Err(ScriptFault::Read);
-        };
-        if count == 0 {
-            let Ok(()) = take_end(alloc, source, &mut now, &mut group, &line, writer) else {
-                return Err(ScriptFault::Write);
-            };
-            let Ok(()) = writer.flush() else {
-                return Err(ScriptFault::Write);
-            };
-            return Ok(());
-        }
-        let came = &buf[..count];
-        let Ok(()) = take_piece(alloc, source, &mut now, &mut group, &mut line, came, writer) else {
-            return Err(ScriptFault::Write);
-        };
-    }
-    Err(ScriptFault::Read)
+    take_all(alloc, source, &mut line, &mut group, reader, writer)
 }

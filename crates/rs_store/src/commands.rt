@@ -21,6 +21,7 @@ use rs_model::Reply;
 use rs_plan::{Plan, PlanFault, plan_delete, plan_publish, plan_put};
 use rs_record::{MediaType, Name};
 use rs_time::Moment;
+use std::mem::swap;
 
 impl From<PlanFault> for Refusal {
     ghost from_gives = { λ fault refusal. refusal ≡ of_plan fault };
@@ -63,7 +64,7 @@ impl<D: Disk> Source<D> {
     {
         let moment = self.moment_of_put(name, bytes.len() as u64, now)?;
         let rooted = rooted_by(&self.disk, &self.slots, &self.contents);
-        let plan = plan_put(
+        let mut plan = plan_put(
             self.alloc,
             &mut self.used,
             &rooted,
@@ -76,7 +77,7 @@ impl<D: Disk> Source<D> {
             self.is_closed = true;
             return Err(Refusal::Device);
         }
-        self.finish(plan)
+        self.finish(&mut plan)
     }
 
     /// Unbinds the name: the resource is deleted. The command comes at the moment `now`, and is accepted
@@ -93,8 +94,8 @@ impl<D: Disk> Source<D> {
     {
         let moment = self.moment_of_delete(name, now)?;
         let rooted = rooted_by(&self.disk, &self.slots, &self.contents);
-        let plan = plan_delete(self.alloc, &mut self.used, &rooted, name, moment)?;
-        self.finish(plan)
+        let mut plan = plan_delete(self.alloc, &mut self.used, &rooted, name, moment)?;
+        self.finish(&mut plan)
     }
 
     /// Lists all resources that are held, as the next publication, and drops the full parts of the
@@ -113,27 +114,27 @@ impl<D: Disk> Source<D> {
     {
         let moment = self.moment_of_publish(now)?;
         let rooted = rooted_by(&self.disk, &self.slots, &self.contents);
-        let plan = plan_publish(self.alloc, &mut self.used, &rooted, moment)?;
-        self.finish(plan)
+        let mut plan = plan_publish(self.alloc, &mut self.used, &rooted, moment)?;
+        self.finish(&mut plan)
     }
 
     /// Writes the lists of a plan whose bodies stand in their extents, and changes the root; then what is
     /// in memory goes along, with the set of the used blocks, and the plan's reply is answered.
     ///
     /// What it promises counts from the moment before the bodies were written.
-    pub(crate) fn finish(&mut self, mut plan: Plan) -> Result<Reply, Refusal>
+    pub(crate) fn finish(&mut self, plan: &mut Plan) -> Result<Reply, Refusal>
         requires is_open { self.old.is_closed ≡ false }
         requires spare { self.old.slots.root.generation + 1 < 2 ^ 64 }
-        requires planned { IsPlanOfSome (rooted_in D.state self.old) plan }
+        requires planned { IsPlanOfSome (rooted_in D.state self.old) plan.old }
         ensures answers { (start : Stored D) (command : Command) (now : ℕ)
-            → HasWrittenBodies D.state start self.old plan (bodies_of_command command)
+            → HasWrittenBodies D.state start self.old plan.old (bodies_of_command command)
             → decided start (state_of D.state start) command now ≡ None
             → IsPlanned (rooted_in D.state start) command
-            (moment_at (state_of D.state start) now) plan
+            (moment_at (state_of D.state start) now) plan.old
             → Answers D.state start self.new command now result }
         ensures late { IfErr result IsLate }
     {
-        let written = match write_lists(self.alloc, &mut self.disk, &mut plan) {
+        let written = match write_lists(self.alloc, &mut self.disk, plan) {
             Ok(written) => written,
             Err(WriteFault::NoMemory) => return Err(Refusal::NoMemory),
             Err(WriteFault::Device) => {
@@ -154,7 +155,7 @@ impl<D: Disk> Source<D> {
                 return Err(Refusal::Device);
             }
         }
-        self.contents = plan.contents;
+        swap(&mut self.contents, &mut plan.contents);
         self.used.take_each(&plan.taken);
         self.used.give_each(&plan.freed);
         Ok(plan.reply)

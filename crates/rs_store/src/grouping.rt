@@ -49,12 +49,12 @@ impl<D: Disk> Source<D> {
     {
         let moment = self.moment_of_group(items, now)?;
         let rooted = rooted_by(&self.disk, &self.slots, &self.contents);
-        let plan = plan_group(self.alloc, &mut self.used, &rooted, items, moment)?;
+        let mut plan = plan_group(self.alloc, &mut self.used, &rooted, items, moment)?;
         if write_bodies(&mut self.disk, &plan.bodies, items).is_err() {
             self.is_closed = true;
             return Err(Refusal::Device);
         }
-        self.finish(plan)
+        self.finish(&mut plan)
     }
 
     // The moment of the first item of a group that comes at `now`, or why it is refused at once.

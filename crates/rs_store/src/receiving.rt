@@ -83,7 +83,7 @@ impl<D: Disk> Source<D> {
             },
         };
         plan.fill(name, digests);
-        self.finish(plan)
+        self.finish(&mut plan)
     }
 }
 

@@ -49,7 +49,7 @@ pub write_lists-requires : goal.write_lists-requires
 write_lists-requires g c =
     let device = g.D.Disk.state in
     let o : Stored g.row.D.Denot = record { disk = c.self.inside.disk; slots = c.self.inside.slots; contents = c.self.inside.contents; is_closed = c.self.inside.is_closed } in
-    let planned = planned_of device o c.args.self.now c.args.plan c.self.view_is c.requires.planned in
+    let planned = planned_of device o c.args.self.now c.args.plan.now c.self.view_is c.requires.planned in
     record {
       inside = planned.inside;
       apart = planned.apart;
@@ -64,8 +64,8 @@ take_each-requires g c =
     let device = g.D.Disk.state in
     let o : Stored g.row.D.Denot = record { disk = c.self.inside.disk; slots = c.self.inside.slots; contents = c.self.inside.contents; is_closed = c.self.inside.is_closed } in
     let given = c.requires.planned in
-    can_take (device o.disk).size o.slots.root o.contents given.command given.moment c.args.plan c.self.inside.used c.self.invariant.rooted.whole c.self.invariant.used
-    (planned_of device o c.args.self.now c.args.plan c.self.view_is given)
+    can_take (device o.disk).size o.slots.root o.contents given.command given.moment c.args.plan.now c.self.inside.used c.self.invariant.rooted.whole c.self.invariant.used
+    (planned_of device o c.args.self.now c.args.plan.now c.self.view_is given)
     c.deref.result.now (c.deref.ensures.value ∙ ap (λ (v : Vec Extent Global). v.items) c.write_lists.ensures.stays.taken)
 
 pub give_each-requires : goal.give_each-requires
@@ -73,7 +73,7 @@ give_each-requires g c =
     let device = g.D.Disk.state in
     let o : Stored g.row.D.Denot = record { disk = c.self.inside.disk; slots = c.self.inside.slots; contents = c.self.inside.contents; is_closed = c.self.inside.is_closed } in
     let given = c.requires.planned in
-    let p = c.args.plan in
+    let p = c.args.plan.now in
     let planned = planned_of device o c.args.self.now p c.self.view_is given in
     let took : AreTaken c.self.inside.used c.take_each.new.self (places p) =
     subst (λ (es : List Extent). AreTaken c.self.inside.used c.take_each.new.self es)
@@ -88,7 +88,7 @@ invariant_of-self-2 g c =
     let device = g.D.Disk.state in
     let o : Stored g.row.D.Denot = record { disk = c.self.inside.disk; slots = c.self.inside.slots; contents = c.self.inside.contents; is_closed = c.self.inside.is_closed } in
     let given = c.requires.planned in
-    let p = c.args.plan in
+    let p = c.args.plan.now in
     let size = (device o.disk).size in
     let planned = planned_of device o c.args.self.now p c.self.view_is given in
     let used = c.self.inside.used in
@@ -100,10 +100,10 @@ invariant_of-self-2 g c =
     let gave : AreGiven mid then p.freed.items =
     subst (λ (es : List Extent). AreGiven mid then es)
     (c.deref-2.ensures.value ∙ ap (λ (v : Vec Extent Global). v.items) c.write_lists.ensures.stays.freed) c.give_each.ensures in
-    sound_next size (device c.commit-committed.new.disk).size o.slots.root c.commit-committed.new.self.root o.contents c.write_lists.new.plan.contents given.command given.moment p then
+    sound_next size (device c.commit-committed.new.disk).size o.slots.root c.commit-committed.new.self.root o.contents c.swap.new.x given.command given.moment p then
     (c.commit-committed.ensures.runs.size ∙ c.write_lists.ensures.advances.size)
     (c.in-Ok-committed.ensures.root ∙ same_root o.slots.root p c.write_lists.new.plan.directory c.in-Ok.written c.write_lists.ensures.stays.directory c.in-Ok.ensures.written)
-    c.in-Ok.ensures.stored.contents c.self.invariant.rooted.room planned
+    (c.swap.ensures.x_after ∙ c.in-Ok.ensures.stored.contents) c.self.invariant.rooted.room planned
     (used_next size o.slots.root o.contents given.command given.moment p used c.self.invariant.rooted.whole c.self.invariant.used planned mid took then gave)
 
 pub returns-in-Err-NoMemory-clause-answers : goal.returns-in-Err-NoMemory-clause-answers
@@ -111,8 +111,8 @@ returns-in-Err-NoMemory-clause-answers g c =
     let device = g.D.Disk.state in
     let o : Stored g.row.D.Denot = record { disk = c.self.inside.disk; slots = c.self.inside.slots; contents = c.self.inside.contents; is_closed = c.self.inside.is_closed } in
     let new : Stored g.row.D.Denot = record { disk = c.write_lists.new.disk; slots = c.self.inside.slots; contents = c.self.inside.contents; is_closed = c.self.inside.is_closed } in
-    subst (Promised device c.args.plan new (Err NoMemory)) c.self.view_is
-    (stopped_behind device g.met.D.Disk.holds o c.args.plan c.self.invariant.rooted.whole c.write_lists.new.disk c.write_lists.ensures.outside c.write_lists.ensures.advances
+    subst (Promised device c.args.plan.now new (Err NoMemory)) c.self.view_is
+    (stopped_behind device g.met.D.Disk.holds o c.args.plan.now c.self.invariant.rooted.whole c.write_lists.new.disk c.write_lists.ensures.outside c.write_lists.ensures.advances
     (c.write_lists.ensures.device.sound
     (not_both c.write_lists.result (subst (λ (x : WriteFault). c.write_lists.result ≡ Err x) c.in-Err-NoMemory.field-0-is c.in-Err-NoMemory.is))))
 
@@ -121,8 +121,8 @@ returns-in-Err-Device-clause-answers g c =
     let device = g.D.Disk.state in
     let o : Stored g.row.D.Denot = record { disk = c.self.inside.disk; slots = c.self.inside.slots; contents = c.self.inside.contents; is_closed = c.self.inside.is_closed } in
     let new : Stored g.row.D.Denot = record { disk = c.write_lists.new.disk; slots = c.self.inside.slots; contents = c.self.inside.contents; is_closed = true } in
-    subst (Promised device c.args.plan new (Err Device)) c.self.view_is
-    (broken_behind device g.met.D.Disk.holds o c.args.plan c.self.invariant.rooted.whole c.write_lists.new.disk c.write_lists.ensures.outside c.write_lists.ensures.advances
+    subst (Promised device c.args.plan.now new (Err Device)) c.self.view_is
+    (broken_behind device g.met.D.Disk.holds o c.args.plan.now c.self.invariant.rooted.whole c.write_lists.new.disk c.write_lists.ensures.outside c.write_lists.ensures.advances
     new refl refl
     (c.write_lists.ensures.device.failed (subst (λ (x : WriteFault). c.write_lists.result ≡ Err x) c.in-Err-Device.field-0-is c.in-Err-Device.is)))
 
@@ -131,7 +131,7 @@ returns-in-Err-clause-answers g c =
     let device = g.D.Disk.state in
     let o : Stored g.row.D.Denot = record { disk = c.self.inside.disk; slots = c.self.inside.slots; contents = c.self.inside.contents; is_closed = c.self.inside.is_closed } in
     let new : Stored g.row.D.Denot = record { disk = c.commit-committed.new.disk; slots = c.commit-committed.new.self; contents = c.self.inside.contents; is_closed = true } in
-    let p = c.args.plan in
+    let p = c.args.plan.now in
     let mid = device c.write_lists.new.disk in
     let root : Root = next o.slots.root c.write_lists.new.plan.directory c.in-Ok.written.length c.in-Ok.written.sha256 in
     let generation : c.self.inside.slots.root.generation ≡ c.args.self.now.slots.root.generation =
@@ -150,8 +150,8 @@ returns-clause-answers g c =
     let device = g.D.Disk.state in
     let o : Stored g.row.D.Denot = record { disk = c.self.inside.disk; slots = c.self.inside.slots; contents = c.self.inside.contents; is_closed = c.self.inside.is_closed } in
     let new : Stored g.row.D.Denot =
-    record { disk = c.commit-committed.new.disk; slots = c.commit-committed.new.self; contents = c.write_lists.new.plan.contents; is_closed = c.self.inside.is_closed } in
-    let p = c.args.plan in
+    record { disk = c.commit-committed.new.disk; slots = c.commit-committed.new.self; contents = c.swap.new.x; is_closed = c.self.inside.is_closed } in
+    let p = c.args.plan.now in
     let mid = device c.write_lists.new.disk in
     let root : Root = next o.slots.root c.write_lists.new.plan.directory c.in-Ok.written.length c.in-Ok.written.sha256 in
     subst (Promised device p new (Ok c.write_lists.new.plan.reply)) c.self.view_is
@@ -160,6 +160,6 @@ returns-clause-answers g c =
     (same_root o.slots.root p c.write_lists.new.plan.directory c.in-Ok.written c.write_lists.ensures.stays.directory c.in-Ok.ensures.written)
     new c.commit-committed.ensures.any_moment (commit_goes mid (device new.disk) (device_in_commit c.commit-committed.result) c.commit-committed.ensures.runs c.commit-committed.ensures.keeps)
     c.write_lists.new.plan.reply (with_root mid.now.seen (other c.self.inside.slots.slot) c.commit-committed.new.self.root)
-    c.in-Ok-committed.ensures.root c.in-Ok.ensures.stored.contents refl c.in-Ok-committed.ensures.ready c.commit-committed.ensures.outside
+    c.in-Ok-committed.ensures.root (c.swap.ensures.x_after ∙ c.in-Ok.ensures.stored.contents) refl c.in-Ok-committed.ensures.ready c.commit-committed.ensures.outside
     c.in-Ok-committed.ensures.written c.write_lists.ensures.stays.reply
     (c.in-Ok.ensures.device.sound (λ is. absurd cc)) c.in-Ok-committed.ensures.runs.ok)

@@ -3,7 +3,7 @@ use Rattle.std.proofs.Common.{ℕ, List, length, ◌≤◌, ◌*◌}
 use Rattle.rs_io.specs.Watch.{Took}
 use Rattle.rs_script.specs.Progress.{Progress}
 use Rattle.rs_script.specs.Session.{script_state}
-use Rattle.rs_script.proofs.engine.script.Given as goal
+use Rattle.rs_script.proofs.engine.take_all.Given as goal
 
 abbrev pub invariant-loop : goal.invariant-loop
 invariant-loop g l =

@@ -1,22 +1,24 @@
 -- Each exit, by what came up to it.
-use Rattle.std.proofs.Common.{◌≡◌, rules, ℕ, None, true, [], ◌++◌, ◌≤◌, take, arith, inl, inr, refl, subst, sym, ◌∙◌}
+use Rattle.std.proofs.Common.{◌≡◌, rules, ℕ, Option, true, [], ◌++◌, ◌≤◌, take, arith, inl, inr, refl, subst, sym, ◌∙◌}
 use Rattle.std.proofs.KnownBytes.{Consumes-nil, Consumes-trans, Consumes-kept, Appends-kept}
 use Rattle.rs_io.specs.Watch.{watched, is_flushed, EndFailed}
 use Rattle.rs_io.proofs.Faults.{later_fault}
 use Rattle.rs_script.specs.Answers.{output_of}
+use Rattle.rs_script.specs.declared.group.Taking.{Taking}
 use Rattle.rs_script.specs.Progress.{Progress}
 use Rattle.rs_script.specs.Session.{script_state}
 use Rattle.rs_script.proofs.Steps.{Progress-none, Progress-kept, Progress-whole, ran_of, broke_after, Consumes-end, Gave-front, count_more, no_more}
-use Rattle.rs_script.proofs.engine.script.Goals as goal
+use Rattle.rs_script.proofs.engine.take_all.Goals as goal
 
 pub loop-init : goal.loop-init
 loop-init g c =
     let start = script_state c.args.source.now 0 in
     let a = c.args.writer.now in
-    let P : ℕ → Type 0 = λ now. Progress g.D.Disk.state g.W.Write.contents start a [] c.new-line.result None a (script_state c.args.source.now now) in (
+    let P : ℕ → Type 0 = λ now. Progress g.D.Disk.state g.W.Write.contents start a [] c.args.line.now c.args.group.now a (script_state c.args.source.now now) in
+    let Q : Option Taking → Type 0 = λ group. Progress g.D.Disk.state g.W.Write.contents start a [] c.args.line.now group a start in (
       [],
       (Consumes-nil (g.R.Read.remaining (watched c.args.reader.now)), refl),
-      subst P (sym c.first-now.ensures) (Progress-none g.D.Disk.state g.W.Write.contents start a c.new-line.result c.new-line.ensures),
+      subst P (sym c.first-now.ensures) (subst Q (sym c.requires.group) (Progress-none g.D.Disk.state g.W.Write.contents start a c.args.line.now c.requires.line)),
       omega arith,
       omega arith,
     )
