@@ -10,7 +10,7 @@ import copies
 import source
 
 # At most so many edits in one check.
-MOST = 32
+MOST = 64
 
 
 class Outcome(Enum):

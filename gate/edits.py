@@ -197,15 +197,15 @@ def main():
     words.add_argument("crates", nargs="*")
     given = words.parse_args()
 
-    names = given.crates or [*kit.crates_of(given.root)]
-    if wrong := Libraries(given.root, given.jobs).build_below(names):
+    names = [it for it in given.crates or kit.crates_of(given.root) if record.edits_of(given.root, it)]
+    if wrong := Libraries(given.root, given.jobs).build_each(names):
         sys.exit(wrong)
-    libraries = seconds()
+    built = seconds()
     when_done = (lambda name, edits: note(given.root, name, edits)) if given.record else (lambda name, edits: None)
     tried = try_crates(given.root, names, given.jobs, when_done)
     every = [it for edits in tried.values() for it in edits]
     refused = sum(it.is_refused for it in every)
-    print(f"minutes of a processor: {libraries / 60:.1f} for libraries that were not built, {(seconds() - libraries) / 60:.1f} for the edits")
+    print(f"minutes of a processor: {built / 60:.1f} for crates that were not built, {(seconds() - built) / 60:.1f} for the edits")
     print(f"{refused} refused, {len(every) - refused} not refused")
     return 1 if refused < len(every) else 0
 

@@ -146,9 +146,22 @@ class Trying(unittest.TestCase):
             trial = edits.Trial("sample", Libraries(room, 1), {})
             trial.check(f"{room}/kept", {"src/lib.rt": "fn other() {}"}, ["sample::a", "sample::b"])
             trial.check(f"{room}/kept", {})
+            kept = f"{room}/kept"
         (some, edited), (whole, text) = asked
-        self.assertEqual(some, [*whole, "--only", "sample::a", "--only", "sample::b"])
+        self.assertEqual((some, whole.count(kept)), ([*whole, "--only", "sample::a", "--only", "sample::b"], 1))
         self.assertEqual((edited, text, trial.checks, trial.seconds), ("fn other() {}", CODE, 2, 3.0))
+
+    def test_a_check_of_a_group_names_each_copy_in_it(self):
+        asked = []
+        with tempfile.TemporaryDirectory() as room, unittest.mock.patch.object(edits.Trial, "check", lambda trial, kept, texts, *only: asked.append(only) or kit.Told(1, "")):
+            folder = Path(repository(room, {"sample": CODE}), "crates", "sample")
+            every = [edit.Edit(f"{i}", [("src/lib.rt", "u16::from(x) + 1", f"u16::from(x) + {i}")]) for i in (2, 3)]
+            for it in every:
+                edit.look(it, folder, ["sample::next"])
+            trial = edits.Trial("sample", unittest.mock.Mock(root=room), {})
+            trial.try_together(f"{room}/kept", every)
+            trial.check_each(f"{room}/kept", [({},)])
+        self.assertEqual(asked, [(["sample::next_tried_0", "sample::next_tried_1"],), ()])
 
     def test_the_lines_of_goals_are_those_before_the_first_trial(self):
         """The lines that are written for a crate whose edits were tried change no trial of another crate."""
@@ -236,7 +249,7 @@ class Recording(unittest.TestCase):
                 return kit.Told(status, f"fn {folder.name}::next: proved\nit is told")
 
             with unittest.mock.patch.object(kit, "check", check):
-                build = lambda: (Libraries(room, 2).build_below(["high"]), [*built], built.clear())[:2]
+                build = lambda: (Libraries(room, 2).build_each(["middle"]), [*built], built.clear())[:2]
                 known = lambda: [Libraries(room, 1).proved(it) for it in ("low", "middle", "high")]
                 self.assertEqual(known(), [None, None, None])
                 self.assertEqual(build(), ("", ["low", "middle"]))
@@ -258,6 +271,15 @@ class Recording(unittest.TestCase):
                 for part in ("proved", "made_from"):
                     Path(room, "crates", "low", "out", "rlib", part).unlink()
                     self.assertEqual((known()[0], build()), (None, ("", ["low"])))
+
+    def test_of_a_program_the_proofs_alone_are_kept(self):
+        asked = []
+        with tempfile.TemporaryDirectory() as room, unittest.mock.patch.object(kit, "check", lambda words, folder: asked.append(words) or kit.Told(0, "fn top::main: proved\n")):
+            folder = Path(repository(room, {"low": CODE, "top": ABOVE}), "crates", "top")
+            (folder / "src" / "lib.rt").rename(folder / "src" / "main.rt")
+            self.assertEqual(Libraries(room, 1).build_each(["top"]), "")
+            self.assertEqual([(words[1], "-o" in words) for words in asked], [("build", True), ("check", False)])
+            self.assertEqual(Libraries(room, 1).proved("top"), ["top::main"])
 
     def test_two_crates_are_picked(self):
         with tempfile.TemporaryDirectory() as room:
@@ -329,7 +351,7 @@ class Parts(unittest.TestCase):
                 repository(room, {"low": CODE})
                 for where, name, value in (
                     (sys, "argv", ["edits.py", "--root", room]),
-                    (Libraries, "build_below", lambda self, names: wrong),
+                    (Libraries, "build_each", lambda self, names: wrong),
                     (edits, "try_crates", lambda root, names, jobs, when_done: {"low": every}),
                 ):
                     patched.enter_context(unittest.mock.patch.object(where, name, value))
@@ -473,7 +495,9 @@ class Reading(unittest.TestCase):
             kept = folder / "out" / "incremental" / "checked"
             kept.mkdir(parents=True)
             (kept / "Rattle-sample-proofs.next.Proof.oantt").write_text('--@ interface {"exports":[{"spelling":"third","pub":false}]}\n')
-            [tried] = edits.Trial("sample", unittest.mock.Mock(root=room, proved=lambda name: ["sample::next"]), goals.known(room)).run()
+            trial = edits.Trial("sample", unittest.mock.Mock(root=room, proved=lambda name: ["sample::next"]), goals.known(room))
+            goals.path(room).write_text("")
+            [tried] = trial.run()
         self.assertEqual(answers, [["other", "third", goals.NO_GOAL], [goals.NO_GOAL]])
         self.assertEqual(asked, [["sample::next_tried_0"]] * 2)
         self.assertEqual((tried.outcome, tried.goals), (Outcome.REFUSED, ["size", "returns"]))
