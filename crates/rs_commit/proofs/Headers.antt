@@ -1,11 +1,19 @@
 -- What the first 54 bytes of a whole block say.
-use Rattle.std.proofs.Common.{◌≡◌, ℕ, ◌<◌, true, false, List, length, take, get_or, sym, ◌∙◌, ap, arith}
+use Rattle.std.proofs.Common.{◌≡◌, ℕ, ◌<◌, true, false, List, length, take, get_or, refl, sym, ◌∙◌, ap, arith}
+use Rattle.std.specs.Int.{from_be_bytes, w32, w64}
 use Rattle.std.proofs.lemmas.List.{get_or-take}
 use Rattle.rs_commit.specs.declared.root.Root.{Root}
 use Rattle.rs_commit.specs.declared.slot.Content.TheVariants.{Closed, Unknown, Open}
-use Rattle.rs_commit.specs.Slots.{root_in, is_known, content}
+use Rattle.rs_commit.specs.Slots.{field, version, root_in, is_known, content}
 use Rattle.rs_commit.proofs.Contents.{closed, opened, unknown}
 use Rattle.rs_commit.proofs.Payloads.{first_bytes}
+
+-- a root is what bytes tell where each of its fields is
+pub told : (root : Root) (bytes : List ℕ) → root.version ≡ version bytes → root.generation ≡ from_be_bytes w64 (field bytes 2 8)
+    → root.directory.first ≡ from_be_bytes w32 (field bytes 10 4) → root.directory.blocks ≡ from_be_bytes w32 (field bytes 14 4)
+    → root.length ≡ from_be_bytes w32 (field bytes 18 4) → root.sha256 ≡ field bytes 22 32 → root ≡ root_in bytes
+unfolding root_in
+told root bytes version generation first blocks long sha256 = rw (← version, ← generation, ← first, ← blocks, ← long, ← sha256) refl
 
 module _ (bytes block : List ℕ) (long : length block ≡ 512) (are : bytes ≡ take 54 block) where
   byte_at : (i : ℕ) → i < 54 → get_or block i 0 ≡ get_or bytes i 0

@@ -1,7 +1,8 @@
 //! A root, and how a slot spells it.
 ghost use Rattle.std.specs.Prelude.{◌≡◌, ◌+◌, ◌≤◌, length, IsTrue};
+ghost use Rattle.std.specs.Int.{from_be_bytes, w32, w64};
 ghost use Rattle.rs_disk.specs.Medium.{over};
-ghost use Rattle.rs_commit.specs.Slots.{field as field_of, payload_of, root_in as root_told, is_known as known, IsLawfulRoot};
+ghost use Rattle.rs_commit.specs.Slots.{field as field_of, version as version_of, payload_of, is_known as known, IsLawfulRoot};
 
 use rs_extent::Extent;
 
@@ -55,10 +56,14 @@ pub(crate) fn put(bytes: &mut [u8], at: usize, field: &[u8])
     bytes[at..at + field.len()].copy_from_slice(field);
 }
 
-/// The root that the first 54 bytes of a slot tell.
-#[tactic(auto, unfolding(crate::specs::Slots::root_in))]
+/// The root that the first 54 bytes of a slot tell, each number big endian.
 pub(crate) fn root_in(bytes: &[u8; 54]) -> Root
-    ensures { result ≡ root_told bytes.now }
+    ensures version { result.version ≡ version_of bytes.now }
+    ensures generation { result.generation ≡ from_be_bytes w64 (field_of bytes.now 2 8) }
+    ensures first { result.directory.first ≡ from_be_bytes w32 (field_of bytes.now 10 4) }
+    ensures blocks { result.directory.blocks ≡ from_be_bytes w32 (field_of bytes.now 14 4) }
+    ensures length { result.length ≡ from_be_bytes w32 (field_of bytes.now 18 4) }
+    ensures sha256 { result.sha256 ≡ field_of bytes.now 22 32 }
 {
     Root {
         version: bytes[1],
