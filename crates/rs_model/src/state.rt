@@ -3,7 +3,7 @@
 ghost use Rattle.std.specs.Prelude.{◌≡◌, ◌≤◌, ◌↔◌, IsTrue, length, map, None, IfOk, OnOk, OnErr, IsErrOf};
 ghost use Rattle.rs_record.specs.Limits.{longest_body};
 ghost use Rattle.rs_record.specs.Changes.{bound};
-ghost use Rattle.rs_model.specs.Names.{is_ordered};
+ghost use Rattle.rs_model.specs.Names.{is_ordered, bind as bind_to};
 ghost use Rattle.rs_model.specs.State.{start_of, facts_of, entries};
 ghost use Rattle.rs_model.specs.Listed.{record_of};
 ghost use Rattle.rs_model.specs.Step.{step as step_of, state_after, fold_of, refusal_of, next_state, reply_to, is_held};
@@ -247,11 +247,8 @@ impl State {
         ensures unchanged { OnErr result (self.new ≡ self.old) }
     {
         let again = self.holds(&name);
-        let facts = facts(kind, &bytes);
-        let change = bound_change(alloc, &name, again, moment, &facts)?;
-        let entry = Entry { facts, moment };
         self.changes.reserve(1)?;
-        bind(&mut self.held, name, Held { bytes, entry })?;
+        let change = bind_body(alloc, &mut self.held, name, kind, bytes, again, moment)?;
         self.changes.push(change).unwrap();
         self.last = moment;
         if again {
@@ -297,6 +294,33 @@ impl State {
         self.last = moment;
         Ok(Reply::Published(self.number, moment))
     }
+}
+
+// Binds the name to a body in what is held, and gives the change that tells of it.
+fn bind_body(
+    alloc: Global,
+    held: &mut Vec<(Name, Held)>,
+    name: Name,
+    kind: MediaType,
+    bytes: Body,
+    again: bool,
+    moment: Moment,
+) -> Result<Change, AllocError>
+    requires ordered { IsTrue (is_ordered held.old.items) }
+    requires short { length bytes ≤ longest_body }
+    ensures bound { OnOk result (held.new.items ≡ bind_to name
+        (record { bytes = bytes; entry = record { facts = facts_of kind bytes; moment = moment } })
+        held.old.items) }
+    ensures change { IfOk result (λ change.
+        change ≡ bound name again moment (facts_of kind bytes)) }
+    ensures lawful { OnOk result (AreFacts (facts_of kind bytes)) }
+    ensures unchanged { OnErr result (held.new.items ≡ held.old.items) }
+{
+    let facts = facts(kind, &bytes);
+    let change = bound_change(alloc, &name, again, moment, &facts)?;
+    let entry = Entry { facts, moment };
+    bind(held, name, Held { bytes, entry })?;
+    Ok(change)
 }
 
 // The change that binds the name to these facts.

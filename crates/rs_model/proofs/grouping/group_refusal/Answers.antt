@@ -14,7 +14,7 @@ returns-in-Some c = λ s b.
     c.unwrap_or-before.ensures ∙ ap (λ o. unwrap_or o false) c.copied.ensures ∙ c.get.ensures.lookup.4 (omega arith) false in
     let held = known_held s c.args.items.now c.args.held.now c.args.counts c.args.now c.loop-i.i c.index-items-i.result _ _ b c.loop-i-test.true c.index-items-i.is first
     (c.is_held_after-is_held.ensures ∙ ap (held_after (take c.loop-i.i c.args.items.now) c.unwrap_or-before.result) c.name.ensures) in
-    refused_there s _ _ _ _ _ _ _ (c.loop-i.invariant s b) c.loop-i-test.true c.if-items-gt-MOST_GROUPED.false c.index-items-i.is held c.in-Some.ensures
+    refused_there s _ _ _ _ _ _ _ (c.loop-i.invariant s b) c.loop-i-test.true (omega arith) c.index-items-i.is held c.in-Some.ensures
 
 pub loop-i-preserved : goal.loop-i-preserved
 loop-i-preserved c = λ s b.
@@ -25,4 +25,4 @@ loop-i-preserved c = λ s b.
     passed_there s _ _ _ _ _ _ _ (c.loop-i.invariant s b) c.loop-i-test.true c.index-items-i.is held (sym c.in_default.ensures) c.pass.ensures
 
 pub returns : goal.returns
-returns c = λ s b. all_passed s _ _ _ _ (c.loop-i.invariant s b) (omega arith) (grind (arith, nat_tests)) c.if-items-gt-MOST_GROUPED.false
+returns c = λ s b. all_passed s _ _ _ _ (c.loop-i.invariant s b) (omega arith) (grind (arith, nat_tests)) (omega arith)
