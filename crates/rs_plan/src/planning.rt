@@ -102,6 +102,8 @@ pub fn draft_put(
     let Some(body) = find_lowest(used, body_length) else {
         return Err(PlanFault::Full);
     };
+    let bodies = Vec::from_slice(alloc, &[body])?;
+    let freed = freed_by_change(alloc, old, name)?;
     let lists = lists_after_put(
         alloc,
         contents,
@@ -113,8 +115,6 @@ pub fn draft_put(
         moment,
     )?;
     let reply = reply_told(&lists.history);
-    let freed = freed_by_change(alloc, old, name)?;
-    let bodies = Vec::from_slice(alloc, &[body])?;
     let plan = place_lists(alloc, used, bodies, lists, reply, freed)?;
     Ok(plan)
 }
@@ -179,8 +179,8 @@ pub fn plan_delete(
 {
     page_rule_is_kept();
     let contents = old.contents();
-    let lists = lists_after_delete(alloc, contents, name, moment)?;
     let freed = freed_by_change(alloc, old, name)?;
+    let lists = lists_after_delete(alloc, contents, name, moment)?;
     let plan = place_lists(
         alloc,
         used,
@@ -214,9 +214,9 @@ pub fn plan_publish(
 {
     first_items_are_dropped_as_one::<Change>();
     let contents = old.contents();
+    let freed = freed_by_publication(alloc, old)?;
     let lists = lists_after_publish(alloc, contents, moment)?;
     let reply = Reply::Published(lists.header.number, moment);
-    let freed = freed_by_publication(alloc, old)?;
     let plan = place_lists(alloc, used, Vec::new(alloc), lists, reply, freed)?;
     Ok(plan)
 }
