@@ -35,6 +35,14 @@ pub record Survives (start : Source) (commands : List (Command × ℕ)) (acks : 
   pub holds : Holds memory_state source (fold_of start (take j (counted_commands commands acks)))
   pub yields : YieldsHeld (fold_of start (take j (counted_commands commands acks)))
 
+-- The commands were answered in their turn, from the start on, and the run left this disk.
+pub record HasRun (start : Source) (commands : List (Command × ℕ)) (acks : List Ack) (left : MemoryDisk) : Type 0 where
+  pub first : Stored MemoryDisk
+  pub last : Stored MemoryDisk
+  pub began : Holds memory_state first start
+  pub turn : InTurn memory_state first commands acks last
+  pub left_by : last.disk ≡ left
+
 -- The disk was told to hold no source, or a damaged one.
 abbrev pub IsLost : Halt → Type 0
 IsLost (Formatting fault) = ⊥

@@ -1,10 +1,10 @@
 //! A source on a memory disk, from its formatting through a stop to its recovery.
 
-ghost use Rattle.std.specs.Prelude.{◌≡◌, IfOk, IfErr};
+ghost use Rattle.std.specs.Prelude.{◌≡◌, IfOk, IfErr, OnOk};
 ghost use Rattle.rs_disk.specs.Medium.{IsImage, image_of, resting};
 ghost use Rattle.rs_disk.specs.Memory.{memory_state};
 ghost use Rattle.rs_model.specs.State.{start_of};
-ghost use Rattle.rs_recovery.specs.Surviving.{Survives, IsLost, HasHalted};
+ghost use Rattle.rs_recovery.specs.Surviving.{Survives, HasRun, MayFormat, IsLost, HasHalted};
 
 use crate::recover;
 use rs_disk::MemoryDisk;
@@ -37,6 +37,30 @@ fn image_disk(alloc: Global, left: &MemoryDisk, choice: &[u8]) -> Result<MemoryD
     MemoryDisk::from_bytes(alloc, &left.image(choice)?)
 }
 
+/// Formats a memory disk and runs commands on the source. It gives the answers, and the disk that the run left.
+fn format_and_run(
+    alloc: Global,
+    disk: MemoryDisk,
+    base: &[u8],
+    limit: u16,
+    now: Moment,
+    commands: &[(Command, Moment)],
+) -> Result<(Vec<Ack>, MemoryDisk), Halt>
+    ensures ran { IfOk result (λ x. HasRun (start_of base.now limit now) commands.now x.0.items x.1) }
+    ensures may { OnOk result (MayFormat base.now limit (memory_state disk).size) }
+    ensures found { IfErr result (λ halt. ¬ IsLost halt) }
+    ensures halted { IfErr result (HasHalted base.now limit (memory_state disk).size) }
+{
+    let mut source = match Source::format(alloc, disk, base, limit, now) {
+        Ok(source) => source,
+        Err((_, fault)) => return Err(Halt::Formatting(fault)),
+    };
+    match source.run(commands) {
+        Ok(acks) => Ok((acks, source.into_disk())),
+        Err(refusal) => Err(Halt::Running(refusal)),
+    }
+}
+
 /// Formats a memory disk, runs commands, and recovers the source from an image that a crash may leave
 /// then: that of this choice of bytes. Where the disk is to stop after some calls, the image is one
 /// that a crash in that call may leave.
@@ -61,15 +85,7 @@ pub fn format_run_recover(
     ensures halted { IfErr result (HasHalted base.now limit (memory_state disk).size) }
 {
     turns_go_on::<MemoryDisk>();
-    let mut source = match Source::format(alloc, disk, base, limit, now) {
-        Ok(source) => source,
-        Err((_, fault)) => return Err(Halt::Formatting(fault)),
-    };
-    let acks = match source.run(commands) {
-        Ok(acks) => acks,
-        Err(refusal) => return Err(Halt::Running(refusal)),
-    };
-    let left = source.into_disk();
+    let (acks, left) = format_and_run(alloc, disk, base, limit, now, commands)?;
     let Ok(disk) = image_disk(alloc, &left, choice) else {
         return Err(Halt::Imaging);
     };
