@@ -1,13 +1,15 @@
 //! The commands of a source.
 
-ghost use Rattle.std.specs.Prelude.{◌≡◌, ◌<◌, ◌+◌, ◌^◌, ℕ, false, None, IfErr};
+ghost use Rattle.std.specs.Prelude.{◌≡◌, ◌<◌, ◌+◌, ◌^◌, ℕ, List, length, false, None, IfOk, IfErr, IsErrOf};
 ghost use Rattle.rs_model.specs.Step.{moment_at};
 ghost use Rattle.rs_model.specs.declared.command.Command.{Command};
 ghost use Rattle.rs_model.specs.declared.command.Command.TheVariants.{Put, Delete, Publish};
 ghost use Rattle.rs_store.specs.Source.{Stored, rooted_in, state_of};
 ghost use Rattle.rs_store.specs.Refusals.{decided};
 ghost use Rattle.rs_plan.specs.Room.{bodies_of_command};
-ghost use Rattle.rs_plan.specs.Plans.{IsPlanned};
+ghost use Rattle.rs_plan.specs.Allowed.{MayPut};
+ghost use Rattle.rs_plan.specs.declared.planning.PlanFault.{PlanFault};
+ghost use Rattle.rs_plan.specs.Plans.{IsPlanned, LacksRoom};
 ghost use Rattle.rs_store.specs.Writing.{of_plan, IsPlanOfSome, HasWrittenBodies};
 ghost use Rattle.rs_store.specs.Answered.{Answers};
 ghost use Rattle.rs_store.specs.Received.{IsLate};
@@ -63,8 +65,27 @@ impl<D: Disk> Source<D> {
         ensures { Answers D.state self.old self.new (Put name.now kind.now bytes.now) now result }
     {
         let moment = self.moment_of_put(name, bytes.len() as u64, now)?;
+        let mut plan = self.planned_put(name, kind, bytes, moment)?;
+        self.carry_out_put(&mut plan, bytes)
+    }
+
+    // The plan of a put at this moment.
+    fn planned_put(
+        &mut self,
+        name: &Name,
+        kind: &MediaType,
+        bytes: &[u8],
+        moment: Moment,
+    ) -> Result<Plan, PlanFault>
+        requires may { MayPut self.old.contents name.now (length bytes.now) moment }
+        ensures same { self.new ≡ self.old }
+        ensures planned { IfOk result (IsPlanned (rooted_in D.state self.old)
+            (Put name.now kind.now bytes.now) moment) }
+        ensures full { IsErrOf result PlanFault.Full
+            → LacksRoom (rooted_in D.state self.old) (Put name.now kind.now bytes.now) moment }
+    {
         let rooted = rooted_by(&self.disk, &self.slots, &self.contents);
-        let mut plan = plan_put(
+        plan_put(
             self.alloc,
             &mut self.used,
             &rooted,
@@ -72,12 +93,26 @@ impl<D: Disk> Source<D> {
             kind,
             bytes,
             moment,
-        )?;
+        )
+    }
+
+    // Writes the body of a planned put, and then the lists.
+    fn carry_out_put(&mut self, plan: &mut Plan, bytes: &[u8]) -> Result<Reply, Refusal>
+        requires is_open { self.old.is_closed ≡ false }
+        requires spare { self.old.slots.root.generation + 1 < 2 ^ 64 }
+        requires planned { (name kind : List ℕ) × (moment : ℕ)
+            × IsPlanned (rooted_in D.state self.old) (Put name kind bytes.now) moment plan.old }
+        ensures { (name kind : List ℕ) (now : ℕ)
+            → decided self.old (state_of D.state self.old) (Put name kind bytes.now) now ≡ None
+            → IsPlanned (rooted_in D.state self.old) (Put name kind bytes.now)
+            (moment_at (state_of D.state self.old) now) plan.old
+            → Answers D.state self.old self.new (Put name kind bytes.now) now result }
+    {
         if write_body(&mut self.disk, plan.bodies[0], bytes).is_err() {
             self.is_closed = true;
             return Err(Refusal::Device);
         }
-        self.finish(&mut plan)
+        self.finish(plan)
     }
 
     /// Unbinds the name: the resource is deleted. The command comes at the moment `now`, and is accepted

@@ -1,6 +1,6 @@
 //! Groups: several puts and deletes by one commit.
 
-ghost use Rattle.std.specs.Prelude.{◌≡◌, ◌<◌, ◌≤◌, ◌+◌, ◌^◌, ℕ, Bool, length, take, map, false, IfOk, OnOk};
+ghost use Rattle.std.specs.Prelude.{◌≡◌, ◌<◌, ◌≤◌, ◌+◌, ◌^◌, ℕ, Bool, length, take, map, false, None, IfOk, OnOk, IsErrOf};
 ghost use Rattle.std.specs.List.{AllZip};
 ghost use Rattle.rs_disk.specs.Leaves.{Runs};
 ghost use Rattle.rs_extent.specs.Extents.{AreApart, AreBeside, AreOnDisk};
@@ -11,9 +11,10 @@ ghost use Rattle.rs_model.specs.State.{most_grouped};
 ghost use Rattle.rs_model.specs.Step.{is_held, moment_at, refusal_of};
 ghost use Rattle.rs_model.specs.declared.command.Command.TheVariants.{Group};
 ghost use Rattle.rs_plan.specs.Allowed.{MayGroup};
-ghost use Rattle.rs_plan.specs.Plans.{AreBodies};
+ghost use Rattle.rs_plan.specs.declared.planning.PlanFault.{PlanFault};
+ghost use Rattle.rs_plan.specs.Plans.{AreBodies, IsPlanned, LacksRoom};
 ghost use Rattle.rs_plan.specs.Room.{bodies_kept};
-ghost use Rattle.rs_store.specs.Source.{state_of};
+ghost use Rattle.rs_store.specs.Source.{rooted_in, state_of};
 ghost use Rattle.rs_store.specs.Refusals.{decided};
 ghost use Rattle.rs_store.specs.Answered.{Answers, moment_unless};
 
@@ -25,7 +26,7 @@ use rs_extent::Extent;
 use rs_model::{
     Counts, Item, MOST_GROUPED, Refusal as Refused, Reply, group_refusal, groups_step_in_turn,
 };
-use rs_plan::{body_kept, plan_group};
+use rs_plan::{Plan, PlanFault, body_kept, plan_group};
 use rs_time::Moment;
 
 impl<D: Disk> Source<D> {
@@ -48,13 +49,40 @@ impl<D: Disk> Source<D> {
         ensures { Answers D.state self.old self.new (Group items.now) now result }
     {
         let moment = self.moment_of_group(items, now)?;
+        let mut plan = self.planned_group(items, moment)?;
+        self.carry_out_group(&mut plan, items)
+    }
+
+    // The plan of a group whose first item is done at this moment.
+    fn planned_group(&mut self, items: &[Item], moment: Moment) -> Result<Plan, PlanFault>
+        requires may { MayGroup self.old.contents items.now moment }
+        ensures same { self.new ≡ self.old }
+        ensures planned { IfOk result
+            (IsPlanned (rooted_in D.state self.old) (Group items.now) moment) }
+        ensures full { IsErrOf result PlanFault.Full
+            → LacksRoom (rooted_in D.state self.old) (Group items.now) moment }
+    {
         let rooted = rooted_by(&self.disk, &self.slots, &self.contents);
-        let mut plan = plan_group(self.alloc, &mut self.used, &rooted, items, moment)?;
+        plan_group(self.alloc, &mut self.used, &rooted, items, moment)
+    }
+
+    // Writes the bodies of a planned group, and then its lists.
+    fn carry_out_group(&mut self, plan: &mut Plan, items: &[Item]) -> Result<Reply, Refusal>
+        requires is_open { self.old.is_closed ≡ false }
+        requires spare { self.old.slots.root.generation + 1 < 2 ^ 64 }
+        requires planned { (moment : ℕ)
+            × IsPlanned (rooted_in D.state self.old) (Group items.now) moment plan.old }
+        ensures { (now : ℕ)
+            → decided self.old (state_of D.state self.old) (Group items.now) now ≡ None
+            → IsPlanned (rooted_in D.state self.old) (Group items.now)
+            (moment_at (state_of D.state self.old) now) plan.old
+            → Answers D.state self.old self.new (Group items.now) now result }
+    {
         if write_bodies(&mut self.disk, &plan.bodies, items).is_err() {
             self.is_closed = true;
             return Err(Refusal::Device);
         }
-        self.finish(&mut plan)
+        self.finish(plan)
     }
 
     // The moment of the first item of a group that comes at `now`, or why it is refused at once.

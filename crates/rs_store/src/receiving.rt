@@ -1,6 +1,6 @@
 //! A put whose body a reader brings.
 
-ghost use Rattle.std.specs.Prelude.{◌≡◌, ◌<◌, ◌≤◌, ◌+◌, ◌*◌, ◌++◌, ℕ, Bool, List, length, take, drop, IfOk, IfErr, OnOk, OnErr, IsErrOf};
+ghost use Rattle.std.specs.Prelude.{◌≡◌, ◌<◌, ◌≤◌, ◌+◌, ◌*◌, ◌++◌, ◌^◌, ℕ, Bool, List, false, None, length, take, drop, IfOk, IfErr, OnOk, OnErr, IsErrOf};
 ghost use Rattle.std.specs.Io.KnownBytes.{Consumes, Keeps, IsAtEnd};
 ghost use Rattle.rs_io.specs.Watch.{watched, failures, EndFailed, Took};
 ghost use Rattle.rs_disk.specs.Leaves.{Advances, TellsFaults};
@@ -9,7 +9,15 @@ ghost use Rattle.rs_extent.specs.Extents.{IsOnDisk, IsBeside};
 ghost use Rattle.rs_fixity.specs.Digests.{digests};
 ghost use Rattle.rs_body.specs.Blocks.{part};
 ghost use Rattle.rs_body.specs.Outside.{WritesOutside};
-ghost use Rattle.rs_store.specs.Received.{AnswersFrom, IsCut, IsStopped};
+ghost use Rattle.rs_model.specs.declared.command.Command.TheVariants.{Put};
+ghost use Rattle.rs_plan.specs.declared.planning.PlanFault.{PlanFault};
+ghost use Rattle.rs_plan.specs.Allowed.{MayPut};
+ghost use Rattle.rs_plan.specs.Plans.{LacksRoom};
+ghost use Rattle.rs_plan.specs.Drafts.{AwaitsBody};
+ghost use Rattle.rs_model.specs.Step.{moment_at};
+ghost use Rattle.rs_store.specs.Source.{rooted_in, state_of};
+ghost use Rattle.rs_store.specs.Refusals.{decided};
+ghost use Rattle.rs_store.specs.Received.{AnswersFrom, IsCut, IsDraftOf, IsStopped};
 
 use crate::source::rooted_by;
 use crate::{Refusal, Source};
@@ -19,7 +27,7 @@ use rs_extent::Extent;
 use rs_fixity::{Digests, Hashing};
 use rs_io::{ReadFault, Watched};
 use rs_model::Reply;
-use rs_plan::draft_put;
+use rs_plan::{Plan, PlanFault, draft_put};
 use rs_record::{MediaType, Name};
 use rs_time::Moment;
 use std::io::Read;
@@ -62,17 +70,67 @@ impl<D: Disk> Source<D> {
     {
         let moment = self.moment_of_put(name, body_length, now)?;
         let length = body_length as u32;
+        let mut plan = self.drafted_put(name, kind, length, moment)?;
+        self.receive_planned(&mut plan, name, reader, length)
+    }
+
+    // The plan of a put at this moment, of so many bytes that have not come yet.
+    fn drafted_put(
+        &mut self,
+        name: &Name,
+        kind: &MediaType,
+        body_length: u32,
+        moment: Moment,
+    ) -> Result<Plan, PlanFault>
+        requires may { MayPut self.old.contents name.now body_length moment }
+        ensures same { self.new ≡ self.old }
+        ensures awaits { IfOk result (AwaitsBody name.now) }
+        ensures planned { IfOk result
+            (IsDraftOf (rooted_in D.state self.old) name.now kind.now body_length moment) }
+        ensures full { IsErrOf result PlanFault.Full
+            → (bytes : List ℕ) → length bytes ≡ body_length
+            → LacksRoom (rooted_in D.state self.old) (Put name.now kind.now bytes) moment }
+    {
         let rooted = rooted_by(&self.disk, &self.slots, &self.contents);
-        let mut plan = draft_put(
+        draft_put(
             self.alloc,
             &mut self.used,
             &rooted,
             name,
             kind,
-            length,
+            body_length,
             moment,
-        )?;
-        let digests = match receive(&mut self.disk, reader, plan.bodies[0], length) {
+        )
+    }
+
+    // Reads the body of a put that was drafted and writes it to its extent, and then the lists.
+    fn receive_planned<R: Read>(
+        &mut self,
+        plan: &mut Plan,
+        name: &Name,
+        reader: &mut Watched<R>,
+        body_length: u32,
+    ) -> Result<Reply, Refusal>
+        requires is_open { self.old.is_closed ≡ false }
+        requires spare { self.old.slots.root.generation + 1 < 2 ^ 64 }
+        requires awaits { AwaitsBody name.now plan.old }
+        requires planned { (kind : List ℕ) × (moment : ℕ)
+            × IsDraftOf (rooted_in D.state self.old) name.now kind body_length moment plan.old }
+        ensures came { (came : List ℕ)
+            × Consumes (R.remaining (watched reader.old)) (R.remaining (watched reader.new)) came
+            × ((kind : List ℕ) (now : ℕ)
+            → ((bytes : List ℕ) → length bytes ≡ body_length
+            → decided self.old (state_of D.state self.old) (Put name.now kind bytes) now ≡ None)
+            → IsDraftOf (rooted_in D.state self.old) name.now kind body_length
+            (moment_at (state_of D.state self.old) now) plan.old
+            → AnswersFrom D.state self.old self.new name.now kind body_length now came result) }
+        ensures failed { IsErrOf result Refusal.ReadFault → EndFailed reader.old reader.new }
+        ensures sound { ¬ IsErrOf result Refusal.ReadFault
+            → failures reader.new ≡ failures reader.old }
+        ensures ended { IsErrOf result Refusal.ShortBody
+            → IsAtEnd (R.remaining (watched reader.new)) }
+    {
+        let digests = match receive(&mut self.disk, reader, plan.bodies[0], body_length) {
             Ok(digests) => digests,
             Err(refusal) => match refusal {
                 Refusal::Device => {
@@ -83,7 +141,7 @@ impl<D: Disk> Source<D> {
             },
         };
         plan.fill(name, digests);
-        self.finish(&mut plan)
+        self.finish(plan)
     }
 }
 
