@@ -28,14 +28,13 @@ def proof_module(symbol):
 
 
 def can_be_copied(edit, folder):
-    """Whether an edit changes one function alone, which is no method of a trait, calls not itself, has no proof by hand, and is named in no text but its own proof files."""
+    """Whether an edit changes one function alone, for a copy of which there is a place, which calls not itself, has no proof by hand, and is named in no text but its own proof files."""
     if len(edit.symbols) != 1 or len({path for path, _, _ in edit.pairs}) != 1:
         return False
-    function, symbol = edit.function, next(iter(edit.symbols))
+    symbol = next(iter(edit.symbols))
     place = Path(folder, proof_folder(symbol))
-    is_plain = function.name != "main" and not re.search(r"\bfor\b|\Atrait\b", function.block)
     by_hand = [place / "Proof.antt", place.parent / f"+{place.name}", place.parent / "fn" / place.name]
-    return is_plain and not any(it.exists() for it in by_hand) and not is_named_elsewhere(symbol, folder)
+    return edit.function.name != "main" and bool(edit.home) and not any(it.exists() for it in by_hand) and not is_named_elsewhere(symbol, folder)
 
 
 def is_named_elsewhere(symbol, folder):
@@ -61,8 +60,13 @@ def with_copy(texts, folder, edit, edited, number):
     changed = next(filter(is_it, source.functions_of(edited)))
     start, name = source.item_of(edited, changed), named(changed.name, number)
     copy = f"{edited[start:changed.at]}{name}{edited[changed.at + len(changed.name) : changed.end]}"
-    texts = {**texts, path: f"{text[: function.end]}\n\n{copy}{text[function.end :]}"}
-    place, of_it, of_copy = proof_folder(symbol), f"{proof_module(symbol)}.", f"{proof_module(named(symbol, number))}."
+    end = function.end
+    if head := source.plain_head(function.block):
+        begin, end = source.block_around(text, function)
+        brought = re.findall(r"(?m)^[ \t]*ghost use [^;]*;\n", text[begin : source.item_of(text, function)])
+        copy = f"{head} {{\n{''.join(brought)}\n{copy}\n}}"
+    texts, copied = {**texts, path: f"{text[:end]}\n\n{copy}{text[end:]}"}, f"{edit.home}::{name}"
+    place, of_it, of_copy = proof_folder(symbol), f"{proof_module(symbol)}.", f"{proof_module(copied)}."
     for file in sorted(Path(folder, place).glob("*.antt")):
-        texts[str(place.with_name(named(place.name, number)) / file.name)] = file.read_text().replace(of_it, of_copy)
-    return texts, named(symbol, number)
+        texts[str(proof_folder(copied) / file.name)] = file.read_text().replace(of_it, of_copy)
+    return texts, copied

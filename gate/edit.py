@@ -34,6 +34,8 @@ class Edit:
     why: str = ""
     symbols: set = field(default_factory=set)
     function: source.Function | None = None
+    # Where a copy of it is, or '' for nowhere.
+    home: str = ""
     # The goals by which it was last seen refused, as its line has them, or None where it has no line.
     goals: list | None = None
     # The goals of its function as it is, as far as they are known, and that of its line which was tried and did not refuse it.
@@ -93,7 +95,8 @@ def look(edit, folder, symbols):
             edit.symbols = set()
             return
         edit.symbols.add(symbol)
-        edit.function = edit.function or inside[0]
+        if not edit.function:
+            edit.function, edit.home = inside[0], source.home_of_copy(text, inside[0], symbol, symbols)
 
 
 @dataclass

@@ -539,9 +539,11 @@ class Reading(unittest.TestCase):
                 self.assertEqual([len(it.tried) for it in edit.grouped(every, folder)], [2, 1])
 
     def test_which_functions_are_copied(self):
+        others = ["low::Other::of"]
         for head, place, text, wanted in (
             ("impl Kind", "none", "", True),
-            ("impl Turns for Kind", "none", "", False),
+            ("impl Turns for Other", "none", "", True),
+            ("impl Turns for Outer", "none", "", False),
             ("trait Kind", "none", "", False),
             ("impl Kind", "Kind/+turn/Answers.antt", "", False),
             ("impl Kind", "Kind/turn/Proof.antt", "", False),
@@ -555,8 +557,10 @@ class Reading(unittest.TestCase):
                 file = Path(room, "proofs", place)
                 file.parent.mkdir(parents=True)
                 file.write_text(text)
-                function = source.functions_of(head + " {\n    fn turn() {}\n}\n")[0]
-                it = edit.Edit("", [("src/lib.rt", "", "")], symbols={"low::Kind::turn"}, function=function)
+                code = head + " {\n    fn turn() ensures { P } {}\n}\n"
+                function, symbol = source.functions_of(code)[0], "low::Kind::turn"
+                home = source.home_of_copy(code, function, symbol, [symbol, *others])
+                it = edit.Edit("", [("src/lib.rt", "", "")], symbols={symbol}, function=function, home=home)
                 self.assertEqual(copies.can_be_copied(it, room), wanted, (head, place, text))
 
     def test_which_goal_of_several_is_tried(self):
@@ -610,6 +614,45 @@ class Reading(unittest.TestCase):
         self.assertEqual(texts["src/lib.rt"], text.replace(function, f"{function}\n\n{copy}"))
         left = "".join(f"\npub {it} : goal.{it}\n{it} = {goals.NO_ANSWER}\n" for it in ("other", goals.NO_GOAL))
         self.assertEqual(texts["proofs/next_tried_7/Answers.antt"], answers.replace("proofs.next.", "proofs.next_tried_7.") + left)
+
+    def test_where_a_copy_is(self):
+        """Beside its function; that of a trait's method is among the plain methods of the type, where there is one place for these and a clause says what the method does."""
+        symbols = ["low::m::Kind::of", "low::m::KindTurns::turn", "low::a::Twice::of", "low::b::Twice::of", "low::fn::Kind::of::map"]
+        for head, said, wanted in (
+            ("", "", "low::n"),
+            ("impl Kind", "", "low::n"),
+            ("trait Turns", "ensures { P }", ""),
+            ("impl Turns for Kind", "ensures { P }", "low::m::Kind"),
+            ("impl<D: Disk> Turns<D> for m::Kind<D> where D: Drop", "requires { Q }\n    ensures told { P }", "low::m::Kind"),
+            ("impl Turns for Kind", "", ""),
+            ("impl Turns for Kind", "requires { Q }", ""),
+            ("impl Turns for Kind", "-> Self::Turned ensures { P }", ""),
+            ("impl Turns for Outer", "ensures { P }", ""),
+            ("impl Turns for Twice", "ensures { P }", ""),
+        ):
+            code = f"{head} {{\n    fn turn() {said} {{}}\n}}\n" if head else f"fn turn() {said} {{}}\n"
+            function = source.functions_of(code)[0]
+            self.assertEqual(source.home_of_copy(code, function, "low::n::turn", symbols), wanted, (head, said))
+
+    def test_a_copy_of_a_method_of_a_trait(self):
+        """It stands in a plain impl for the same type, behind that of the trait, with what this brings into its clauses; its proof files stand with those of that type's methods."""
+        method = "    /// Turns it.\n    fn turn(&mut self) -> u8\n        ensures { IsTurned result }\n    {\n        1\n    }\n"
+        impl = "impl<D: Disk> Turns for Kind<D> {\n    ghost use Low.{IsTurned};\n\n    fn other(&self) {}\n\n" + method + "\n    fn last(&self) {}\n}"
+        text = "struct Kind<D: Disk> { disk: D }\n\n" + impl + "\n\nfn behind() {}\n"
+        with tempfile.TemporaryDirectory() as room:
+            folder = Path(repository(room, {"sample": text}), "crates", "sample")
+            of_method = folder / "proofs" / "KindTurns" / "turn" / "Answers.antt"
+            of_method.parent.mkdir(parents=True)
+            of_method.write_text("use Rattle.sample.proofs.KindTurns.turn.Goals as goal\n")
+            found = edit.Edit("", [("src/lib.rt", "        1\n", "        2\n")])
+            edit.look(found, folder, ["sample::KindTurns::turn", "sample::Kind::of"])
+            self.assertTrue(copies.can_be_copied(found, folder))
+            texts, symbol = copies.with_copy({}, folder, found, edit.applied(found, folder)["src/lib.rt"], 3)
+        self.assertEqual(symbol, "sample::Kind::turn_tried_3")
+        copy = method.replace("fn turn", "fn turn_tried_3").replace("        1\n", "        2\n")
+        wanted = impl + "\n\nimpl<D: Disk> Kind<D> {\n    ghost use Low.{IsTurned};\n\n" + copy + "}"
+        self.assertEqual(texts["src/lib.rt"], text.replace(impl, wanted))
+        self.assertEqual(texts["proofs/Kind/turn_tried_3/Answers.antt"], "use Rattle.sample.proofs.Kind.turn_tried_3.Goals as goal\n")
 
     def test_symbols(self):
         text = "impl<T: Disk> Disk for Box<T> {\n    fn read(&self) {}\n}\nimpl Used {\n    fn take(&self) {}\n}\nfn take() {}\n"
