@@ -396,6 +396,15 @@ class Reading(unittest.TestCase):
         self.assertFalse(verdict.read("low", kit.Told(2, of_some)).is_read)
         self.assertFalse(verdict.read("low", kit.Told(1, TOLD.replace("logic=not-proved\n", "rattle: no verdict\n"))).is_read)
 
+    def test_an_error_that_is_cut_in_two(self):
+        """A proof that names what is gone says nothing of its function's own goals, wherever the line of its error is cut."""
+        error = "./proofs/m/open/Answers.antt:3:1: error: `returns`: record `low.m.open.Lts.View`%shas no field `found`"
+        for cut in (" ", "\n  "):
+            told = kit.Told(1, error % cut + "\nfn low::m::open: not proved\nlogic=not-proved\n")
+            self.assertEqual(verdict.read("low", told).own, {})
+        told = kit.Told(1, error % "\n  is not that which " + "\nfn low::m::open: not proved\nlogic=not-proved\n")
+        self.assertEqual([*verdict.read("low", told).own], ["low::m::open"])
+
     def test_an_answer_that_is_left_out_is_no_error_and_another_one_is_told(self):
         found = verdict.read("low", kit.Told(1, LEFT_OUT), dict.fromkeys(["low::m::open", "low::m::open_tried_1"], ["returns-clause-size"]))
         self.assertEqual({*found.own}, {"low::m::open_tried_1"})

@@ -16,6 +16,9 @@ ENDED = re.compile(r"(?m)^(?:logic=not-proved|only=\d+ proved=)")
 # Errors of a proof that names what is gone or rests on what was refused: they say nothing of its function's own goals.
 SECOND_HAND = re.compile(r"has no field|is not in scope|has no `|was not admitted|that depends? on|\(nearest:")
 
+# Where the line of such an error is cut in two.
+CUT = re.compile(rf"\n +(?={SECOND_HAND.pattern})")
+
 
 @dataclass(frozen=True)
 class Verdict:
@@ -49,7 +52,7 @@ def read(crate, told, left_out={}):
     """Reads what a check of a crate told, but for the answers of these goals, by function."""
     own, in_files, goals, opened, by_hand = {}, {}, [], {}, {}
     is_read = told.status == 1 and ENDED.search(told.text) is not None
-    for line in told.text.split("\n"):
+    for line in CUT.sub(" ", told.text).split("\n"):
         if found := ERROR.match(line):
             # The folder of a function that calls itself has a + before its name.
             place = owner("::".join([crate, *(it.removeprefix("+") for it in found[1].split("/")[1:-1])]))
