@@ -20,6 +20,6 @@ returns-then-not-begins_request c = λ raw k.
         last_is = last_of raw run c.args.last c.requires.some c.requires.last;
         fits = omega (arith, c.requires.room, number);
       },
-      omega (arith, c.if-len-ge-FOREIGN_LENGTH.true, size),
+      omega (arith, size),
       begins,
     )
