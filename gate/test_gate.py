@@ -635,6 +635,7 @@ class Reading(unittest.TestCase):
             ("impl<D: Disk> Turns<D> for m::Kind<D> where D: Drop", "requires { Q }\n    ensures told { P }", "low::m::Kind"),
             ("impl Turns for Kind", "", ""),
             ("impl Turns for Kind", "requires { Q }", ""),
+            ("impl Turns for Kind", "{ /* ensures nothing */ } fn other()", ""),
             ("impl Turns for Kind", "-> Self::Turned ensures { P }", ""),
             ("impl Turns for Outer", "ensures { P }", ""),
             ("impl Turns for Twice", "ensures { P }", ""),
@@ -647,7 +648,7 @@ class Reading(unittest.TestCase):
         """It stands in a plain impl for the same type, behind that of the trait, with what this brings into its clauses; its proof files stand with those of that type's methods."""
         method = "    /// Turns it.\n    fn turn(&mut self) -> u8\n        ensures { IsTurned result }\n    {\n        1\n    }\n"
         impl = "impl<D: Disk> Turns for Kind<D> {\n    ghost use Low.{IsTurned};\n\n    fn other(&self) {}\n\n" + method + "\n    fn last(&self) {}\n}"
-        text = "struct Kind<D: Disk> { disk: D }\n\n" + impl + "\n\nfn behind() {}\n"
+        text = "struct Kind<D: Disk> { disk: D }\n\nimpl<D: Disk> Kind<D> {\n    fn of() {}\n}\n\n" + impl + "\n\nfn behind() {}\n"
         with tempfile.TemporaryDirectory() as room:
             folder = Path(repository(room, {"sample": text}), "crates", "sample")
             of_method = folder / "proofs" / "KindTurns" / "turn" / "Answers.antt"
