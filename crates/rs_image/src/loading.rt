@@ -12,7 +12,9 @@ ghost use Rattle.rs_model.specs.State.{Source};
 ghost use Rattle.rs_image.specs.declared.contents.Contents.{Contents};
 ghost use Rattle.rs_image.specs.Reach.{blocks_of_disk};
 ghost use Rattle.rs_image.specs.StateOfImage.{Tells, state_in};
-ghost use Rattle.rs_image.specs.Rooted.{MemoryIsSound, rooted};
+ghost use Rattle.rs_page.specs.Pages.{IsStored};
+ghost use Rattle.rs_image.specs.Whole.{IsWhole};
+ghost use Rattle.rs_image.specs.Rooted.{AreUsed, MemoryIsSound, rooted};
 ghost use Rattle.rs_image.specs.Loading.{IsPlaced, IsDirectoryPlaced, IsPagePlaced, ArePlaced, ReadsBehind, ReadsLists, spelled, IsLawfulDirectory, AreOf, Hold};
 
 use crate::used::block_count;
@@ -24,7 +26,7 @@ use rs_changes::History;
 use rs_commit::Root;
 use rs_directory::{Directory, read_directory};
 use rs_disk::Disk;
-use rs_extent::Extent;
+use rs_extent::{Extent, Used};
 use rs_page::PageRef;
 use std::alloc::Global;
 
@@ -64,8 +66,24 @@ pub fn load<D: Disk>(alloc: Global, disk: &mut D, root: &Root) -> Result<Loaded,
 {
     let directory = load_directory(alloc, disk, root)?;
     let contents = load_lists(alloc, disk, directory)?;
-    match whole_set(alloc, disk.size(), root, &contents) {
-        Ok(Some(used)) => Ok(Loaded { contents, used }),
+    let used = sound_set(alloc, disk.size(), root, &contents)?;
+    Ok(Loaded { contents, used })
+}
+
+// The blocks in use of a disk of `size` bytes. It is Damaged where what was read breaks a rule.
+fn sound_set(alloc: Global, size: u64, root: &Root, contents: &Contents) -> Result<Used, LoadFault>
+    requires room { 1024 ≤ size }
+    requires catalogue { All IsStored contents.now.catalogue }
+    requires history { All IsStored contents.now.history.pages }
+    requires published { All IsStored contents.now.published }
+    requires number { contents.now.history.first ≡ contents.now.header.first }
+    ensures whole { OnOk result (IsWhole size root.now contents.now) }
+    ensures used { IfOk result (AreUsed (rooted size root.now contents.now)) }
+    ensures damaged { IsErrOf result LoadFault.Damaged → ¬ IsWhole size root.now contents.now }
+    ensures device { ¬ IsErrOf result LoadFault.Device }
+{
+    match whole_set(alloc, size, root, contents) {
+        Ok(Some(used)) => Ok(used),
         Ok(None) => Err(LoadFault::Damaged),
         Err(_) => Err(LoadFault::NoMemory),
     }
@@ -170,12 +188,57 @@ fn load_lists<D: Disk>(
     if !all_placed {
         return Err(LoadFault::Damaged);
     }
+    let lists = load_placed(alloc, disk, &directory)?;
+    Ok(Contents {
+        header: directory.header,
+        catalogue: lists.catalogue,
+        history: lists.history,
+        published: lists.published,
+    })
+}
+
+// The lists of a directory, without its header.
+#[derive(Drop)]
+struct Lists {
+    catalogue: Catalogue,
+    history: History,
+    published: Catalogue,
+}
+
+// Reads the lists whose pages a directory names, all of which are placed.
+fn load_placed<D: Disk>(
+    alloc: Global,
+    disk: &mut D,
+    directory: &Directory,
+) -> Result<Lists, LoadFault>
+    requires first { directory.now.header.first ≤ greatest }
+    requires placed { ArePlaced (D.state disk.old).size directory.now }
+    ensures lists { IfOk result (λ lists. AreOf directory.now
+        (record {
+          header = directory.now.header;
+          catalogue = lists.catalogue;
+          history = lists.history;
+          published = lists.published;
+        })) }
+    ensures found { IfOk result (λ lists. IsTrue (D.state disk.new).honest
+        → Hold directory.now (D.state disk.new).now.seen
+        (map (λ page. page.items) lists.catalogue)
+        (map (λ page. page.items) lists.history.pages)
+        (map (λ page. page.items) lists.published)) }
+    ensures damaged { IsErrOf result LoadFault.Damaged
+        → IsTrue (D.state disk.new).honest
+        → (catalogue : List (List Record)) (changes : List (List Change))
+        (published : List (List Record))
+        → ¬ Hold directory.now (D.state disk.new).now.seen catalogue changes published }
+    ensures device { TellsFaults (IsErrOf result LoadFault.Device)
+        (D.state disk.old) (D.state disk.new) }
+    ensures reads { ReadsLists directory.now (D.state disk.old) (D.state disk.new) }
+{
     let catalogue = Catalogue::load(alloc, disk, &directory.catalogue)?;
     let first = directory.header.first;
     let history = History::load(alloc, disk, first, &directory.changes)?;
     let published = Catalogue::load_beside(alloc, disk, &directory.published, &catalogue)?;
-    Ok(Contents {
-        header: directory.header,
+    Ok(Lists {
         catalogue,
         history,
         published,

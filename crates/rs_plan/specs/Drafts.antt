@@ -1,5 +1,6 @@
 -- Plans of a put whose body has not come yet.
-use Rattle.std.specs.Prelude.{ℕ, List}
+use Rattle.std.specs.Prelude.{◌≡◌, ℕ, List, length}
+use Rattle.rs_fixity.specs.Digests.{digests}
 use Rattle.rs_fixity.specs.declared.Digests.{Digests}
 use Rattle.rs_record.specs.declared.record.Record.{Record}
 use Rattle.rs_record.specs.declared.change.Change.{Change}
@@ -9,7 +10,10 @@ use Rattle.rs_catalogue.specs.Filled.{pages_filled}
 use Rattle.rs_changes.specs.History.{EndsUnstored, with_pages}
 use Rattle.rs_changes.specs.Filled.{history_filled}
 use Rattle.rs_image.specs.declared.contents.Contents.{Contents}
+use Rattle.rs_image.specs.Rooted.{Rooted}
+use Rattle.rs_model.specs.declared.command.Command.TheVariants.{Put}
 use Rattle.rs_plan.specs.declared.plan.Plan.{Plan}
+use Rattle.rs_plan.specs.Plans.{IsPlanned}
 
 -- the lists, where the record of a name and the last change have these digests
 abbrev pub lists_filled : List ℕ → Digests → Contents → Contents
@@ -32,6 +36,10 @@ plan_filled name digests p =
       taken = p.taken;
       freed = p.freed;
     }
+
+-- once the digests of a body of n bytes are filled in, the plan is one of the put of it
+abbrev pub IsDraftOf : Rooted → List ℕ → List ℕ → ℕ → ℕ → Plan → Type 0
+IsDraftOf r name kind n moment p = (body : List ℕ) → length body ≡ n → IsPlanned r (Put name kind body) moment (plan_filled name (digests body) p)
 
 -- The record of a name and the last change stand in pages that are not stored, so that both may still get digests.
 pub record AwaitsBody (name : List ℕ) (p : Plan) : Type 0 where

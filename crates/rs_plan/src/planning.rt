@@ -3,13 +3,12 @@
 
 ghost use Rattle.std.specs.Prelude.{◌≡◌, ℕ, List, length, IfOk, IsErrOf};
 ghost use Rattle.rs_model.specs.declared.command.Command.TheVariants.{Put, Delete, Publish};
-ghost use Rattle.rs_fixity.specs.Digests.{digests};
 ghost use Rattle.rs_plan.specs.Allowed.{MayPut, MayDelete, MayPublish};
 ghost use Rattle.rs_image.specs.Rooted.{AreUsed};
 ghost use Rattle.rs_body.specs.Blocks.{blocks_of};
 ghost use Rattle.rs_plan.specs.Room.{HasNoRun};
 ghost use Rattle.rs_plan.specs.Plans.{IsPlanned, LacksRoom};
-ghost use Rattle.rs_plan.specs.Drafts.{AwaitsBody, IsPageRuleKept, plan_filled};
+ghost use Rattle.rs_plan.specs.Drafts.{AwaitsBody, IsDraftOf, IsPageRuleKept};
 
 mod dropping;
 mod freeing;
@@ -90,9 +89,8 @@ pub fn draft_put(
     requires may { MayPut old.now.contents name.now body_length moment }
     ensures same { used.new ≡ used.old }
     ensures awaits { IfOk result (AwaitsBody name.now) }
-    ensures planned { IfOk result (λ plan. (bytes : List ℕ) → length bytes ≡ body_length
-        → IsPlanned old.now (Put name.now kind.now bytes) moment
-        (plan_filled name.now (digests bytes) plan)) }
+    ensures planned { IfOk result
+        (IsDraftOf old.now name.now kind.now body_length moment) }
     ensures full { IsErrOf result PlanFault.Full → (bytes : List ℕ) → length bytes ≡ body_length
         → LacksRoom old.now (Put name.now kind.now bytes) moment }
     ensures no_body { HasNoRun used.old (blocks_of body_length) → IsErrOf result PlanFault.Full }

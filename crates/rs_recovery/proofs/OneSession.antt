@@ -40,11 +40,7 @@ module _ (rise : CallsRise memory_state) (base : List ℕ) (limit moment : ℕ) 
   by_one left is_left choice chosen source [] hold state yields = absurd hold
   by_one left is_left choice chosen source (j ∷ []) hold state yields =
       record {
-        first = first;
-        last = last;
-        began = made;
-        turn = turn;
-        left_by = is_left;
+        run = record { first = first; last = last; began = made; turn = turn; left_by = is_left };
         j = j;
         image = subst (λ (l : List ℕ). StandsFor l (fold_of (start_of base limit moment) (take j (counted_commands cs acks)))) chosen hold.2;
         accepted = omega (arith, hold.0, all_acknowledged memory_state rise first cs acks last turn);

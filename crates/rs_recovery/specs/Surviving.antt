@@ -21,20 +21,6 @@ use Rattle.rs_recovery.specs.declared.surviving.Halt.{Halt}
 use Rattle.rs_recovery.specs.declared.surviving.Halt.TheVariants.{Formatting, Running, Imaging, Opening}
 use Rattle.rs_recovery.specs.Recovered.{YieldsHeld}
 
--- The commands were answered in their turn, from the start on, and the run left this disk. Its image of this choice stands for the
--- state after the first j counted commands, for some j: the source holds it, and each accepted command is among them.
-pub record Survives (start : Source) (commands : List (Command × ℕ)) (acks : List Ack) (left : MemoryDisk) (choice : List ℕ) (source : Stored MemoryDisk) : Type 0 where
-  pub first : Stored MemoryDisk
-  pub last : Stored MemoryDisk
-  pub began : Holds memory_state first start
-  pub turn : InTurn memory_state first commands acks last
-  pub left_by : last.disk ≡ left
-  pub j : ℕ
-  pub image : StandsFor (image_of choice (memory_state left).now) (fold_of start (take j (counted_commands commands acks)))
-  pub accepted : length (answered is_accepted commands acks) ≤ j
-  pub holds : Holds memory_state source (fold_of start (take j (counted_commands commands acks)))
-  pub yields : YieldsHeld (fold_of start (take j (counted_commands commands acks)))
-
 -- The commands were answered in their turn, from the start on, and the run left this disk.
 pub record HasRun (start : Source) (commands : List (Command × ℕ)) (acks : List Ack) (left : MemoryDisk) : Type 0 where
   pub first : Stored MemoryDisk
@@ -42,6 +28,16 @@ pub record HasRun (start : Source) (commands : List (Command × ℕ)) (acks : Li
   pub began : Holds memory_state first start
   pub turn : InTurn memory_state first commands acks last
   pub left_by : last.disk ≡ left
+
+-- The run left this disk, and its image of this choice stands for the state after the first j counted commands, for some j: the
+-- source holds it, and each accepted command is among them.
+pub record Survives (start : Source) (commands : List (Command × ℕ)) (acks : List Ack) (left : MemoryDisk) (choice : List ℕ) (source : Stored MemoryDisk) : Type 0 where
+  pub run : HasRun start commands acks left
+  pub j : ℕ
+  pub image : StandsFor (image_of choice (memory_state left).now) (fold_of start (take j (counted_commands commands acks)))
+  pub accepted : length (answered is_accepted commands acks) ≤ j
+  pub holds : Holds memory_state source (fold_of start (take j (counted_commands commands acks)))
+  pub yields : YieldsHeld (fold_of start (take j (counted_commands commands acks)))
 
 -- The disk was told to hold no source, or a damaged one.
 abbrev pub IsLost : Halt → Type 0

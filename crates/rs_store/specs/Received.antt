@@ -7,10 +7,7 @@ use Rattle.rs_model.specs.State.{Source}
 use Rattle.rs_model.specs.Step.{moment_at}
 use Rattle.rs_model.specs.declared.command.Command.TheVariants.{Put}
 use Rattle.rs_model.specs.declared.command.Reply.{Reply}
-use Rattle.rs_fixity.specs.Digests.{digests}
 use Rattle.rs_image.specs.StateOfImage.{StandsFor}
-use Rattle.rs_image.specs.Rooted.{Rooted}
-use Rattle.rs_plan.specs.Drafts.{plan_filled}
 use Rattle.rs_plan.specs.declared.plan.Plan.{Plan}
 use Rattle.rs_plan.specs.Plans.{IsPlanned}
 use Rattle.rs_store.specs.declared.refusal.Refusal.{Refusal}
@@ -41,10 +38,6 @@ pub record IsCutShort {D : Type 0} (device : D → DiskState) (old new : Stored 
   pub plan : (body : List ℕ) → length body ≡ n
       → (p : Plan) × IsPlanned (rooted_in device old) (Put name kind body) (moment_at (state_of device old) now) p
   pub left : IsLeft device old new
-
--- once the digests of a body of n bytes are filled in, the plan is one of the put of it
-abbrev pub IsDraftOf : Rooted → List ℕ → List ℕ → ℕ → ℕ → Plan → Type 0
-IsDraftOf r name kind n moment p = (body : List ℕ) → length body ≡ n → IsPlanned r (Put name kind body) moment (plan_filled name (digests body) p)
 
 -- the refusals that may come once a body is being read or written
 abbrev pub IsLate : Refusal → Type 0

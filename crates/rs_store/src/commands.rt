@@ -154,7 +154,8 @@ impl<D: Disk> Source<D> {
     }
 
     /// Writes the lists of a plan whose bodies stand in their extents, and changes the root; then what is
-    /// in memory goes along, with the set of the used blocks, and the plan's reply is answered.
+    /// in memory goes along, with the set of the used blocks, and the plan's reply is answered. The plan
+    /// has the lists that were in memory before, then.
     ///
     /// What it promises counts from the moment before the bodies were written.
     pub(crate) fn finish(&mut self, plan: &mut Plan) -> Result<Reply, Refusal>

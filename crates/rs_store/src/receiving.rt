@@ -13,11 +13,11 @@ ghost use Rattle.rs_model.specs.declared.command.Command.TheVariants.{Put};
 ghost use Rattle.rs_plan.specs.declared.planning.PlanFault.{PlanFault};
 ghost use Rattle.rs_plan.specs.Allowed.{MayPut};
 ghost use Rattle.rs_plan.specs.Plans.{LacksRoom};
-ghost use Rattle.rs_plan.specs.Drafts.{AwaitsBody};
+ghost use Rattle.rs_plan.specs.Drafts.{AwaitsBody, IsDraftOf};
 ghost use Rattle.rs_model.specs.Step.{moment_at};
 ghost use Rattle.rs_store.specs.Source.{rooted_in, state_of};
 ghost use Rattle.rs_store.specs.Refusals.{decided};
-ghost use Rattle.rs_store.specs.Received.{AnswersFrom, IsCut, IsDraftOf, IsStopped};
+ghost use Rattle.rs_store.specs.Received.{AnswersFrom, IsCut, IsStopped};
 
 use crate::source::rooted_by;
 use crate::{Refusal, Source};

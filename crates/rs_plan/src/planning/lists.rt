@@ -11,7 +11,7 @@ ghost use Rattle.rs_catalogue.specs.Named.{named};
 ghost use Rattle.rs_changes.specs.History.{changes_of, last_of, with_pages, without_parts, IsHistory, EndsUnstored};
 ghost use Rattle.rs_model.specs.Names.{value_of, bind, unbind};
 ghost use Rattle.rs_image.specs.Whole.{AreMoments};
-ghost use Rattle.rs_plan.specs.Allowed.{MayChange, MayPut, MayDelete, MayPublish, parts_dropped};
+ghost use Rattle.rs_plan.specs.Allowed.{MayChange, MayPut, MayDelete, MayPublish, changes_dropped, parts_dropped};
 ghost use Rattle.rs_plan.specs.Published.{published_header};
 ghost use Rattle.rs_plan.specs.Placed.{AreUnplaced, record_of_body, facts_of_body};
 ghost use Rattle.rs_plan.specs.Replies.{reply_of};
@@ -198,18 +198,35 @@ pub(crate) fn lists_after_publish(
     // Reading it shows what its type keeps.
     let _len = old.history.len();
     let dropped = dropped_parts(old);
+    let limit = old.header.limit.items();
+    Ok(Contents {
+        header: published_header(alloc, old, dropped, moment)?,
+        history: old.history.drop_parts(alloc, dropped, limit)?,
+        catalogue: old.catalogue.copy(alloc)?,
+        published: old.catalogue.copy(alloc)?,
+    })
+}
+
+// The header after a publication at this moment, which drops so many parts.
+fn published_header(
+    alloc: Global,
+    old: &Contents,
+    dropped: u64,
+    moment: Moment,
+) -> Result<Header, AllocError>
+    requires may { MayPublish old.now moment }
+    requires number { old.now.history.first ≡ old.now.header.first }
+    requires dropped { dropped ≡ parts_dropped old.now }
+    requires full { changes_dropped old.now ≤ length (changes_of old.now.history.pages) }
+    ensures header { IfOk result (λ header. header ≡ published_header old.now moment) }
+    ensures moment { IfOk result (λ _. IsMoment moment) }
+{
     let mut header = header_at(alloc, &old.header, moment)?;
     header.number += 1;
     header.at = moment;
     header.first += dropped;
     header.begin = begin_without(old, dropped);
-    let limit = header.limit.items();
-    Ok(Contents {
-        header,
-        history: old.history.drop_parts(alloc, dropped, limit)?,
-        catalogue: old.catalogue.copy(alloc)?,
-        published: old.catalogue.copy(alloc)?,
-    })
+    Ok(header)
 }
 
 /// The same lists once more.

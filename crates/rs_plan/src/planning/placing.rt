@@ -20,7 +20,7 @@ use rs_extent::{Extent, Used};
 use rs_image::Contents;
 use rs_model::Reply;
 use rs_page::Full;
-use std::alloc::Global;
+use std::alloc::{AllocError, Global};
 
 /// Finds the lowest run of free blocks for so many bytes, and no block for none. `None` where there
 /// is no such run.
@@ -67,9 +67,8 @@ pub(crate) fn place_lists(
     ensures history { IfOk result (λ _. IsHistory lists.history.pages) }
     ensures published { IfOk result (λ _. IsCatalogue lists.published) }
 {
-    let mut taken = Vec::from_slice(alloc, &bodies)?;
     let pages = lists.catalogue.page_count() + lists.history.page_count();
-    taken.reserve(pages + 1)?;
+    let mut taken = with_room(alloc, &bodies, pages + 1)?;
     used.take_each(&bodies);
     let placed = take_places(used, &mut lists, &mut taken);
     used.give_each(&taken);
@@ -82,6 +81,16 @@ pub(crate) fn place_lists(
         taken,
         freed,
     })
+}
+
+// These extents, in a list with room for so many more.
+fn with_room(alloc: Global, extents: &[Extent], more: usize) -> Result<Vec<Extent>, AllocError>
+    ensures items { IfOk result (λ found. found.items ≡ extents.now) }
+    ensures room { IfOk result (λ found. vec_len found + more ≤ vec_capacity found) }
+{
+    let mut found = Vec::from_slice(alloc, extents)?;
+    found.reserve(more)?;
+    Ok(found)
 }
 
 // Takes blocks for the touched pages and then for the directory, and adds them to the list of what

@@ -21,29 +21,28 @@ returns-in_err-contents-clause-damaged g c is honest lists s tells =
     c.in_err-contents.ensures.damaged (ap Err fault) honest _ _ _ (told_placed root d lists new.now.seen s new.size of tells long)
     (told_hold root d lists new.now.seen s of tells)
 
-pub returns-in-Ok-Some-clause-told : goal.returns-in-Ok-Some-clause-told
-returns-in-Ok-Some-clause-told g c honest =
+pub returns-clause-told : goal.returns-clause-told
+returns-clause-told g c honest =
     let root = c.args.root.now in
     let d = c.in_ok-directory.directory in
     let mid = g.D.Disk.state c.load_directory.new.disk in
     let new = g.D.Disk.state c.load_lists.new.disk in
     let found = still_read root (spelled root.version d) mid new c.load_lists.ensures.reads.rests (c.in_ok-directory.ensures.found (c.load_lists.ensures.reads.rests.lasts honest)) in
     let long : c.size.result ≡ length new.now.seen = c.size.ensures ∙ size_seen new.size new.now (g.met.D.Disk.holds c.load_lists.new.disk) in
-    let whole = rw c.in-Ok-Some.field-0-is at c.in-Ok-Some.ensures.whole in
     are_told root d c.in_ok-contents.contents new.now.seen c.size.result c.in_ok-directory.ensures.lawful c.in_ok-directory.ensures.digest found
-    c.in_ok-contents.ensures.lists (c.in_ok-contents.ensures.found honest) long whole
+    c.in_ok-contents.ensures.lists (c.in_ok-contents.ensures.found honest) long c.in_ok-used.ensures.whole
 
-pub returns-in-Ok-None-clause-damaged : goal.returns-in-Ok-None-clause-damaged
-returns-in-Ok-None-clause-damaged g c is honest lists s tells =
+pub returns-in_err-used-clause-damaged : goal.returns-in_err-used-clause-damaged
+returns-in_err-used-clause-damaged g c is honest lists s tells =
     let root = c.args.root.now in
     let d = c.in_ok-directory.directory in
     let mid = g.D.Disk.state c.load_directory.new.disk in
     let new = g.D.Disk.state c.load_lists.new.disk in
     let found = still_read root (spelled root.version d) mid new c.load_lists.ensures.reads.rests (c.in_ok-directory.ensures.found (c.load_lists.ensures.reads.rests.lasts honest)) in
     let long : c.size.result ≡ length new.now.seen = c.size.ensures ∙ size_seen new.size new.now (g.met.D.Disk.holds c.load_lists.new.disk) in
-    let broken = rw c.in-Ok-None.field-0-is at c.in-Ok-None.ensures.none in
+    let fault = handed_on c.in_err-used.field-0.0 c.from_residual-in_err-used.result c.from_residual-in_err-used.ensures.1 is in
     none_told root d c.in_ok-contents.contents new.now.seen c.size.result c.in_ok-directory.ensures.lawful found
-    c.in_ok-contents.ensures.lists (c.in_ok-contents.ensures.found honest) long broken lists s tells
+    c.in_ok-contents.ensures.lists (c.in_ok-contents.ensures.found honest) long (c.in_err-used.ensures.damaged (ap Err fault)) lists s tells
 
 pub returns-in_err-contents-clause-device : goal.returns-in_err-contents-clause-device
 returns-in_err-contents-clause-device g c =
@@ -68,22 +67,15 @@ returns-in_err-contents-clause-reads g c =
     c.in_ok-directory.ensures.lawful c.in_ok-directory.ensures.digest c.in_ok-directory.ensures.found c.load_directory.ensures.rests c.load_directory.ensures.one_call
     c.load_lists.ensures.reads.rests c.load_lists.ensures.reads.once c.load_lists.ensures.reads.placed
 
-pub returns-in-Ok-Some-clause-reads : goal.returns-in-Ok-Some-clause-reads
-returns-in-Ok-Some-clause-reads g c =
+pub returns-in_err-used-clause-reads : goal.returns-in_err-used-clause-reads
+returns-in_err-used-clause-reads g c =
     let state = g.D.Disk.state in
     reads_behind (state c.args.disk.now) (state c.load_directory.new.disk) (state c.load_lists.new.disk) c.args.root.now c.in_ok-directory.directory
     c.in_ok-directory.ensures.lawful c.in_ok-directory.ensures.digest c.in_ok-directory.ensures.found c.load_directory.ensures.rests c.load_directory.ensures.one_call
     c.load_lists.ensures.reads.rests c.load_lists.ensures.reads.once c.load_lists.ensures.reads.placed
 
-pub returns-in-Ok-None-clause-reads : goal.returns-in-Ok-None-clause-reads
-returns-in-Ok-None-clause-reads g c =
-    let state = g.D.Disk.state in
-    reads_behind (state c.args.disk.now) (state c.load_directory.new.disk) (state c.load_lists.new.disk) c.args.root.now c.in_ok-directory.directory
-    c.in_ok-directory.ensures.lawful c.in_ok-directory.ensures.digest c.in_ok-directory.ensures.found c.load_directory.ensures.rests c.load_directory.ensures.one_call
-    c.load_lists.ensures.reads.rests c.load_lists.ensures.reads.once c.load_lists.ensures.reads.placed
-
-pub returns-in-Err-clause-reads : goal.returns-in-Err-clause-reads
-returns-in-Err-clause-reads g c =
+pub returns-clause-reads : goal.returns-clause-reads
+returns-clause-reads g c =
     let state = g.D.Disk.state in
     reads_behind (state c.args.disk.now) (state c.load_directory.new.disk) (state c.load_lists.new.disk) c.args.root.now c.in_ok-directory.directory
     c.in_ok-directory.ensures.lawful c.in_ok-directory.ensures.digest c.in_ok-directory.ensures.found c.load_directory.ensures.rests c.load_directory.ensures.one_call

@@ -14,7 +14,8 @@ use Rattle.rs_store.specs.declared.refusal.Refusal.TheVariants.{ReadFault, Short
 use Rattle.rs_store.specs.Source.{Stored, rooted_in, state_of}
 use Rattle.rs_store.specs.Refusals.{decided}
 use Rattle.rs_store.specs.Writing.{of_plan}
-use Rattle.rs_store.specs.Received.{AnswersFrom, IsDraftOf}
+use Rattle.rs_plan.specs.Drafts.{IsDraftOf}
+use Rattle.rs_store.specs.Received.{AnswersFrom}
 use Rattle.rs_store.proofs.Answered.{unless_err, unless_ok, at_once, unplanned}
 use Rattle.rs_store.proofs.Received.{nothing_came, refused_as, zeros}
 use Rattle.rs_store.proofs.source.Source.put_from.Goals as goal
