@@ -10,7 +10,7 @@ import copies
 import source
 
 # At most so many edits in one check.
-MOST = 64
+MOST = 96
 
 
 class Outcome(Enum):

@@ -66,12 +66,14 @@ class Trial:
         return told
 
     def check_each(self, kept, every):
-        """Checks each of these, texts with the functions that are looked at, in a copy of its own, side by side as turns come free, and gives what was told of each."""
+        """Checks each of these, texts with the functions that are looked at, in a copy of its own, side by side as turns come free, and gives what was told of each, with the goals that each of the functions has."""
 
         def check(it):
+            texts, only = it
             with tempfile.TemporaryDirectory(prefix="work-", dir=os.path.dirname(kept)) as room:
                 kit.linked_copy(kept, f"{room}/work")
-                return self.check(f"{room}/work", *it)
+                told = self.check(f"{room}/work", texts, only)
+                return told, {symbol: goals.of_function(f"{room}/work", symbol) for symbol in only}
 
         with ThreadPoolExecutor(max(1, len(every))) as pool:
             return list(pool.map(check, every))
@@ -108,15 +110,15 @@ class Trial:
                 it.missed, it.goals = ([], it.goals) if it.is_refused else ((it.goals or [])[:1], [])
             self.try_together(kept, [it for it in left if it.symbols and not it.is_refused])
             alone = [it for it in left if not it.is_refused]
-            for it, told in zip(alone, self.check_each(kept, [(edits_of_a_crate.applied(it, self.folder),) for it in alone])):
+            for it, (told, _) in zip(alone, self.check_each(kept, [(edits_of_a_crate.applied(it, self.folder), ()) for it in alone])):
                 self.judge_alone(it, told)
         return edits
 
     def try_together(self, kept, edits):
         """Tries edits of bodies, many in one check."""
         groups = edits_of_a_crate.grouped(edits, self.folder)
-        for group, told in zip(groups, self.check_each(kept, [(self.one_goal_each(it), [*it.tried]) for it in groups])):
-            self.judge(group, told)
+        for group, (told, had) in zip(groups, self.check_each(kept, [(self.one_goal_each(it), [*it.tried]) for it in groups])):
+            self.judge(group, told, had)
 
     def one_goal_each(self, group):
         """The texts of a group with the answers that leave all but the first known goal of each edit out."""
@@ -125,14 +127,14 @@ class Trial:
             texts = goals.left_out(texts, self.folder, symbol, it)
         return texts
 
-    def judge(self, group, told):
-        """Takes those edits of a group as refused of whose own functions, or copies of them, the check has an error or an open goal: the first of their line, where they have one."""
+    def judge(self, group, told, had={}):
+        """Takes those edits of a group as refused of whose own functions, or copies of them, the check has an error or an open goal: the first of their line, where they have one. Each of these has the goals `had`."""
         found = verdict.read(self.name, told, {symbol: goals.beside(it, self.folder) for symbol, it in group.tried.items()})
         # An error of a function that none of them changes could come from any: then each is tried alone.
         if found.is_read and {*found.own} <= {*group.tried}:
             for symbol, it in group.tried.items():
                 if symbol in found.own and (not it.goals or it.goals[0] in found.refused(symbol)):
-                    self.refused(it, symbol, found)
+                    self.refused(it, symbol, found, had=had.get(symbol, []))
 
     def judge_alone(self, it, told):
         """Judges an edit by a check of it alone."""
@@ -147,14 +149,16 @@ class Trial:
         else:
             self.refused(it, next(iter(own)), found, "(alone) ")
 
-    def refused(self, it, symbol, found, how=""):
-        """Notes that an edit is refused, and by which goals: a trial of the first of them says nothing of the others."""
+    def refused(self, it, symbol, found, how="", had=()):
+        """Notes that an edit is refused, and by which goals, and which others it brings of those that it had: a trial of the first of them says nothing of the others."""
         it.judged(Outcome.REFUSED, f"{how}{symbol}: {found.own[symbol]}")
         opened = sorted(found.refused(symbol), key=it.missed.__contains__)
         if it.goals is None or it.goals[:1] != opened[:1]:
             it.goals = opened
         else:
             it.goals = [*it.goals, *(goal for goal in opened if goal not in it.goals)]
+        known = [*it.others, *map(goals.plain, it.goals)]
+        it.goals = [*it.goals, *(goals.brought(goal) for goal in had if goal not in known)]
 
 
 def try_crates(root, names, jobs, when_done=lambda name, edits: None):

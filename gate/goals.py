@@ -4,7 +4,8 @@ One goal that stays open refuses an edit, and the prover searches long for each 
 function that do. So of an edited function only the first goal of its line is tried, and it alone refuses the edit: the others
 of the line, those that have an answer by hand, and those that the function has as it is, get one that no check takes. A goal in
 parentheses is one of which the function's own answer by hand is refused: where it is the first, all answers by hand stay as
-they are, since one may cite another. An edit whose first goal is not refused so is tried again with nothing left out: a line
+they are, since one may cite another. A goal in brackets is one that the function has only with the edit, at a way out that it
+adds, say, and that does not refuse it. An edit whose first goal is not refused so is tried again with nothing left out: a line
 can be old, and still refuses nothing.
 """
 
@@ -14,7 +15,7 @@ from pathlib import Path
 
 import copies
 
-HEAD = "# The goals by which each must-fail edit was last seen refused, the one first that is tried; (those) have an answer by hand, which is refused. Written by `make edits`.\n"
+HEAD = "# The goals by which each must-fail edit was last seen refused, the one first that is tried; (those) have an answer by hand, which is refused; [those] come with the edit and do not refuse it. Written by `make edits`.\n"
 # An answer by hand: what a file of them makes public.
 ANSWERED = re.compile(r"(?m)^pub (\S+) :")
 # Where the prover's kept work names what a module declares.
@@ -27,6 +28,21 @@ NO_GOAL = "no_goal_of_any_function"
 def is_by_hand(goal):
     """Whether a goal of a line is one of which the answer by hand is refused."""
     return goal.startswith("(")
+
+
+def brought(goal):
+    """A goal, as a line has it, that comes with the edit and does not refuse it."""
+    return f"[{goal}]"
+
+
+def is_brought(goal):
+    """Whether a goal of a line is one that comes with the edit and does not refuse it."""
+    return goal.startswith("[")
+
+
+def plain(goal):
+    """The name of a goal of a line."""
+    return goal.strip("()[]")
 
 
 def answers(folder, symbol):
@@ -52,12 +68,13 @@ def is_clause(goal, whole):
 def beside(edit, folder):
     """The goals that get an answer in a trial of an edit that is none: that of no function alone, where nothing is known."""
     first, *others = edit.goals or [""]
-    left = [it for it in others if not is_by_hand(it)]
+    left = [it for it in others if not is_by_hand(it) and not is_brought(it)]
     if first:
-        tried, by_hand = first.strip("()"), ANSWERED.findall(answers(folder, next(iter(edit.symbols)))[1])
+        tried, by_hand = plain(first), ANSWERED.findall(answers(folder, next(iter(edit.symbols)))[1])
         if not is_by_hand(first):
             left += [it for it in by_hand if it not in left and it != first]
-        left += [it for it in edit.others if it not in [*left, *by_hand, tried] and not is_clause(it, tried) and not is_clause(tried, it)]
+        more = dict.fromkeys([*edit.others, *map(plain, filter(is_brought, others))])
+        left += [it for it in more if it not in [*left, *by_hand, tried] and not is_clause(it, tried) and not is_clause(tried, it)]
     return [*left, NO_GOAL]
 
 

@@ -129,7 +129,8 @@ class Trying(unittest.TestCase):
             self.assertEqual(on_copies, {f"{name}.edit" for name, it in known.items() if it[-1] is Outcome.REFUSED})
             self.assertFalse(any("(alone)" in it.why for it in tried))
             goals.write(room, "sample", tried)
-            self.assertEqual(goals.known(room)["sample/the_greater.edit"], [second, first, "returns-else-b-a-clause-first"])
+            both_hold = ["[returns-else-b-a-clause-second]", "[returns-then-b-a-clause-first]"]
+            self.assertEqual(goals.known(room)["sample/the_greater.edit"], [second, first, "returns-else-b-a-clause-first", *both_hold])
 
     def test_a_crate_is_checked_before_its_edits_where_no_library_of_it_is_built(self):
         for proved, status, wanted, checks in ((["low::next"], 1, ["low::next"], 0), ([], 1, [], 0), (None, 0, ["low::above"], 1), (None, 1, None, 1)):
@@ -160,8 +161,21 @@ class Trying(unittest.TestCase):
                 edit.look(it, folder, ["sample::next"])
             trial = edits.Trial("sample", unittest.mock.Mock(root=room), {})
             trial.try_together(f"{room}/kept", every)
-            trial.check_each(f"{room}/kept", [({},)])
-        self.assertEqual(asked, [(["sample::next_tried_0", "sample::next_tried_1"],), ()])
+            trial.check_each(f"{room}/kept", [({}, ())])
+        self.assertEqual(asked, [(["sample::next_tried_0", "sample::next_tried_1"],), ((),)])
+
+    def test_what_a_copy_has_is_told_with_its_check(self):
+        """The goals that the proof of each function has which the check looks at, as the check kept it."""
+
+        def check(trial, kept, texts, only):
+            Path(kept, "checked").mkdir()
+            Path(kept, "checked", "Rattle-sample-proofs.next_tried_0.Proof.oantt").write_text('--@ interface {"exports":[{"spelling":"returns-then","pub":false}]}\n')
+            return kit.Told(1, "")
+
+        with tempfile.TemporaryDirectory() as room, unittest.mock.patch.object(edits.Trial, "check", check):
+            trial = edits.Trial("sample", unittest.mock.Mock(root=room), {})
+            [(told, had)] = trial.check_each(f"{room}/kept", [({}, ["sample::next_tried_0", "sample::next_tried_1"])])
+        self.assertEqual((told.status, had), (1, {"sample::next_tried_0": ["returns-then"], "sample::next_tried_1": []}))
 
     def test_the_lines_of_goals_are_those_before_the_first_trial(self):
         """The lines that are written for a crate whose edits were tried change no trial of another crate."""
@@ -426,18 +440,20 @@ class Reading(unittest.TestCase):
             self.assertEqual((on_copy.is_refused, in_place.is_refused), (wanted, False), told)
 
     def test_the_line_of_goals_that_is_kept(self):
-        """A trial in which the first goal is left open says nothing of the others; an answer by hand that is refused is known as such."""
+        """A trial in which the first goal is left open says nothing of the others; an answer by hand that is refused is known as such; so is what comes with the edit and holds."""
         told = LEFT_OUT.replace("`gone` is not in scope", "the two types differ")
         for known, wanted in (
             (None, ["returns-clause-found", "(invariant-loop-n)"]),
             ([], ["returns-clause-found", "(invariant-loop-n)"]),
             (["returns-clause-found", "returns-clause-size"], ["returns-clause-found", "returns-clause-size", "(invariant-loop-n)"]),
             (["gone", "returns-clause-found"], ["returns-clause-found", "(invariant-loop-n)"]),
+            (["returns-clause-found", "[is_ok-requires]"], ["returns-clause-found", "[is_ok-requires]", "(invariant-loop-n)"]),
         ):
-            it = edit.Edit("low/it.edit", [], symbols={"low::m::open_tried_1"}, goals=known)
-            left_out = {"low::m::open_tried_1": ["returns-clause-size"]}
-            edits.Trial("low", unittest.mock.Mock(root=""), {}).refused(it, "low::m::open_tried_1", verdict.read("low", kit.Told(1, told), left_out))
-            self.assertEqual(it.goals, wanted)
+            for had, held in (([], []), (["returns-clause-found", "as_it_is", "invariant-loop-n", "is_ok-requires"], ["[is_ok-requires]"])):
+                it = edit.Edit("low/it.edit", [], symbols={"low::m::open_tried_1"}, goals=known, others=["as_it_is"])
+                left_out = {"low::m::open_tried_1": ["returns-clause-size"]}
+                edits.Trial("low", unittest.mock.Mock(root=""), {}).refused(it, "low::m::open_tried_1", verdict.read("low", kit.Told(1, told), left_out), had=had)
+                self.assertEqual(it.goals, [*wanted, *(it for it in held if it not in wanted)])
         it = edit.Edit("low/it.edit", [], symbols={"low::m::open_tried_1"}, goals=[], missed=["returns-clause-found"])
         edits.Trial("low", unittest.mock.Mock(root=""), {}).refused(it, "low::m::open_tried_1", verdict.read("low", kit.Told(1, told), left_out))
         self.assertEqual(it.goals, ["(invariant-loop-n)", "returns-clause-found"])
@@ -466,6 +482,7 @@ class Reading(unittest.TestCase):
                 (["first", "third"], ["third", "returns", "second"]),
                 (["first", "third", "(second)"], ["third", "returns", "second"]),
                 (["(returns)", "first", "(second)"], ["first"]),
+                (["first", "third", "[fourth]", "[first-clause-one]", "[second]"], ["third", "returns", "second", "fourth"]),
             ):
                 it = edit.Edit("low/it.edit", [], symbols={"low::m::open"}, goals=known)
                 self.assertEqual(goals.beside(it, room), [*wanted, goals.NO_GOAL])
@@ -480,6 +497,7 @@ class Reading(unittest.TestCase):
                 (["first"], ["first-clause-one", "firsts", "fourth-clause-one"], ["returns", "second", "firsts", "fourth-clause-one"]),
                 (["first-clause-one"], ["first", "first-clause-two"], ["returns", "second", "first-clause-two"]),
                 (["(returns)", "first"], ["second", "returns", "returns-clause-one", "first", "fourth"], ["first", "fourth"]),
+                (["(returns)", "[first]", "[fourth]"], ["fourth"], ["fourth", "first"]),
             ):
                 it = edit.Edit("low/it.edit", [], symbols={"low::m::open"}, goals=known, others=of_function)
                 self.assertEqual(goals.beside(it, room), [*wanted, goals.NO_GOAL])
@@ -491,25 +509,26 @@ class Reading(unittest.TestCase):
         """It is tried again with nothing left out, and another goal stands first in its line then."""
         told = "".join(f"note: src/lib.rt:9:5: it is not proved that what it ensures holds (`{it}`)\n" for it in ("returns", "size")) + "fn sample::next_tried_0: not proved\nonly=1 proved=0\n"
         answers, asked, came = [], [], [kit.Told(0, "fn sample::next_tried_0: proved\nonly=1 proved=1\n"), kit.Told(1, told)]
+        had = {"sample::next_tried_0": ["returns", "third", "size", "lives-requires"]}
 
         def check_each(trial, kept, every):
             answers.extend(goals.ANSWERED.findall(texts["proofs/next_tried_0/Answers.antt"]) for texts, _ in every)
             asked.extend(only for _, only in every)
-            return [came.pop(0) for _ in every]
+            return [(came.pop(0), had) for _ in every]
 
         with tempfile.TemporaryDirectory() as room, unittest.mock.patch.object(edits.Trial, "check_each", check_each):
             folder = Path(repository(room, {"sample": CODE}), "crates", "sample")
             (folder / "must-fail" / "one.edit").write_text("file: src/lib.rt\nold: u16::from(x) + 1\nnew: u16::from(x) + 2\n")
-            goals.path(room).write_text("sample/one.edit: returns other\n")
+            goals.path(room).write_text("sample/one.edit: returns other [gone]\n")
             kept = folder / "out" / "incremental" / "checked"
             kept.mkdir(parents=True)
             (kept / "Rattle-sample-proofs.next.Proof.oantt").write_text('--@ interface {"exports":[{"spelling":"third","pub":false}]}\n')
             trial = edits.Trial("sample", unittest.mock.Mock(root=room, proved=lambda name: ["sample::next"]), goals.known(room))
             goals.path(room).write_text("")
             [tried] = trial.run()
-        self.assertEqual(answers, [["other", "third", goals.NO_GOAL], [goals.NO_GOAL]])
+        self.assertEqual(answers, [["other", "third", "gone", goals.NO_GOAL], [goals.NO_GOAL]])
         self.assertEqual(asked, [["sample::next_tried_0"]] * 2)
-        self.assertEqual((tried.outcome, tried.goals), (Outcome.REFUSED, ["size", "returns"]))
+        self.assertEqual((tried.outcome, tried.goals), (Outcome.REFUSED, ["size", "returns", "[lives-requires]"]))
 
     def test_the_goals_that_a_function_has_as_it_is(self):
         """Those that the head of its kept proof declares for itself, but where a goal is there by its clauses; none where there is no such head."""
