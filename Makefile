@@ -4,6 +4,8 @@
 #   make edits    tries every must-fail edit, or those of CRATES="rs_io rs_time", and records which were all refused
 #   make build    builds the proved program
 #   make rows     runs the worked rows of examples/rows on the proved program
+#   make statement  prints all that each promise means, definition by definition (of those with PROMISE="headline" in the title), and
+#                 writes it as one page, out/statement.html
 #   make bench    measures speed (docs/BENCH.md has figures; it needs wrk, lighttpd and python3-lmdb of Debian)
 #   make memory   refuses each growth of memory of the program in turn, in scripts and in requests
 #   make ends     makes each read and each write of scripts and requests fail in turn ('make test' has a short form)
@@ -20,6 +22,7 @@ SCRIPT ?= examples/first.script
 BASE ?= http://127.0.0.1:8080
 RT ?= rt
 CRATES ?=
+PROMISE ?=
 ROUNDS ?= 200
 DISKS ?= 100000
 LINES ?= 100000
@@ -30,7 +33,7 @@ AT = $(DESTDIR)$(PREFIX)
 # How many checks go side by side: one a processor, with 4 GB of free memory for each.
 LANES ?= $(shell awk -v processors=$$(nproc) '/^MemAvailable:/ { fit = int($$2 / 4000000); print fit < 1 ? 1 : fit < processors ? fit : processors }' /proc/meminfo)
 
-.PHONY: demo test edits build rows bench memory ends crash hostile mirror operate pictures install uninstall
+.PHONY: demo test edits build rows statement bench memory ends crash hostile mirror operate pictures install uninstall
 
 # `rt try` builds without proving: quick, and no more than an unproved build.
 demo:
@@ -51,6 +54,11 @@ build:
 
 rows: build
 	@python3 examples/check_rows.py
+
+# It reads texts alone: nothing is built.
+statement:
+	@python3 statement/statement.py --html out/statement.html
+	@python3 statement/statement.py --promise "$(PROMISE)"
 
 bench: build
 	python3 bench/run.py

@@ -1,8 +1,8 @@
 #!/usr/bin/env python3
 """Looks at the edges of the proved program that no contract speaks of: its sockets, its clock, its standard input and output.
 
-Each function below is one edge, and its first line says what has to hold there. Where the system has to fail or to wait
-at a chosen place, a C library that `cc` builds into a temporary folder stands before the system's.
+Each function below is one edge, and its first line says what has to hold there; edges_of_connections.py has more of them. Where
+the system has to fail or to wait at a chosen place, a C library stands before the system's (edge_runs.py).
 
 usage: check_edges.py [PROGRAM] [NAME..]     names of edges to look at (all, where none is given)
 Exit status 1 where one does not hold.
@@ -12,125 +12,13 @@ import os
 import pathlib
 import select
 import socket
-import struct
 import subprocess
 import sys
 import tempfile
-import time
 
+import edges_of_connections
 from check_rows import MEMORY, PROGRAM, Differs, compare, interposed
-
-# No step waits longer than this for an answer.
-SECONDS = 30
-# What of the system can be chosen, by variables of the environment.
-SYSTEM = r"""
-#define _GNU_SOURCE
-#include <dlfcn.h>
-#include <errno.h>
-#include <stdio.h>
-#include <stdlib.h>
-#include <sys/socket.h>
-#include <sys/time.h>
-#include <time.h>
-#include <unistd.h>
-static long accepts = 0, calls = 0;
-static long number(const char *name, long absent) { char *it = getenv(name); return it ? atol(it) : absent; }
-static int fails(void) { if (++calls != number("FILE_FAILS_AT", 0)) return 0; errno = EIO; return 1; }
-#define NEXT(f) ((__typeof__(&f))dlsym(RTLD_NEXT, #f))
-
-/* The time of day is SECONDS and NANOSECONDS, and DAYS later with each connection that was taken. No time passes. */
-int clock_gettime(clockid_t id, struct timespec *t) {
-    if (getenv("UNREAD_CLOCK")) { errno = EINVAL; return -1; }
-    t->tv_sec = id == CLOCK_REALTIME ? number("SECONDS", 951782400) + 86400 * number("DAYS", 0) * accepts : 0;
-    t->tv_nsec = id == CLOCK_REALTIME ? number("NANOSECONDS", 0) : 0;
-    return 0;
-}
-int accept4(int fd, struct sockaddr *a, socklen_t *n, int flags) { int it = NEXT(accept4)(fd, a, n, flags); accepts += it >= 0; return it; }
-/* Two seconds for the rest of a request become a minute, so that nothing here depends on speed. */
-int setsockopt(int fd, int level, int name, const void *value, socklen_t n) {
-    struct timeval minute = {60, 0};
-    return level == SOL_SOCKET && name == SO_RCVTIMEO ? NEXT(setsockopt)(fd, level, name, &minute, sizeof minute) : NEXT(setsockopt)(fd, level, name, value, n);
-}
-ssize_t send(int fd, const void *bytes, size_t n, int flags) {
-    if (getenv("SENDS_FAIL")) { errno = EIO; return -1; }
-    return NEXT(send)(fd, bytes, n, flags);
-}
-/* The calls on files are counted, from 1. */
-ssize_t pread(int fd, void *bytes, size_t n, off_t at) { return fails() ? -1 : NEXT(pread)(fd, bytes, n, at); }
-ssize_t pwrite(int fd, const void *bytes, size_t n, off_t at) { return fails() ? -1 : NEXT(pwrite)(fd, bytes, n, at); }
-int fsync(int fd) { return fails() ? -1 : NEXT(fsync)(fd); }
-int fdatasync(int fd) { return fails() ? -1 : NEXT(fdatasync)(fd); }
-/* So are the growths of memory, from the first connection on. */
-extern void *__libc_malloc(size_t), *__libc_realloc(void *, size_t);
-static long growths = 0;
-static int refused(void) { return accepts && ++growths == number("GROWTH_REFUSED_AT", 0); }
-/* How many there were is told at the end. */
-__attribute__((destructor)) static void told(void) { if (getenv("GROWTHS_TOLD")) dprintf(2, "%ld growths\n", growths); }
-void *malloc(size_t n) { return refused() ? 0 : __libc_malloc(n); }
-void *realloc(void *p, size_t n) { return refused() ? 0 : __libc_realloc(p, n); }
-"""
-HOST = b"HTTP/1.1\r\nHost: a\r\n"
-PUT = b"PUT /resource/c " + HOST + b"Content-Length: 3\r\n"
-# A request that is refused before its body is read.
-TOO_LONG = b"PUT /resource/c " + HOST + b"Content-Length: 16777217\r\n\r\n"
-
-
-def formatted(program, room, name="a.disk", size="65536"):
-    subprocess.run([program, "format", name, size, *MEMORY[2:]], cwd=room, check=True, capture_output=True)
-    return name
-
-
-def ran(program, room, *words, given=b"", env=None, **ends):
-    """The status of a run, and what it wrote to standard error and, where that is not given, to standard output."""
-    ends = {"stdout": subprocess.PIPE} | ({} if "stdin" in ends else {"input": given}) | ends
-    it = subprocess.run([program, *words], cwd=room, env=env, stderr=subprocess.PIPE, timeout=SECONDS, **ends)
-    return it.returncode, it.stderr, it.stdout
-
-
-@contextlib.contextmanager
-def served(program, room, count, port="0", stderr=None, **settings):
-    """The port of a server, and the server, of so many connections to a.disk, with these settings of the system."""
-    env = interposed(room, "system", SYSTEM) | settings
-    words = [program, "serve", "a.disk", port, str(count)]
-    with subprocess.Popen(words, cwd=room, stdout=subprocess.PIPE, stderr=stderr, env=env) as server:
-        try:
-            yield int(server.stdout.readline().removeprefix(b"listening 127.0.0.1:")), server
-            compare("the server's status", b"0", b"%d" % server.wait(SECONDS))
-        finally:
-            server.kill()
-
-
-def connected(port):
-    return socket.create_connection(("127.0.0.1", port), timeout=SECONDS)
-
-
-def read_to_end(connection):
-    found = b""
-    with contextlib.suppress(ConnectionError):
-        while piece := connection.recv(65536):
-            found += piece
-    return found
-
-
-def asked(port, request):
-    with connected(port) as connection:
-        connection.sendall(request)
-        return read_to_end(connection)
-
-
-def ends_with(found, wanted):
-    compare("the end of a response", wanted, found[max(len(found) - len(wanted), 0):])
-
-
-def is_read_from(connection):
-    """Whether the other side of a connection that it has ended still reads what is sent."""
-    try:
-        for _ in range(3):
-            connection.sendall(b"x")
-            time.sleep(0.1)
-        return True
-    except ConnectionError:
-        return False
+from edge_runs import HOST, PUT, SECONDS, SYSTEM, asked, ends_with, formatted, peak, put_of, ran, served
 
 
 def listens_on_loopback_alone(program, room):
@@ -182,81 +70,6 @@ def each_line_is_answered_before_the_next(program, room):
                 found += piece
             compare(line.decode(), wanted, found)
         compare("the end", b"refused NotHeld\n", it.communicate(b"delete b", SECONDS)[0])
-
-
-def the_word_to_go_on_is_sent_at_once(program, room):
-    """A client may wait for `100 Continue` before it sends its body."""
-    formatted(program, room)
-    with served(program, room, 1) as (port, _), connected(port) as connection:
-        connection.sendall(PUT + b"Expect: 100-continue\r\n\r\n")
-        compare("the word", b"HTTP/1.1 100 Continue\r\n\r\n", connection.recv(65536))
-        connection.sendall(b"abc")
-        compare("the response", b"HTTP/1.1 201 Created\r\n", read_to_end(connection)[:22])
-
-
-def a_refused_request_is_read_on(program, room):
-    """After a refusal the server ends what it sends, so its client sees the end, and goes on reading what the client sends."""
-    formatted(program, room)
-    with served(program, room, 2) as (port, _):
-        with connected(port) as connection:
-            connection.sendall(TOO_LONG)
-            ends_with(read_to_end(connection), b"\r\n\r\nTooLong\n")
-            if not is_read_from(connection):
-                raise Differs("the connection was closed with the response")
-        with connected(port) as connection:
-            connection.sendall(PUT + b"\r\nabc")
-            ends_with(read_to_end(connection), b"\r\nContent-Length: 0\r\n\r\n")
-            if is_read_from(connection):
-                raise Differs("an accepted request is read on")
-
-
-def a_response_that_cannot_be_sent_ends_the_connection(program, room):
-    """A fault of sending a refusal ends the connection: nothing is read on."""
-    formatted(program, room)
-    with served(program, room, 1, SENDS_FAIL="1") as (port, _), connected(port) as connection:
-        connection.sendall(TOO_LONG)
-        compare("the response", b"", read_to_end(connection))
-        if is_read_from(connection):
-            raise Differs("the connection is read on")
-
-
-def a_fault_ends_its_connection_alone(program, room):
-    """A client that resets its connection within a head or a body is forgotten, and nothing is kept of it; the next one is served."""
-    formatted(program, room)
-    with served(program, room, 3) as (port, _):
-        for part in [PUT, PUT + b"\r\nab"]:
-            with connected(port) as connection:
-                connection.sendall(part)
-                # Closed like this, a connection is reset.
-                connection.setsockopt(socket.SOL_SOCKET, socket.SO_LINGER, struct.pack("ii", 1, 0))
-        ends_with(asked(port, b"GET /resource/c " + HOST + b"\r\n"), b"\r\n\r\nNotHeld\n")
-
-
-def each_cut_of_a_head_is_bad(program, room):
-    """A head that is cut at any byte is BadHead; the whole one is not, nor is none."""
-    formatted(program, room)
-    head = b"PUT /resource/c HTTP/1.1\r\nHost: a\r\nContent-Length: 0\r\n\r\n"
-    with served(program, room, len(head) + 1) as (port, _):
-        for length in range(len(head) + 1):
-            with connected(port) as connection:
-                connection.sendall(head[:length])
-                connection.shutdown(socket.SHUT_WR)
-                found = read_to_end(connection)
-            wanted = b"" if length == 0 else b"HTTP/1.1 400 Bad Request\r\n" if length < len(head) else b"HTTP/1.1 201 Created\r\n"
-            compare(f"{length} bytes", wanted, found[:len(wanted)] if wanted else found)
-            ends_with(found, b"\r\n\r\nBadHead\n" if 0 < length < len(head) else b"")
-
-
-def commands_come_when_their_connection_is_taken(program, room):
-    """A command has the time at which its connection was taken, and not one before the wait for it."""
-    formatted(program, room)
-    with served(program, room, 2, DAYS="1") as (port, _):
-        compare("the put", b"HTTP/1.1 201 Created\r\nDate: Wed, 01 Mar 2000 00:00:00 GMT\r\n", asked(port, PUT + b"\r\nabc")[:59])
-        found = asked(port, b"POST /publish " + HOST + b"\r\n")
-        compare("the publication", b"HTTP/1.1 200 OK\r\nDate: Thu, 02 Mar 2000 00:00:00 GMT\r\n", found[:54])
-        ends_with(found, b"\r\n\r\npublished 1 2000-03-02T00:00:00.000Z\n")
-    shown = ran(program, room, "run", "a.disk", given=b"show /changelist.xml")[2]
-    compare("the change", b"<lastmod>2000-03-01T00:00:00.000Z</lastmod>", shown[shown.find(b"<lastmod>"):][:43])
 
 
 def clocks_show_moments(program, room):
@@ -345,16 +158,6 @@ def refused_memory_is_told_over_http(program, room):
     compare("growths refused", b"True", str(refusals > 10).encode())
 
 
-def peak(server):
-    """The most memory that a server had so far, in KiB."""
-    lines = pathlib.Path(f"/proc/{server.pid}/status").read_text().splitlines()
-    return next(int(it.split()[1]) for it in lines if it.startswith("VmHWM:"))
-
-
-def put_of(length):
-    return b"PUT /resource/c " + HOST + b"Content-Length: %d\r\n\r\n" % length + b"x" * length
-
-
 def a_body_takes_no_memory(program, room):
     """A body goes to the file as it comes: as many growths of memory for 1,000,000 bytes as for 5,000, and no more memory for the longest."""
     counts, file = [], pathlib.Path(room, "a.disk")
@@ -377,10 +180,9 @@ def a_body_takes_no_memory(program, room):
 
 
 EDGES = [
-    listens_on_loopback_alone, faults_of_standard_ends_are_told, each_line_is_answered_before_the_next, the_word_to_go_on_is_sent_at_once,
-    a_refused_request_is_read_on, a_response_that_cannot_be_sent_ends_the_connection, a_fault_ends_its_connection_alone, each_cut_of_a_head_is_bad,
-    commands_come_when_their_connection_is_taken, clocks_show_moments, a_device_that_fails_closes_the_source, a_device_that_fails_is_told_over_http,
-    refused_memory_is_told_over_http, a_body_takes_no_memory,
+    listens_on_loopback_alone, faults_of_standard_ends_are_told, each_line_is_answered_before_the_next, *edges_of_connections.EDGES,
+    clocks_show_moments, a_device_that_fails_closes_the_source, a_device_that_fails_is_told_over_http, refused_memory_is_told_over_http,
+    a_body_takes_no_memory,
 ]
 
 
@@ -396,8 +198,11 @@ def main():
             except (Differs, OSError, ValueError, subprocess.SubprocessError) as fault:
                 failed += 1
                 print(f"{edge.__name__}: {type(fault).__name__} {fault}")
+    blind = [] if given else edges_of_connections.unnoticed(program)
+    for it in blind:
+        print(f"{it}: a wrong program is not noticed, and this test is blind")
     print(f"edges: {len(edges) - failed} of {len(edges)} hold")
-    return 1 if failed or not edges else 0
+    return 1 if failed or blind or not edges else 0
 
 
 if __name__ == "__main__":

@@ -23,7 +23,7 @@ import tempfile
 import threading
 import time
 
-from check_edges import SYSTEM
+from edge_runs import SYSTEM
 from check_mirror import free_port
 from check_rows import PROGRAM, Differs, compare, interposed
 

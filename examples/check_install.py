@@ -25,7 +25,7 @@ import time
 
 import disk_reader
 import install_wrong
-from check_edges import connected, read_to_end
+from edge_runs import connected, read_to_end
 from check_rows import PROGRAM, Differs, compare
 
 ROOT = pathlib.Path(__file__).resolve().parent.parent

@@ -26,7 +26,7 @@ import tempfile
 import threading
 import time
 
-import check_edges
+import edge_runs
 import crash_model
 import line_judge
 from check_rows import CLOCK, MEMORY, PROGRAM, interposed
@@ -201,7 +201,7 @@ def no_memory(model, sent):
 def refuse_in_request(program, room, state, sent, growth):
     """Refuses a growth while a request, a look and the request again are answered. Gives the answers refused, and a fault."""
     model, refused = Model(state), []
-    with check_edges.served(program, room, 3, GROWTH_REFUSED_AT=str(growth)) as (port, _):
+    with edge_runs.served(program, room, 3, GROWTH_REFUSED_AT=str(growth)) as (port, _):
         for place, it in enumerate([sent, LOOK, sent]):
             found, _ = exchanged(port, [it])
             if found == model.peeked(it):
@@ -215,7 +215,7 @@ def refuse_in_request(program, room, state, sent, growth):
 
 def refuse_in_requests(program, room):
     """Refuses each growth of each request, on a file on which those before it were done. Gives how many answers are wrong."""
-    file = os.path.join(room, check_edges.formatted(program, room))
+    file = os.path.join(room, edge_runs.formatted(program, room))
     model, faults = Model(crash_model.State(BASE, LIMIT)), 0
     for sent, _ in exchanges():
         with open(file, "rb") as it:
@@ -235,7 +235,7 @@ def refuse_in_requests(program, room):
         faults += within == 0
         with open(file, "wb") as it:
             it.write(kept)
-        with check_edges.served(program, room, 1) as (port, _):
+        with edge_runs.served(program, room, 1) as (port, _):
             faults += exchanged(port, [sent])[0] != model.answer(sent)
     return faults
 

@@ -7,10 +7,11 @@
     commit's own hash picks (`make edits` tries all of them, and writes the record); a line of the record that is
     older than its crate fails the gate;
   - on the program that the copy proved and built: the worked rows, its calls of the system, its edges, its growths of
-    memory at an opening, the documents read by tools that are not ours, the pages that it leaves on a file, the blocks that it takes, the tour, mirrors of
+    memory at an opening, what is large, the documents read by tools that are not ours, the pages that it leaves on a file, the blocks that it takes, the tour, mirrors of
     sources that are killed meanwhile, folders that are published, the sizes of disks, the pictures of docs/, what is installed
     beside it, the images of crashes at its calls on a file, hostile disks, lines and requests, ends that fail;
-  - the tests of the gate itself, the layout of the files, the texts of edits, and the list of proofs by hand.
+  - the tests of the gate itself, the layout of the files, the texts of edits, the list of proofs by hand, and the statement: what
+    has to be read for each promise (docs/RECOVERY.md counts it), and where the evidence is.
 
 N counts crates, edits and the other parts. The minutes of a processor of each part are told before.
 """
@@ -33,7 +34,7 @@ from meter import Meter
 
 ROOT = Path(__file__).resolve().parent.parent
 # What is looked at on the proved program: examples/check_NAME.py for each.
-CHECKS = ["rows", "calls", "edges", "growths", "documents", "pages", "kept", "tour", "mirror", "folder", "sizes", "pictures", "install"]
+CHECKS = ["rows", "calls", "edges", "growths", "large", "documents", "pages", "kept", "tour", "mirror", "folder", "sizes", "pictures", "install"]
 # And those that have a short form: examples/NAME.py for each.
 SHORT = ["crash", "hostile", "hostile_lines", "hostile_requests", "check_ends"]
 
@@ -157,6 +158,8 @@ def main():
         parts.run("the texts of edits", fitting)
         parts.run("the record of edits", dates)
         parts.run("proofs by hand", script(copy / "examples" / "check_hand_proofs.py"))
+        parts.run("the statement", script(copy / "statement" / "statement.py", "--check"))
+        parts.run("the statement's own tests", script(copy / "statement" / "test_statement.py"))
         if parts.run("proofs, tests and builds", lambda: toolchain(copy)):
             parts.run("must-fail edits", lambda: some_edits(copy))
             for name in CHECKS:

@@ -1,3 +1,4 @@
 pub mod Sets
 pub mod KeptBlocks
 pub mod Pieces
+pub mod Torn

@@ -14,3 +14,7 @@ IsSized e n = (e.blocks ≡ blocks_of n) × (n ≡ 0 → e.first ≡ 0)
 -- the first n bytes of the extent, in what a disk holds
 abbrev pub part : Extent → ℕ → List ℕ → List ℕ
 part e n bytes = take n (drop (block_size * e.first) bytes)
+
+-- the offset on the disk of a byte of the extent, counted from its front
+abbrev pub place_of : Extent → ℕ → ℕ
+place_of e at = block_size * e.first + at

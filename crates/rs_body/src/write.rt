@@ -1,9 +1,9 @@
 //! Writing a body.
 ghost use Rattle.std.specs.Prelude.{◌≡◌, ◌+◌, ◌*◌, ◌≤◌, ℕ, Bool, ◌++◌, length, OnOk};
-ghost use Rattle.rs_disk.specs.Leaves.{Runs};
+ghost use Rattle.rs_disk.specs.Leaves.{Leaves, Runs, Torn, TornFrom};
 ghost use Rattle.rs_extent.specs.Blocks.{block_size};
 ghost use Rattle.rs_extent.specs.Extents.{IsOnDisk, IsBeside};
-ghost use Rattle.rs_body.specs.Blocks.{part};
+ghost use Rattle.rs_body.specs.Blocks.{part, place_of};
 ghost use Rattle.rs_body.specs.Outside.{WritesOutside};
 
 use crate::blocks::offset_of;
@@ -14,8 +14,8 @@ use rs_extent::Extent;
 ///
 /// The blocks of the extent have to lie on the disk, and the bytes have to fit into them. A read
 /// gives the bytes from then on; a crash may leave anything in their place until the next sync.
-/// Nothing else on the disk changes, whether it succeeds or not: each set of blocks beside the
-/// extent stays as it is, at every moment of the call.
+/// Nothing else on the disk changes, whether it succeeds or not, at every moment of the call: not
+/// the rest of the extent, and none of the blocks beside it.
 ///
 /// # Errors
 /// [`Fault`] where the device fails. The place of the bytes may then hold anything.
@@ -30,6 +30,10 @@ pub fn write_body<D: Disk>(disk: &mut D, extent: Extent, bytes: &[u8]) -> Result
         ≡ bytes.now) }
 
     // Also where the device failed.
+    ensures torn { Torn (place_of extent 0) (length bytes.now)
+        (D.state disk.old).now.seen (D.state disk.new).now.seen }
+    ensures any_moment { Leaves (D.state disk.old) (D.state disk.new)
+        (λ _. TornFrom (D.state disk.old).now (place_of extent 0) (length bytes.now)) }
     ensures outside { (kept : ℕ → Bool) → IsBeside kept extent
         → WritesOutside kept (D.state disk.old) (D.state disk.new) }
 {
@@ -43,11 +47,12 @@ pub fn write_body<D: Disk>(disk: &mut D, extent: Extent, bytes: &[u8]) -> Result
 /// lie on the disk, and the piece has to end within them. A read gives the piece from then on,
 /// behind the bytes that stood before it, so pieces that are written one after the other, each
 /// where the last one ended, spell the body. A crash may leave anything in the place of a piece
-/// until the next sync. Nothing beside the extent changes, whether it succeeds or not: each set of
-/// blocks beside it stays as it is, at every moment of the call.
+/// until the next sync. Nothing else on the disk changes, whether it succeeds or not: a read gives
+/// what it gave before the piece and behind it, within the extent too, and a crash at any moment of
+/// the call leaves what it could have left before, but for the place of the piece.
 ///
 /// # Errors
-/// [`Fault`] where the device fails. The extent may then hold anything.
+/// [`Fault`] where the device fails. The place of the piece may then hold anything.
 pub fn write_piece<D: Disk>(
     disk: &mut D,
     extent: Extent,
@@ -64,6 +69,10 @@ pub fn write_piece<D: Disk>(
         ≡ part extent at (D.state disk.old).now.seen ++ piece.now) }
 
     // Also where the device failed.
+    ensures torn { Torn (place_of extent at) (length piece.now)
+        (D.state disk.old).now.seen (D.state disk.new).now.seen }
+    ensures any_moment { Leaves (D.state disk.old) (D.state disk.new)
+        (λ _. TornFrom (D.state disk.old).now (place_of extent at) (length piece.now)) }
     ensures outside { (kept : ℕ → Bool) → IsBeside kept extent
         → WritesOutside kept (D.state disk.old) (D.state disk.new) }
 {

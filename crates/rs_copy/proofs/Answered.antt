@@ -15,6 +15,7 @@ use Rattle.rs_copy.specs.Laying.{IsLaidOut, all_stored}
 use Rattle.rs_copy.specs.Copies.{Copies}
 use Rattle.rs_copy.specs.Copying.{IsOfWriting, WritesCopy, copied_root}
 use Rattle.rs_copy.proofs.Handed.{same_err, same_fault}
+use Rattle.rs_copy.proofs.Roomy.{has_room}
 
 -- a copy that was written
 pub copies_written : (r : Rooted) (before after old new : DiskState) (l l' : Layout) (slots : Standing) → (blocks_of_disk old.size < 16 → ⊥)
@@ -30,6 +31,7 @@ copies_written r before after old new l l' slots large laid w =
       too_small = (λ is. absurd cc, λ small. absurd (large small));
       full = λ is. absurd cc;
       untouched = λ is. elim is [ inl small ↦ absurd cc | inr full ↦ absurd cc ];
+      room = λ is. elim is [ inl failed ↦ absurd cc | inr damaged ↦ absurd cc ];
       failed = λ is. absurd cc;
       sound = λ not. w.steps.sound (λ is. absurd cc);
       damaged = λ is. absurd cc;
@@ -48,9 +50,9 @@ copies_written r before after old new l l' slots large laid w =
 
 -- a copy whose writing failed
 pub copies_failed : (r : Rooted) (before after old new : DiskState) (l l' : Layout) (fault : CopyFault) (result : Result Copied CopyFault) → (blocks_of_disk old.size < 16 → ⊥)
-    → result ≡ Err fault → WritesCopy r.contents l l' before after old new (Err fault)
+    → IsLaidOut old.size r.contents l.contents l.directory l.used → result ≡ Err fault → WritesCopy r.contents l l' before after old new (Err fault)
     → Copies r before after old new result
-copies_failed r before after old new l l' fault result large is w =
+copies_failed r before after old new l l' fault result large laid is w =
     subst (λ (x : Result Copied CopyFault). Copies r before after old new x) (sym is)
     (record {
       rests = w.steps.rests;
@@ -61,6 +63,7 @@ copies_failed r before after old new l l' fault result large is w =
         | inl small ↦ absurd (subst IsOfWriting (same_fault fault TooSmall small) w.steps.others)
         | inr full ↦ absurd (subst IsOfWriting (same_fault fault Full full) w.steps.others)
       ];
+      room = λ met lacks. has_room old.size r.contents l.contents l.directory l.used laid lacks;
       failed = λ failed. w.steps.failed (same_err fault Device failed);
       sound = λ not. w.steps.sound (λ failed. not (same_err fault Device failed));
       damaged = λ damaged. w.damaged (same_err fault Damaged damaged);

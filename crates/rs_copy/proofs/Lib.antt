@@ -7,6 +7,7 @@ pub mod Meanwhile
 pub mod MovedBodies
 pub mod Places
 pub mod Records
+pub mod Roomy
 pub mod Runs
 pub mod Taking
 pub mod Told

@@ -42,6 +42,7 @@ pub record LiesCopied (size : ℕ) (c : Contents) (copied : Copied) : Type 0 whe
 -- What a copy of what a root reaches leaves, of the old disk between `before` and `after`, and of the new one between `old` and `new`.
 -- `rests`: the old disk is only read; `advances`: the new one has its size, and its counts do not fall.
 -- `too_small`, `full`: the causes of these; `untouched`: they come before a call of either disk.
+-- `room`: Device and Damaged come only where the new disk has room for all that is written.
 -- `failed`, `sound`: Device comes only where a call of one of the two failed, and where anything else is answered none did.
 -- `damaged`: a body has not its recorded SHA-256, of an old disk that has followed the model.
 -- `copied`, `lies`: what is answered otherwise; `holds`: each image of the new disk tells the state then that the old disk told.
@@ -53,6 +54,7 @@ pub record Copies (root : Rooted) (before after old new : DiskState) (result : R
   pub too_small : IsErrOf result TooSmall ↔ (blocks_of_disk old.size < 16)
   pub full : IsErrOf result Full → LacksCopyRoom old.size root.contents
   pub untouched : IsErrOf result TooSmall ⊎ IsErrOf result Full → (after ≡ before) × (new ≡ old)
+  pub room : IsErrOf result Device ⊎ IsErrOf result Damaged → ¬ LacksCopyRoom old.size root.contents
   pub failed : IsErrOf result Device → HasFailed before after ⊎ HasFailed old new
   pub sound : ¬ IsErrOf result Device → (after.faults ≡ before.faults) × (new.faults ≡ old.faults)
   pub damaged : IsErrOf result Damaged → IsTrue after.honest → ¬ All (HasItsBody before.now.seen) (records_of root.contents.catalogue)

@@ -17,10 +17,9 @@ use Rattle.rs_model.specs.State.{Source}
 use Rattle.rs_page.specs.declared.page.store.StoreFault.{StoreFault}
 use Rattle.rs_page.specs.declared.page.store.StoreFault.TheVariants.{Device as NoDevice, NoMemory as NoPageMemory}
 use Rattle.rs_page.specs.Items.{record_format, change_format}
-use Rattle.rs_page.specs.Pages.{IsStored, IsTouched, placed_extents}
+use Rattle.rs_page.specs.Pages.{IsTouched, placed_extents}
 use Rattle.rs_page.specs.DiskPages.{IsWritten}
-use Rattle.rs_catalogue.specs.Catalogue.{records_of, IsCatalogue}
-use Rattle.rs_changes.specs.History.{IsHistory}
+use Rattle.rs_catalogue.specs.Catalogue.{records_of}
 use Rattle.rs_directory.specs.Directory.{written_format}
 use Rattle.rs_image.specs.declared.contents.Contents.{Contents}
 use Rattle.rs_image.specs.Reach.{bodies_of}

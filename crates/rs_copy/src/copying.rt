@@ -34,7 +34,8 @@ pub struct Copied {
 ///
 /// # Errors
 ///
-/// See [`CopyFault`]. After `TooSmall` and `Full` the new disk is as it was.
+/// See [`CopyFault`]. After `TooSmall` and `Full` both disks are as they were, and `Device` and
+/// `Damaged` come only where there is room.
 pub fn copy_source<D: Disk, E: Disk>(
     alloc: Global,
     from: &mut D,
@@ -45,7 +46,9 @@ pub fn copy_source<D: Disk, E: Disk>(
     ensures copies { Copies old.now (D.state from.old) (D.state from.new)
         (E.state to.old) (E.state to.new) result }
 
-    // The new disk itself is as it was, where no call of it was made.
+    // The disks themselves are as they were, where no call of either was made.
+    ensures unread { IsErrOf result CopyFault.TooSmall ⊎ IsErrOf result CopyFault.Full
+        → from.new ≡ from.old }
     ensures untouched { IsErrOf result CopyFault.TooSmall ⊎ IsErrOf result CopyFault.Full
         → to.new ≡ to.old }
 {

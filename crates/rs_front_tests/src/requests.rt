@@ -1,5 +1,6 @@
 //! Requests over ends that fail, or wait.
 
+use crate::ends::{Call, FailsOnce};
 use crate::sources::{commands_of, new_source};
 use rs_disk::{FaultyReader, FaultyWriter, MemoryDisk};
 use rs_http::{FrontFault, Served, serve_one};
@@ -73,13 +74,44 @@ fn fails_at_each_write(
     Err("a hundred writes".into())
 }
 
+/// Lets one call of the writer fail, behind which the next ones work: the put is done where the word to go on was flushed before.
+fn fails_once_writing(
+    rt: &(impl Abort + AllocGlobal),
+    source: &mut Source<MemoryDisk>,
+) -> Result<(), Fail> {
+    let mut flushed = false;
+    for fails_at in 0..100 {
+        let before = commands_of(source)?;
+        let mut reader = Watched::new(PUT);
+        let mut writer = Watched::new(FailsOnce::new(Vec::new(rt.alloc()), fails_at));
+        let served = serve_one(
+            rt.alloc(),
+            source,
+            &mut reader,
+            &mut writer,
+            Moment::first(),
+        );
+        let failed = writer.get_ref().failed();
+        let done = commands_of(source)?.checked_sub(before);
+        assert!(rt; done == Some(flushed as u64), "call {fails_at}");
+        if failed.is_none() {
+            assert!(rt; served.is_ok());
+            return Ok(());
+        }
+        assert!(rt; served == Err(FrontFault::Write), "call {fails_at}");
+        flushed = flushed || failed == Some(Call::Flush);
+    }
+    Err("a hundred calls".into())
+}
+
 /// Lets each end fail.
 fn fails_at_each_end(
     rt: &(impl Abort + AllocGlobal),
     source: &mut Source<MemoryDisk>,
 ) -> Result<(), Fail> {
     fails_at_each_read(rt, source)?;
-    fails_at_each_write(rt, source)
+    fails_at_each_write(rt, source)?;
+    fails_once_writing(rt, source)
 }
 
 #[test]

@@ -1,5 +1,6 @@
 //! Scripts over ends that fail.
 
+use crate::ends::{Call, FailsOnce};
 use crate::sources::{commands_of, new_source, new_source_on};
 use rs_disk::{FaultyReader, FaultyWriter, MemoryDisk};
 use rs_io::Watched;
@@ -165,6 +166,121 @@ fn a_writer_fails_at_each_call(rt: HostRuntime) -> Result<(), Fail> {
     // Each answer is at least one write.
     let writes = fails_at_each_write(&rt, &input)?;
     assert!(rt; writes >= TALK.len() as u64, "{writes}");
+    Ok(())
+}
+
+/// How many commands are accepted for the lines whose whole answers these bytes are, where they end with one.
+fn commands_answered(written: &[u8]) -> Option<u64> {
+    let mut rest = written;
+    let mut accepted = 0;
+    for (_, answer, commands) in &TALK {
+        if rest.is_empty() {
+            return Some(accepted);
+        }
+        if !rest.starts_with(answer) {
+            return None;
+        }
+        rest = &rest[answer.len()..];
+        accepted = *commands;
+    }
+    if rest.is_empty() {
+        Some(accepted)
+    } else {
+        None
+    }
+}
+
+/// Runs the script of the table, a byte a read, over a writer of which this call fails and the next one works, and tells which
+/// call failed. Behind a flush that failed no line is begun; behind a write no other line is.
+fn fails_once_writing(
+    rt: &(impl Abort + AllocGlobal),
+    source: &mut Source<MemoryDisk>,
+    input: &[u8],
+    fails_at: u32,
+) -> Result<Option<Call>, Fail> {
+    let mut reader = Watched::new(FaultyReader::new(input, 1, u64::MAX));
+    let mut writer = Watched::new(FailsOnce::new(Vec::new(rt.alloc()), fails_at));
+    let ended = script(rt.alloc(), source, &mut reader, &mut writer);
+    let failed = writer.get_ref().failed();
+    let written = writer.get_ref().bytes();
+    let accepted = commands_of(source)?;
+    match failed {
+        Some(Call::Write) => {
+            assert!(rt; commands_for(rt, written) == accepted, "call {fails_at}")
+        }
+        _ => assert!(rt;
+            commands_answered(written) == Some(accepted),
+            "call {fails_at}"
+        ),
+    }
+    let wanted = if failed.is_some() {
+        Err(ScriptFault::Write)
+    } else {
+        Ok(())
+    };
+    assert!(rt; ended == wanted, "call {fails_at}");
+    Ok(failed)
+}
+
+/// The same on a new source.
+fn fails_once_writing_new(
+    rt: &(impl Abort + AllocGlobal),
+    input: &[u8],
+    fails_at: u32,
+) -> Result<Option<Call>, Fail> {
+    let mut source = new_source(rt.alloc())?;
+    fails_once_writing(rt, &mut source, input, fails_at)
+}
+
+#[test]
+fn a_writer_fails_once_at_each_call(rt: HostRuntime) -> Result<(), Fail> {
+    let mut input = Vec::new(rt.alloc());
+    for (line, _, _) in &TALK[..3] {
+        input.extend_from_slice(line)?;
+    }
+    let mut flushes = 0u32;
+    for fails_at in 0..200 {
+        match fails_once_writing_new(&rt, &input, fails_at)? {
+            Some(Call::Flush) => flushes = flushes.saturating_add(1),
+            Some(_) => {}
+            None => {
+                // One before each read, and one at the end.
+                assert!(rt; flushes as usize == input.len() + 2);
+                return Ok(());
+            }
+        }
+    }
+    Err("two hundred calls".into())
+}
+
+/// Runs the three commands, a byte a read, over a reader of which this read fails and the next one works: nothing behind it is done.
+fn fails_once_reading(
+    rt: &(impl Abort + AllocGlobal),
+    source: &mut Source<MemoryDisk>,
+    fails_at: u32,
+) -> Result<(), Fail> {
+    let before = commands_of(source)?;
+    let bytes = FaultyReader::new(PUBLISHED, 1, u64::MAX);
+    let mut reader = Watched::new(FailsOnce::new(bytes, fails_at));
+    let mut writer = Watched::new(Vec::new(rt.alloc()));
+    let ended = script(rt.alloc(), source, &mut reader, &mut writer);
+    assert!(rt; ended == Err(ScriptFault::Read), "read {fails_at}");
+    let come = (fails_at as usize).min(PUBLISHED.len());
+    let whole = lines_in(&PUBLISHED[..come]);
+    assert!(rt; lines_in(&writer.into_inner()) == whole, "read {fails_at}");
+    assert!(rt;
+        commands_of(source)?.checked_sub(before) == Some(whole as u64),
+        "read {fails_at}"
+    );
+    Ok(())
+}
+
+#[test]
+fn a_reader_fails_once_at_each_read(rt: HostRuntime) -> Result<(), Fail> {
+    let mut source = new_source(rt.alloc())?;
+    for fails_at in [0, 5, 8, 12, 16, PUBLISHED.len() as u32] {
+        fails_once_reading(&rt, &mut source, fails_at)?;
+    }
     Ok(())
 }
 

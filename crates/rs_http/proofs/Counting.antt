@@ -1,4 +1,4 @@
--- What a stop within a request leaves.
+-- What a request asks is a run.
 use Rattle.std.proofs.Common.{◌≡◌, inl, inr, ℕ, List, [], length, take, Option, Result, Ok, Err, refl, ap, sym, ◌∙◌, subst}
 use Rattle.std.proofs.Math.Seq.{take-length}
 use Rattle.rs_disk.specs.Medium.{DiskState}
@@ -13,7 +13,7 @@ use Rattle.rs_store.specs.Runs.{IsIdle}
 use Rattle.rs_store.specs.Source.{Stored}
 use Rattle.rs_store.specs.declared.refusal.Refusal as stored
 use Rattle.rs_store.specs.declared.refusal.Refusal.TheVariants.{Closed, BadGroup, TooLong, NotHeld, TooManyResources, TooManyChanges, Exhausted, Full, ReadFault, ShortBody, Device, Damaged, NoMemory}
-use Rattle.rs_recovery.specs.Prefixes.{counted_as, Recovers, RunsRecover, IdleIsRun, CommandIsRun}
+use Rattle.rs_recovery.specs.Prefixes.{counted_as, IsRunOf, IdleIsRun, CommandIsRun}
 use Rattle.rs_recovery.specs.Turns.{ReadingsIdle, CutPutsIdle}
 use Rattle.rs_http.specs.declared.request.Plan.{Plan}
 use Rattle.rs_http.specs.declared.request.Plan.TheVariants.{ShowBody, ShowDocument, Put, Delete, Publish, Group}
@@ -21,7 +21,7 @@ use Rattle.rs_http.specs.declared.request.NoPlan.{NoPlan}
 use Rattle.rs_http.specs.Groups.{items_asked}
 use Rattle.rs_http.specs.Outcomes.{GroupComesTo, RequestGives, outcome_replied}
 use Rattle.rs_http.specs.Responses.{RequestOutcome}
-use Rattle.rs_http.specs.Counted.{counted_with, counted_group, RequestRecovers}
+use Rattle.rs_http.specs.Counted.{counted_with, counted_group, Counts}
 use Rattle.rs_http.specs.Serving.{IsBroken}
 use Rattle.rs_http.proofs.Groups.{asked_items, unasked_counts}
 
@@ -49,75 +49,76 @@ whole_body n came body all is =
     sym (take-length body) ∙ ap (λ (m : ℕ). take m body) same ∙ is.front
 
 module _ {D : Type 0} (device : D → DiskState) (rest : RestIsIdle device) (reading : ReadingsIdle device) (cut : CutPutsIdle device)
-    (recover : RunsRecover device) (idle : IdleIsRun device) (one : CommandIsRun device) (old new : Stored D) (now : ℕ) where
-  idles : IsIdle device old new → Recovers device old [] new
-  idles is = recover old new [] (idle old new is)
+    (idle : IdleIsRun device) (one : CommandIsRun device) (old new : Stored D) (now : ℕ) where
+  -- nothing that counts was asked
+  idles : IsIdle device old new → IsRunOf device old [] new
+  idles is = idle old new is
 
   -- nothing was done
-  same_recovers : new ≡ old → Recovers device old [] new
-  same_recovers same = idles (subst (λ (s : Stored D). IsIdle device old s) (sym same) (rest old))
+  still_run : new ≡ old → IsRunOf device old [] new
+  still_run same = idles (subst (λ (s : Stored D). IsIdle device old s) (sym same) (rest old))
 
   -- a command was asked
-  run_recovers : (command : Command) (result : Result Reply stored.Refusal) (outcome : RequestOutcome) → outcome ≡ outcome_replied result
-      → Answers device old new command now result → Recovers device old (counted_with command now outcome) new
-  run_recovers command result outcome is answers =
+  command_run : (command : Command) (result : Result Reply stored.Refusal) (outcome : RequestOutcome) → outcome ≡ outcome_replied result
+      → Answers device old new command now result → IsRunOf device old (counted_with command now outcome) new
+  command_run command result outcome is answers =
       let same : counted_as command now result ≡ counted_with command now outcome = sym (counts_alike command now result) ∙ ap (counted_with command now) (sym is) in
-      subst (λ (l : List (Command × ℕ)). Recovers device old l new) same (recover old new (counted_as command now result) (one old new command now result answers))
+      subst (λ (l : List (Command × ℕ)). IsRunOf device old l new) same (one old new command now result answers)
 
   -- a put was asked
-  put_recovers : (name kind : List ℕ) (n : ℕ) (came body : List ℕ) (result : Result Reply stored.Refusal) (outcome : RequestOutcome) → outcome ≡ outcome_replied result
-      → AnswersFrom device old new name kind n now came result → IsBodyOf n came body → Recovers device old (counted_with (commands.Put name kind body) now outcome) new
-  put_recovers name kind n came body (Ok reply) outcome is a whole =
-      subst (λ (b : List ℕ). Recovers device old (counted_with (commands.Put name kind b) now outcome) new) (sym (whole_body n came body a.0 whole))
-      (run_recovers (commands.Put name kind came) (Ok reply) outcome is a.1)
-  put_recovers name kind n came body (Err ReadFault) outcome is a whole =
-      subst (λ (l : List (Command × ℕ)). Recovers device old l new) (ap (counted_with (commands.Put name kind body) now) (sym is)) (idles (cut old new name kind n now came (inl a)))
-  put_recovers name kind n came body (Err ShortBody) outcome is a whole =
-      subst (λ (l : List (Command × ℕ)). Recovers device old l new) (ap (counted_with (commands.Put name kind body) now) (sym is)) (idles (cut old new name kind n now came (inr a)))
-  put_recovers name kind n came body (Err Closed) outcome is a whole = run_recovers (commands.Put name kind body) (Err Closed) outcome is (a.1 body whole)
-  put_recovers name kind n came body (Err BadGroup) outcome is a whole = run_recovers (commands.Put name kind body) (Err BadGroup) outcome is (a.1 body whole)
-  put_recovers name kind n came body (Err TooLong) outcome is a whole = run_recovers (commands.Put name kind body) (Err TooLong) outcome is (a.1 body whole)
-  put_recovers name kind n came body (Err NotHeld) outcome is a whole = run_recovers (commands.Put name kind body) (Err NotHeld) outcome is (a.1 body whole)
-  put_recovers name kind n came body (Err TooManyResources) outcome is a whole = run_recovers (commands.Put name kind body) (Err TooManyResources) outcome is (a.1 body whole)
-  put_recovers name kind n came body (Err TooManyChanges) outcome is a whole = run_recovers (commands.Put name kind body) (Err TooManyChanges) outcome is (a.1 body whole)
-  put_recovers name kind n came body (Err Exhausted) outcome is a whole = run_recovers (commands.Put name kind body) (Err Exhausted) outcome is (a.1 body whole)
-  put_recovers name kind n came body (Err Full) outcome is a whole = run_recovers (commands.Put name kind body) (Err Full) outcome is (a.1 body whole)
-  put_recovers name kind n came body (Err Device) outcome is a whole = run_recovers (commands.Put name kind body) (Err Device) outcome is (a.1 body whole)
-  put_recovers name kind n came body (Err Damaged) outcome is a whole = run_recovers (commands.Put name kind body) (Err Damaged) outcome is (a.1 body whole)
-  put_recovers name kind n came body (Err NoMemory) outcome is a whole = run_recovers (commands.Put name kind body) (Err NoMemory) outcome is (a.1 body whole)
+  put_run : (name kind : List ℕ) (n : ℕ) (came body : List ℕ) (result : Result Reply stored.Refusal) (outcome : RequestOutcome) → outcome ≡ outcome_replied result
+      → AnswersFrom device old new name kind n now came result → IsBodyOf n came body → IsRunOf device old (counted_with (commands.Put name kind body) now outcome) new
+  put_run name kind n came body (Ok reply) outcome is a whole =
+      subst (λ (b : List ℕ). IsRunOf device old (counted_with (commands.Put name kind b) now outcome) new) (sym (whole_body n came body a.0 whole))
+      (command_run (commands.Put name kind came) (Ok reply) outcome is a.1)
+  put_run name kind n came body (Err ReadFault) outcome is a whole =
+      subst (λ (l : List (Command × ℕ)). IsRunOf device old l new) (ap (counted_with (commands.Put name kind body) now) (sym is)) (idles (cut old new name kind n now came (inl a)))
+  put_run name kind n came body (Err ShortBody) outcome is a whole =
+      subst (λ (l : List (Command × ℕ)). IsRunOf device old l new) (ap (counted_with (commands.Put name kind body) now) (sym is)) (idles (cut old new name kind n now came (inr a)))
+  put_run name kind n came body (Err Closed) outcome is a whole = command_run (commands.Put name kind body) (Err Closed) outcome is (a.1 body whole)
+  put_run name kind n came body (Err BadGroup) outcome is a whole = command_run (commands.Put name kind body) (Err BadGroup) outcome is (a.1 body whole)
+  put_run name kind n came body (Err TooLong) outcome is a whole = command_run (commands.Put name kind body) (Err TooLong) outcome is (a.1 body whole)
+  put_run name kind n came body (Err NotHeld) outcome is a whole = command_run (commands.Put name kind body) (Err NotHeld) outcome is (a.1 body whole)
+  put_run name kind n came body (Err TooManyResources) outcome is a whole = command_run (commands.Put name kind body) (Err TooManyResources) outcome is (a.1 body whole)
+  put_run name kind n came body (Err TooManyChanges) outcome is a whole = command_run (commands.Put name kind body) (Err TooManyChanges) outcome is (a.1 body whole)
+  put_run name kind n came body (Err Exhausted) outcome is a whole = command_run (commands.Put name kind body) (Err Exhausted) outcome is (a.1 body whole)
+  put_run name kind n came body (Err Full) outcome is a whole = command_run (commands.Put name kind body) (Err Full) outcome is (a.1 body whole)
+  put_run name kind n came body (Err Device) outcome is a whole = command_run (commands.Put name kind body) (Err Device) outcome is (a.1 body whole)
+  put_run name kind n came body (Err Damaged) outcome is a whole = command_run (commands.Put name kind body) (Err Damaged) outcome is (a.1 body whole)
+  put_run name kind n came body (Err NoMemory) outcome is a whole = command_run (commands.Put name kind body) (Err NoMemory) outcome is (a.1 body whole)
 
-  recounted : (l k : List (Command × ℕ)) → l ≡ k → Recovers device old k new → Recovers device old l new
-  recounted l k same r = subst (λ (x : List (Command × ℕ)). Recovers device old x new) (sym same) r
+  recounted : (l k : List (Command × ℕ)) → l ≡ k → IsRunOf device old k new → IsRunOf device old l new
+  recounted l k same r = subst (λ (x : List (Command × ℕ)). IsRunOf device old x new) (sym same) r
 
   -- a group was read
-  group_recovers : (n : ℕ) (more : List ℕ) (left : Option (List ℕ)) (outcome : RequestOutcome) (counted : List (Command × ℕ)) → GroupComesTo device old new n now more left outcome
-      → counted ≡ counted_group (items_asked n more) now outcome → Recovers device old counted new
-  group_recovers n more left outcome counted (inl unasked) is = recounted counted [] (is ∙ unasked_counts n more left outcome now unasked.1) (same_recovers unasked.0)
-  group_recovers n more left outcome counted (inr asked) is =
+  group_run : (n : ℕ) (more : List ℕ) (left : Option (List ℕ)) (outcome : RequestOutcome) (counted : List (Command × ℕ)) → GroupComesTo device old new n now more left outcome
+      → counted ≡ counted_group (items_asked n more) now outcome → IsRunOf device old counted new
+  group_run n more left outcome counted (inl unasked) is = recounted counted [] (is ∙ unasked_counts n more left outcome now unasked.1) (still_run unasked.0)
+  group_run n more left outcome counted (inr asked) is =
       let all = ap (λ (found : Option (List Item)). counted_group found now outcome) (asked_items n more asked.items asked.whole asked.are) in
       recounted counted (counted_with (commands.Group asked.items) now outcome) (is ∙ all)
-      (run_recovers (commands.Group asked.items) asked.comes.result outcome asked.comes.outcome_is asked.comes.answers)
+      (command_run (commands.Group asked.items) asked.comes.result outcome asked.comes.outcome_is asked.comes.answers)
 
   -- what may come of a request
-  pub request_recovers : (plan : Result Plan NoPlan) (more : List ℕ) (left : Option (List ℕ)) (outcome : RequestOutcome)
-      → RequestGives device old now plan more left outcome new → RequestRecovers device old now plan more outcome new
-  request_recovers (Ok (ShowBody name)) more left outcome gives counted is = recounted counted [] is (idles (reading old new gives.1.answers.reads_only))
-  request_recovers (Ok (ShowDocument doc)) more left outcome gives counted is = recounted counted [] is (same_recovers gives.2)
-  request_recovers (Ok (Put name kind n waits)) more left outcome gives counted is =
-      recounted counted (counted_with (commands.Put name kind is.0) now outcome) is.2 (put_recovers name kind n more is.0 gives.result outcome gives.outcome_is gives.answers is.1)
-  request_recovers (Ok (Delete name)) more left outcome gives counted is =
-      recounted counted (counted_with (commands.Delete name) now outcome) is (run_recovers (commands.Delete name) gives.1.result outcome gives.1.outcome_is gives.1.answers)
-  request_recovers (Ok Publish) more left outcome gives counted is =
-      recounted counted (counted_with commands.Publish now outcome) is (run_recovers commands.Publish gives.1.result outcome gives.1.outcome_is gives.1.answers)
-  request_recovers (Ok (Group n waits)) more left outcome gives counted is = group_recovers n more left outcome counted gives is
-  request_recovers (Err reason) more left outcome gives counted is = recounted counted [] is (same_recovers gives.2)
+  pub request_run : (plan : Result Plan NoPlan) (more : List ℕ) (left : Option (List ℕ)) (outcome : RequestOutcome)
+      → RequestGives device old now plan more left outcome new → (counted : List (Command × ℕ)) → Counts now plan more outcome counted → IsRunOf device old counted new
+  request_run (Ok (ShowBody name)) more left outcome gives counted is = recounted counted [] is (idles (reading old new gives.1.answers.reads_only))
+  request_run (Ok (ShowDocument doc)) more left outcome gives counted is = recounted counted [] is (still_run gives.2)
+  request_run (Ok (Put name kind n waits)) more left outcome gives counted is =
+      recounted counted (counted_with (commands.Put name kind is.0) now outcome) is.2 (put_run name kind n more is.0 gives.result outcome gives.outcome_is gives.answers is.1)
+  request_run (Ok (Delete name)) more left outcome gives counted is =
+      recounted counted (counted_with (commands.Delete name) now outcome) is (command_run (commands.Delete name) gives.1.result outcome gives.1.outcome_is gives.1.answers)
+  request_run (Ok Publish) more left outcome gives counted is =
+      recounted counted (counted_with commands.Publish now outcome) is (command_run commands.Publish gives.1.result outcome gives.1.outcome_is gives.1.answers)
+  request_run (Ok (Group n waits)) more left outcome gives counted is = group_run n more left outcome counted gives is
+  request_run (Err reason) more left outcome gives counted is = recounted counted [] is (still_run gives.2)
 
   -- a put or a group whose reader failed
-  pub broken_recovers : (plan : Result Plan NoPlan) (more : List ℕ) → IsBroken device old now plan more new → Recovers device old [] new
-  broken_recovers (Ok (Put name kind n waits)) more broken = idles (cut old new name kind n now more (inl broken))
-  broken_recovers (Ok (Group n waits)) more broken = same_recovers broken.1
-  broken_recovers (Ok (ShowBody name)) more broken = absurd broken
-  broken_recovers (Ok (ShowDocument doc)) more broken = absurd broken
-  broken_recovers (Ok (Delete name)) more broken = absurd broken
-  broken_recovers (Ok Publish) more broken = absurd broken
-  broken_recovers (Err reason) more broken = absurd broken
+  pub broken_run : (plan : Result Plan NoPlan) (more : List ℕ) → IsBroken device old now plan more new → IsRunOf device old [] new
+  broken_run (Ok (Put name kind n waits)) more broken = idles (cut old new name kind n now more (inl broken))
+  broken_run (Ok (Group n waits)) more broken = still_run broken.1
+  broken_run (Ok (ShowBody name)) more broken = absurd broken
+  broken_run (Ok (ShowDocument doc)) more broken = absurd broken
+  broken_run (Ok (Delete name)) more broken = absurd broken
+  broken_run (Ok Publish) more broken = absurd broken
+  broken_run (Err reason) more broken = absurd broken

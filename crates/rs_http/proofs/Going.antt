@@ -1,5 +1,5 @@
 -- What each answer of the source makes of the state that is held.
-use Rattle.std.proofs.Common.{◌≡◌, ◌≤◌, ◌-◌, ℕ, List, [], ◌∷◌, ◌++◌, length, replicate, Option, Some, None, Result, Ok, Err, Bool, true, false, if◌then◌else◌, refl, ap, sym, ◌∙◌, subst, inl, inr, arith}
+use Rattle.std.proofs.Common.{◌≡◌, ◌⊎◌, ◌≤◌, ◌-◌, ℕ, List, [], ◌∷◌, ◌++◌, length, replicate, Option, Some, None, Result, Ok, Err, Bool, true, false, if◌then◌else◌, refl, ap, sym, ◌∙◌, subst, inl, inr, arith}
 use Rattle.std.proofs.Math.Seq.{take-length}
 use Rattle.std.proofs.lemmas.List.{length-append, length-replicate, take-append-le}
 use Rattle.std.proofs.lemmas.List.Elements.{All-nil, All-cons}
@@ -27,7 +27,7 @@ use Rattle.rs_http.specs.declared.request.Request.{Request}
 use Rattle.rs_http.specs.Outcomes.{GroupComesTo, RequestGives}
 use Rattle.rs_store.specs.Advancing.{GoesOnBy, GoesOnOnce}
 use Rattle.rs_http.specs.Responses.{RequestOutcome}
-use Rattle.rs_http.specs.Serving.{IsBroken, LeavesStanding, RequestEnds}
+use Rattle.rs_http.specs.Serving.{Output, IsBroken, LeavesStanding, RequestEnds}
 
 -- a body of n bytes that begins with these
 padded : ℕ → List ℕ → List ℕ
@@ -44,6 +44,10 @@ padded_is n came fits =
 
 none_fit : (n : ℕ) (came : List ℕ) → came ≡ [] → length came ≤ n
 none_fit n came none = subst (λ (c : List ℕ). length c ≤ n) (sym none) (omega arith)
+
+none_or_all_fit : (n : ℕ) (came : List ℕ) → (came ≡ []) ⊎ (length came ≡ n) → length came ≤ n
+none_or_all_fit n came (inl none) = none_fit n came none
+none_or_all_fit n came (inr all) = omega (arith, all)
 
 -- what nothing is decided against, the model accepts
 unless_refused : (refusal : Option model.Refusal) (spent closed : Bool) → (if closed then Some Closed else or_spent refusal spent) ≡ None → refusal ≡ None
@@ -152,7 +156,7 @@ module _ {D : Type 0} (device : D → DiskState) (old new : Stored D) (now : ℕ
     put_goes (Err ReadFault) a = left_goes a.left
     put_goes (Err ShortBody) a = left_goes a.left
     put_goes (Err Device) a = put_refused Device a.0 a.1
-    put_goes (Err NoMemory) a = put_refused NoMemory a.0 a.1
+    put_goes (Err NoMemory) a = put_refused NoMemory (none_or_all_fit n came a.0) a.1
     put_goes (Err Closed) a = put_refused Closed (none_fit n came a.0) a.1
     put_goes (Err BadGroup) a = put_refused BadGroup (none_fit n came a.0) a.1
     put_goes (Err TooLong) a = put_refused TooLong (none_fit n came a.0) a.1
@@ -190,12 +194,12 @@ module _ {D : Type 0} (device : D → DiskState) (old new : Stored D) (now : ℕ
   broken_goes (Err reason) more broken = absurd broken
 
   -- a request whose response was not written
-  stands_goes : (request : Request) (more : List ℕ) (rest before after : Option (List ℕ)) → LeavesStanding device old now request more rest before after new → GoesOnOnce device old now new
+  stands_goes : (request : Request) (more : List ℕ) (rest : Option (List ℕ)) (before after : Output) → LeavesStanding device old now request more rest before after new → GoesOnOnce device old now new
   stands_goes request more rest before after (inl unsaid) = same_goes unsaid.2
   stands_goes request more rest before after (inr cut) = gives_goes request.plan more rest cut.outcome cut.gives
 
   -- whatever came of a request
-  pub request_goes : (request : Request) (left rest before after : Option (List ℕ)) (result : Result ℕ FrontFault)
+  pub request_goes : (request : Request) (left rest : Option (List ℕ)) (before after : Output) (result : Result ℕ FrontFault)
       → RequestEnds device old now request left rest before after new result → GoesOnOnce device old now new
   request_goes request left rest before after (Ok status) ends = gives_goes request.plan ends.0 rest ends.4.outcome ends.4.gives
   request_goes request left rest before after (Err Read) ends = broken_goes request.plan ends.0 ends.3

@@ -104,8 +104,10 @@ module _ {D : Type 0} (device : D → DiskState) (old new : Stored D) (now : ℕ
     refused_alike Closed e a = record {
       decides = λ r is. a.decides r (decided_alike ∙ is);
       untouched = λ r is. a.untouched r (decided_alike ∙ is);
+      full = a.full;
       refused = λ r is. let same : Closed ≡ r = cc in subst (λ (x : stored.Refusal). IsCause device old new (commands.Group other) now x) same (sym decided_alike ∙ a.refused Closed refl);
       accepted = a.accepted;
+      planned = a.planned;
       generation = a.generation;
       version = a.version;
       leads = a.leads;
@@ -118,8 +120,10 @@ module _ {D : Type 0} (device : D → DiskState) (old new : Stored D) (now : ℕ
     refused_alike BadGroup e a = record {
       decides = λ r is. a.decides r (decided_alike ∙ is);
       untouched = λ r is. a.untouched r (decided_alike ∙ is);
+      full = a.full;
       refused = λ r is. let same : BadGroup ≡ r = cc in subst (λ (x : stored.Refusal). IsCause device old new (commands.Group other) now x) same (sym decided_alike ∙ a.refused BadGroup refl);
       accepted = a.accepted;
+      planned = a.planned;
       generation = a.generation;
       version = a.version;
       leads = a.leads;

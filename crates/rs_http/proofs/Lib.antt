@@ -10,3 +10,4 @@ pub mod Room
 pub mod Counting
 pub mod NamedDocuments
 pub mod Walks
+pub mod Sent

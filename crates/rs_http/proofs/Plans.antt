@@ -1,5 +1,5 @@
--- Causes in a row: those of the fields, and then the others.
-use Rattle.std.proofs.Common.{◌≡◌, ◌∙◌, true, false, [], ◌∷◌, ◌++◌, Option, Some, None, Result, Ok, Err, refl}
+-- Causes in a row: those of the fields, and then the others; and plans that take memory.
+use Rattle.std.proofs.Common.{◌≡◌, ◌∙◌, Bool, true, false, not, [], ◌∷◌, ◌++◌, Option, Some, None, Result, Ok, Err, refl}
 use Rattle.rs_http.specs.declared.request.RequestFault.{RequestFault}
 use Rattle.rs_http.specs.declared.request.Plan.{Plan}
 use Rattle.rs_http.specs.declared.request.NoPlan.{NoPlan}
@@ -22,4 +22,9 @@ met ((false, f) ∷ xs) ys fault e = met xs ys fault e
 pub planned_after : (xs ys : Causes) (plan : Option Plan) (made : Result Plan NoPlan) → first_fault xs ≡ None → IsPlanFor ys plan made → IsPlanFor (xs ++ ys) plan made
 planned_after xs ys plan (Ok p) e h = (passed xs ys e ∙ h.0, h.1)
 planned_after xs ys plan (Err (Refused fault)) e h = passed xs ys e ∙ h
-planned_after xs ys plan (Err NoMemory) e h = tt
+planned_after xs ys plan (Err NoMemory) e h = (passed xs ys e ∙ h.0, h.1)
+
+-- what is not unlawful is lawful
+pub lawful_is_not_bad : (lawful : Bool) → (lawful ≡ false → ⊥) → not lawful ≡ false
+lawful_is_not_bad true h = refl
+lawful_is_not_bad false h = absurd (h refl)

@@ -2,7 +2,7 @@
 use Rattle.std.proofs.Common.{◌≡◌, inl, inr, ◌≤◌, ◌-◌, ℕ, Bool, true, false, List, [], ◌∷◌, ◌++◌, length, take, refl, sym, ◌∙◌, ap, subst, arith, cond, Option, Some, None, Result, Ok, Err, Vec, Global, IsTrue, length-append}
 use Rattle.std.proofs.Math.Seq.{take-length, take-append_seam}
 use Rattle.std.proofs.lemmas.List.{length-replicate}
-use Rattle.std.specs.Prelude.{replicate, codes}
+use Rattle.std.specs.Prelude.{◌⊎◌, replicate, codes}
 use Rattle.rs_disk.specs.Medium.{DiskState, IsMedium}
 use Rattle.rs_model.specs.State.{Source, body_of}
 use Rattle.rs_model.specs.declared.command.Command.{Command}
@@ -70,13 +70,18 @@ whole_body n came body all is =
     let same : length body ≡ length came = is.len ∙ sym all in
     sym (take-length body) ∙ ap (λ (m : ℕ). take m body) same ∙ is.front
 
+-- no byte came, or all of a body
+none_or_all : (n : ℕ) (came : List ℕ) → (came ≡ []) ⊎ (length came ≡ n) → length came ≤ n
+none_or_all n came (inl none) = rw none (omega arith)
+none_or_all n came (inr all) = omega (arith, all)
+
 module _ {D : Type 0} (device : D → DiskState) (old new : Stored D) (now : ℕ) where
   some_of : (name kind : List ℕ) (n : ℕ) (came : List ℕ) (result : Result Reply stored.Refusal) → AnswersFrom device old new name kind n now came result → length came ≤ n
   some_of name kind n came (Ok reply) a = omega (arith, a.0)
   some_of name kind n came (Err ReadFault) a = omega (arith, a.fewer)
   some_of name kind n came (Err ShortBody) a = omega (arith, a.fewer)
   some_of name kind n came (Err Device) a = a.0
-  some_of name kind n came (Err NoMemory) a = a.0
+  some_of name kind n came (Err NoMemory) a = none_or_all n came a.0
   some_of name kind n came (Err Closed) a = rw a.0 (omega arith)
   some_of name kind n came (Err BadGroup) a = rw a.0 (omega arith)
   some_of name kind n came (Err TooLong) a = rw a.0 (omega arith)

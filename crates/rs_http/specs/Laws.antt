@@ -1,8 +1,9 @@
 -- Laws of requests.
 use Rattle.std.specs.Prelude.{ℕ, List, [], Option, Some, Result}
 use Rattle.rs_disk.specs.Medium.{DiskState}
+use Rattle.rs_model.specs.declared.command.Command.{Command}
 use Rattle.rs_store.specs.Source.{Stored}
-use Rattle.rs_recovery.specs.Prefixes.{Recovers}
+use Rattle.rs_recovery.specs.Prefixes.{IsRunOf, Recovers}
 use Rattle.rs_http.specs.declared.head.HeadRead.{HeadRead}
 use Rattle.rs_http.specs.declared.request.Plan.{Plan}
 use Rattle.rs_http.specs.declared.request.NoPlan.{NoPlan}
@@ -10,9 +11,20 @@ use Rattle.rs_http.specs.declared.request.Request.{Request}
 use Rattle.rs_http.specs.Requests.{Asks}
 use Rattle.rs_http.specs.Responses.{RequestOutcome}
 use Rattle.rs_http.specs.Outcomes.{RequestGives}
-use Rattle.rs_http.specs.Counted.{RequestRecovers}
+use Rattle.rs_http.specs.Counted.{Counts, RequestRecovers}
 use Rattle.rs_http.specs.Walked.{MakesWalk, MakesNoEvent}
 use Rattle.rs_http.specs.Serving.{IsBroken}
+
+-- What a request asks of a source is a run of its command that counts, or of none.
+abbrev pub RequestsAreRuns : {D : Type 0} → (D → DiskState) → Type 0
+RequestsAreRuns {D} device = (old new : Stored D) (now : ℕ) (plan : Result Plan NoPlan) (more : List ℕ) (rest : Option (List ℕ)) (outcome : RequestOutcome)
+    → RequestGives device old now plan more rest outcome new
+    → (counted : List (Command × ℕ)) → Counts now plan more outcome counted → IsRunOf device old counted new
+
+-- A put or a group whose reader failed is a run of no command.
+abbrev pub BrokenBodiesAreRuns : {D : Type 0} → (D → DiskState) → Type 0
+BrokenBodiesAreRuns {D} device = (old new : Stored D) (now : ℕ) (plan : Result Plan NoPlan) (more : List ℕ)
+    → IsBroken device old now plan more new → IsRunOf device old [] new
 
 -- Whatever comes of a request, whenever a stop comes: it leaves what the command of the request makes that counts.
 abbrev pub RequestsRecover : {D : Type 0} → (D → DiskState) → Type 0

@@ -6,23 +6,32 @@ use Rattle.rs_http.specs.declared.head.HeadRead.TheVariants.{Whole, TooLong, End
 use Rattle.rs_http.specs.declared.request.RequestFault.{RequestFault}
 use Rattle.rs_http.specs.declared.request.RequestFault.TheVariants.{HeadTooLong, BadHead, BadType}
 use Rattle.rs_http.specs.declared.request.Plan.{Plan}
+use Rattle.rs_http.specs.declared.request.Plan.TheVariants.{ShowBody, Put, Delete}
 use Rattle.rs_http.specs.declared.request.NoPlan.{NoPlan}
 use Rattle.rs_http.specs.declared.request.NoPlan.TheVariants.{Refused, NoMemory}
 use Rattle.rs_http.specs.declared.request.Request.{Request}
 use Rattle.rs_http.specs.Fields.{Parts, head_parts}
 use Rattle.rs_http.specs.Checks.{Causes, first_fault, causes_of, is_bad_type, stated_type, place_in, plan_at}
 
--- A request that has these causes is refused for the first one that is there, or has this plan; memory may be refused.
+-- A plan of a resource holds its name, which takes memory. No other plan takes any.
+abbrev pub TakesMemory : Option Plan → Type 0
+TakesMemory (Some (ShowBody name)) = Unit {0}
+TakesMemory (Some (Put name kind n waits)) = Unit {0}
+TakesMemory (Some (Delete name)) = Unit {0}
+TakesMemory plan = ⊥
+
+-- A request that has these causes is refused for the first one that is there, or has this plan. Memory may be refused for a plan
+-- that takes some, where no cause is there.
 abbrev pub IsPlanFor : Causes → Option Plan → Result Plan NoPlan → Type 0
 IsPlanFor causes plan (Ok made) = (first_fault causes ≡ None) × (plan ≡ Some made)
 IsPlanFor causes plan (Err (Refused fault)) = first_fault causes ≡ Some fault
-IsPlanFor causes plan (Err NoMemory) = Unit {0}
+IsPlanFor causes plan (Err NoMemory) = (first_fault causes ≡ None) × TakesMemory plan
 
--- the type of a body, which is that of the fields, or why there is none
+-- the type of a body, which is that of the fields, or why there is none: memory may be refused for a lawful one
 abbrev pub TypeIs : List (List ℕ) → Result (List ℕ) NoPlan → Type 0
 TypeIs kinds (Ok kind) = (is_bad_type kinds ≡ false) × (kind ≡ stated_type kinds)
 TypeIs kinds (Err (Refused fault)) = (is_bad_type kinds ≡ true) × (fault ≡ BadType)
-TypeIs kinds (Err NoMemory) = Unit {0}
+TypeIs kinds (Err NoMemory) = is_bad_type kinds ≡ false
 
 -- what this head asks for: whether its method is HEAD, and its plan
 pub record IsRequestOf (p : Parts) (request : Request) : Type 0 where

@@ -1,10 +1,10 @@
 //! The answer to a request that was read.
 
-ghost use Rattle.std.specs.Prelude.{◌≡◌, ◌/◌, ℕ, List, length, Option, Bool, true, Ok, Err, IfOk, OnOk, OnErr, IsErrOf, MatchResult};
+ghost use Rattle.std.specs.Prelude.{◌≡◌, ◌/◌, ℕ, List, [], length, Option, Bool, true, Ok, Err, IfOk, OnOk, OnErr, IsErrOf, MatchResult};
 ghost use Rattle.std.specs.Io.KnownBytes.{Keeps};
 ghost use Rattle.httpdate.specs.Date.{unix_secs};
-ghost use Rattle.rs_io.specs.Watch.{watched, failures, is_flushed, StaysFlushed, EndFailed, FailedWithin, Wrote, WritesOut};
-ghost use Rattle.rs_http.specs.Serving.{PlanEnds, RequestEnds, preface_of, NoneFailed, FailedAlone};
+ghost use Rattle.rs_io.specs.Watch.{watched, seen_by, failures, is_flushed, StaysFlushed, EndFailed, FlushFailed, Wrote, WritesOut};
+ghost use Rattle.rs_http.specs.Serving.{PlanEnds, RequestEnds, TakesPart, preface_of, NoneFailed, FailedAlone};
 ghost use Rattle.rs_http.specs.Responses.{go_on, response_text, status_code};
 ghost use Rattle.rs_http.specs.Outcomes.{unplanned, GroupComesTo, Responds};
 
@@ -66,7 +66,7 @@ fn put<D: Disk, R: Read, W: Write>(
     ensures ends { (waits : Bool) → PlanEnds D.state source.old now
         (Ok (Plan.Put name.now kind.now body_length waits)) framing
         (R.remaining (watched reader.old)) (R.remaining (watched reader.new))
-        (W.contents (watched writer.old)) (W.contents (watched writer.new)) source.new result }
+        (seen_by W.contents writer.old) (seen_by W.contents writer.new) source.new result }
     ensures sound { OnOk result (NoneFailed reader.old reader.new writer.old writer.new) }
     ensures read { IsErrOf result FrontFault.Read
         → FailedAlone reader.old reader.new writer.old writer.new }
@@ -119,7 +119,7 @@ fn group<D: Disk, R: Read, W: Write>(
     ensures ends { (waits : Bool) → PlanEnds D.state source.old now
         (Ok (Plan.Group body_length waits)) framing
         (R.remaining (watched reader.old)) (R.remaining (watched reader.new))
-        (W.contents (watched writer.old)) (W.contents (watched writer.new)) source.new result }
+        (seen_by W.contents writer.old) (seen_by W.contents writer.new) source.new result }
     ensures sound { OnOk result (NoneFailed reader.old reader.new writer.old writer.new) }
     ensures read { IsErrOf result FrontFault.Read
         → FailedAlone reader.old reader.new writer.old writer.new }
@@ -148,7 +148,7 @@ fn respond<D: Disk, R: Read, W: Write>(
 ) -> Result<u16, FrontFault>
     ensures ends { PlanEnds D.state source.old now plan framing
         (R.remaining (watched reader.old)) (R.remaining (watched reader.new))
-        (W.contents (watched writer.old)) (W.contents (watched writer.new)) source.new result }
+        (seen_by W.contents writer.old) (seen_by W.contents writer.new) source.new result }
     ensures sound { OnOk result (NoneFailed reader.old reader.new writer.old writer.new) }
     ensures read { IsErrOf result FrontFault.Read
         → FailedAlone reader.old reader.new writer.old writer.new }
@@ -176,20 +176,32 @@ fn respond<D: Disk, R: Read, W: Write>(
     }
 }
 
+// Writes the word to go on, and flushes it.
+fn write_go_on<W: Write>(writer: &mut Watched<W>) -> Result<(), WriteFault>
+    ensures ok { OnOk result (Wrote W.contents writer.old writer.new go_on) }
+    ensures fault { OnErr result (TakesPart
+        (seen_by W.contents writer.old) (seen_by W.contents writer.new) [] go_on) }
+    ensures failed { OnErr result (EndFailed writer.old writer.new) }
+    ensures flushed { OnOk result (is_flushed writer.new ≡ true) }
+{
+    writer.put(b"HTTP/1.1 100 Continue\r\n\r\n")?;
+    writer.flush()
+}
+
 // Writes what goes out before the source is asked.
 fn write_preface<W: Write>(
     writer: &mut Watched<W>,
     plan: &Result<Plan, NoPlan>,
 ) -> Result<(), WriteFault>
     ensures ok { OnOk result (Wrote W.contents writer.old writer.new (preface_of plan.now)) }
-    ensures fault { OnErr result ((preface_of plan.now ≡ go_on)
-        × FailedWithin W.contents writer.old writer.new go_on) }
+    ensures fault { OnErr result ((preface_of plan.now ≡ go_on) × TakesPart
+        (seen_by W.contents writer.old) (seen_by W.contents writer.new) [] go_on) }
+    ensures failed { OnErr result (EndFailed writer.old writer.new) }
     ensures flushed { OnOk result (StaysFlushed writer.old writer.new) }
 {
     match plan {
         Ok(Plan::Put { waits: true, .. }) | Ok(Plan::Group { waits: true, .. }) => {
-            writer.put(b"HTTP/1.1 100 Continue\r\n\r\n")?;
-            writer.flush()
+            write_go_on(writer)
         }
         _ => Ok(()),
     }
@@ -212,6 +224,7 @@ fn finish<W: Write>(writer: &mut Watched<W>, status: u16) -> Result<u16, FrontFa
     ensures bytes { Keeps (W.contents (watched writer.old)) (W.contents (watched writer.new)) }
     ensures sound { OnOk result (failures writer.new ≡ failures writer.old) }
     ensures failed { OnErr result (EndFailed writer.old writer.new) }
+    ensures flush_failed { OnErr result (FlushFailed writer.old writer.new) }
     ensures flushed { OnOk result (is_flushed writer.new ≡ true) }
 {
     match writer.flush() {
@@ -237,7 +250,7 @@ pub(crate) fn answer<D: Disk, R: Read, W: Write>(
 ) -> Result<u16, FrontFault>
     ensures ends { RequestEnds D.state source.old now request
         (R.remaining (watched reader.old)) (R.remaining (watched reader.new))
-        (W.contents (watched writer.old)) (W.contents (watched writer.new)) source.new result }
+        (seen_by W.contents writer.old) (seen_by W.contents writer.new) source.new result }
     ensures sound { OnOk result (NoneFailed reader.old reader.new writer.old writer.new) }
     ensures read { IsErrOf result FrontFault.Read
         → FailedAlone reader.old reader.new writer.old writer.new }

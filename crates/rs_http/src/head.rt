@@ -58,7 +58,7 @@ pub(crate) fn read_byte<R: Read>(reader: &mut Watched<R>) -> Result<Option<u8>, 
 ///
 /// # Errors
 ///
-/// [`ReadFault`] where a read failed. The head had not ended then.
+/// [`ReadFault`] where a read failed. The head had not ended then, and was shorter than the limit.
 pub(crate) fn read_head<R: Read>(
     reader: &mut Watched<R>,
     buf: &mut [u8],
@@ -71,7 +71,7 @@ pub(crate) fn read_head<R: Read>(
         → IsAtEnd (R.remaining (watched reader.new))) }
     ensures err { OnErr result ((bytes : List ℕ)
         × Consumes (R.remaining (watched reader.old)) (R.remaining (watched reader.new)) bytes
-        × HasNoEnd bytes) }
+        × HasNoEnd bytes × (length bytes < 8192)) }
     ensures failed { OnErr result (EndFailed reader.old reader.new) }
 {
     for came in 0..buf.len() {

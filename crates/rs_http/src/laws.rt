@@ -2,7 +2,7 @@
 //!
 //! Each function here does nothing: its contract is the law, which the check proves.
 
-ghost use Rattle.rs_http.specs.Laws.{RequestsRecover, BrokenBodiesRecover, RequestsMakeWalks, BrokenBodiesMakeNoEvent};
+ghost use Rattle.rs_http.specs.Laws.{RequestsAreRuns, BrokenBodiesAreRuns, RequestsRecover, BrokenBodiesRecover, RequestsMakeWalks, BrokenBodiesMakeNoEvent};
 
 use rs_caps::laws::answered::paths_are_answered;
 use rs_disk::Disk;
@@ -10,14 +10,24 @@ use rs_recovery::laws::{runs_go_on, runs_recover};
 use rs_recovery::walking::commands_make_walks;
 use rs_store::laws::held_sources_rest;
 
+/// What a request asks of a source is a run: of its one command where that counts, or of none; and of none where the reader
+/// failed in the body of a put or of a group. So requests join to runs, as the laws of rs_recovery join these.
+pub fn requests_are_runs<D: Disk>()
+    ensures answered { RequestsAreRuns D.state }
+    ensures broken { BrokenBodiesAreRuns D.state }
+{
+    held_sources_rest::<D>();
+    runs_go_on::<D>();
+    runs_recover::<D>();
+}
+
 /// Whenever a stop comes within a request, it leaves what was held, or what the command of the request makes
 /// of it that counts; and of a put or a group whose reader failed, what was held.
 pub fn requests_recover<D: Disk>()
     ensures answered { RequestsRecover D.state }
     ensures broken { BrokenBodiesRecover D.state }
 {
-    held_sources_rest::<D>();
-    runs_go_on::<D>();
+    requests_are_runs::<D>();
     runs_recover::<D>();
 }
 

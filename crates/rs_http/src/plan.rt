@@ -40,28 +40,36 @@ fn body_type(alloc: Global, head: &[u8], lone: Lone) -> Result<MediaType, NoPlan
     }
 }
 
-// The plan of a put to this name, with the length that the fields state.
+// The plan of a put to this name, or to one for which there is no memory, with the length that the fields
+// state.
 fn put_plan(
     alloc: Global,
     head: &[u8],
     headers: &[HeaderSpan],
-    name: Name,
+    name: Option<Name>,
     stated: Option<u64>,
     expects: bool,
 ) -> Result<Plan, NoPlan>
     requires { All (IsHeaderWithin (length head.now)) headers.now }
-    ensures { let kinds = values_of (codes "content-type")
+    ensures { (bytes : List ℕ) → IfSome name (λ name. name ≡ bytes)
+        → let kinds = values_of (codes "content-type")
         (map (header_bytes head.now) headers.now) in
         IsPlanFor (put_head_causes stated kinds)
-        (Some (plan_of_put name kinds (unwrap_or stated 0) expects)) result }
+        (Some (plan_of_put bytes kinds (unwrap_or stated 0) expects)) result }
 {
     let Some(length) = stated else {
         return Err(NoPlan::Refused(RequestFault::NoLength));
     };
-    let kind = body_type(alloc, head, find_lone(head, headers, b"content-type"))?;
+    let kind = body_type(alloc, head, find_lone(head, headers, b"content-type"));
+    if let Err(NoPlan::Refused(fault)) = kind {
+        return Err(NoPlan::Refused(fault));
+    }
     if length > LONGEST_BODY as u64 {
         return Err(NoPlan::Refused(RequestFault::TooLong));
     }
+    let (Some(name), Ok(kind)) = (name, kind) else {
+        return Err(NoPlan::NoMemory);
+    };
     Ok(Plan::Put {
         name,
         kind,
@@ -101,34 +109,37 @@ fn is_get(method: &[u8]) -> bool
     method == b"GET".as_slice() || method == b"HEAD".as_slice()
 }
 
-// The plan of a request for the resource of this name.
+// The plan of a request for the resource of this name, or of one for which there is no memory.
 fn resource_plan(
     alloc: Global,
     head: &[u8],
     spans: RequestSpans,
     headers: &[HeaderSpan],
     stated: Option<u64>,
-    name: Name,
+    name: Option<Name>,
 ) -> Result<Plan, NoPlan>
     requires method { IsWithin (length head.now) spans.method }
     requires headers { All (IsHeaderWithin (length head.now)) headers.now }
     requires stated { stated ≡ stated_in (head_parts_at head.now spans headers.now) }
-    ensures { let p = head_parts_at head.now spans headers.now in
-        IsPlanFor (place_causes (Place.Resource name) p)
-        (plan_there (Place.Resource name) p) result }
+    ensures { (bytes : List ℕ) → IfSome name (λ name. name ≡ bytes)
+        → let p = head_parts_at head.now spans headers.now in
+        IsPlanFor (place_causes (Place.Resource bytes) p)
+        (plan_there (Place.Resource bytes) p) result }
 {
     let method = spans.method.of(head);
     if method == b"PUT".as_slice() {
         let expects = expects_word(head, spans, headers);
         return put_plan(alloc, head, headers, name, stated, expects);
     }
-    if method == b"DELETE".as_slice() {
-        return Ok(Plan::Delete(name));
+    let deletes = method == b"DELETE".as_slice();
+    if !deletes && !is_get(method) {
+        return Err(NoPlan::Refused(RequestFault::BadMethod(Methods::OfResources)));
     }
-    if is_get(method) {
-        return Ok(Plan::ShowBody(name));
+    match name {
+        None => Err(NoPlan::NoMemory),
+        Some(name) if deletes => Ok(Plan::Delete(name)),
+        Some(name) => Ok(Plan::ShowBody(name)),
     }
-    Err(NoPlan::Refused(RequestFault::BadMethod(Methods::OfResources)))
 }
 
 // The plan of a request for what stands there.
@@ -148,7 +159,7 @@ fn plan_at(
 {
     let method = spans.method.of(head);
     match place {
-        Place::Resource(name) => resource_plan(alloc, head, spans, headers, stated, name),
+        Place::Resource(name) => resource_plan(alloc, head, spans, headers, stated, Some(name)),
         Place::Unlawful => Err(NoPlan::Refused(RequestFault::BadName)),
         Place::Document(doc) => {
             if is_get(method) {
@@ -186,8 +197,10 @@ fn plan_request(
         IsPlanFor (causes_of p) (plan_there (place_in p) p) result }
 {
     let stated = check_fields(head, spans, headers)?;
-    let place = place_of(alloc, path_of_target(spans.path.of(head)))?;
-    plan_at(alloc, head, spans, headers, stated, place)
+    match place_of(alloc, path_of_target(spans.path.of(head))) {
+        Ok(place) => plan_at(alloc, head, spans, headers, stated, place),
+        Err(_) => resource_plan(alloc, head, spans, headers, stated, None),
+    }
 }
 
 // More fields than 8,192 bytes can hold.

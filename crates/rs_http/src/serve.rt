@@ -1,8 +1,8 @@
 //! One request to a source.
 
-ghost use Rattle.std.specs.Prelude.{ℕ, List, IfOk, OnOk, IsErrOf};
+ghost use Rattle.std.specs.Prelude.{◌≡◌, ℕ, List, true, IfOk, OnOk, IsErrOf};
 ghost use Rattle.std.specs.Io.KnownBytes.{Consumes};
-ghost use Rattle.rs_io.specs.Watch.{watched, StaysFlushed, EndFailed, Took, Wrote};
+ghost use Rattle.rs_io.specs.Watch.{watched, seen_by, is_flushed, StaysFlushed, EndFailed, Took, Wrote};
 ghost use Rattle.rs_store.specs.Advancing.{GoesOnOnce};
 ghost use Rattle.rs_http.specs.Serving.{Serves, Breaks, Halts};
 
@@ -38,8 +38,8 @@ pub enum Served {
 ///
 /// - [`FrontFault::Read`] where a read failed in this call: nothing is done, and no more than the word to go on is
 ///   written.
-/// - [`FrontFault::Write`] where a call of the writer failed in this one. Where it was the word to go on that was not
-///   written, nothing is done; else a command that was accepted stands. The writer took a beginning of what was to be
+/// - [`FrontFault::Write`] where a call of the writer failed in this one. Where the word to go on was not written and
+///   flushed, nothing is done; else a command that was accepted stands. The writer took a beginning of what was to be
 ///   written, and no other byte.
 ///
 /// Whenever the disk stops within the call, what it then holds is what was held at its beginning, or what the request's
@@ -67,17 +67,19 @@ pub fn serve_one<D: Disk, R: Read, W: Write>(
         × Breaks D.state source.old now (R.remaining (watched reader.old)) input
         (R.remaining (watched reader.new)) output source.new }
 
-    // A call of the writer failed, and none of the reader: it took a beginning of what was to be
-    // written, and what was done stands.
+    // A call of the writer failed, and none of the reader. A put failed within what was to be
+    // written, or a flush behind it. What was done stands.
     ensures write { IsErrOf result FrontFault.Write → EndFailed writer.old writer.new
         × (input : List ℕ)
         × Took R.remaining reader.old reader.new input
         × Halts D.state source.old now (R.remaining (watched reader.old)) input
-        (R.remaining (watched reader.new)) (W.contents (watched writer.old))
-        (W.contents (watched writer.new)) source.new }
+        (R.remaining (watched reader.new)) (seen_by W.contents writer.old)
+        (seen_by W.contents writer.new) source.new }
 
-    // What was written was flushed too: the whole response, and the word to go on before the body
-    // was read.
+    // An answer was flushed whole, with all that the writer had held back. What else was written was
+    // flushed too: the word to go on before the body was read.
+    ensures sent { IfOk result (λ served. (status : ℕ) → served ≡ Served.Answered status
+        → is_flushed writer.new ≡ true) }
     ensures flushed { OnOk result (StaysFlushed writer.old writer.new) }
     ensures waits { IsErrOf result FrontFault.Read → StaysFlushed writer.old writer.new }
 

@@ -1,6 +1,6 @@
 //! What the target of a request names.
 
-ghost use Rattle.std.specs.Prelude.{◌≡◌, ◌==◌, ◌≤◌, length, IfOk};
+ghost use Rattle.std.specs.Prelude.{◌≡◌, ◌==◌, ◌≤◌, ℕ, List, length, IfOk, OnErr};
 ghost use Rattle.std.specs.List.{position};
 ghost use Rattle.rs_http.specs.Targets.{path_of_target as path_in, scheme_length as length_of_scheme, after_authority as path_after, place_of as place_at, resource_place as resource_at};
 
@@ -82,7 +82,8 @@ pub(crate) fn path_of_target(target: &[u8]) -> &[u8]
 
 // The resource of this name, where it is lawful.
 fn resource_place(alloc: Global, name: &[u8]) -> Result<Place, AllocError>
-    ensures { IfOk result (λ place. place ≡ resource_at name.now) }
+    ensures ok { IfOk result (λ place. place ≡ resource_at name.now) }
+    ensures err { OnErr result ((bytes : List ℕ) × (resource_at name.now ≡ Place.Resource bytes)) }
 {
     match Name::new(alloc, name) {
         Ok(name) => Ok(Place::Resource(name)),
@@ -95,9 +96,10 @@ fn resource_place(alloc: Global, name: &[u8]) -> Result<Place, AllocError>
 ///
 /// # Errors
 ///
-/// [`AllocError`] where the memory for a name is refused.
+/// [`AllocError`] where the path is that of a resource, and the memory for its name is refused.
 pub(crate) fn place_of(alloc: Global, path: &[u8]) -> Result<Place, AllocError>
-    ensures { IfOk result (λ place. place ≡ place_at path.now) }
+    ensures ok { IfOk result (λ place. place ≡ place_at path.now) }
+    ensures err { OnErr result ((name : List ℕ) × (place_at path.now ≡ Place.Resource name)) }
 {
     if path.starts_with(b"/resource/") {
         return resource_place(alloc, &path[10..]);

@@ -1,8 +1,9 @@
 -- What a loader of a root's lists finds.
-use Rattle.std.proofs.Common.{◌≡◌, inl, inr, ⊎_elim, ℕ, ◌+◌, ◌-◌, ◌<◌, ◌≤◌, true, List, [], ◌∷◌, length, map, refl, subst, arith, sym, ◌∙◌, ap, Result, Ok, Err}
+use Rattle.std.proofs.Common.{◌≡◌, inl, inr, ⊎_elim, ℕ, ◌+◌, ◌-◌, ◌<◌, ◌≤◌, true, List, [], ◌∷◌, ◌++◌, length, map, refl, subst, arith, sym, ◌∙◌, ap, Result, Ok, Err}
 use Rattle.std.specs.Prelude.{IsErrOf, All, IsTrue}
 use Rattle.std.specs.Result.{IsErrAnd}
-use Rattle.std.proofs.lemmas.List.Elements.{All-nil, All-cons}
+use Rattle.std.proofs.lemmas.List.Elements.{All-nil, All-cons, All-append, All-take, All-drop}
+use Rattle.std.proofs.lemmas.List.{take_at, drop_at}
 use Rattle.rs_disk.specs.Medium.{Medium, DiskState, IsMedium}
 use Rattle.rs_disk.specs.Leaves.{Rests, TellsFaults}
 use Rattle.rs_disk.proofs.Steps.{rest_on}
@@ -32,7 +33,7 @@ use Rattle.rs_image.specs.declared.contents.Contents.{Contents}
 use Rattle.rs_image.specs.Reach.{blocks_of_disk, reach, AreInside}
 use Rattle.rs_image.specs.Whole.{HasFirstPart, IsWhole}
 use Rattle.rs_image.specs.StateOfImage.{Tells, state_in, listing}
-use Rattle.rs_image.specs.Loading.{IsPagePlaced, ArePlaced, NamesPlaced, ReadsBehind, pages_read, spelled, IsLawfulDirectory, AreOf, Hold}
+use Rattle.rs_image.specs.Loading.{IsPagePlaced, ArePlaced, Names, NamesPlaced, ReadsBehind, pages_read, spelled, IsLawfulDirectory, AreOf, Hold}
 use Rattle.rs_image.proofs.Reaching.{reaches_catalogue, reaches_history, reaches_published}
 use Rattle.rs_image.proofs.Once.{pages_once, catalogue_held_once, history_held_once}
 use Rattle.rs_directory.proofs.OneDirectory.{one_directory}
@@ -190,21 +191,65 @@ are_pages_placed format size (ref ∷ refs) image (items ∷ pages) are inside =
     (are_pages_placed format size refs image pages are.1 (λ b is. inside b (some_rest ref.extent (extents_of refs) b is)))
 
 -- The pages of lists that a root tells are placed.
-pub told_placed : (root : Root) (d : Directory) (c : Contents) (image : List ℕ) (s : Source) (size : ℕ) → AreOf d c → Tells root c image s → size ≡ length image
-    → ArePlaced size d
-told_placed root d c image s size of tells long =
-    let hold = told_hold root d c image s of tells in
+pub told_placed : (root : Root) (c : Contents) (image : List ℕ) (s : Source) (size : ℕ) → Tells root c image s → size ≡ length image
+    → All (IsPagePlaced size) (stored_refs c.catalogue ++ (stored_refs c.history.pages ++ stored_refs c.published))
+told_placed root c image s size tells long =
     let inside : AreInside size (reach root c) = subst (λ (n : ℕ). AreInside n (reach root c)) (sym long) tells.whole.inside in
-    let catalogue : AreInside size (extents_of (stored_refs c.catalogue)) = λ b is. inside b (reaches_catalogue root c b is) in
-    let changes : AreInside size (extents_of (stored_refs c.history.pages)) = λ b is. inside b (reaches_history root c b is) in
-    let published : AreInside size (extents_of (stored_refs c.published)) = λ b is. inside b (reaches_published root c b is) in
+    All-append (IsPagePlaced size) (stored_refs c.catalogue) (stored_refs c.history.pages ++ stored_refs c.published)
+    (are_pages_placed record_format size (stored_refs c.catalogue) image (items_in c.catalogue) tells.catalogue.hold (λ b is. inside b (reaches_catalogue root c b is)))
+    (All-append (IsPagePlaced size) (stored_refs c.history.pages) (stored_refs c.published)
+    (are_pages_placed change_format size (stored_refs c.history.pages) image (items_in c.history.pages) tells.history.hold (λ b is. inside b (reaches_history root c b is)))
+    (are_pages_placed record_format size (stored_refs c.published) image (items_in c.published) tells.published.hold (λ b is. inside b (reaches_published root c b is))))
+
+-- Bytes of a directory that is told name these pages, ..
+pub names_told : (root : Root) (c : Contents) (image : List ℕ) (s : Source) (bytes : List ℕ) → Tells root c image s → bytes ≡ part root.directory root.length image
+    → Names root.version bytes (stored_refs c.catalogue ++ (stored_refs c.history.pages ++ stored_refs c.published))
+names_told root c image s bytes tells read = record {
+  header = c.header;
+  catalogue = stored_refs c.catalogue;
+  changes = stored_refs c.history.pages;
+  published = stored_refs c.published;
+  of_header = tells.listable.header;
+  of_catalogue = tells.listable.catalogue;
+  of_changes = tells.listable.history;
+  of_published = tells.listable.published;
+  spelled = read ∙ tells.directory;
+  all = refl;
+}
+
+-- .. and those of one that is lawful name its own.
+pub names_lawful : (version : ℕ) (d : Directory) (bytes : List ℕ) → IsLawfulDirectory version d → bytes ≡ spelled version d
+    → Names version bytes (d.catalogue.items ++ (d.changes.items ++ d.published.items))
+names_lawful version d bytes lawful is = record {
+  header = d.header;
+  catalogue = d.catalogue.items;
+  changes = d.changes.items;
+  published = d.published.items;
+  of_header = lawful.header;
+  of_catalogue = lawful.catalogue;
+  of_changes = lawful.changes;
+  of_published = lawful.published;
+  spelled = is;
+  all = refl;
+}
+
+all_front : {X : Type 0} (P : X → Type 0) (xs ys : List X) → All P (xs ++ ys) → All P xs
+all_front P xs ys all = subst (All P) (take_at xs ys (length xs) refl) (All-take P (length xs) (xs ++ ys) all)
+
+all_back : {X : Type 0} (P : X → Type 0) (xs ys : List X) → All P (xs ++ ys) → All P ys
+all_back P xs ys all = subst (All P) (drop_at xs ys (length xs) refl) (All-drop P (length xs) (xs ++ ys) all)
+
+-- where all pages that bytes name are placed, those of a directory with these bytes are
+pub named_placed : (size version : ℕ) (d : Directory) (bytes : List ℕ) → ((pages : List PageRef) → Names version bytes pages → All (IsPagePlaced size) pages)
+    → IsLawfulDirectory version d → bytes ≡ spelled version d → ArePlaced size d
+named_placed size version d bytes named lawful is =
+    let behind = d.changes.items ++ d.published.items in
+    let all = named (d.catalogue.items ++ behind) (names_lawful version d bytes lawful is) in
+    let rest = all_back (IsPagePlaced size) d.catalogue.items behind all in
     record {
-      catalogue = are_pages_placed record_format size d.catalogue.items image (items_in c.catalogue) hold.catalogue.hold
-          (subst (λ (refs : List PageRef). AreInside size (extents_of refs)) of.catalogue catalogue);
-      changes = are_pages_placed change_format size d.changes.items image (items_in c.history.pages) hold.changes.hold
-          (subst (λ (refs : List PageRef). AreInside size (extents_of refs)) of.changes changes);
-      published = are_pages_placed record_format size d.published.items image (items_in c.published) hold.published.hold
-          (subst (λ (refs : List PageRef). AreInside size (extents_of refs)) of.published published);
+      catalogue = all_front (IsPagePlaced size) d.catalogue.items behind all;
+      changes = all_front (IsPagePlaced size) d.changes.items d.published.items rest;
+      published = all_back (IsPagePlaced size) d.changes.items d.published.items rest;
     }
 
 -- A directory that was read names what each one with its bytes names.
@@ -220,20 +265,18 @@ names_placed size root image d lawful found placed other lawful_too reads =
       published = subst (All (IsPagePlaced size)) same.3 placed.published;
     }
 
--- After the directory nothing is read unless all pages that it names are placed.
-placed_before : (old mid new : DiskState) (root : Root) (d : Directory) → IsLawfulDirectory root.version d → (IsTrue mid.honest → part root.directory root.length mid.now.seen ≡ spelled root.version d)
-    → mid.calls ≤ old.calls + 1 → Rests mid new → (mid.calls < new.calls → ArePlaced new.size d)
-    → old.calls + 1 < new.calls → IsTrue new.honest → NamesPlaced new.size root new.now.seen
-placed_before old mid new root d lawful found one rests placed more honest =
-    names_placed new.size root new.now.seen d lawful (still_read root (spelled root.version d) mid new rests (found (rests.lasts honest))) (placed (omega arith))
+-- They are named so by all that a device gave that has followed the model, also after more was read.
+pub named_behind : (mid new : DiskState) (root : Root) (d : Directory) → IsLawfulDirectory root.version d → (IsTrue mid.honest → part root.directory root.length mid.now.seen ≡ spelled root.version d)
+    → ArePlaced mid.size d → Rests mid new → IsTrue new.honest → NamesPlaced new.size root new.now.seen
+named_behind mid new root d lawful found placed rests honest =
+    names_placed new.size root new.now.seen d lawful (still_read root (spelled root.version d) mid new rests (found (rests.lasts honest))) (subst (λ (n : ℕ). ArePlaced n d) (sym rests.size) placed)
 
 -- and so it is of the reading of a root
 pub reads_behind : (old mid new : DiskState) (root : Root) (d : Directory) → IsLawfulDirectory root.version d → (digests (spelled root.version d)).sha256 ≡ root.sha256
-    → (IsTrue mid.honest → part root.directory root.length mid.now.seen ≡ spelled root.version d)
-    → Rests old mid → mid.calls ≤ old.calls + 1 → Rests mid new → new.calls ≤ mid.calls + pages_read d → (mid.calls < new.calls → ArePlaced new.size d)
-    → ReadsBehind root old new
-reads_behind old mid new root d lawful digest found first one rests few placed = record {
+    → (IsTrue mid.honest → part root.directory root.length mid.now.seen ≡ spelled root.version d) → ArePlaced mid.size d
+    → Rests old mid → mid.calls ≤ old.calls + 1 → Rests mid new → new.calls ≤ mid.calls + pages_read d → ReadsBehind root old new
+reads_behind old mid new root d lawful digest found placed first one rests few = record {
   rests = rest_on old mid new first rests;
   once = λ past. (d, digest, omega (arith, one, few));
-  placed = placed_before old mid new root d lawful found one rests placed;
+  placed = λ past. named_behind mid new root d lawful found placed rests;
 }

@@ -10,3 +10,4 @@ pub mod Frame
 pub mod Found
 pub mod Standing
 pub mod ListsRead
+pub mod Named

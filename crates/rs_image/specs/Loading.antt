@@ -1,5 +1,5 @@
 -- Words of the loader's contracts: where a directory and its pages may lie, a directory as it was read, and lists that stand where it says.
-use Rattle.std.specs.Prelude.{◌≡◌, ◌<◌, ◌≤◌, ◌+◌, List, length, ℕ, true, All, IsTrue}
+use Rattle.std.specs.Prelude.{◌≡◌, ◌<◌, ◌≤◌, ◌+◌, List, ◌++◌, length, ℕ, true, All, IsTrue}
 use Rattle.rs_disk.specs.Medium.{DiskState}
 use Rattle.rs_disk.specs.Leaves.{Rests}
 use Rattle.rs_fixity.specs.Digests.{digests}
@@ -14,6 +14,7 @@ use Rattle.rs_page.specs.Pages.{IsStored, stored_refs}
 use Rattle.rs_pages.specs.Storing.{unshared}
 use Rattle.rs_catalogue.specs.Catalogue.{HoldsCatalogue}
 use Rattle.rs_changes.specs.History.{HoldsHistory}
+use Rattle.rs_directory.specs.declared.header.Header.{Header}
 use Rattle.rs_directory.specs.Directory.{directory_bytes, IsLawfulHeader, AreLawfulRefs}
 use Rattle.rs_directory.specs.declared.directory.Directory.{Directory}
 use Rattle.rs_image.specs.declared.contents.Contents.{Contents}
@@ -49,6 +50,19 @@ pub record IsLawfulDirectory (version : ℕ) (d : Directory) : Type 0 where
   pub changes : AreLawfulRefs d.changes.items
   pub published : AreLawfulRefs d.published.items
 
+-- Bytes are a lawful directory of a version that names these pages: those of its three lists, one list after the other.
+pub record Names (version : ℕ) (bytes : List ℕ) (pages : List PageRef) : Type 0 where
+  pub header : Header
+  pub catalogue : List PageRef
+  pub changes : List PageRef
+  pub published : List PageRef
+  pub of_header : IsLawfulHeader version header
+  pub of_catalogue : AreLawfulRefs catalogue
+  pub of_changes : AreLawfulRefs changes
+  pub of_published : AreLawfulRefs published
+  pub spelled : bytes ≡ directory_bytes version header catalogue changes published
+  pub all : pages ≡ catalogue ++ (changes ++ published)
+
 -- Where the root's extent holds the bytes of a directory, all pages that it names are placed.
 abbrev pub NamesPlaced : ℕ → Root → List ℕ → Type 0
 NamesPlaced size root image = (d : Directory) → IsLawfulDirectory root.version d → part root.directory root.length image ≡ spelled root.version d → ArePlaced size d
@@ -81,12 +95,9 @@ pub record ReadsBehind (root : Root) (old new : DiskState) : Type 0 where
 -- What reading the lists of a directory leaves, whatever it answers.
 -- `rests`: nothing changes but what the disk counts.
 -- `once`: each page that the directory names costs one call at most.
--- `placed`: no page is read unless all of them are placed, and otherwise the disk is left alone.
 pub record ReadsLists (d : Directory) (old new : DiskState) : Type 0 where
   pub rests : Rests old new
   pub once : new.calls ≤ old.calls + pages_read d
-  pub placed : old.calls < new.calls → ArePlaced new.size d
-  pub unplaced : ¬ ArePlaced new.size d → new ≡ old
 
 -- What the pages of a directory hold in an image: these records, changes and published records, page for page.
 pub record Hold (d : Directory) (image : List ℕ) (records : List (List Record)) (moves : List (List Change)) (listed : List (List Record)) : Type 0 where

@@ -4,6 +4,7 @@
 mod contents;
 pub mod laws;
 mod loading;
+mod placed;
 mod rooted;
 mod used;
 mod whole;

@@ -3,31 +3,28 @@
 ghost use Rattle.std.specs.Prelude.{◌≡◌, ◌↔◌, ◌<◌, ◌≤◌, ◌+◌, ℕ, List, true, false, All, map, IfOk, OnOk, IsErrOf, IsTrue};
 ghost use Rattle.rs_disk.specs.Leaves.{Rests, TellsFaults};
 ghost use Rattle.rs_fixity.specs.Digests.{digests};
-ghost use Rattle.rs_extent.specs.Extents.{within};
 ghost use Rattle.rs_body.specs.Blocks.{part};
 ghost use Rattle.rs_time.specs.Moment.{greatest};
 ghost use Rattle.rs_record.specs.declared.record.Record.{Record};
 ghost use Rattle.rs_record.specs.declared.change.Change.{Change};
 ghost use Rattle.rs_model.specs.State.{Source};
 ghost use Rattle.rs_image.specs.declared.contents.Contents.{Contents};
-ghost use Rattle.rs_image.specs.Reach.{blocks_of_disk};
 ghost use Rattle.rs_image.specs.StateOfImage.{Tells, state_in};
 ghost use Rattle.rs_page.specs.Pages.{IsStored};
 ghost use Rattle.rs_image.specs.Whole.{IsWhole};
 ghost use Rattle.rs_image.specs.Rooted.{AreUsed, MemoryIsSound, rooted};
-ghost use Rattle.rs_image.specs.Loading.{IsPlaced, IsDirectoryPlaced, IsPagePlaced, ArePlaced, ReadsBehind, ReadsLists, spelled, IsLawfulDirectory, AreOf, Hold};
+ghost use Rattle.rs_image.specs.Loading.{IsDirectoryPlaced, ArePlaced, NamesPlaced, ReadsBehind, ReadsLists, spelled, IsLawfulDirectory, AreOf, Hold};
 
-use crate::used::block_count;
+use crate::placed::{is_placed, names_placed};
 use crate::whole::{has_first_part, whole_set};
 use crate::{Contents, Loaded};
-use rs_body::{is_sized, read_body};
+use rs_body::read_body;
 use rs_catalogue::{Catalogue, LoadFault};
 use rs_changes::History;
 use rs_commit::Root;
 use rs_directory::{Directory, read_directory};
 use rs_disk::Disk;
-use rs_extent::{Extent, Used};
-use rs_page::PageRef;
+use rs_extent::Used;
 use std::alloc::Global;
 
 /// Reads what stands behind a root, whatever the root and the disk say, and checks each rule of the
@@ -35,7 +32,8 @@ use std::alloc::Global;
 ///
 /// No memory is asked for the directory, and nothing read of it, before its extent was found to lie
 /// behind the slots in what is used of the disk, and to have exactly the blocks of its length. The
-/// same was found of each page that it names before the first page is given memory or read.
+/// same was found of each page that it names, in the bytes of the directory, before memory is asked
+/// for anything but these bytes, and before the first page is read.
 ///
 /// # Errors
 ///
@@ -61,6 +59,12 @@ pub fn load<D: Disk>(alloc: Global, disk: &mut D, root: &Root) -> Result<Loaded,
         (D.state disk.old) (D.state disk.new) }
     ensures no_memory { IsErrOf result LoadFault.NoMemory
         → IsDirectoryPlaced (D.state disk.new).size root.now }
+
+    // Once the directory was read, memory is asked for only where each page that it names is placed.
+    ensures no_memory_behind { IsErrOf result LoadFault.NoMemory
+        → IsTrue (D.state disk.new).honest
+        → (D.state disk.old).calls < (D.state disk.new).calls
+        → NamesPlaced (D.state disk.new).size root.now (D.state disk.new).now.seen }
 
     ensures reads { ReadsBehind root.now (D.state disk.old) (D.state disk.new) }
 {
@@ -89,7 +93,8 @@ fn sound_set(alloc: Global, size: u64, root: &Root, contents: &Contents) -> Resu
     }
 }
 
-// Reads the directory of a root, in the root's version. It is Damaged where the first part that it
+// Reads the directory of a root, in the root's version. It is Damaged where a page that it names is
+// not placed, which is found before its entries are given memory, or where the first part that it
 // names can't be the first one of its history.
 fn load_directory<D: Disk>(alloc: Global, disk: &mut D, root: &Root) -> Result<Directory, LoadFault>
     ensures placed { OnOk result (IsDirectoryPlaced (D.state disk.new).size root.now) }
@@ -107,8 +112,13 @@ fn load_directory<D: Disk>(alloc: Global, disk: &mut D, root: &Root) -> Result<D
         → ¬ Tells root.now c (D.state disk.new).now.seen s }
     ensures device { TellsFaults (IsErrOf result LoadFault.Device)
         (D.state disk.old) (D.state disk.new) }
+    ensures all_placed { IfOk result (ArePlaced (D.state disk.new).size) }
     ensures no_memory { IsErrOf result LoadFault.NoMemory
         → IsDirectoryPlaced (D.state disk.new).size root.now }
+    ensures no_memory_behind { IsErrOf result LoadFault.NoMemory
+        → IsTrue (D.state disk.new).honest
+        → (D.state disk.old).calls < (D.state disk.new).calls
+        → NamesPlaced (D.state disk.new).size root.now (D.state disk.new).now.seen }
     ensures rests { Rests (D.state disk.old) (D.state disk.new) }
     ensures one_call { (D.state disk.new).calls ≤ (D.state disk.old).calls + 1 }
 {
@@ -117,6 +127,9 @@ fn load_directory<D: Disk>(alloc: Global, disk: &mut D, root: &Root) -> Result<D
     }
     let mut bytes = Vec::new(alloc);
     read_body(disk, root.directory, root.length, &root.sha256, &mut bytes)?;
+    if !names_placed(root.version, &bytes, disk.size()) {
+        return Err(LoadFault::Damaged);
+    }
     let directory = read_directory(alloc, root.version, &bytes)?;
     if !has_first_part(&directory.header) {
         return Err(LoadFault::Damaged);
@@ -124,41 +137,8 @@ fn load_directory<D: Disk>(alloc: Global, disk: &mut D, root: &Root) -> Result<D
     Ok(directory)
 }
 
-// Whether each of these pages has exactly the blocks of its length, all of them behind the slots in
-// what is used of a disk of `size` bytes.
-fn are_placed(pages: &[PageRef], size: u64) -> bool
-    ensures yes { result ≡ true → All (IsPagePlaced size) pages.now }
-    ensures no { result ≡ false → ¬ All (IsPagePlaced size) pages.now }
-{
-    for page in pages {
-        if !is_placed(page.extent, page.length, size) {
-            return false;
-        }
-    }
-    true
-}
-
-// Whether an extent has exactly the blocks of `length` bytes, all of them behind the slots in what is
-// used of a disk of `size` bytes.
-fn is_placed(extent: Extent, length: u32, size: u64) -> bool
-    ensures { IsTrue result ↔ IsPlaced size extent length }
-{
-    is_sized(extent, length) && is_inside(extent, size)
-}
-
-// Whether each block of an extent is behind the slots, and one of those that are used of a disk of
-// `size` bytes.
-fn is_inside(extent: Extent, size: u64) -> bool
-    ensures { IsTrue result
-        ↔ ((b : ℕ) → within extent b ≡ true → (2 ≤ b) × (b < blocks_of_disk size)) }
-{
-    let end = extent.first as u64 + extent.blocks as u64;
-    extent.blocks == 0 || 2 <= extent.first && end <= block_count(size) as u64
-}
-
-// Reads the lists whose pages a directory names; a published page that is a page of the catalogue
-// too is not read again. Where one of these is not placed, it is found Damaged
-// before any page is given memory or read.
+// Reads the lists whose pages a directory names; a published page that is a page of the catalogue too
+// is not read again.
 fn load_lists<D: Disk>(
     alloc: Global,
     disk: &mut D,
@@ -173,22 +153,12 @@ fn load_lists<D: Disk>(
         → IsTrue (D.state disk.new).honest
         → (catalogue : List (List Record)) (changes : List (List Change))
         (published : List (List Record))
-        → ArePlaced (D.state disk.new).size directory
         → ¬ Hold directory (D.state disk.new).now.seen catalogue changes published }
     ensures device { TellsFaults (IsErrOf result LoadFault.Device)
         (D.state disk.old) (D.state disk.new) }
-    ensures placed { ¬ IsErrOf result LoadFault.Damaged
-        → ArePlaced (D.state disk.new).size directory }
     ensures reads { ReadsLists directory (D.state disk.old) (D.state disk.new) }
 {
-    let size = disk.size();
-    let all_placed = are_placed(&directory.catalogue, size)
-        && are_placed(&directory.changes, size)
-        && are_placed(&directory.published, size);
-    if !all_placed {
-        return Err(LoadFault::Damaged);
-    }
-    let lists = load_placed(alloc, disk, &directory)?;
+    let lists = load_pages(alloc, disk, &directory)?;
     Ok(Contents {
         header: directory.header,
         catalogue: lists.catalogue,
@@ -205,14 +175,13 @@ struct Lists {
     published: Catalogue,
 }
 
-// Reads the lists whose pages a directory names, all of which are placed.
-fn load_placed<D: Disk>(
+// Reads the lists whose pages a directory names, beside its header.
+fn load_pages<D: Disk>(
     alloc: Global,
     disk: &mut D,
     directory: &Directory,
 ) -> Result<Lists, LoadFault>
-    requires first { directory.now.header.first ≤ greatest }
-    requires placed { ArePlaced (D.state disk.old).size directory.now }
+    requires { directory.now.header.first ≤ greatest }
     ensures lists { IfOk result (λ lists. AreOf directory.now
         (record {
           header = directory.now.header;

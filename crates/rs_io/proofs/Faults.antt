@@ -9,13 +9,17 @@ use Rattle.std.proofs.KnownBytes.{Appends-nil, Appends-trans, Appends-kept}
 use Rattle.std.proofs.lemmas.Grind.{flat_map-append}
 use Rattle.std.proofs.lemmas.Result.{IfOk-from_err}
 use Rattle.rs_io.specs.declared.watch.Watched.{Watched}
-use Rattle.rs_io.specs.Watch.{watched, failures, EndFailed, FailedWithin, FailedAfter, Wrote, WritesOut}
+use Rattle.rs_io.specs.Watch.{watched, failures, EndFailed, PutFailed, FailedWithin, FailedAfter, Wrote, WritesOut}
 use Rattle.rs_io.proofs.Growth.{appends_same, wrote_then, flat_map-next}
 
 -- a fault after calls that did not fail is a fault of the whole run
 pub later_fault : {T : Type 0} (a b c : Watched T) → failures b ≡ failures a → EndFailed b c → EndFailed a c
-later_fault a b c same (inl rose) = inl (omega (arith, same, rose))
+later_fault a b c same (inl rose) = inl (omega (arith, ap (λ f. f.all) same, rose))
 later_fault a b c same (inr last) = inr last
+
+-- the same of a put
+pub later_put_fault : {T : Type 0} (a b c : Watched T) → failures b ≡ failures a → PutFailed b c → PutFailed a c
+later_put_fault a b c same fault = (later_fault a b c same fault.0, fault.1 ∙ ap (λ f. f.flushes) same)
 
 -- of a call that failed
 pub on_fault : {X E P : Type 0} (r : Result X E) → P → OnErr r P
@@ -28,7 +32,7 @@ module _ {W : Type 0} (contents : W → Option (List ℕ)) where
   failed_same a b x y h e = subst (FailedWithin contents a b) e h
 
   -- a call failed and took nothing
-  pub failed_at_once : (a b : Watched W) (text : List ℕ) → Keeps (contents (watched a)) (contents (watched b)) → EndFailed a b → FailedWithin contents a b text
+  pub failed_at_once : (a b : Watched W) (text : List ℕ) → Keeps (contents (watched a)) (contents (watched b)) → PutFailed a b → FailedWithin contents a b text
   failed_at_once a b text kept fault =
       record { failed = fault; part = []; left_out = text; bytes_are = refl; took = Appends-kept _ _ _ [] (Appends-nil (contents (watched a))) kept }
 
@@ -51,7 +55,7 @@ module _ {W : Type 0} (contents : W → Option (List ℕ)) where
   pub failed_last : (a b c : Watched W) (x y t : List ℕ) → Wrote contents a b x → FailedWithin contents b c y → x ++ y ≡ t → FailedWithin contents a c t
   failed_last a b c x y t whole h e =
       record {
-        failed = later_fault a b c whole.1 h.failed;
+        failed = later_put_fault a b c whole.1 h.failed;
         part = x ++ h.part;
         left_out = h.left_out;
         bytes_are = append_assoc x h.part h.left_out ∙ ap (λ l. x ++ l) h.bytes_are ∙ e;
@@ -99,21 +103,12 @@ module _ {W : Type 0} (contents : W → Option (List ℕ)) where
   pub failed_after : (a b c : Watched W) (first text : List ℕ) → Wrote contents a b first → FailedWithin contents b c text → FailedAfter contents a c first text
   failed_after a b c first text whole h =
       record {
-        failed = later_fault a b c whole.1 h.failed;
+        failed = later_put_fault a b c whole.1 h.failed;
         part = h.part;
         left_out = h.left_out;
         bytes_are = h.bytes_are;
         took = Appends-trans _ _ _ first h.part whole.0 h.took;
       }
-
-  -- a flush failed after what went whole
-  pub failed_flush : (a b c : Watched W) (first : List ℕ) → Wrote contents a b first → Keeps (contents (watched b)) (contents (watched c)) → EndFailed b c → FailedAfter contents a c first []
-  failed_flush a b c first whole kept fault = failed_after a b c first [] whole (failed_at_once b c [] kept fault)
-
-  -- the same, of which all that went whole is the text
-  pub failed_flush_within : (a b c : Watched W) (text : List ℕ) → Wrote contents a b text → Keeps (contents (watched b)) (contents (watched c)) → EndFailed b c → FailedWithin contents a c text
-  failed_flush_within a b c text whole kept fault =
-      failed_last a b c text [] text whole (failed_at_once b c [] kept fault) (append-nil text)
 
   -- the first piece of several failed, and so the whole call
   pub stops_first : {X E : Type 0} (r : Result X E) (a b : Watched W) (x rest t : List ℕ) → IsErr r → FailedWithin contents a b x → x ++ rest ≡ t → WritesOut contents a b r t

@@ -1,6 +1,7 @@
 -- What contracts see of a watched reader or writer. What an end holds, W.contents of a writer or R.remaining of a reader,
 -- is passed to the words that speak of its bytes.
-use Rattle.std.specs.Prelude.{◌≡◌, ◌⊎◌, ℕ, ◌+◌, ◌<◌, ◌≤◌, ◌^◌, Bool, true, not, List, ◌++◌, Option, Result, MatchResult}
+use Rattle.std.specs.Prelude.{◌≡◌, ◌⊎◌, ℕ, ◌+◌, ◌<◌, ◌≤◌, ◌^◌, ◌==◌, Bool, true, not, List, ◌++◌, Option, Result, MatchResult}
+use Rattle.std.specs.Result.{IsErr}
 use Rattle.std.specs.Io.KnownBytes.{Consumes, Appends}
 use Rattle.rs_io.specs.declared.watch.Watched.{Watched}
 
@@ -8,13 +9,36 @@ use Rattle.rs_io.specs.declared.watch.Watched.{Watched}
 abbrev pub watched : {T : Type 0} → Watched T → T
 watched w = w.inner
 
--- how many calls of it have failed
-abbrev pub failures : {T : Type 0} → Watched T → ℕ
-failures w = w.failures
+-- how many calls were made of the end inside
+abbrev pub calls : {T : Type 0} → Watched T → ℕ
+calls w = w.calls
+
+-- Faults that were answered: how many in all, and how many of them by a flush.
+pub record Failures : Type 0 where
+  pub all : ℕ
+  pub flushes : ℕ
+
+-- the faults that it has answered
+abbrev pub failures : {T : Type 0} → Watched T → Failures
+failures w = record { all = w.failures; flushes = w.failed_flushes }
+
+-- a call of it has failed, so that each later one fails too
+abbrev pub is_broken : {T : Type 0} → Watched T → Bool
+is_broken w = not (w.failures == 0)
 
 -- nothing was put into it since its last flush that succeeded
 abbrev pub is_flushed : {T : Type 0} → Watched T → Bool
 is_flushed w = not w.holds_back
+
+-- the same end, seen by what this tells of the reader or the writer inside
+abbrev pub seen_by : {T X : Type 0} → (T → X) → Watched T → Watched X
+seen_by told w = record {
+  inner = told w.inner;
+  calls = w.calls;
+  failures = w.failures;
+  failed_flushes = w.failed_flushes;
+  holds_back = w.holds_back;
+}
 
 -- what was put into it in between was flushed too
 abbrev pub StaysFlushed : {T : Type 0} → Watched T → Watched T → Type 0
@@ -22,23 +46,41 @@ StaysFlushed old new = is_flushed old ≡ true → is_flushed new ≡ true
 
 -- a call failed in between, or the count stands at its last value
 abbrev pub EndFailed : {T : Type 0} → Watched T → Watched T → Type 0
-EndFailed old new = (failures old < failures new) ⊎ (2 ^ 64 ≤ failures new + 1)
+EndFailed old new = ((failures old).all < (failures new).all) ⊎ (2 ^ 64 ≤ (failures new).all + 1)
+
+-- a flush failed in between, or their count stands at its last value
+abbrev pub FlushFailed : {T : Type 0} → Watched T → Watched T → Type 0
+FlushFailed old new = ((failures old).flushes < (failures new).flushes) ⊎ (2 ^ 64 ≤ (failures new).flushes + 1)
+
+-- a put failed in between, and no flush
+abbrev pub PutFailed : {T : Type 0} → Watched T → Watched T → Type 0
+PutFailed old new = EndFailed old new × ((failures new).flushes ≡ (failures old).flushes)
+
+-- one call of the end inside was made, or their count stands at its last value
+abbrev pub IsCalledOnce : {T : Type 0} → Watched T → Watched T → Type 0
+IsCalledOnce old new = (calls new ≡ calls old + 1) ⊎ ((calls new ≡ calls old) × (2 ^ 64 ≤ calls old + 1))
+
+-- A call was refused: it answers a fault, and nothing was asked of the end inside.
+pub record IsRefused {T X E : Type 0} (old new : Watched T) (result : Result X E) : Type 0 where
+  pub failed : IsErr result
+  pub untouched : watched new ≡ watched old
+  pub not_called : calls new ≡ calls old
 
 -- a writer took these bytes, and no call of it failed in between
 abbrev pub Wrote : {W : Type 0} → (W → Option (List ℕ)) → Watched W → Watched W → List ℕ → Type 0
 Wrote contents old new bytes = Appends (contents (watched old)) (contents (watched new)) bytes × (failures new ≡ failures old)
 
--- a writer failed within this text: it took a beginning of it, and the rest was left out
+-- a put failed within this text: the writer took a beginning of it, and the rest was left out
 pub record FailedWithin {W : Type 0} (contents : W → Option (List ℕ)) (old new : Watched W) (text : List ℕ) : Type 0 where
-  pub failed : EndFailed old new
+  pub failed : PutFailed old new
   pub part : List ℕ
   pub left_out : List ℕ
   pub bytes_are : part ++ left_out ≡ text
   pub took : Appends (contents (watched old)) (contents (watched new)) part
 
--- a writer took the first bytes whole, and failed then: of this text it took a beginning, and the rest was left out
+-- a writer took the first bytes whole, and a put failed then: of this text it took a beginning, and the rest was left out
 pub record FailedAfter {W : Type 0} (contents : W → Option (List ℕ)) (old new : Watched W) (first text : List ℕ) : Type 0 where
-  pub failed : EndFailed old new
+  pub failed : PutFailed old new
   pub part : List ℕ
   pub left_out : List ℕ
   pub bytes_are : part ++ left_out ≡ text

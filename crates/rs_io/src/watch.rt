@@ -1,11 +1,10 @@
-//! A reader or a writer that counts its calls that failed, and knows whether all it took was flushed.
-ghost use Rattle.std.specs.Prelude.{◌≡◌, ◌+◌, ◌<◌, ◌≤◌, [], true, false, length, take, decimal, IfOk, OnOk, OnErr, IfSome, MatchOption, MatchResult};
+//! A reader or a writer that counts its calls and its faults, stays failed once it has failed, and knows whether all it took was flushed.
+ghost use Rattle.std.specs.Prelude.{◌≡◌, ◌+◌, ◌<◌, ◌≤◌, [], true, false, length, take, decimal, IfOk, OnOk, OnErr, IfSome, IsTrue, MatchOption};
 ghost use Rattle.std.specs.List.{flat_map};
 ghost use Rattle.std.specs.Io.KnownBytes.{IsAtEnd, Keeps};
 
 use crate::fault::{ReadFault, WriteFault};
 use itoa::Buffer;
-use std::io;
 use std::io::{ErrorKind, Read, Write};
 
 // The most bytes of one write. A socket takes a large body sooner in pieces of this size than in one.
@@ -14,42 +13,62 @@ const LARGEST_WRITE: usize = 262_144;
 // How often an interrupted write is tried again in one call.
 const MOST_INTERRUPTIONS: u32 = 100;
 
-/// A reader or a writer, with a count of its calls that failed, and with whether all that was put
-/// into it has been flushed.
+/// A reader or a writer, with a count of its calls and of its faults, and with whether all that was
+/// put into it has been flushed.
 ///
-/// Each call that answers an error is counted once, and no other; the count stays at `u64::MAX` once
-/// it is there. Nothing is tried again but an interrupted write, which is no failure: in one call of
-/// [`Watched::put`] 100 of them are tried again, and the next one is a failure.
-/// A caller may go on after an error: what the end does then is its own matter.
+/// An end that has failed stays failed: each later call answers the fault, and makes no call of the
+/// end inside. Each call that answers an error is counted once, and no other; a count stays at
+/// `u64::MAX` once it is there. Nothing is tried again but an interrupted write, which is no failure:
+/// in one call of [`Watched::put`] 100 of them are tried again, and the next one is a failure.
 #[derive(Debug, Drop)]
 pub struct Watched<T> {
     inner: T,
+    calls: u64,
     failures: u64,
+    failed_flushes: u64,
     holds_back: bool,
 }
 
 impl<T> Watched<T> {
-    ghost use Rattle.rs_io.specs.Watch.{watched, failures, is_flushed, EndFailed};
+    ghost use Rattle.rs_io.specs.Watch.{watched, calls, failures, is_broken, is_flushed, PutFailed, IsCalledOnce};
 
     /// Watches `inner` from here on. What failed before is not counted, and what was written before
     /// counts as flushed.
     pub fn new(inner: T) -> Watched<T>
         ensures inner { watched result ≡ inner }
-        ensures failures { failures result ≡ 0 }
+        ensures calls { calls result ≡ 0 }
+        ensures failures { failures result ≡ record { all = 0; flushes = 0 } }
         ensures flushed { is_flushed result ≡ true }
     {
         Watched {
             inner,
+            calls: 0,
             failures: 0,
+            failed_flushes: 0,
             holds_back: false,
         }
     }
 
-    /// How many calls have failed since [`Watched::new`], or `u64::MAX` where they are more.
+    /// How many calls were made of the end inside since [`Watched::new`], or `u64::MAX` where they
+    /// are more.
+    pub fn calls(&self) -> u64
+        ensures { result ≡ calls self.now }
+    {
+        self.calls
+    }
+
+    /// How many calls have answered a fault since [`Watched::new`], or `u64::MAX` where they are more.
     pub fn failures(&self) -> u64
-        ensures { result ≡ failures self.now }
+        ensures { result ≡ (failures self.now).all }
     {
         self.failures
+    }
+
+    /// Whether a call has failed, so that each later one fails too.
+    pub fn is_broken(&self) -> bool
+        ensures { result ≡ is_broken self.now }
+    {
+        self.failures != 0
     }
 
     /// Whether a flush has succeeded since the last call that put bytes, or none was put
@@ -74,29 +93,22 @@ impl<T> Watched<T> {
         self.inner
     }
 
-    // Counts a call of `inner` that failed, and gives `fault` in place of its error.
-    fn noted<A: Drop, F: Drop>(&mut self, answer: io::Result<A>, fault: F) -> Result<A, F>
-        ensures value { MatchResult answer (λ a. result ≡ Ok a) (λ _. result ≡ Err fault) }
+    // Counts a call of the end inside.
+    fn count_call(&mut self)
         ensures inner { watched self.new ≡ watched self.old }
-        ensures sound { OnOk result (failures self.new ≡ failures self.old) }
-        ensures failed { OnErr result (EndFailed self.old self.new) }
-        ensures once { failures self.new ≤ failures self.old + 1 }
+        ensures called { IsCalledOnce self.old self.new }
+        ensures failures { failures self.new ≡ failures self.old }
         ensures flushed { is_flushed self.new ≡ is_flushed self.old }
     {
-        match answer {
-            Ok(value) => Ok(value),
-            Err(_) => {
-                self.count_failure();
-                Err(fault)
-            }
-        }
+        self.calls = self.calls.saturating_add(1);
     }
 
-    // Counts a failure.
+    // Counts a fault.
     fn count_failure(&mut self)
         ensures inner { watched self.new ≡ watched self.old }
-        ensures failed { EndFailed self.old self.new }
-        ensures once { failures self.new ≤ failures self.old + 1 }
+        ensures calls { calls self.new ≡ calls self.old }
+        ensures failed { PutFailed self.old self.new }
+        ensures once { (failures self.new).all ≤ (failures self.old).all + 1 }
         ensures flushed { is_flushed self.new ≡ is_flushed self.old }
     {
         self.failures = self.failures.saturating_add(1);
@@ -104,7 +116,7 @@ impl<T> Watched<T> {
 }
 
 impl<R: Read> Watched<R> {
-    ghost use Rattle.rs_io.specs.Watch.{watched, failures, is_flushed, EndFailed, Took};
+    ghost use Rattle.rs_io.specs.Watch.{watched, calls, failures, is_broken, is_flushed, EndFailed, IsCalledOnce, IsRefused, Took};
 
     /// Reads once into the front of `buf`, and says how many bytes came.
     ///
@@ -112,7 +124,7 @@ impl<R: Read> Watched<R> {
     ///
     /// # Errors
     ///
-    /// [`ReadFault`] where the read fails. No byte is then lost.
+    /// [`ReadFault`] where the read fails, or one failed before. No byte is then lost.
     pub fn read(&mut self, buf: &mut [u8]) -> Result<usize, ReadFault>
         ensures bound { IfOk result (λ n. n ≤ length buf.new) }
         ensures ok { IfOk result (λ n. Took R.remaining self.old self.new (take n buf.new)) }
@@ -121,16 +133,28 @@ impl<R: Read> Watched<R> {
         ensures err { OnErr result
             (Keeps (R.remaining (watched self.old)) (R.remaining (watched self.new))) }
         ensures failed { OnErr result (EndFailed self.old self.new) }
-        ensures once { failures self.new ≤ failures self.old + 1 }
+        ensures once { (failures self.new).all ≤ (failures self.old).all + 1 }
         ensures flushed { is_flushed self.new ≡ is_flushed self.old }
+        ensures broken { IsTrue (is_broken self.old) → IsRefused self.old self.new result }
+        ensures called { is_broken self.old ≡ false → IsCalledOnce self.old self.new }
     {
-        let answer = self.inner.read(buf);
-        self.noted(answer, ReadFault)
+        if self.is_broken() {
+            self.count_failure();
+            return Err(ReadFault);
+        }
+        self.count_call();
+        match self.inner.read(buf) {
+            Ok(count) => Ok(count),
+            Err(_) => {
+                self.count_failure();
+                Err(ReadFault)
+            }
+        }
     }
 }
 
 impl<W: Write> Watched<W> {
-    ghost use Rattle.rs_io.specs.Watch.{watched, failures, is_flushed, EndFailed, FailedWithin, Wrote, WritesOut};
+    ghost use Rattle.rs_io.specs.Watch.{watched, calls, failures, is_broken, is_flushed, EndFailed, FlushFailed, IsCalledOnce, IsRefused, FailedWithin, Wrote, WritesOut};
 
     /// Writes all of `bytes`.
     ///
@@ -138,16 +162,23 @@ impl<W: Write> Watched<W> {
     ///
     /// # Errors
     ///
-    /// [`WriteFault`] where a write fails, takes no byte, or is interrupted once more. The writer
-    /// has then taken a beginning of the bytes, and no other byte.
+    /// [`WriteFault`] where a write fails, takes no byte, or is interrupted once more, or a call of
+    /// the writer failed before. The writer has then taken a beginning of the bytes, and no other
+    /// byte.
     pub fn put(&mut self, bytes: &[u8]) -> Result<(), WriteFault>
         ensures ok { OnOk result (Wrote W.contents self.old self.new bytes.now) }
         ensures fault { OnErr result (FailedWithin W.contents self.old self.new bytes.now) }
         ensures failed { OnErr result (EndFailed self.old self.new) }
-        ensures once { failures self.new ≤ failures self.old + 1 }
+        ensures once { (failures self.new).all ≤ (failures self.old).all + 1 }
         ensures unflushed { is_flushed self.new ≡ false }
+        ensures broken { IsTrue (is_broken self.old) → IsRefused self.old self.new result }
+        ensures calls { calls self.old ≤ calls self.new }
     {
         self.holds_back = true;
+        if self.is_broken() {
+            self.count_failure();
+            return Err(WriteFault);
+        }
         let mut written = 0;
         let mut interruptions = 0;
         while written < bytes.len() {
@@ -173,9 +204,11 @@ impl<W: Write> Watched<W> {
             (Wrote W.contents self.old self.new [])
             (λ count. Wrote W.contents self.old self.new (take count bytes.now))) }
         ensures fault { OnErr result (FailedWithin W.contents self.old self.new bytes.now) }
-        ensures once { failures self.new ≤ failures self.old + 1 }
+        ensures once { (failures self.new).all ≤ (failures self.old).all + 1 }
         ensures flushed { is_flushed self.new ≡ is_flushed self.old }
+        ensures called { IsCalledOnce self.old self.new }
     {
+        self.count_call();
         let first = &bytes[..bytes.len().min(LARGEST_WRITE)];
         match self.inner.write(first) {
             Ok(count) if count > 0 => return Ok(Some(count)),
@@ -196,8 +229,10 @@ impl<W: Write> Watched<W> {
         ensures ok { OnOk result (Wrote W.contents self.old self.new (decimal number)) }
         ensures fault { OnErr result (FailedWithin W.contents self.old self.new (decimal number)) }
         ensures failed { OnErr result (EndFailed self.old self.new) }
-        ensures once { failures self.new ≤ failures self.old + 1 }
+        ensures once { (failures self.new).all ≤ (failures self.old).all + 1 }
         ensures unflushed { is_flushed self.new ≡ false }
+        ensures broken { IsTrue (is_broken self.old) → IsRefused self.old self.new result }
+        ensures calls { calls self.old ≤ calls self.new }
     {
         let mut digits = Buffer::new();
         self.put(digits.format(number).as_bytes())
@@ -218,6 +253,9 @@ impl<W: Write> Watched<W> {
         ensures failed { OnErr result (EndFailed self.old self.new) }
         ensures unflushed { 0 < length pieces.now → is_flushed self.new ≡ false }
         ensures untouched { pieces.now ≡ [] → is_flushed self.new ≡ is_flushed self.old }
+        ensures broken { IsTrue (is_broken self.old) → 0 < length pieces.now
+            → IsRefused self.old self.new result }
+        ensures calls { calls self.old ≤ calls self.new }
     {
         for piece in pieces {
             self.put(piece)?;
@@ -229,18 +267,27 @@ impl<W: Write> Watched<W> {
     ///
     /// # Errors
     ///
-    /// [`WriteFault`] where the flush fails.
+    /// [`WriteFault`] where the flush fails, or a call of the writer failed before.
     pub fn flush(&mut self) -> Result<(), WriteFault>
         ensures bytes { Keeps (W.contents (watched self.old)) (W.contents (watched self.new)) }
         ensures sound { OnOk result (failures self.new ≡ failures self.old) }
         ensures failed { OnErr result (EndFailed self.old self.new) }
-        ensures once { failures self.new ≤ failures self.old + 1 }
+        ensures flush_failed { OnErr result (FlushFailed self.old self.new) }
+        ensures once { (failures self.new).all ≤ (failures self.old).all + 1 }
         ensures flushed { OnOk result (is_flushed self.new ≡ true) }
         ensures unflushed { OnErr result (is_flushed self.new ≡ is_flushed self.old) }
+        ensures broken { IsTrue (is_broken self.old) → IsRefused self.old self.new result }
+        ensures called { is_broken self.old ≡ false → IsCalledOnce self.old self.new }
     {
-        let answer = self.inner.flush();
-        self.noted(answer, WriteFault)?;
-        self.holds_back = false;
-        Ok(())
+        if !self.is_broken() {
+            self.count_call();
+            if let Ok(()) = self.inner.flush() {
+                self.holds_back = false;
+                return Ok(());
+            }
+        }
+        self.count_failure();
+        self.failed_flushes = self.failed_flushes.saturating_add(1);
+        Err(WriteFault)
     }
 }

@@ -1,5 +1,5 @@
 -- Why a run from a formatting on halted.
-use Rattle.std.proofs.Common.{◌≡◌, ◌⊎◌, inl, inr, ℕ, ◌<◌, ◌≤◌, Bool, true, false, List, refl, arith, Result, Ok, Err}
+use Rattle.std.proofs.Common.{◌≡◌, ◌⊎◌, inl, inr, ℕ, ◌<◌, Bool, true, false, List, refl, arith, Result, Err}
 use Rattle.std.specs.Prelude.{◌↔◌, IsTrue, IsErrAnd}
 use Rattle.std.proofs.lemmas.Bool.{cases_lt}
 use Rattle.rs_record.specs.Base.{is_base}

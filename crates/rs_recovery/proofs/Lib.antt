@@ -3,8 +3,10 @@ pub mod Opened
 pub mod TurnsJoined
 pub mod Counts
 pub mod Sessions
+pub mod OnAny
 pub mod Acknowledged
 pub mod Prefixes
+pub mod Reopened
 pub mod OneSession
 pub mod Walked
 pub mod Recorded

@@ -3,7 +3,6 @@ use Rattle.std.proofs.Common.{◌≡◌, ◌⊎◌, inl, inr, ◌<◌, ◌≤◌
 use Rattle.std.specs.List.{AllByRecursion}
 use Rattle.std.proofs.Math.Seq.{take-append_seam}
 use Rattle.std.proofs.lemmas.List.{take-append-drop, take-take}
-use Rattle.rs_disk.specs.Medium.{DiskState, IsMedium}
 use Rattle.rs_record.specs.declared.change.Change.{Change}
 use Rattle.rs_model.specs.State.{Source, start_of, entries}
 use Rattle.rs_model.specs.Names.{Names}
@@ -19,10 +18,12 @@ use Rattle.rs_caps.specs.Destination.{part_paths, fetched_at, IsFetchedPart, IsF
 use Rattle.rs_caps.specs.Gather.{gather_resources, gather_changes, listed_entry}
 use Rattle.rs_store.specs.Counted.{is_accepted, is_in_doubt, answered, counted_commands}
 use Rattle.rs_store.specs.declared.running.Ack.{Ack}
+use Rattle.rs_recovery.specs.AnyDisk.{state_of_any}
 use Rattle.rs_recovery.specs.Sessions.{Session, commands_standing}
 use Rattle.rs_recovery.specs.Served.{IsNoLater, IsPrefixOf, CommandsStand, SessionsStand}
 use Rattle.rs_recovery.specs.Mirrored.{AreLawfulSessions, list_head, changes_head, Asked, answered_by, IsAskedPart, AsksBoth, changes_made, AreOfNext, IsMirrored, SessionsAreMirrored}
 use Rattle.rs_recovery.proofs.Below.{Commands, Acks}
+use Rattle.rs_recovery.proofs.Sessions.{any_is_sound}
 use Rattle.rs_recovery.proofs.Walked.{told}
 use Rattle.rs_recovery.proofs.Recorded.{tried, tried_behind, split_at, within_next}
 
@@ -55,7 +56,7 @@ answered_lawful test (c ∷ commands) [] all = tt
 answered_lawful test (c ∷ commands) (a ∷ acks) all =
     one_more (test a) c (answered test commands acks) all.0 (answered_lawful test commands acks all.1)
 
-standing_lawful : {D : Type 0} (sessions : List (Session D)) (standing : List ℕ) → AreLawfulSessions sessions → AllByRecursion IsLawfulTimed (commands_standing sessions standing)
+standing_lawful : (sessions : List Session) (standing : List ℕ) → AreLawfulSessions sessions → AllByRecursion IsLawfulTimed (commands_standing sessions standing)
 standing_lawful [] standing all = tt
 standing_lawful (x ∷ past) [] all = tt
 standing_lawful (x ∷ past) (j ∷ standing) all =
@@ -81,12 +82,11 @@ first_of_first : (n m : ℕ) (whole : Commands) → n ≤ m → IsPrefixOf (take
 first_of_first n m whole le =
     (drop n (take m whole), ap (λ l. l ++ drop n (take m whole)) (sym (take-take n m whole le)) ∙ take-append-drop n (take m whole))
 
-module _ {D : Type 0} (device : D → DiskState) (sound : (disk : D) → IsMedium (device disk).size (device disk).now)
-    (mirrors : DestinationMirrors) (was_held : MirrorWasHeld) (catalogued : HeldIsCatalogued)
-    (base : List ℕ) (limit moment : ℕ) (before : Commands) (sessions : List (Session D)) (standing : List ℕ)
+module _ (mirrors : DestinationMirrors) (was_held : MirrorWasHeld) (catalogued : HeldIsCatalogued)
+    (base : List ℕ) (limit moment : ℕ) (before : Commands) (sessions : List Session) (standing : List ℕ)
     (lawful : IsLawful (start_of base limit moment)) (early : AllByRecursion IsLawfulTimed before) (all : AreLawfulSessions sessions)
-    (stand : CommandsStand device (fold_of (start_of base limit moment) before) sessions standing)
-    (asked : Asked device sessions standing) (asks : AsksBoth device asked.asking asked.last) where
+    (stand : CommandsStand (fold_of (start_of base limit moment) before) sessions standing)
+    (asked : Asked sessions standing) (asks : AsksBoth asked.asking asked.last) where
   abbrev formatted : Source
   formatted = start_of base limit moment
 
@@ -106,14 +106,14 @@ module _ {D : Type 0} (device : D → DiskState) (sound : (disk : D) → IsMediu
   latest = length before + length asked.behind_last
 
   -- what was answered is what the walk answers
-  answered_alike : (path : List ℕ) → answered_by device asked.asking path ≡ fetched_at formatted events when path
+  answered_alike : (path : List ℕ) → answered_by asked.asking path ≡ fetched_at formatted events when path
   answered_alike path =
       let served = stand.served (asked.asking path) (asked.behind path) (asked.served path) in
       let state : state_at formatted events (when path) ≡ fold_of start (asked.behind path) =
       tried_behind formatted before whole (length (asked.behind path)) ∙ ap (fold_of start) (first_are (asked.behind path) whole served.1) in
-      ap (λ t. answer t path) (told device sound (asked.asking path).source (fold_of start (asked.behind path)) served.0 ∙ sym state)
+      ap (λ t. answer t path) (told state_of_any any_is_sound (asked.asking path).source (fold_of start (asked.behind path)) served.0 ∙ sym state)
 
-  alike : answered_by device asked.asking ≡ fetched_at formatted events when
+  alike : answered_by asked.asking ≡ fetched_at formatted events when
   alike = λ i path. answered_alike path i
 
   -- what is asked no later has no more behind it
@@ -134,7 +134,7 @@ module _ {D : Type 0} (device : D → DiskState) (sound : (disk : D) → IsMediu
   last_stands : IsPrefixOf asked.behind_last whole
   last_stands = (stand.served asked.last asked.behind_last asked.last_served).1
 
-  part_fetched : (head path : List ℕ) (last : ℕ) → IsAskedPart device asked.asking head path → when path ≤ last → IsFetchedPart formatted events when (when head) last path
+  part_fetched : (head path : List ℕ) (last : ℕ) → IsAskedPart asked.asking head path → when path ≤ last → IsFetchedPart formatted events when (when head) last path
   part_fetched head path last part le = record {
     after_head = later_path head path part.after_head;
     by_last = le;
@@ -146,7 +146,7 @@ module _ {D : Type 0} (device : D → DiskState) (sound : (disk : D) → IsMediu
     resources = record {
       by_last = at_most list_head;
       parts = λ text document found read.
-          all_so (IsAskedPart device asked.asking list_head) (IsFetchedPart formatted events when (when list_head) (length before + length whole))
+          all_so (IsAskedPart asked.asking list_head) (IsFetchedPart formatted events when (when list_head) (length before + length whole))
           (λ path part. part_fetched list_head path (length before + length whole) part (at_most path)) (part_paths document)
           (asks.resources text document (answered_alike list_head ∙ found) read);
     };
@@ -155,7 +155,7 @@ module _ {D : Type 0} (device : D → DiskState) (sound : (disk : D) → IsMediu
       by_last = by_last changes_head asks.head_by_last;
       parts = λ text document found read.
           let here = answered_alike changes_head ∙ found in
-          let Part : List ℕ → Type 0 = IsAskedPart device asked.asking changes_head in
+          let Part : List ℕ → Type 0 = IsAskedPart asked.asking changes_head in
           let InTime : List ℕ → Type 0 = λ path. IsNoLater (asked.asking path) asked.last in
           all_so (λ path. Part path × InTime path) (IsFetchedPart formatted events when (when changes_head) latest)
           (λ path part. part_fetched changes_head path latest part.0 (by_last path part.1)) (part_paths document)
@@ -199,7 +199,7 @@ module _ {D : Type 0} (device : D → DiskState) (sound : (disk : D) → IsMediu
       (subst (λ (p : ℕ). count_at formatted events p ≡ w.n → mirror ≡ entries (state_at formatted events p).held) at w.held)
       (subst (λ (p : ℕ). (count_at formatted events p ≡ w.n) ⊎ ((p < latest) × (w.n < count_at formatted events (suc p)))) at w.passed.passed)
 
-  pub is_mirrored : IsMirrored device start sessions standing asked
+  pub is_mirrored : IsMirrored start sessions standing asked
   is_mirrored =
       let are = tried_lawful (before ++ whole) (all_joined IsLawfulTimed before whole early (standing_lawful sessions standing all)) in
       let done : ℕ = length before + length whole in
@@ -232,12 +232,11 @@ module _ {D : Type 0} (device : D → DiskState) (sound : (disk : D) → IsMediu
         mirrored = found.1.1;
       }
 
-pub sessions_mirrored : {D : Type 0} (device : D → DiskState) (sound : (disk : D) → IsMedium (device disk).size (device disk).now)
-    → DestinationMirrors → MirrorWasHeld → HeldIsCatalogued → SessionsStand device → SessionsAreMirrored device
-sessions_mirrored device sound mirrors was_held catalogued stands base limit moment before sessions lawful early all are =
+pub sessions_mirrored : DestinationMirrors → MirrorWasHeld → HeldIsCatalogued → SessionsStand → SessionsAreMirrored
+sessions_mirrored mirrors was_held catalogued stands base limit moment before sessions lawful early all are =
     let start : Source = fold_of (start_of base limit moment) before in
     let stand = stands start sessions are in (
       stand.0,
       stand.1,
-      λ asked asks. is_mirrored device sound mirrors was_held catalogued base limit moment before sessions stand.0 lawful early all stand.1 asked asks,
+      λ asked asks. is_mirrored mirrors was_held catalogued base limit moment before sessions stand.0 lawful early all stand.1 asked asks,
     )

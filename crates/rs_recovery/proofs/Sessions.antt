@@ -3,7 +3,7 @@ use Rattle.std.proofs.Common.{◌≡◌, ⊎_elim, ℕ, zero, suc, ◌+◌, ◌�
 use Rattle.std.specs.List.{AllByRecursion}
 use Rattle.std.proofs.lemmas.Bool.{le-leb}
 use Rattle.std.proofs.lemmas.List.{append-nil}
-use Rattle.rs_disk.specs.Medium.{DiskState, IsMedium, IsImage, IsImageAt}
+use Rattle.rs_disk.specs.Medium.{IsImage, IsImageAt}
 use Rattle.rs_model.specs.State.{Source}
 use Rattle.rs_model.specs.Regular.{IsRegular}
 use Rattle.rs_model.specs.Step.{step, state_after, fold_of}
@@ -16,12 +16,16 @@ use Rattle.rs_store.specs.Answered.{Answers}
 use Rattle.rs_store.specs.declared.running.Ack.{Ack}
 use Rattle.rs_store.specs.Counted.{is_accepted, is_in_doubt, is_device, answered, counted_commands, acknowledged}
 use Rattle.rs_store.specs.Runs.{InTurn, StandsForPrefix}
+use Rattle.rs_recovery.specs.AnyDisk.{AnyDisk, state_of_any, AreSound}
 use Rattle.rs_recovery.specs.Sessions.{Session, IsStoppedSession, IsOpenedOn, AreSessions, last_image, commands_standing, AreStanding, OneStanding, OpeningsStopToo}
 use Rattle.rs_recovery.specs.Served.{Asking, CouldServe, HasServed, IsNoLater, IsPrefixOf, CommandsStand, SessionsStand}
 use Rattle.rs_recovery.specs.Recovered.{YieldsHeld}
 use Rattle.rs_recovery.proofs.Counts.{one_number}
 use Rattle.rs_recovery.specs.Below.{Below}
 use Rattle.rs_recovery.proofs.Below.{Commands, Acks, one, weaker}
+
+pub any_is_sound : AreSound state_of_any
+any_is_sound disk = disk.sound
 
 pub fold_append : (s : Source) (a b : Commands) → fold_of s (a ++ b) ≡ fold_of (fold_of s a) b
 fold_append s [] b = refl
@@ -79,18 +83,18 @@ prefix_on front whole more (rest, is) = (rest ++ more, sym (append_assoc front r
 prefix_under : (base front whole : Commands) → IsPrefixOf front whole → IsPrefixOf (base ++ front) (base ++ whole)
 prefix_under base front whole (rest, is) = (rest, append_assoc base front rest ∙ ap (λ (l : Commands). base ++ l) is)
 
-module _ {D : Type 0} (device : D → DiskState) (sound : (disk : D) → IsMedium (device disk).size (device disk).now) (below : Below device) where
+module _ (below : Below state_of_any) where
   -- a run that leaves a source open has no command in doubt
-  none_in_doubt : (old : Stored D) (cs : Commands) (acks : Acks) (new : Stored D) → InTurn device old cs acks new → new.is_closed ≡ false → answered is_in_doubt cs acks ≡ []
+  none_in_doubt : (old : Stored AnyDisk) (cs : Commands) (acks : Acks) (new : Stored AnyDisk) → InTurn state_of_any old cs acks new → new.is_closed ≡ false → answered is_in_doubt cs acks ≡ []
   none_in_doubt old [] [] new turn open_then = refl
   none_in_doubt old (c ∷ cs) (a ∷ acks) new turn open_then = after a.reply turn.3 (none_in_doubt turn.2 cs acks new turn.5 open_then)
     where
-      after : (reply : Result Reply Refusal) → Answers device turn.0 turn.2 c.0 c.1 reply → answered is_in_doubt cs acks ≡ []
+      after : (reply : Result Reply Refusal) → Answers state_of_any turn.0 turn.2 c.0 c.1 reply → answered is_in_doubt cs acks ≡ []
           → cond (is_device reply) (c ∷ answered is_in_doubt cs acks) (answered is_in_doubt cs acks) ≡ []
       after (Ok reply) answers rest = rest
       after (Err refusal) answers rest = ⊎_elim
           (λ is.
-          let here : Answers device turn.0 turn.2 c.0 c.1 (Err Device) = subst (λ (r : Refusal). Answers device turn.0 turn.2 c.0 c.1 (Err r)) is answers in
+          let here : Answers state_of_any turn.0 turn.2 c.0 c.1 (Err Device) = subst (λ (r : Refusal). Answers state_of_any turn.0 turn.2 c.0 c.1 (Err r)) is answers in
           let shut : turn.2.is_closed ≡ true = here.closes refl in
           absurd (true≢false (sym (below.closed turn.2 cs acks new shut turn.5).0 ∙ open_then)))
           (λ other. ap (λ (b : Bool). cond b (c ∷ answered is_in_doubt cs acks) (answered is_in_doubt cs acks)) other ∙ rest)
@@ -99,12 +103,12 @@ module _ {D : Type 0} (device : D → DiskState) (sound : (disk : D) → IsMediu
   none_in_doubt old (c ∷ cs) [] new turn open_then = absurd turn
 
   -- what a stop of a session leaves, where its source held a state
-  stopped_at : (s : Source) (x : Session D) → Holds device x.first s → IsStoppedSession device x → StandsForPrefix s x.commands x.acks x.stop x.image
+  stopped_at : (s : Source) (x : Session) → Holds state_of_any x.first s → IsStoppedSession x → StandsForPrefix s x.commands x.acks x.stop x.image
   stopped_at s x holds stopped = (below.moments s x.first x.commands x.acks x.last holds stopped.turn).each x.stop x.image stopped.from stopped.to stopped.image
 
   -- what a session could serve
-  serves : (start : Source) (before : Commands) (x : Session D) (j n : ℕ) (source : Stored D) → Holds device x.first (fold_of start before) → acknowledged x.stop x.acks ≤ j → CouldServe device x n source
-      → Holds device source (fold_of start (before ++ counted_commands (take n x.commands) (take n x.acks))) × IsPrefixOf (before ++ counted_commands (take n x.commands) (take n x.acks)) (before ++ take j (counted_commands x.commands x.acks))
+  serves : (start : Source) (before : Commands) (x : Session) (j n : ℕ) (source : Stored AnyDisk) → Holds state_of_any x.first (fold_of start before) → acknowledged x.stop x.acks ≤ j → CouldServe x n source
+      → Holds state_of_any source (fold_of start (before ++ counted_commands (take n x.commands) (take n x.acks))) × IsPrefixOf (before ++ counted_commands (take n x.commands) (take n x.acks)) (before ++ take j (counted_commands x.commands x.acks))
   serves start before x j n source holds least could =
       let cs = take n x.commands in
       let acks = take n x.acks in
@@ -117,13 +121,13 @@ module _ {D : Type 0} (device : D → DiskState) (sound : (disk : D) → IsMediu
       sym (append_assoc (answered is_accepted cs acks) part.0 doubt) ∙ ap (λ (l : Commands). l ++ doubt) part.1 in
       let front : IsPrefixOf (answered is_accepted cs acks) (take j (counted_commands x.commands x.acks)) =
       subst (λ (l : Commands). IsPrefixOf (answered is_accepted cs acks) (take j l)) whole (front_of (answered is_accepted cs acks) (part.0 ++ doubt) j few) in (
-        subst (λ (t : Source). Holds device source t) (sym (fold_append start before (counted_commands cs acks)))
+        subst (λ (t : Source). Holds state_of_any source t) (sym (fold_append start before (counted_commands cs acks)))
             (below.end (fold_of start before) x.first cs acks source holds could.turn could.is_open),
         prefix_under before (counted_commands cs acks) (take j (counted_commands x.commands x.acks)) (subst (λ (l : Commands). IsPrefixOf l (take j (counted_commands x.commands x.acks))) (sym these) front),
       )
 
   -- what a session could serve, and then later
-  serves_on : (x : Session D) (n m : ℕ) (source : Stored D) → n ≤ m → CouldServe device x n source
+  serves_on : (x : Session) (n m : ℕ) (source : Stored AnyDisk) → n ≤ m → CouldServe x n source
       → IsPrefixOf (counted_commands (take n x.commands) (take n x.acks)) (counted_commands (take m x.commands) (take m x.acks))
   serves_on x n m source le could =
       let cs = take n x.commands in
@@ -135,21 +139,21 @@ module _ {D : Type 0} (device : D → DiskState) (sound : (disk : D) → IsMediu
       subst (λ (l : Commands). IsPrefixOf l (counted_commands (take m x.commands) (take m x.acks))) (sym these) front
 
   -- what was served was served in one of the sessions
-  served_in : (sessions : List (Session D)) (standing : List ℕ) (asking : Asking D) (commands : Commands) → HasServed device sessions standing asking commands → asking.sessions < length sessions
+  served_in : (sessions : List Session) (standing : List ℕ) (asking : Asking) (commands : Commands) → HasServed sessions standing asking commands → asking.sessions < length sessions
   served_in [] standing asking commands has = absurd has
   served_in (x ∷ past) [] asking commands has = absurd has
   served_in (x ∷ past) (j ∷ standing) asking commands (inl here) = let same : asking.sessions ≡ length past = here.0 in omega (arith, same)
   served_in (x ∷ past) (j ∷ standing) asking commands (inr older) = omega (arith, served_in past standing asking commands older)
 
-  abbrev AreServed : Source → List (Session D) → List ℕ → Type 0
-  AreServed start sessions standing = (asking : Asking D) (commands : Commands) → HasServed device sessions standing asking commands
-      → Holds device asking.source (fold_of start commands) × IsPrefixOf commands (commands_standing sessions standing)
+  abbrev AreServed : Source → List Session → List ℕ → Type 0
+  AreServed start sessions standing = (asking : Asking) (commands : Commands) → HasServed sessions standing asking commands
+      → Holds state_of_any asking.source (fold_of start commands) × IsPrefixOf commands (commands_standing sessions standing)
 
-  abbrev AreOrdered : List (Session D) → List ℕ → Type 0
-  AreOrdered sessions standing = (asking later : Asking D) (commands more : Commands) → IsNoLater asking later
-      → HasServed device sessions standing asking commands → HasServed device sessions standing later more → IsPrefixOf commands more
+  abbrev AreOrdered : List Session → List ℕ → Type 0
+  AreOrdered sessions standing = (asking later : Asking) (commands more : Commands) → IsNoLater asking later
+      → HasServed sessions standing asking commands → HasServed sessions standing later more → IsPrefixOf commands more
 
-  order_on : (start : Source) (x : Session D) (past : List (Session D)) (j : ℕ) (standing : List ℕ) → AreServed start past standing → AreOrdered past standing → AreOrdered (x ∷ past) (j ∷ standing)
+  order_on : (start : Source) (x : Session) (past : List Session) (j : ℕ) (standing : List ℕ) → AreServed start past standing → AreOrdered past standing → AreOrdered (x ∷ past) (j ∷ standing)
   order_on start x past j standing served ordered asking later commands more (inl earlier) (inl first) (inl then) =
       let one : asking.sessions ≡ length past = first.0 in
       let two : later.sessions ≡ length past = then.0 in
@@ -174,9 +178,9 @@ module _ {D : Type 0} (device : D → DiskState) (sound : (disk : D) → IsMediu
   order_on start x past j standing served ordered asking later commands more no_later (inr older) (inr then) = ordered asking later commands more no_later older then
 
   -- one session more
-  one_more : (start : Source) (x : Session D) (past : List (Session D)) (standing : List ℕ) → IsStoppedSession device x → Holds device x.first (fold_of start (commands_standing past standing))
+  one_more : (start : Source) (x : Session) (past : List Session) (standing : List ℕ) → IsStoppedSession x → Holds state_of_any x.first (fold_of start (commands_standing past standing))
       → AreStanding start past standing → AreServed start past standing → AreOrdered past standing
-      → (more : List ℕ) × CommandsStand device start (x ∷ past) more
+      → (more : List ℕ) × CommandsStand start (x ∷ past) more
   one_more start x past standing stopped holds held served ordered =
       let before = commands_standing past standing in
       let p = stopped_at (fold_of start before) x holds stopped in
@@ -187,7 +191,7 @@ module _ {D : Type 0} (device : D → DiskState) (sound : (disk : D) → IsMediu
           holds = (p.least, p.most, image, held);
           ordered = order_on start x past p.j standing served ordered;
           served = λ asking commands has. ⊎_elim
-              (λ here. subst (λ (l : Commands). Holds device asking.source (fold_of start l) × IsPrefixOf l (commands_standing (x ∷ past) (p.j ∷ standing))) (sym here.2)
+              (λ here. subst (λ (l : Commands). Holds state_of_any asking.source (fold_of start l) × IsPrefixOf l (commands_standing (x ∷ past) (p.j ∷ standing))) (sym here.2)
               (serves start before x p.j asking.commands asking.source holds p.least here.1))
               (λ older. let found = served asking commands older in (found.0, prefix_on commands before (take p.j (counted_commands x.commands x.acks)) found.1))
               has;
@@ -195,17 +199,17 @@ module _ {D : Type 0} (device : D → DiskState) (sound : (disk : D) → IsMediu
       )
 
   -- what the latest stop left
-  pub left_stands : (start : Source) (x : Session D) (past : List (Session D)) (standing : List ℕ) → AreStanding start (x ∷ past) standing → StandsFor x.image (fold_of start (commands_standing (x ∷ past) standing))
+  pub left_stands : (start : Source) (x : Session) (past : List Session) (standing : List ℕ) → AreStanding start (x ∷ past) standing → StandsFor x.image (fold_of start (commands_standing (x ∷ past) standing))
   left_stands start x past [] stands = absurd stands
   left_stands start x past (j ∷ standing) stands = stands.2
 
   -- a source that was opened on it holds the same
-  opened_holds : (start : Source) (x : Session D) (past : List (Session D)) (standing : List ℕ) (source : Stored D) → AreStanding start (x ∷ past) standing → IsOpenedOn device x.image source
-      → Holds device source (fold_of start (commands_standing (x ∷ past) standing))
+  opened_holds : (start : Source) (x : Session) (past : List Session) (standing : List ℕ) (source : Stored AnyDisk) → AreStanding start (x ∷ past) standing → IsOpenedOn state_of_any x.image source
+      → Holds state_of_any source (fold_of start (commands_standing (x ∷ past) standing))
   opened_holds start x past standing source stands (s, image, holds) =
-      subst (Holds device source) (below.stands_once x.image s (fold_of start (commands_standing (x ∷ past) standing)) image (left_stands start x past standing stands)) holds
+      subst (Holds state_of_any source) (below.stands_once x.image s (fold_of start (commands_standing (x ∷ past) standing)) image (left_stands start x past standing stands)) holds
 
-  pub sessions_stand : SessionsStand device
+  pub sessions_stand : SessionsStand
   sessions_stand start [] are = absurd are
   sessions_stand start (x ∷ []) are = one_more start x [] [] are.0 are.1 tt (λ asking commands has. absurd has) (λ asking later commands more no_later has then. absurd has)
   sessions_stand start (x ∷ y ∷ past) are =
@@ -214,17 +218,17 @@ module _ {D : Type 0} (device : D → DiskState) (sound : (disk : D) → IsMediu
       one_more start x (y ∷ past) past_stand.0 are.0 (opened_holds start y past past_stand.0 x.first stand.holds are.1) stand.holds stand.served stand.ordered
 
   -- two numbers of standing commands of the latest session, where those of the sessions before are the same
-  same_latest : (start : Source) (x : Session D) (past : List (Session D)) (standing : List ℕ) (j k : ℕ) → IsStoppedSession device x → Holds device x.first (fold_of start (commands_standing past standing))
+  same_latest : (start : Source) (x : Session) (past : List Session) (standing : List ℕ) (j k : ℕ) → IsStoppedSession x → Holds state_of_any x.first (fold_of start (commands_standing past standing))
       → AreStanding start (x ∷ past) (j ∷ standing) → AreStanding start (x ∷ past) (k ∷ standing) → k ≡ j
   same_latest start x past standing j k stopped holds stands also =
       let before = commands_standing past standing in
       let cs = x.commands in
       let acks = x.acks in
-      one_number device sound below (fold_of start before) x.first cs acks x.last holds stopped.turn x.stop x.image j k stands.1 also.1
+      one_number state_of_any any_is_sound below (fold_of start before) x.first cs acks x.last holds stopped.turn x.stop x.image j k stands.1 also.1
       (subst (λ (t : Source). StandsFor x.image t) (fold_append start before (take j (counted_commands cs acks))) stands.2)
       (subst (λ (t : Source). StandsFor x.image t) (fold_append start before (take k (counted_commands cs acks))) also.2)
 
-  pub one_standing : OneStanding device
+  pub one_standing : OneStanding
   one_standing start [] standing others are stands also = absurd are
   one_standing start (x ∷ past) [] others are stands also = absurd stands
   one_standing start (x ∷ past) (j ∷ standing) [] are stands also = absurd also
@@ -238,20 +242,20 @@ module _ {D : Type 0} (device : D → DiskState) (sound : (disk : D) → IsMediu
       λ i. same i ∷ tails i
 
 -- a session whose stop left another image of the same moment
-pub openings_stop_too : {D : Type 0} (device : D → DiskState) → OpeningsStopToo device
-openings_stop_too {D} device start x past before after are as_left opening =
-    weaker before after (λ _. IsImage before.now) (λ _ image. AreSessions device start (record x { image = image } ∷ past)) (λ m image is. again past are (as_left image is)) opening
+pub openings_stop_too : OpeningsStopToo
+openings_stop_too start x past before after are as_left opening =
+    weaker before after (λ _. IsImage before.now) (λ _ image. AreSessions start (record x { image = image } ∷ past)) (λ m image is. again past are (as_left image is)) opening
   where
-    again : {image : List ℕ} (past : List (Session D)) → AreSessions device start (x ∷ past) → IsImageAt (device x.last.disk) x.stop image → AreSessions device start (record x { image = image } ∷ past)
+    again : {image : List ℕ} (past : List Session) → AreSessions start (x ∷ past) → IsImageAt x.last.disk.state x.stop image → AreSessions start (record x { image = image } ∷ past)
     again [] are at = (record { turn = are.0.turn; from = are.0.from; to = are.0.to; image = at }, are.1)
     again (y ∷ past) are at = (record { turn = are.0.turn; from = are.0.from; to = are.0.to; image = at }, are.1, are.2)
 
 -- what the latest stop left, of any sessions
-pub left_standing : {D : Type 0} (device : D → DiskState) (start : Source) (sessions : List (Session D)) (standing : List ℕ) → AreSessions device start sessions → AreStanding start sessions standing
+pub left_standing : (start : Source) (sessions : List Session) (standing : List ℕ) → AreSessions start sessions → AreStanding start sessions standing
     → StandsFor (last_image sessions) (fold_of start (commands_standing sessions standing))
-left_standing device start [] standing are stands = absurd are
-left_standing device start (x ∷ past) [] are stands = absurd stands
-left_standing device start (x ∷ past) (j ∷ standing) are stands = stands.2
+left_standing start [] standing are stands = absurd are
+left_standing start (x ∷ past) [] are stands = absurd stands
+left_standing start (x ∷ past) (j ∷ standing) are stands = stands.2
 
 -- what a regular state yields
 pub yields_held : (t : Source) → IsRegular t → YieldsHeld t

@@ -1,10 +1,13 @@
 pub mod Below
+pub mod AnyDisk
 pub mod Turns
 pub mod Prefixes
 pub mod Sessions
+pub mod AsSessions
 pub mod Served
 pub mod Recovered
 pub mod Surviving
+pub mod Reopened
 pub mod Walked
 pub mod Documents
 pub mod Mirrored

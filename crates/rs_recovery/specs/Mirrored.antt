@@ -1,7 +1,6 @@
 -- A destination that asks sources of several sessions, between which there were stops.
 use Rattle.std.specs.Prelude.{◌≡◌, ◌⊎◌, ℕ, ◌<◌, ◌≤◌, List, [], ◌∷◌, ◌++◌, length, take, drop, map, codes, Option, Some, is_some, IsTrue}
 use Rattle.std.specs.List.{AllByRecursion}
-use Rattle.rs_disk.specs.Medium.{DiskState}
 use Rattle.rs_record.specs.declared.change.Change.{Change}
 use Rattle.rs_model.specs.State.{Source, start_of, entries}
 use Rattle.rs_model.specs.Step.{step, state_after, fold_of, mirror_of}
@@ -13,11 +12,12 @@ use Rattle.rs_caps.specs.Gather.{gather_resources, gather_changes, listed_entry}
 use Rattle.rs_caps.specs.Readings.{Listed, Document}
 use Rattle.rs_caps.specs.Reads.{reads}
 use Rattle.rs_store.specs.Source.{state_of}
+use Rattle.rs_recovery.specs.AnyDisk.{state_of_any}
 use Rattle.rs_recovery.specs.Sessions.{Session, AreSessions, commands_standing}
 use Rattle.rs_recovery.specs.Served.{Asking, HasServed, IsNoLater, IsPrefixOf, CommandsStand}
 
 -- each command of these sessions has a lawful name, a lawful type and a moment
-abbrev pub AreLawfulSessions : {D : Type 0} → List (Session D) → Type 0
+abbrev pub AreLawfulSessions : List Session → Type 0
 AreLawfulSessions sessions = AllByRecursion (λ x. AllByRecursion IsLawfulTimed x.commands) sessions
 
 abbrev pub list_head : List ℕ
@@ -27,46 +27,46 @@ abbrev pub changes_head : List ℕ
 changes_head = codes "/changelist.xml"
 
 -- Each path is asked of a source that could be asked then, and these are the commands behind it; and so of the last time.
-pub record Asked {D : Type 0} (device : D → DiskState) (sessions : List (Session D)) (standing : List ℕ) : Type 0 where
-  pub asking : List ℕ → Asking D
+pub record Asked (sessions : List Session) (standing : List ℕ) : Type 0 where
+  pub asking : List ℕ → Asking
   pub behind : List ℕ → List (Command × ℕ)
-  pub served : (path : List ℕ) → HasServed device sessions standing (asking path) (behind path)
-  pub last : Asking D
+  pub served : (path : List ℕ) → HasServed sessions standing (asking path) (behind path)
+  pub last : Asking
   pub behind_last : List (Command × ℕ)
-  pub last_served : HasServed device sessions standing last behind_last
+  pub last_served : HasServed sessions standing last behind_last
 
 -- what is answered at a path, by the source that is asked for it
-abbrev pub answered_by : {D : Type 0} → (D → DiskState) → (List ℕ → Asking D) → List ℕ → Option (List ℕ)
-answered_by device asking path = answer (state_of device (asking path).source) path
+abbrev pub answered_by : (List ℕ → Asking) → List ℕ → Option (List ℕ)
+answered_by asking path = answer (state_of state_of_any (asking path).source) path
 
 -- A part is asked with its head or later, and is answered.
-pub record IsAskedPart {D : Type 0} (device : D → DiskState) (asking : List ℕ → Asking D) (head path : List ℕ) : Type 0 where
+pub record IsAskedPart (asking : List ℕ → Asking) (head path : List ℕ) : Type 0 where
   pub after_head : IsNoLater (asking head) (asking path)
-  pub answered : IsTrue (is_some (answered_by device asking path))
+  pub answered : IsTrue (is_some (answered_by asking path))
 
 -- Of all parts that a head names as it is asked this holds.
-abbrev pub OfParts : {D : Type 0} → (D → DiskState) → (List ℕ → Asking D) → List ℕ → (List ℕ → Type 0) → Type 0
-OfParts device asking head IsPart =
-    (text : List ℕ) (document : Document) → answered_by device asking head ≡ Some text → reads text ≡ Some document
+abbrev pub OfParts : (List ℕ → Asking) → List ℕ → (List ℕ → Type 0) → Type 0
+OfParts asking head IsPart =
+    (text : List ℕ) (document : Document) → answered_by asking head ≡ Some text → reads text ≡ Some document
     → AllByRecursion IsPart (part_paths document)
 
 -- No change between the two lists that are gathered so is missing: the Resource List's moment is not before the one at which the
 -- Change List begins.
-abbrev pub HaveNoGap : {D : Type 0} → (D → DiskState) → (List ℕ → Asking D) → Type 0
-HaveNoGap device asking =
+abbrev pub HaveNoGap : (List ℕ → Asking) → Type 0
+HaveNoGap asking =
     (at from : ℕ) (listed : List Listed) (changes : List Change)
-    → gather_resources (answered_by device asking) ≡ Some (at, listed)
-    → gather_changes (answered_by device asking) ≡ Some (from, changes) → from ≤ at
+    → gather_resources (answered_by asking) ≡ Some (at, listed)
+    → gather_changes (answered_by asking) ≡ Some (from, changes) → from ≤ at
 
 -- A destination asks for the Resource List's head and its parts, and for the Change List's, in any order among the parts: the
 -- Change List's head with the other head or later, and none of its documents after the last time.
-pub record AsksBoth {D : Type 0} (device : D → DiskState) (asking : List ℕ → Asking D) (last : Asking D) : Type 0 where
-  pub resources : OfParts device asking list_head (IsAskedPart device asking list_head)
+pub record AsksBoth (asking : List ℕ → Asking) (last : Asking) : Type 0 where
+  pub resources : OfParts asking list_head (IsAskedPart asking list_head)
   pub order : IsNoLater (asking list_head) (asking changes_head)
-  pub changes : OfParts device asking changes_head (IsAskedPart device asking changes_head)
+  pub changes : OfParts asking changes_head (IsAskedPart asking changes_head)
   pub head_by_last : IsNoLater (asking changes_head) last
-  pub parts_by_last : OfParts device asking changes_head (λ path. IsNoLater (asking path) last)
-  pub no_gap : HaveNoGap device asking
+  pub parts_by_last : OfParts asking changes_head (λ path. IsNoLater (asking path) last)
+  pub no_gap : HaveNoGap asking
 
 -- the changes that a command makes in a state, where it is accepted: a put or a delete one, a group one for each item
 abbrev pub changes_made : Source → Command × ℕ → List Change
@@ -82,15 +82,15 @@ AreOfNext start commands whole made =
 -- Both lists read. The one mirrored with the other is what the source held after the first of the commands that stand: all that were
 -- behind it as the Change List's head was asked, and none that was not yet at the last time. Where the next of these is a group, it
 -- may be what was held followed by the first changes of that (`made`).
-pub record IsMirrored {D : Type 0} (device : D → DiskState) (start : Source) (sessions : List (Session D)) (standing : List ℕ) (asked : Asked device sessions standing) : Type 0 where
+pub record IsMirrored (start : Source) (sessions : List Session) (standing : List ℕ) (asked : Asked sessions standing) : Type 0 where
   pub at : ℕ
   pub listed : List Listed
   pub from : ℕ
   pub changes : List Change
   pub commands : List (Command × ℕ)
   pub made : List Change
-  pub resources_gathered : gather_resources (answered_by device asked.asking) ≡ Some (at, listed)
-  pub changes_gathered : gather_changes (answered_by device asked.asking) ≡ Some (from, changes)
+  pub resources_gathered : gather_resources (answered_by asked.asking) ≡ Some (at, listed)
+  pub changes_gathered : gather_changes (answered_by asked.asking) ≡ Some (from, changes)
   pub after_head : IsPrefixOf (asked.behind changes_head) commands
   pub by_last : IsPrefixOf commands asked.behind_last
   pub stands : IsPrefixOf commands (commands_standing sessions standing)
@@ -100,11 +100,11 @@ pub record IsMirrored {D : Type 0} (device : D → DiskState) (start : Source) (
 -- Over any number of sessions, whatever the stops, commands stand so that whoever asks for both lists mirrors what was held. The
 -- first session began with the state that a formatting and then some commands made: none of them where the source was formatted; where
 -- it is a copy, those that stood behind the source that was copied.
-abbrev pub SessionsAreMirrored : {D : Type 0} → (D → DiskState) → Type 0
-SessionsAreMirrored {D} device =
-    (base : List ℕ) (limit moment : ℕ) (before : List (Command × ℕ)) (sessions : List (Session D))
+abbrev pub SessionsAreMirrored : Type 0
+SessionsAreMirrored =
+    (base : List ℕ) (limit moment : ℕ) (before : List (Command × ℕ)) (sessions : List Session)
     → let start = fold_of (start_of base limit moment) before in
     IsLawful (start_of base limit moment) → AllByRecursion IsLawfulTimed before → AreLawfulSessions sessions
-    → AreSessions device start sessions
-    → (standing : List ℕ) × CommandsStand device start sessions standing
-    × ((asked : Asked device sessions standing) → AsksBoth device asked.asking asked.last → IsMirrored device start sessions standing asked)
+    → AreSessions start sessions
+    → (standing : List ℕ) × CommandsStand start sessions standing
+    × ((asked : Asked sessions standing) → AsksBoth asked.asking asked.last → IsMirrored start sessions standing asked)

@@ -45,9 +45,9 @@ pub record YieldsHeld (s : Source) : Type 0 where
 
 -- After sessions an opening gives back exactly the state that the commands that stand of them make.
 pub record IsRecovered {D : Type 0} (device : D → DiskState) (disk : D) (result : Result (Stored D) (D × OpenFault))
-    (start : Source) (sessions : List (Session D)) : Type 0 where
+    (start : Source) (sessions : List Session) : Type 0 where
   pub standing : List ℕ
-  pub stand : CommandsStand device start sessions standing
+  pub stand : CommandsStand start sessions standing
   pub state : HandsBack device disk result (fold_of start (commands_standing sessions standing))
   pub regular : IsRegular (fold_of start (commands_standing sessions standing))
   pub timely : IsTimely (fold_of start (commands_standing sessions standing))
@@ -58,9 +58,10 @@ pub record IsRecovered {D : Type 0} (device : D → DiskState) (disk : D) (resul
 -- Resource List, followed by the changes recorded after its at-moment in their order, yields exactly the resources held, with
 -- their lengths, hashes and types.
 -- The first session began with the state that a formatting and then some commands made: none of them where the source was
--- formatted; where it is a copy, those that stood behind the source that was copied.
+-- formatted; where it is a copy, those that stood behind the source that was copied. Each session may be on a disk of another type
+-- than this one, as a file that is opened anew has another.
 abbrev pub Headline : {D : Type 0} → (D → DiskState) → D → Result (Stored D) (D × OpenFault) → Type 0
-Headline {D} device disk result = (base : List ℕ) (limit moment : ℕ) (before : List (Command × ℕ)) (sessions : List (Session D))
+Headline {D} device disk result = (base : List ℕ) (limit moment : ℕ) (before : List (Command × ℕ)) (sessions : List Session)
     → let start = fold_of (start_of base limit moment) before in
-    AreSessions device start sessions → (device disk).now.seen ≡ last_image sessions
+    AreSessions start sessions → (device disk).now.seen ≡ last_image sessions
     → IsTrue (device (disk_of result)).honest → IsRecovered device disk result start sessions

@@ -1,39 +1,39 @@
 -- What was served in a session is behind every later state.
 use Rattle.std.specs.Prelude.{◌≡◌, ◌⊎◌, ℕ, ◌<◌, ◌≤◌, false, List, [], ◌∷◌, ◌++◌, length, take}
 use Rattle.std.specs.List.{AllByRecursion}
-use Rattle.rs_disk.specs.Medium.{DiskState}
 use Rattle.rs_model.specs.State.{Source}
 use Rattle.rs_model.specs.Step.{fold_of}
 use Rattle.rs_model.specs.declared.command.Command.{Command}
 use Rattle.rs_store.specs.Source.{Stored, Holds}
 use Rattle.rs_store.specs.Counted.{counted_commands}
 use Rattle.rs_store.specs.Runs.{InTurn}
+use Rattle.rs_recovery.specs.AnyDisk.{AnyDisk, state_of_any}
 use Rattle.rs_recovery.specs.Sessions.{Session, AreSessions, commands_standing, AreStanding}
 
 -- When a source is asked: in the session after so many sessions, after so many of its commands; and the source then.
-pub record Asking (D : Type 0) : Type 0 where
+pub record Asking : Type 0 where
   pub sessions : ℕ
   pub commands : ℕ
-  pub source : Stored D
+  pub source : Stored AnyDisk
 
 -- In a session this source could be asked after n commands: it was open, and they had been answered by the stop.
-pub record CouldServe {D : Type 0} (device : D → DiskState) (x : Session D) (n : ℕ) (source : Stored D) : Type 0 where
-  pub turn : InTurn device x.first (take n x.commands) (take n x.acks) source
+pub record CouldServe (x : Session) (n : ℕ) (source : Stored AnyDisk) : Type 0 where
+  pub turn : InTurn state_of_any x.first (take n x.commands) (take n x.acks) source
   pub is_open : source.is_closed ≡ false
   pub before : AllByRecursion (λ a. a.at_call ≤ x.stop) (take n x.acks)
 
 -- It could be asked then, and these are the commands behind it: those that stand of the sessions before, and then those of its
 -- own session that count.
-abbrev pub HasServed : {D : Type 0} → (D → DiskState) → List (Session D) → List ℕ → Asking D → List (Command × ℕ) → Type 0
-HasServed device [] standing asking commands = ⊥
-HasServed device (x ∷ past) [] asking commands = ⊥
-HasServed device (x ∷ past) (j ∷ standing) asking commands =
-    ((asking.sessions ≡ length past) × CouldServe device x asking.commands asking.source
+abbrev pub HasServed : List Session → List ℕ → Asking → List (Command × ℕ) → Type 0
+HasServed [] standing asking commands = ⊥
+HasServed (x ∷ past) [] asking commands = ⊥
+HasServed (x ∷ past) (j ∷ standing) asking commands =
+    ((asking.sessions ≡ length past) × CouldServe x asking.commands asking.source
     × (commands ≡ commands_standing past standing ++ counted_commands (take asking.commands x.commands) (take asking.commands x.acks)))
-    ⊎ HasServed device past standing asking commands
+    ⊎ HasServed past standing asking commands
 
 -- in an earlier session, or in the same one after no more commands
-abbrev pub IsNoLater : {D : Type 0} → Asking D → Asking D → Type 0
+abbrev pub IsNoLater : Asking → Asking → Type 0
 IsNoLater asking later = (asking.sessions < later.sessions) ⊎ ((asking.sessions ≡ later.sessions) × (asking.commands ≤ later.commands))
 
 abbrev pub IsPrefixOf : List (Command × ℕ) → List (Command × ℕ) → Type 0
@@ -44,14 +44,14 @@ IsPrefixOf front whole = (rest : List (Command × ℕ)) × (front ++ rest ≡ wh
 -- `served`: a source that could be asked, in whatever session, held the state that the commands behind it make, and they are the
 -- first of those that stand.
 -- `ordered`: the commands behind a source that could be asked are the first of those behind every later one.
-pub record CommandsStand {D : Type 0} (device : D → DiskState) (start : Source) (sessions : List (Session D)) (standing : List ℕ) : Type 0 where
+pub record CommandsStand (start : Source) (sessions : List Session) (standing : List ℕ) : Type 0 where
   pub holds : AreStanding start sessions standing
-  pub served : (asking : Asking D) (commands : List (Command × ℕ)) → HasServed device sessions standing asking commands
-      → Holds device asking.source (fold_of start commands) × IsPrefixOf commands (commands_standing sessions standing)
-  pub ordered : (asking later : Asking D) (commands more : List (Command × ℕ)) → IsNoLater asking later
-      → HasServed device sessions standing asking commands → HasServed device sessions standing later more → IsPrefixOf commands more
+  pub served : (asking : Asking) (commands : List (Command × ℕ)) → HasServed sessions standing asking commands
+      → Holds state_of_any asking.source (fold_of start commands) × IsPrefixOf commands (commands_standing sessions standing)
+  pub ordered : (asking later : Asking) (commands more : List (Command × ℕ)) → IsNoLater asking later
+      → HasServed sessions standing asking commands → HasServed sessions standing later more → IsPrefixOf commands more
 
 -- Over any number of sessions, whatever the stops, commands stand so.
-abbrev pub SessionsStand : {D : Type 0} → (D → DiskState) → Type 0
-SessionsStand {D} device = (start : Source) (sessions : List (Session D)) → AreSessions device start sessions
-    → (standing : List ℕ) × CommandsStand device start sessions standing
+abbrev pub SessionsStand : Type 0
+SessionsStand = (start : Source) (sessions : List Session) → AreSessions start sessions
+    → (standing : List ℕ) × CommandsStand start sessions standing

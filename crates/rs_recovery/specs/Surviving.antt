@@ -4,7 +4,7 @@ use Rattle.rs_record.specs.Base.{is_base}
 use Rattle.rs_directory.specs.Limit.{IsLimit}
 use Rattle.rs_image.specs.Reach.{blocks_of_disk}
 use Rattle.rs_disk.specs.declared.memory.MemoryDisk.{MemoryDisk}
-use Rattle.rs_disk.specs.Medium.{image_of}
+use Rattle.rs_disk.specs.Medium.{DiskState, image_of}
 use Rattle.rs_disk.specs.Memory.{memory_state}
 use Rattle.rs_model.specs.State.{Source}
 use Rattle.rs_model.specs.Step.{fold_of}
@@ -22,17 +22,17 @@ use Rattle.rs_recovery.specs.declared.surviving.Halt.TheVariants.{Formatting, Ru
 use Rattle.rs_recovery.specs.Recovered.{YieldsHeld}
 
 -- The commands were answered in their turn, from the start on, and the run left this disk.
-pub record HasRun (start : Source) (commands : List (Command × ℕ)) (acks : List Ack) (left : MemoryDisk) : Type 0 where
-  pub first : Stored MemoryDisk
-  pub last : Stored MemoryDisk
-  pub began : Holds memory_state first start
-  pub turn : InTurn memory_state first commands acks last
+pub record HasRun {D : Type 0} (device : D → DiskState) (start : Source) (commands : List (Command × ℕ)) (acks : List Ack) (left : D) : Type 0 where
+  pub first : Stored D
+  pub last : Stored D
+  pub began : Holds device first start
+  pub turn : InTurn device first commands acks last
   pub left_by : last.disk ≡ left
 
 -- The run left this disk, and its image of this choice stands for the state after the first j counted commands, for some j: the
 -- source holds it, and each accepted command is among them.
 pub record Survives (start : Source) (commands : List (Command × ℕ)) (acks : List Ack) (left : MemoryDisk) (choice : List ℕ) (source : Stored MemoryDisk) : Type 0 where
-  pub run : HasRun start commands acks left
+  pub run : HasRun memory_state start commands acks left
   pub j : ℕ
   pub image : StandsFor (image_of choice (memory_state left).now) (fold_of start (take j (counted_commands commands acks)))
   pub accepted : length (answered is_accepted commands acks) ≤ j

@@ -11,9 +11,11 @@ ghost use Rattle.rs_store.specs.declared.running.Ack.{Ack};
 ghost use Rattle.rs_store.specs.Runs.{StandsForPrefix};
 ghost use Rattle.rs_store.specs.Laws.{TurnsGoOn};
 ghost use Rattle.rs_recovery.specs.Below.{Below};
+ghost use Rattle.rs_recovery.specs.AnyDisk.{state_of_any};
 ghost use Rattle.rs_recovery.specs.Turns.{CommandsAreTurns, ReadingsIdle, CutPutsIdle};
 ghost use Rattle.rs_recovery.specs.Prefixes.{RunsRecover, IdleIsRun, CommandIsRun, RunsJoin};
 ghost use Rattle.rs_recovery.specs.Sessions.{OneStanding, OpeningsStopToo, CopiesBeginSessions};
+ghost use Rattle.rs_recovery.specs.AsSessions.{HoldsTheSame, OpenedOnTheSame, AnswersTheSame, RunsAreSessions, AskedAreSessions};
 ghost use Rattle.rs_recovery.specs.Served.{SessionsStand};
 ghost use Rattle.rs_recovery.specs.Recovered.{YieldsHeld};
 ghost use Rattle.rs_recovery.specs.Documents.{DocumentsAreOfTheState};
@@ -63,24 +65,42 @@ fn laws_below<D: Disk>()
     runs_leave_prefixes::<D>();
 }
 
-/// Whatever the stops, commands of each session stand, and those behind a source that could be asked
-/// are the first of those behind every later one.
-pub fn sessions_stand<D: Disk>()
-    ensures { SessionsStand D.state }
+// The same of sources on any disk.
+fn laws_of_any()
+    ensures { Below state_of_any }
 {
-    laws_below::<D>();
+    stands_once();
+}
+
+/// A source on a disk of whatever type is one on any disk, of which sessions are made: it holds the same state, was opened
+/// on the same bytes, and answers commands in their turn by the same answers. So each run of it, with any stop, is a
+/// session; and so is whatever it was asked one by one, as by the lines of a script or by requests.
+pub fn runs_are_sessions<D: Disk>()
+    ensures holds { HoldsTheSame D.state }
+    ensures opened { OpenedOnTheSame D.state }
+    ensures answers { AnswersTheSame D.state }
+    ensures runs { RunsAreSessions D.state }
+    ensures asked { AskedAreSessions D.state }
+{}
+
+/// Whatever the stops, commands of each session stand, and those behind a source that could be asked
+/// are the first of those behind every later one. The sessions may be on disks of several types.
+pub fn sessions_stand()
+    ensures { SessionsStand }
+{
+    laws_of_any();
 }
 
 /// What the stops left determines how many commands of each session stand.
-pub fn one_standing<D: Disk>()
-    ensures { OneStanding D.state }
+pub fn one_standing()
+    ensures { OneStanding }
 {
-    laws_below::<D>();
+    laws_of_any();
 }
 
 /// A stop within an opening is a stop of the session before it.
-pub fn openings_stop_too<D: Disk>()
-    ensures { OpeningsStopToo D.state }
+pub fn openings_stop_too()
+    ensures { OpeningsStopToo }
 {}
 
 /// Sessions begin on a copy as they do on a formatting: where a source that held a state was copied with the answer Ok,

@@ -9,8 +9,10 @@
 pub mod laws;
 pub mod mirroring;
 mod recovering;
+mod reopening;
 mod surviving;
 pub mod walking;
 
 pub use recovering::recover;
+pub use reopening::format_run_recover_twice;
 pub use surviving::{Halt, format_run_recover};

@@ -4,7 +4,6 @@ ghost use Rattle.rs_recovery.specs.Mirrored.{SessionsAreMirrored};
 
 use crate::laws::sessions_stand;
 use rs_caps::laws::destination::destination_mirrors;
-use rs_disk::Disk;
 use rs_model::walks_are_catalogued;
 
 /// Whatever the stops between sessions, commands of each stand so that this holds of a destination that asks for the
@@ -13,11 +12,11 @@ use rs_model::walks_are_catalogued;
 /// these that were behind the source as the Change List's head was asked, and none that was not yet behind it at
 /// the last. Where a group comes next there, it may be what was held followed by the first changes of the group.
 ///
-/// The source was formatted, or is a copy of one that was.
-pub fn sessions_are_mirrored<D: Disk>()
-    ensures { SessionsAreMirrored D.state }
+/// The source was formatted, or is a copy of one that was. Its sessions may be on disks of several types.
+pub fn sessions_are_mirrored()
+    ensures { SessionsAreMirrored }
 {
     destination_mirrors();
     walks_are_catalogued();
-    sessions_stand::<D>();
+    sessions_stand();
 }

@@ -1,11 +1,11 @@
 //! What is recovered after a stop.
 
-ghost use Rattle.std.specs.Prelude.{ℕ, List, IfOk, IsTrue};
-ghost use Rattle.rs_disk.specs.Leaves.{WritesNothing};
+ghost use Rattle.std.specs.Prelude.{◌≡◌, ℕ, List, IfOk, IfErr, IsErrAnd, IsTrue};
+ghost use Rattle.rs_disk.specs.Leaves.{WritesNothing, TellsFaults};
 ghost use Rattle.rs_model.specs.State.{Source as State};
 ghost use Rattle.rs_model.specs.declared.command.Command.{Command};
 ghost use Rattle.rs_image.specs.StateOfImage.{StandsFor};
-ghost use Rattle.rs_store.specs.Opening.{disk_of, IsOpened};
+ghost use Rattle.rs_store.specs.Opening.{disk_of, IsOpened, IsNotOpened};
 ghost use Rattle.rs_store.specs.declared.running.Ack.{Ack};
 ghost use Rattle.rs_store.specs.Runs.{StandsForPrefix};
 ghost use Rattle.rs_recovery.specs.Sessions.{IsOpenedOn};
@@ -49,11 +49,16 @@ pub fn recover<D: Disk>(alloc: Global, disk: D) -> Result<Source<D>, (D, OpenFau
         → HandsBackPrefix D.state disk result s commands acks m }
     ensures headline { Headline D.state disk result }
 
+    // Why no source was opened, and what the answer tells of the device, whatever the disk held.
+    ensures refused { IfErr result (λ e. IsNotOpened (D.state disk) (D.state e.0) e.1) }
+    ensures told { TellsFaults (IsErrAnd result (λ e. e.1 ≡ OpenFault.Device))
+        (D.state disk) (D.state (disk_of result)) }
+
     // What a read gives is as it was; a stop within it leaves an image of its entry; and a device that has followed the model
     // then had followed it before.
     ensures writes_nothing { WritesNothing (D.state disk) (D.state (disk_of result)) }
 {
-    sessions_stand::<D>();
+    sessions_stand();
     start_is_regular();
     fold_is_regular();
     stands_once();

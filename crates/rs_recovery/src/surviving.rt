@@ -7,7 +7,7 @@ ghost use Rattle.rs_model.specs.State.{start_of};
 ghost use Rattle.rs_recovery.specs.Surviving.{Survives, HasRun, MayFormat, IsLost, HasHalted};
 
 use crate::recover;
-use rs_disk::MemoryDisk;
+use rs_disk::{Disk, MemoryDisk};
 use rs_model::Command;
 use rs_store::laws::turns_go_on;
 use rs_store::{Ack, FormatFault, OpenFault, Refusal, Source};
@@ -21,7 +21,7 @@ pub enum Halt {
     Formatting(FormatFault),
     /// No command was run.
     Running(Refusal),
-    /// The memory for an image, or for a disk of it, was refused.
+    /// There was no disk of an image: the memory for it was refused, or none was given.
     Imaging,
     /// The source was not opened again.
     Opening(OpenFault),
@@ -37,19 +37,20 @@ fn image_disk(alloc: Global, left: &MemoryDisk, choice: &[u8]) -> Result<MemoryD
     MemoryDisk::from_bytes(alloc, &left.image(choice)?)
 }
 
-// Formats a memory disk and runs commands on the source. It gives the answers, and the disk that the run left.
-fn format_and_run(
+// Formats a disk and runs commands on the source. It gives the answers, and the disk that the run left.
+pub(crate) fn format_and_run<D: Disk + Drop>(
     alloc: Global,
-    disk: MemoryDisk,
+    disk: D,
     base: &[u8],
     limit: u16,
     now: Moment,
     commands: &[(Command, Moment)],
-) -> Result<(Vec<Ack>, MemoryDisk), Halt>
-    ensures ran { IfOk result (λ x. HasRun (start_of base.now limit now) commands.now x.0.items x.1) }
-    ensures may { OnOk result (MayFormat base.now limit (memory_state disk).size) }
+) -> Result<(Vec<Ack>, D), Halt>
+    ensures ran { IfOk result
+        (λ x. HasRun D.state (start_of base.now limit now) commands.now x.0.items x.1) }
+    ensures may { OnOk result (MayFormat base.now limit (D.state disk).size) }
     ensures found { IfErr result (λ halt. ¬ IsLost halt) }
-    ensures halted { IfErr result (HasHalted base.now limit (memory_state disk).size) }
+    ensures halted { IfErr result (HasHalted base.now limit (D.state disk).size) }
 {
     let mut source = match Source::format(alloc, disk, base, limit, now) {
         Ok(source) => source,

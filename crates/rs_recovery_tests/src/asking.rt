@@ -1,6 +1,6 @@
 //! Commands as the tests write them down, and what a source holds, as one line of text.
 
-use rs_disk::MemoryDisk;
+use rs_disk::{Disk, MemoryDisk};
 use rs_model::{Body, Command, Reply};
 use rs_record::{MediaType, Name};
 use rs_store::{Ack, OpenFault, Refusal, Source};
@@ -89,7 +89,7 @@ pub(super) fn formatted(alloc: Global) -> Result<Vec<u8>, Fail> {
 }
 
 /// Appends the names that are held, with their bodies.
-fn tell_held(source: &mut Source<MemoryDisk>, text: &mut String) -> Result<(), Fail> {
+fn tell_held<D: Disk>(source: &mut Source<D>, text: &mut String) -> Result<(), Fail> {
     for record in &source.records()? {
         let body = source.body(&record.name)?;
         let name = std::str::from_utf8(record.name.bytes())?;
@@ -100,7 +100,7 @@ fn tell_held(source: &mut Source<MemoryDisk>, text: &mut String) -> Result<(), F
 }
 
 /// Appends the names that the latest publication lists.
-fn tell_published(source: &Source<MemoryDisk>, text: &mut String) -> Result<(), Fail> {
+fn tell_published<D: Disk>(source: &Source<D>, text: &mut String) -> Result<(), Fail> {
     for record in &source.published()? {
         let name = std::str::from_utf8(record.name.bytes())?;
         write!(text, " {name}")?;
@@ -109,7 +109,7 @@ fn tell_published(source: &Source<MemoryDisk>, text: &mut String) -> Result<(), 
 }
 
 /// What a source tells of itself, as `held: a=one; published 1: a; changes 1; last 2`.
-pub(super) fn told(alloc: Global, source: &mut Source<MemoryDisk>) -> Result<String, Fail> {
+pub(super) fn told<D: Disk>(alloc: Global, source: &mut Source<D>) -> Result<String, Fail> {
     let mut text = String::from_str(alloc, "held:")?;
     tell_held(source, &mut text)?;
     let status = source.status()?;

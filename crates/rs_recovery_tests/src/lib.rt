@@ -6,4 +6,6 @@ mod asking;
 #[cfg(test)]
 mod examples;
 #[cfg(test)]
+mod files;
+#[cfg(test)]
 mod stopping;

@@ -24,11 +24,12 @@ use Rattle.rs_script.specs.declared.request.Request.TheVariants.{At, Run, Docume
 use Rattle.rs_script.specs.Answers.{outcome_text, shown_text, verified_text}
 use Rattle.rs_store.specs.AnswersBody.{AnswersBody}
 use Rattle.rs_store.specs.Verified.{AnswersVerify}
-use Rattle.rs_script.specs.Outcomes.{outcome_of_reply, shown_as, verified_as}
+use Rattle.rs_script.specs.Outcomes.{outcome_of_reply, shown_as, verified_as, RequestGives}
 use Rattle.rs_script.specs.Lines.{line_limit}
 use Rattle.rs_script.specs.Model.{shown_or}
-use Rattle.rs_script.specs.Progress.{RequestAnswers, LineAnswers}
+use Rattle.rs_script.specs.Progress.{RequestAnswers, AskedAnswers, LineAnswers}
 use Rattle.rs_script.specs.Requests.{request_of}
+use Rattle.rs_script.specs.Room.{TakesRoom}
 use Rattle.rs_script.specs.Session.{ScriptState, script_state, LineOutcome, moment_set, counted, refused, unchanged}
 
 -- a command was asked of the source
@@ -37,7 +38,7 @@ pub ran : {D : Type 0} (device : D → DiskState) (old new : Stored D) (command 
     → RequestAnswers device (script_state old now) (Ok (Run command)) (script_state new now) P
 ran device old new command now result P a w = record {
   answer = record { outcome = outcome_of_reply result; commands = counted_as command now result; session = script_state new now };
-  gives = inl (record { result = result; answers = a; outcome = refl; commands = refl; now = refl });
+  gives = record { result = result; answers = a; outcome = refl; commands = refl; now = refl };
   session_is = refl;
   written = w;
 }
@@ -48,7 +49,7 @@ pub was_read : {D : Type 0} (device : D → DiskState) (old new : Stored D) (nam
     → RequestAnswers device (script_state old now) (Ok (Body name)) (script_state new now) P
 was_read device old new name now result P a w = record {
   answer = record { outcome = shown_as result; commands = []; session = script_state new now };
-  gives = inl (record { result = result; answers = a; outcome = refl; commands = refl; now = refl });
+  gives = record { result = result; answers = a; outcome = refl; commands = refl; now = refl };
   session_is = refl;
   written = w;
 }
@@ -58,7 +59,7 @@ pub moment_answered : {D : Type 0} (device : D → DiskState) (s : Stored D) (no
     → P (outcome_text moment_set) → RequestAnswers device (script_state s now) (Ok (At t)) (script_state s t) P
 moment_answered device s now t P w = record {
   answer = record { outcome = moment_set; commands = []; session = script_state s t };
-  gives = inl refl;
+  gives = refl;
   session_is = refl;
   written = w;
 }
@@ -76,7 +77,7 @@ document_answered one_text device s now doc view outcome P opened is e w =
     let found = sym e ∙ ap (shown_or NoSuchDocument) text in
     record {
       answer = unchanged (script_state s now) outcome;
-      gives = inl (ap (unchanged (script_state s now)) (found ∙ sym (when_open s.is_closed (shown_or NoSuchDocument (document_text (shown_of (state_of device s)) doc)) opened)));
+      gives = ap (unchanged (script_state s now)) (found ∙ sym (when_open s.is_closed (shown_or NoSuchDocument (document_text (shown_of (state_of device s)) doc)) opened));
       session_is = refl;
       written = w;
     }
@@ -87,7 +88,7 @@ pub document_closed : {D : Type 0} (device : D → DiskState) (s : Stored D) (no
     → RequestAnswers device (script_state s now) (Ok (Document doc)) (script_state s now) P
 document_closed device s now doc refusal P same closed w = record {
   answer = unchanged (script_state s now) (refused (Source Closed));
-  gives = inl (rw closed refl);
+  gives = rw closed refl;
   session_is = refl;
   written = subst (λ r. P (outcome_text (refused (Source r)))) same w;
 }
@@ -98,7 +99,7 @@ pub counted_answered : {D : Type 0} (device : D → DiskState) (s : Stored D) (n
     → RequestAnswers device (script_state s now) (Ok Status) (script_state s now) P
 counted_answered device s now status P opened e w = record {
   answer = unchanged (script_state s now) (counted status);
-  gives = inl (ap (unchanged (script_state s now)) (ap counted e ∙ sym (when_open s.is_closed (counted (status_of (state_of device s))) opened)));
+  gives = ap (unchanged (script_state s now)) (ap counted e ∙ sym (when_open s.is_closed (counted (status_of (state_of device s))) opened));
   session_is = refl;
   written = w;
 }
@@ -109,7 +110,7 @@ pub counted_closed : {D : Type 0} (device : D → DiskState) (s : Stored D) (now
     → RequestAnswers device (script_state s now) (Ok Status) (script_state s now) P
 counted_closed device s now refusal P same closed w = record {
   answer = unchanged (script_state s now) (refused (Source Closed));
-  gives = inl (rw closed refl);
+  gives = rw closed refl;
   session_is = refl;
   written = subst (λ r. P (outcome_text (refused (Source r)))) same w;
 }
@@ -120,7 +121,7 @@ pub was_verified : {D : Type 0} (device : D → DiskState) (old new : Stored D) 
     → RequestAnswers device (script_state old now) (Ok Verify) (script_state new now) P
 was_verified device old new now result P a w = record {
   answer = record { outcome = verified_as (length (state_of device old).held) result; commands = []; session = script_state new now };
-  gives = inl (record { result = result; answers = a; outcome = refl; commands = refl; now = refl });
+  gives = record { result = result; answers = a; outcome = refl; commands = refl; now = refl };
   session_is = refl;
   written = w;
 }
@@ -153,17 +154,17 @@ abbrev denied : Refusal → Result Request Refusal
 denied refusal = Err refusal
 
 -- the line asks for nothing, or room for what it asks was refused
-pub refused_answered : {D : Type 0} (device : D → DiskState) (s : ScriptState (Stored D)) (found : Result Request Refusal) (refusal : Refusal) (P : List ℕ → Type 0)
-    → (Err refusal ≡ found) ⊎ (denied refusal ≡ denied NoMemory) → P (outcome_text (refused refusal)) → RequestAnswers device s found s P
-refused_answered device s found refusal P (inl e) w = record {
+pub refused_answered : {D : Type 0} (device : D → DiskState) (s : ScriptState (Stored D)) (found : Result Request Refusal) (Room : Type 0) (refusal : Refusal) (P : List ℕ → Type 0)
+    → (Err refusal ≡ found) ⊎ ((denied refusal ≡ denied NoMemory) × Room) → P (outcome_text (refused refusal)) → AskedAnswers device s found Room s P
+refused_answered device s found Room refusal P (inl e) w = record {
   answer = unchanged s (refused refusal);
   gives = inl (rw (sym e) refl);
   session_is = refl;
   written = w;
 }
-refused_answered device s found refusal P (inr e) w = record {
+refused_answered device s found Room refusal P (inr (e, room)) w = record {
   answer = unchanged s (refused refusal);
-  gives = inr (let same : refusal ≡ NoMemory = cc in rw same refl);
+  gives = inr (room, let same : refusal ≡ NoMemory = cc in rw same refl);
   session_is = refl;
   written = w;
 }
@@ -172,10 +173,15 @@ abbrev asked : Request → Result Request Refusal
 asked request = Ok request
 
 -- the line asks for something
-pub understood : {D : Type 0} (device : D → DiskState) (s new : ScriptState (Stored D)) (found : Result Request Refusal) (request : Request) (P : List ℕ → Type 0)
-    → (Ok request ≡ found) ⊎ (asked request ≡ denied NoMemory) → RequestAnswers device s (Ok request) new P → RequestAnswers device s found new P
-understood device s new found request P (inl e) given = subst (λ r. RequestAnswers device s r new P) e given
-understood device s new found request P (inr e) given = absurd cc
+pub understood : {D : Type 0} (device : D → DiskState) (s new : ScriptState (Stored D)) (found : Result Request Refusal) (Room : Type 0) (request : Request) (P : List ℕ → Type 0)
+    → (Ok request ≡ found) ⊎ ((asked request ≡ denied NoMemory) × Room) → RequestAnswers device s (Ok request) new P → AskedAnswers device s found Room new P
+understood device s new found Room request P (inl e) given = record {
+  answer = given.answer;
+  gives = inl (subst (λ r. RequestGives device s r given.answer) e given.gives);
+  session_is = given.session_is;
+  written = given.written;
+}
+understood device s new found Room request P (inr (e, room)) given = absurd cc
 
 -- a line that asks for nothing
 pub foreign_answered : {D : Type 0} (device : D → DiskState) (s : ScriptState (Stored D)) (line : List ℕ) (P : List ℕ → Type 0)
@@ -199,10 +205,10 @@ long_answered device s line P h w = record {
 
 -- room for a line was refused
 pub no_room_for_line : {D : Type 0} (device : D → DiskState) (s : ScriptState (Stored D)) (line : List ℕ) (P : List ℕ → Type 0)
-    → length line ≤ line_limit → P (outcome_text (refused NoMemory)) → LineAnswers device s line s P
-no_room_for_line device s line P le w = record {
+    → (length line ≤ line_limit) × (9 ≤ length line) → P (outcome_text (refused NoMemory)) → LineAnswers device s line s P
+no_room_for_line device s line P h w = record {
   answer = unchanged s (refused NoMemory);
-  gives = inr (le, inr refl);
+  gives = inr (h.0, inr (inl h.1, refl));
   session_is = refl;
   written = w;
 }
@@ -210,7 +216,7 @@ no_room_for_line device s line P le w = record {
 -- a line of these bytes
 pub bytes_answered : {D : Type 0} (device : D → DiskState) (s new : ScriptState (Stored D)) (bytes line : List ℕ) (P : List ℕ → Type 0)
     → (bytes ≡ line) × (length line ≤ line_limit)
-    → RequestAnswers device s (request_of bytes) new P → LineAnswers device s line new P
+    → AskedAnswers device s (request_of bytes) (TakesRoom bytes) new P → LineAnswers device s line new P
 bytes_answered device s new bytes line P h given = record {
   answer = given.answer;
   gives = inr (h.1, rw (sym h.0) given.gives);

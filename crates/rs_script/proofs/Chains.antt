@@ -20,6 +20,7 @@ use Rattle.rs_script.specs.declared.request.Request.TheVariants.{At, Run, Docume
 use Rattle.rs_store.specs.OnlyReads.{OnlyReads}
 use Rattle.rs_script.specs.Outcomes.{outcome_of_reply, RequestGives, AnswerGives, LineGives, StatementGives}
 use Rattle.rs_script.specs.Requests.{request_of}
+use Rattle.rs_script.specs.Room.{TakesRoom, GroupTakesRoom}
 use Rattle.rs_script.specs.Statements.{Statement, single, grouped, cut_off, request_by}
 use Rattle.rs_script.specs.Script.{IsMachine}
 use Rattle.rs_script.specs.Session.{ScriptState, Answer}
@@ -116,20 +117,20 @@ module _ {D : Type 0} (device : D → DiskState) (old : ScriptState (Stored D)) 
   request_follows (Ok Verify) r = read_follows device old.source answer.session.source answer.commands r.commands r.answers.reads_only
   request_follows (Err refusal) e = subst AnswerFollows (sym e) (stays device old.source)
 
-  answer_follows : (request : Result Request Refusal) → AnswerGives device old request answer → AnswerFollows answer
+  answer_follows : (request : Result Request Refusal) (Room : Type 0) → AnswerGives device old request Room answer → AnswerFollows answer
   unfolding AnswerFollows
-  answer_follows request (inl gives) = request_follows request gives
-  answer_follows request (inr e) = subst AnswerFollows (sym e) (stays device old.source)
+  answer_follows request Room (inl gives) = request_follows request gives
+  answer_follows request Room (inr (room, e)) = subst AnswerFollows (sym e) (stays device old.source)
 
   line_follows : (line : List ℕ) → LineGives device old line answer → AnswerFollows answer
   unfolding AnswerFollows
   line_follows line (inl long) = subst AnswerFollows (sym long.1) (stays device old.source)
-  line_follows line (inr (within, gives)) = answer_follows (request_of line) gives
+  line_follows line (inr (within, gives)) = answer_follows (request_of line) (TakesRoom line) gives
 
   pub statement_follows : (statement : Statement) → StatementGives device old statement answer → Follows device old.source answer.session.source answer.commands
   unfolding AnswerFollows
   statement_follows (single line) gives = line_follows line gives
-  statement_follows (grouped first lines) gives = answer_follows (request_by (grouped first lines)) gives
+  statement_follows (grouped first lines) gives = answer_follows (request_by (grouped first lines)) (GroupTakesRoom lines) gives
   statement_follows cut_off gives = request_follows (request_by cut_off) gives
 
 -- the generation does not fall, where the device did not fail
@@ -168,19 +169,19 @@ module _ {D : Type 0} (device : D → DiskState) (old : ScriptState (Stored D)) 
   request_rises (Ok Verify) r = alike_rises answer.session.source r.answers.reads_only.slots
   request_rises (Err refusal) e = subst Rises (sym e) (omega arith)
 
-  answer_rises : (request : Result Request Refusal) → AnswerGives device old request answer → Rises answer
+  answer_rises : (request : Result Request Refusal) (Room : Type 0) → AnswerGives device old request Room answer → Rises answer
   unfolding Rises
-  answer_rises request (inl gives) = request_rises request gives
-  answer_rises request (inr e) = subst Rises (sym e) (omega arith)
+  answer_rises request Room (inl gives) = request_rises request gives
+  answer_rises request Room (inr (room, e)) = subst Rises (sym e) (omega arith)
 
   line_rises : (line : List ℕ) → LineGives device old line answer → Rises answer
   unfolding Rises
   line_rises line (inl long) = subst Rises (sym long.1) (omega arith)
-  line_rises line (inr (within, gives)) = answer_rises (request_of line) gives
+  line_rises line (inr (within, gives)) = answer_rises (request_of line) (TakesRoom line) gives
 
   pub statement_rises : (statement : Statement) → StatementGives device old statement answer
       → old.source.slots.root.generation ≤ answer.session.source.slots.root.generation
   unfolding Rises
   statement_rises (single line) gives = line_rises line gives
-  statement_rises (grouped first lines) gives = answer_rises (request_by (grouped first lines)) gives
+  statement_rises (grouped first lines) gives = answer_rises (request_by (grouped first lines)) (GroupTakesRoom lines) gives
   statement_rises cut_off gives = request_rises (request_by cut_off) gives

@@ -4,7 +4,7 @@ use Rattle.std.proofs.lemmas.List.Elements.{All-append}
 use Rattle.std.specs.Prelude.{Result, Ok, Err, OnOk, OnErr}
 use Rattle.rs_disk.specs.Medium.{DiskState}
 use Rattle.rs_io.specs.declared.watch.Watched.{Watched}
-use Rattle.rs_io.specs.Watch.{Wrote, FailedWithin, WritesOut}
+use Rattle.rs_io.specs.Watch.{Wrote, WritesOut}
 use Rattle.rs_io.proofs.Growth.{wrote_then}
 use Rattle.rs_store.specs.Source.{Stored}
 use Rattle.rs_script.specs.declared.group.Taking.{Taking}
@@ -20,7 +20,7 @@ use Rattle.rs_script.specs.Session.{ScriptState, refused, unchanged}
 use Rattle.rs_script.specs.Statements.{Statement, cut_off, IsWholeStatement, last_statement, IsScript}
 use Rattle.rs_script.specs.Taken.{KeepsGroup}
 use Rattle.rs_script.proofs.Grouped.{kept_part, more_lines}
-use Rattle.rs_script.proofs.Steps.{Takes, Transcript-append, output-append, broke_within, none_kept}
+use Rattle.rs_script.proofs.Steps.{Takes, Transcript-append, output-append, broke_within, broke_line, none_kept}
 
 last_line-some : (rest : List ℕ) → 0 < length rest → last_line rest ≡ rest ∷ []
 last_line-some [] h = absurd (omega arith)
@@ -79,7 +79,7 @@ last_err device contents (Err e) line group after now new c d some given stopped
       p.outcomes ++ e.outcomes,
       p.commands ++ e.commands,
       (p.whole ++ e.whole, is, Transcript-append device p.whole e.whole start p.outcomes p.commands now e.outcomes e.commands new p.answered e.answered),
-      broke_within contents before c d p.outcomes e.outcomes e.few p.written e.written,
+      broke_line device contents p.part p.rest e.whole e.part now e.outcomes e.commands new before c d p.outcomes e.lines_are none e.answered e.few p.written e.written,
     )
 
 -- the input ended right after a line feed, or is empty
@@ -172,6 +172,5 @@ cut_err device contents (Err x) line old after taking now new c d b is ends w = 
         cut_script device contents start before input after taking d new is e,
         Transcript-append device e.whole (cut_off ∷ []) start e.outcomes e.commands new (refused BadGroup ∷ []) [] new e.answered (cut_answered device new),
       ),
-      broke_within contents before d b e.outcomes (refused BadGroup ∷ []) (omega arith) e.written
-          (subst (λ (text : List ℕ). FailedWithin contents d b text) (sym (append-nil (outcome_text (refused BadGroup)))) w),
+      broke_within contents before d b e.outcomes (refused BadGroup) e.written w,
     )

@@ -52,7 +52,7 @@ other_request line word rest a s g none = two_fields (first_field rest) (after_f
     two_fields field [] = rw (a, s, g, none) refl
     two_fields field (space ∷ bytes) = rw none refl
 
-either_false : (a b : Bool) → (a || b) ≡ false → (a ≡ false) × (b ≡ false)
+pub either_false : (a b : Bool) → (a || b) ≡ false → (a ≡ false) × (b ≡ false)
 either_false true b e = absurd (cc)
 either_false false b e = (refl, e)
 
@@ -73,16 +73,16 @@ begins_none line h =
     let g = either_false (starts_with nat_eq line (codes "group ")) false s.1 in
     record { no_at = a.0; no_put = p.0; no_delete = d.0; no_show = s.0; no_group = g.0 }
 
--- nor is it an item
-is_no_item : (line : List ℕ) → BeginsNone line → item_of_line line ≡ Err fault.BadLine
+-- a line that begins as none is no item
+pub is_no_item : (line : List ℕ) → starts_with nat_eq line (codes "put ") ≡ false → starts_with nat_eq line (codes "delete ") ≡ false → item_of_line line ≡ Err fault.BadLine
 unfolding item_of_line
-is_no_item line b = by_space (position is_space line) refl
+is_no_item line no_put no_delete = by_space (position is_space line) refl
   where
     by_space : (found : Option ℕ) → position is_space line ≡ found → item_of_fields (fields 3 line) ≡ Err fault.BadLine
     by_space None e = rw (fields-last line 2 e) refl
     by_space (Some i) e =
         rw (fields-cut line i 2 e)
-        (no_item (take i line) (drop (i + 1) line) (other_word line (codes "put") i e b.no_put) (other_word line (codes "delete") i e b.no_delete))
+        (no_item (take i line) (drop (i + 1) line) (other_word line (codes "put") i e no_put) (other_word line (codes "delete") i e no_delete))
 
 -- nor does a line that is longer than each of one field, and begins as none with more
 asks_alone : (line : List ℕ) → 8 ≤ length line → BeginsNone line → request_of line ≡ Err BadLine
@@ -98,7 +98,7 @@ asks_alone line long b = by_space (position is_space line) refl
     by_space (Some i) e =
         rw (fields-cut line i 1 e)
         (other_request line (take i line) (drop (i + 1) line) (other_word line (codes "at") i e b.no_at) (other_word line (codes "show") i e b.no_show)
-        (other_word line (codes "group") i e b.no_group) (is_no_item line b))
+        (other_word line (codes "group") i e b.no_group) (is_no_item line b.no_put b.no_delete))
 
 begins_no_group : (line : List ℕ) → starts_with nat_eq line (codes "group ") ≡ false → group_size line ≡ None
 unfolding group_size
@@ -107,7 +107,7 @@ begins_no_group line e = rw e refl
 asks_nothing : (line : List ℕ) → 8 ≤ length line → begins_request line ≡ false → AsksNothing line
 asks_nothing line long h =
     let b = begins_none line h in
-    record { alone = asks_alone line long b; within = is_no_item line b; no_group = begins_no_group line b.no_group }
+    record { alone = asks_alone line long b; within = is_no_item line b.no_put b.no_delete; no_group = begins_no_group line b.no_group }
 
 -- a line that is longer than each that begins a group begins none
 long_number : (text : List ℕ) → 2 < length text → number_in 2 text ≡ None
@@ -140,11 +140,11 @@ foreign raw true long h = by_last (slice_index raw (length raw - 1) == 13)
     by_last true = asks_nothing (take (length raw - 1) raw) (omega (arith, length-take (length raw - 1) raw)) (begins_same raw (length raw - 1) (omega arith) ∙ h)
     by_last false = asks_nothing raw (omega arith) h
 
--- a line of more bytes than there is always room for begins no group
-pub refused_begins_none : (raw : List ℕ) (has_break : Bool) → 9 < length raw → group_size (line_of has_break raw) ≡ None
-refused_begins_none raw false long = long_begins_none raw (omega arith)
-refused_begins_none raw true long = by_last (slice_index raw (length raw - 1) == 13)
+-- a line of more bytes than there is always room for, also without its carriage return
+pub refused_long : (raw : List ℕ) (has_break : Bool) → 9 < length raw → 9 ≤ length (line_of has_break raw)
+refused_long raw false long = omega (arith, long)
+refused_long raw true long = by_last (slice_index raw (length raw - 1) == 13)
   where
-    by_last : (ends : Bool) → group_size (if ends then take (length raw - 1) raw else raw) ≡ None
-    by_last true = long_begins_none (take (length raw - 1) raw) (omega (arith, length-take (length raw - 1) raw))
-    by_last false = long_begins_none raw (omega arith)
+    by_last : (ends : Bool) → 9 ≤ length (if ends then take (length raw - 1) raw else raw)
+    by_last true = omega (arith, length-take (length raw - 1) raw)
+    by_last false = omega (arith, long)

@@ -5,6 +5,8 @@ pub mod Cut
 pub mod Grouped
 pub mod Steps
 pub mod Endings
+pub mod ReaderCalls
+pub mod RoomLemmas
 pub mod GroupItems
 pub mod LineTaking
 pub mod Models

@@ -9,7 +9,8 @@ use Rattle.rs_script.specs.declared.group.Taking.{Taking}
 use Rattle.rs_script.specs.declared.refusal.Refusal.{Refusal}
 use Rattle.rs_script.specs.Answers.{outcome_text}
 use Rattle.rs_script.specs.Outcomes.{StatementGives}
-use Rattle.rs_script.specs.Progress.{RequestAnswers, LineTaken}
+use Rattle.rs_script.specs.Progress.{AskedAnswers, LineTaken}
+use Rattle.rs_script.specs.Room.{GroupTakesRoom}
 use Rattle.rs_script.specs.Session.{ScriptState, Answer}
 use Rattle.rs_script.specs.Statements.{Statement, grouped, statement_lines, IsWholeStatement, items_of_group, group_request}
 use Rattle.rs_script.specs.Taken.{KeepsItems, KeepsGroup}
@@ -53,7 +54,7 @@ module _ {D : Type 0} (device : D → DiskState) (old new : ScriptState (Stored 
   -- the line was the last of its group
   pub group_done : (group after : Option Taking) (taking : Taking) (items : Result (Vec Item Global) Refusal) → group ≡ Some taking → after ≡ None
       → taking.later ≡ 0 → ((lines : List (List ℕ)) → KeepsItems taking.items lines → KeepsItems items (lines ++ line ∷ []))
-      → ((lines : List (List ℕ)) → KeepsItems items lines → RequestAnswers device old (group_request (items_of_group lines)) new Written)
+      → ((lines : List (List ℕ)) → KeepsItems items lines → AskedAnswers device old (group_request (items_of_group lines)) (GroupTakesRoom lines) new Written)
       → KeepsGroup group begun → LineTaken device old begun line after new Written
   group_done None after taking items is none last more answers kept = absurd cc
   group_done (Some kept) after taking items is none last more answers (first, lines, are, size, had) =

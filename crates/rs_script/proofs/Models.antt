@@ -32,6 +32,7 @@ use Rattle.rs_script.specs.Outcomes.{outcome_of_reply, shown_as, verified_as, if
 use Rattle.rs_script.specs.Lines.{line_limit}
 use Rattle.rs_script.specs.Model.{stepped, shown_or, sound_count, answer_to, line_answer, statement_answer}
 use Rattle.rs_script.specs.Requests.{request_of}
+use Rattle.rs_script.specs.Room.{TakesRoom, GroupTakesRoom}
 use Rattle.rs_script.specs.Statements.{Statement, single, grouped, cut_off, request_by}
 use Rattle.rs_script.specs.Script.{IsOfMachine, IsMachine, told}
 use Rattle.rs_script.specs.Session.{ScriptState, script_state, LineOutcome, refused, counted, verified, Answer, unchanged}
@@ -211,11 +212,11 @@ module _ {D : Type 0} (device : D → DiskState) (old : ScriptState (Stored D)) 
   request_same (Err refusal) e honest left = left_same (refused refusal) e
 
   -- and so is one for which there may be no room
-  possible_same : (request : Result Request Refusal) → AnswerGives device old request answer
+  possible_same : (request : Result Request Refusal) (Room : Type 0) → AnswerGives device old request Room answer
       → IsTrue (device answer.session.source.disk).honest → old.source.slots.root.generation + 1 < 2 ^ 64
       → IsSame device answer (answer_to (told device old) request)
-  possible_same request (inl gives) honest left = request_same request gives honest left
-  possible_same request (inr e) honest left = absurd (models (subst (λ (a : Answer (Stored D)). IsMachine a.outcome) (sym e) tt))
+  possible_same request Room (inl gives) honest left = request_same request gives honest left
+  possible_same request Room (inr (room, e)) honest left = absurd (models (subst (λ (a : Answer (Stored D)). IsMachine a.outcome) (sym e) tt))
 
   line_same : (line : List ℕ) → LineGives device old line answer
       → IsTrue (device answer.session.source.disk).honest → old.source.slots.root.generation + 1 < 2 ^ 64
@@ -225,12 +226,12 @@ module _ {D : Type 0} (device : D → DiskState) (old : ScriptState (Stored D)) 
       rw past (left_same (refused refusals.LongLine) long.1)
   line_same line (inr (within, gives)) honest left =
       let short : nat_lt line_limit (length line) ≡ false = grind (arith, nat_tests, within) in
-      rw short (possible_same (request_of line) gives honest left)
+      rw short (possible_same (request_of line) (TakesRoom line) gives honest left)
 
   -- and so is a statement
   pub statement_same : (statement : Statement) → StatementGives device old statement answer
       → IsTrue (device answer.session.source.disk).honest → old.source.slots.root.generation + 1 < 2 ^ 64
       → IsSame device answer (statement_answer (told device old) statement)
   statement_same (single line) gives honest left = line_same line gives honest left
-  statement_same (grouped first lines) gives honest left = possible_same (request_by (grouped first lines)) gives honest left
+  statement_same (grouped first lines) gives honest left = possible_same (request_by (grouped first lines)) (GroupTakesRoom lines) gives honest left
   statement_same cut_off gives honest left = request_same (request_by cut_off) gives honest left

@@ -1,5 +1,5 @@
 -- One more run of bytes, one more line, and what has come when no more is read.
-use Rattle.std.proofs.Common.{◌≡◌, ◌≢◌, ℕ, ◌+◌, ◌*◌, ◌≤◌, ◌^◌, ◌⊎◌, List, [], ◌∷◌, ◌++◌, length, take, drop, map, Option, Some, None, refl, ap, sym, ◌∙◌, append_assoc, append-nil, arith, subst, length-append, length-take}
+use Rattle.std.proofs.Common.{◌≡◌, ◌≢◌, ℕ, ◌+◌, ◌*◌, ◌≤◌, ◌^◌, ◌⊎◌, List, [], ◌∷◌, ◌++◌, length, take, drop, map, Option, Some, None, refl, ap, sym, ◌∙◌, append_assoc, append-nil, arith, subst, inl, inr, length-append, length-take}
 use Rattle.std.proofs.lemmas.Grind.{common_steps, flat_map-append}
 use Rattle.std.proofs.lemmas.List.{map-append, take-map, drop-map, take-append-drop}
 use Rattle.std.proofs.lemmas.List.Elements.{All-append, All-take, All-drop}
@@ -10,9 +10,9 @@ use Rattle.std.specs.Io.KnownBytes.{Consumes, Keeps as KnownKeeps}
 use Rattle.std.proofs.KnownBytes.{Appends-kept, Consumes-trans}
 use Rattle.rs_disk.specs.Medium.{DiskState}
 use Rattle.rs_io.specs.declared.watch.Watched.{Watched}
-use Rattle.rs_io.specs.Watch.{watched, failures, EndFailed, Wrote, FailedWithin, WritesOut}
+use Rattle.rs_io.specs.Watch.{watched, failures, FlushFailed, Wrote, FailedWithin, WritesOut}
 use Rattle.rs_io.proofs.Growth.{wrote_nothing, wrote_then}
-use Rattle.rs_io.proofs.Faults.{failed_after, failed_flush}
+use Rattle.rs_io.proofs.Faults.{failed_after, failed_same}
 use Rattle.rs_model.specs.declared.command.Command.{Command}
 use Rattle.rs_store.specs.Source.{Stored}
 use Rattle.rs_script.specs.declared.line.Line.{Line}
@@ -25,7 +25,7 @@ use Rattle.rs_script.specs.Progress.{LineTaken, Progress, Gave, ComesTo, StopsBy
 use Rattle.rs_script.specs.Statements.{Statement, statement_lines, IsWholeStatement, IsPart, Groups}
 use Rattle.rs_script.specs.Taken.{KeepsGroup}
 use Rattle.rs_script.proofs.Grouped.{kept_part, more_lines, whole_lines, whole_script}
-use Rattle.rs_script.specs.Broken.{BreaksOff}
+use Rattle.rs_script.specs.Broken.{BreaksWithin, BreaksAfter}
 use Rattle.rs_script.specs.Script.{Transcript, ScriptGives, Ran, ScriptsRecover, ScriptsMakeWalks}
 use Rattle.rs_script.specs.Session.{ScriptState, script_state, LineOutcome}
 
@@ -132,27 +132,57 @@ take_ok device contents (Ok x) line mid next group after now new c d run k given
           (wrote_then contents before c d (output_of p.outcomes) (output_of e.outcomes) p.written e.written);
     }
 
--- all answers but the last were taken whole, and the writer failed within that one
-pub broke_within : {W : Type 0} (contents : W → Option (List ℕ)) (a b c : Watched W) (outcomes more : List LineOutcome) → length more ≤ 1
-    → Wrote contents a b (output_of outcomes) → FailedWithin contents b c (output_of more) → BreaksOff contents a c (outcomes ++ more)
-broke_within contents a b c outcomes more one wrote failed = record {
+-- all answers but the last were taken whole, and a put of that one failed
+pub broke_within : {W : Type 0} (contents : W → Option (List ℕ)) (a b c : Watched W) (outcomes : List LineOutcome) (last : LineOutcome)
+    → Wrote contents a b (output_of outcomes) → FailedWithin contents b c (outcome_text last) → BreaksWithin contents a c (outcomes ++ last ∷ [])
+broke_within contents a b c outcomes last wrote failed = record {
   whole = outcomes;
-  last = more;
+  last = last;
   outcomes_are = refl;
-  one = one;
-  failed = failed_after contents a b c (output_of outcomes) (output_of more) wrote failed;
+  failed = failed_after contents a b c (output_of outcomes) (outcome_text last) wrote failed;
 }
+
+-- a flush that fails after calls that did not is one of the whole run
+later_flush_fault : {W : Type 0} (a b c : Watched W) → failures b ≡ failures a → FlushFailed b c → FlushFailed a c
+later_flush_fault a b c same (inl rose) = inl (omega (arith, ap (λ f. f.flushes) same, rose))
+later_flush_fault a b c same (inr last) = inr last
 
 -- a flush failed with all answers taken
 pub broke_after : {W : Type 0} (contents : W → Option (List ℕ)) (a b c : Watched W) (outcomes : List LineOutcome)
-    → Wrote contents a b (output_of outcomes) → KnownKeeps (contents (watched b)) (contents (watched c)) → EndFailed b c → BreaksOff contents a c outcomes
-broke_after contents a b c outcomes wrote kept failed = record {
-  whole = outcomes;
-  last = [];
-  outcomes_are = sym (append-nil outcomes);
-  one = omega arith;
-  failed = failed_flush contents a b c (output_of outcomes) wrote kept failed;
+    → Wrote contents a b (output_of outcomes) → KnownKeeps (contents (watched b)) (contents (watched c)) → FlushFailed b c → (failures c).all ≤ (failures b).all + 1
+    → BreaksAfter contents a c outcomes
+broke_after contents a b c outcomes wrote kept failed once = record {
+  took = Appends-kept (contents (watched a)) (contents (watched b)) (contents (watched c)) (output_of outcomes) wrote.0 kept;
+  failed = later_flush_fault a b c wrote.1 failed;
+  once = omega (arith, ap (λ f. f.all) wrote.1, once);
 }
+
+has_line : (begun : List (List ℕ)) (line : List ℕ) → begun ++ line ∷ [] ≡ [] → ⊥
+has_line [] line e = cc
+has_line (first ∷ begun) line e = cc
+
+-- one statement was answered, where its lines have come whole
+one_answered : {D : Type 0} (device : D → DiskState) (begun : List (List ℕ)) (line : List ℕ) (whole : List Statement) (part : List (List ℕ)) (old : ScriptState (Stored D)) (outcomes : List LineOutcome)
+    (commands : List (Command × ℕ)) (new : ScriptState (Stored D)) → begun ++ line ∷ [] ≡ flat_map statement_lines whole ++ part → part ≡ []
+    → Transcript device old whole outcomes commands new → length outcomes ≤ 1 → (last : LineOutcome) × (outcomes ≡ last ∷ [])
+one_answered device begun line [] part old outcomes commands new lines none answered few = absurd (has_line begun line (lines ∙ none))
+one_answered device begun line (statement ∷ whole) part old outcomes commands new lines none answered few =
+    (answered.0.outcome, answered.4 ∙ ap (λ l. answered.0.outcome ∷ l) (no_others answered.0.outcome answered.1 (subst (λ (l : List LineOutcome). length l ≤ 1) answered.4 few)))
+  where
+    no_others : (first : LineOutcome) (more : List LineOutcome) → length (first ∷ more) ≤ 1 → more ≡ []
+    no_others first [] few = refl
+    no_others first (second ∷ more) few = absurd (omega (arith, few))
+
+-- and the writer failed within its answer
+pub broke_line : {D W : Type 0} (device : D → DiskState) (contents : W → Option (List ℕ)) (begun : List (List ℕ)) (line : List ℕ) (whole : List Statement) (part : List (List ℕ)) (old : ScriptState (Stored D)) (more : List LineOutcome)
+    (commands : List (Command × ℕ)) (new : ScriptState (Stored D)) (a b c : Watched W) (outcomes : List LineOutcome) → begun ++ line ∷ [] ≡ flat_map statement_lines whole ++ part → part ≡ []
+    → Transcript device old whole more commands new → length more ≤ 1 → Wrote contents a b (output_of outcomes) → FailedWithin contents b c (output_of more)
+    → BreaksWithin contents a c (outcomes ++ more)
+broke_line device contents begun line whole part old more commands new a b c outcomes lines none answered few wrote failed =
+    let one = one_answered device begun line whole part old more commands new lines none answered few in
+    let P : List LineOutcome → Type 0 = λ l. BreaksWithin contents a c (outcomes ++ l) in
+    let text : output_of more ≡ outcome_text one.0 = ap output_of one.1 ∙ append-nil (outcome_text one.0) in
+    subst P (sym one.1) (broke_within contents a b c outcomes one.0 wrote (failed_same contents b c (output_of more) (outcome_text one.0) failed text))
 
 -- of no group nothing is kept
 pub none_kept : (group : Option Taking) (part : List (List ℕ)) → group ≡ None → KeepsGroup group part → part ≡ []
@@ -182,7 +212,7 @@ take_err device contents (Err e) line mid group after now new c d run k given st
           whole_script (input ++ with_break run) (p.raws ++ raw ∷ []) (p.whole ++ e.whole) splits groups,
           Transcript-append device p.whole e.whole start p.outcomes p.commands now e.outcomes e.commands new p.answered e.answered,
         ),
-        broke_within contents before c d p.outcomes e.outcomes e.few p.written e.written,
+        broke_line device contents p.part (cut_return raw) e.whole e.part now e.outcomes e.commands new before c d p.outcomes e.lines_are (none_kept after e.part stopped e.taken) e.answered e.few p.written e.written,
       ),
       (p.raws ++ raw ∷ [], p.whole ++ e.whole, splits, groups),
     )
@@ -252,12 +282,12 @@ raws_whole raws each = record { whole = sym (append-nil (flat_map with_break raw
 
 -- the whole statements of what came, and the part of one after them
 pub Progress-whole : {D R W : Type 0} (device : D → DiskState) (contents : W → Option (List ℕ)) (remaining : R → Option (List ℕ)) (start : Stored D) (before : Watched W)
-    (input : List ℕ) (line : Line) (group : Option Taking) (c : Watched W) (now : Stored D) (moment : ℕ) (r s : Watched R) (F : Type 0)
-    → ScriptsRecover device × ScriptsMakeWalks device → F ⊎ (2 ^ 40 ≤ length input) → Consumes (remaining (watched r)) (remaining (watched s)) input
+    (input : List ℕ) (line : Line) (group : Option Taking) (c : Watched W) (now : Stored D) (moment : ℕ) (r s : Watched R) (F C : Type 0)
+    → ScriptsRecover device × ScriptsMakeWalks device → F ⊎ (C × (2 ^ 40 ≤ length input)) → Consumes (remaining (watched r)) (remaining (watched s)) input
     → Progress device contents (script_state start 0) before input line group c (script_state now moment)
     → (ran : Ran device start now) × (part : List ℕ) × GaveStatements remaining r s ran.input part
-    × Wrote contents before c (output_of ran.outcomes) × (F ⊎ (2 ^ 40 ≤ length (ran.input ++ part)))
-Progress-whole device contents remaining start before input line group c now moment r s F laws why gave p =
+    × Wrote contents before c (output_of ran.outcomes) × (F ⊎ (C × (2 ^ 40 ≤ length (ran.input ++ part))))
+Progress-whole device contents remaining start before input line group c now moment r s F C laws why gave p =
     let n = length (flat_map statement_lines p.whole) in
     let raws = take n p.raws in
     let behind = drop n p.raws in
@@ -267,7 +297,7 @@ Progress-whole device contents remaining start before input line group c now mom
     p.splits.whole ∙ ap (λ l. flat_map with_break l ++ p.rest) (sym (take-append-drop n p.raws))
     ∙ ap (λ z. z ++ p.rest) (flat_map-append with_break raws behind) ∙ append_assoc here (flat_map with_break behind) p.rest in
     let Q : List ℕ → Type 0 = λ bytes. Consumes (remaining (watched r)) (remaining (watched s)) bytes in
-    let T : List ℕ → Type 0 = λ bytes. F ⊎ (2 ^ 40 ≤ length bytes) in
+    let T : List ℕ → Type 0 = λ bytes. F ⊎ (C × (2 ^ 40 ≤ length bytes)) in
     let splits : Splits here raws [] = raws_whole raws (All-take HasNoBreak n p.raws p.splits.each) in
     let groups : Groups (map cut_return raws) p.whole [] =
     whole_lines raws p.whole [] (first_lines p.raws (flat_map statement_lines p.whole) p.part p.lines_are ∙ sym (append-nil (flat_map statement_lines p.whole))) refl p.each in

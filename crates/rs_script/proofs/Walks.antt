@@ -29,6 +29,7 @@ use Rattle.rs_script.specs.declared.request.Request.TheVariants.{At, Run, Docume
 use Rattle.rs_script.specs.Model.{shown_or}
 use Rattle.rs_script.specs.Outcomes.{RunAnswers, ReadAnswers, outcome_of_reply, shown_as, if_open, RequestGives, AnswerGives, LineGives, StatementGives}
 use Rattle.rs_script.specs.Requests.{request_of}
+use Rattle.rs_script.specs.Room.{TakesRoom, GroupTakesRoom}
 use Rattle.rs_script.specs.Statements.{Statement, single, grouped, cut_off, request_by}
 use Rattle.rs_script.specs.Session.{ScriptState, LineOutcome, shown, refused, Answer, unchanged}
 use Rattle.rs_script.specs.Walked.{RunEvents, ShowEvents, StatementEvents, now_after}
@@ -83,23 +84,23 @@ module _ {D : Type 0} (device : D → DiskState) where
   request_now old (Ok Verify) answer r = r.now
   request_now old (Err refusal) answer e = subst (SetsNow old (Err refusal)) (sym e) refl
 
-  answer_now : (old : ScriptState (Stored D)) (request : Result Request Refusal) (answer : Answer (Stored D)) → AnswerGives device old request answer
+  answer_now : (old : ScriptState (Stored D)) (request : Result Request Refusal) (Room : Type 0) (answer : Answer (Stored D)) → AnswerGives device old request Room answer
       → SetsNow old request answer
   unfolding SetsNow
-  answer_now old request answer (inl gives) = request_now old request answer gives
-  answer_now old request answer (inr e) = subst (SetsNow old request) (sym e) (unset old.now request refusals.NoMemory)
+  answer_now old request Room answer (inl gives) = request_now old request answer gives
+  answer_now old request Room answer (inr (room, e)) = subst (SetsNow old request) (sym e) (unset old.now request refusals.NoMemory)
 
   line_now : (old : ScriptState (Stored D)) (line : List ℕ) (answer : Answer (Stored D)) → LineGives device old line answer
       → SetsNow old (request_of line) answer
   unfolding SetsNow
   line_now old line answer (inl long) = subst (SetsNow old (request_of line)) (sym long.1) (unset old.now (request_of line) refusals.LongLine)
-  line_now old line answer (inr (within, gives)) = answer_now old (request_of line) answer gives
+  line_now old line answer (inr (within, gives)) = answer_now old (request_of line) (TakesRoom line) answer gives
 
   pub statement_now : (old : ScriptState (Stored D)) (statement : Statement) (answer : Answer (Stored D)) → StatementGives device old statement answer
       → answer.session.now ≡ now_after old.now (request_by statement) answer.outcome
   unfolding SetsNow
   statement_now old (single line) answer gives = line_now old line answer gives
-  statement_now old (grouped first lines) answer gives = answer_now old (request_by (grouped first lines)) answer gives
+  statement_now old (grouped first lines) answer gives = answer_now old (request_by (grouped first lines)) (GroupTakesRoom lines) answer gives
   statement_now old cut_off answer gives = request_now old (request_by cut_off) answer gives
 
 -- a line that was asked of an open source
@@ -184,11 +185,11 @@ module _ {D : Type 0} (device : D → DiskState) (sound : (disk : D) → IsMediu
       nothing (StatementEvents s old.now (Ok Verify) answer.outcome) answer.session.source refl (kept answer.session.source r.answers.reads_only)
   request_walk (Err refusal) has answer e honest = still (Err refusal) answer _ e refl holds
 
-  answer_walk : (request : Result Request Refusal) → HasPath request → (answer : Answer (Stored D)) → AnswerGives device old request answer
+  answer_walk : (request : Result Request Refusal) (Room : Type 0) → HasPath request → (answer : Answer (Stored D)) → AnswerGives device old request Room answer
       → IsTrue (device answer.session.source.disk).honest → Walk request answer
   unfolding Walk
-  answer_walk request has answer (inl gives) honest = request_walk request has answer gives honest
-  answer_walk request has answer (inr e) honest =
+  answer_walk request Room has answer (inl gives) honest = request_walk request has answer gives honest
+  answer_walk request Room has answer (inr (room, e)) honest =
       let none = no_room s old.now request in
       subst (Walk request) (sym e)
       (walked device stands s (StatementEvents s old.now request (refused refusals.NoMemory)) old.source none.0 none.1
@@ -199,14 +200,14 @@ module _ {D : Type 0} (device : D → DiskState) (sound : (disk : D) → IsMediu
   unfolding Walk
   line_walk line has answer (inl long) honest =
       still (request_of line) answer (unchanged old (refused refusals.LongLine)) long.1 (too_long s old.now (request_of line)) holds
-  line_walk line has answer (inr (within, gives)) honest = answer_walk (request_of line) has answer gives honest
+  line_walk line has answer (inr (within, gives)) honest = answer_walk (request_of line) (TakesRoom line) has answer gives honest
 
   pub statement_walk : (statement : Statement) → HasPath (request_by statement) → (answer : Answer (Stored D)) → StatementGives device old statement answer
       → IsTrue (device answer.session.source.disk).honest
       → LeavesWalk device s (StatementEvents s old.now (request_by statement) answer.outcome) answer.session.source
   unfolding Walk
   statement_walk (single line) has answer gives honest = line_walk line has answer gives honest
-  statement_walk (grouped first lines) has answer gives honest = answer_walk (request_by (grouped first lines)) has answer gives honest
+  statement_walk (grouped first lines) has answer gives honest = answer_walk (request_by (grouped first lines)) (GroupTakesRoom lines) has answer gives honest
   statement_walk cut_off has answer gives honest = request_walk (request_by cut_off) has answer gives honest
 
 -- What comes of a line of a closed source: it stays closed, its disk holds what it held, and the state of a walk is not changed.
@@ -286,10 +287,10 @@ module _ {D : Type 0} (device : D → DiskState) (refusing : ClosedCommandsAreRe
   request_shut (Ok Verify) answer r = read_shut (StatementEvents s old.now (Ok Verify) answer.outcome) answer.session.source r.answers.reads_only refl
   request_shut (Err refusal) answer e = unmoved (Err refusal) answer _ e refl [] refl refl
 
-  answer_shut : (request : Result Request Refusal) (answer : Answer (Stored D)) → AnswerGives device old request answer → ShutBy request answer
+  answer_shut : (request : Result Request Refusal) (Room : Type 0) (answer : Answer (Stored D)) → AnswerGives device old request Room answer → ShutBy request answer
   unfolding ShutBy
-  answer_shut request answer (inl gives) = request_shut request answer gives
-  answer_shut request answer (inr e) =
+  answer_shut request Room answer (inl gives) = request_shut request answer gives
+  answer_shut request Room answer (inr (room, e)) =
       let none = no_room s old.now request in
       unmoved request answer (unchanged old (refused refusals.NoMemory)) e refl none.0 none.1 none.2
 
@@ -297,11 +298,11 @@ module _ {D : Type 0} (device : D → DiskState) (refusing : ClosedCommandsAreRe
   unfolding ShutBy
   line_shut line answer (inl long) =
       unmoved (request_of line) answer (unchanged old (refused refusals.LongLine)) long.1 refl [] (too_long s old.now (request_of line)) refl
-  line_shut line answer (inr (within, gives)) = answer_shut (request_of line) answer gives
+  line_shut line answer (inr (within, gives)) = answer_shut (request_of line) (TakesRoom line) answer gives
 
   pub statement_shut : (statement : Statement) (answer : Answer (Stored D)) → StatementGives device old statement answer
       → Shut device old.source answer.session.source s (StatementEvents s old.now (request_by statement) answer.outcome)
   unfolding ShutBy
   statement_shut (single line) answer gives = line_shut line answer gives
-  statement_shut (grouped first lines) answer gives = answer_shut (request_by (grouped first lines)) answer gives
+  statement_shut (grouped first lines) answer gives = answer_shut (request_by (grouped first lines)) (GroupTakesRoom lines) answer gives
   statement_shut cut_off answer gives = request_shut (request_by cut_off) answer gives

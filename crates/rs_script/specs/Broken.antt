@@ -1,15 +1,26 @@
 -- What a writer took that failed while the answers of a script were written.
-use Rattle.std.specs.Prelude.{◌≡◌, ◌≤◌, ℕ, List, ◌++◌, length, Option}
+use Rattle.std.specs.Prelude.{◌≡◌, ◌⊎◌, ℕ, ◌+◌, ◌≤◌, false, List, [], ◌∷◌, ◌++◌, Option}
+use Rattle.std.specs.Io.KnownBytes.{Appends}
 use Rattle.rs_io.specs.declared.watch.Watched.{Watched}
-use Rattle.rs_io.specs.Watch.{FailedAfter}
-use Rattle.rs_script.specs.Answers.{output_of}
+use Rattle.rs_io.specs.Watch.{watched, failures, is_broken, FailedAfter, FlushFailed}
+use Rattle.rs_script.specs.Answers.{outcome_text, output_of}
 use Rattle.rs_script.specs.Session.{LineOutcome}
 
--- The writer took each answer whole, but perhaps the last: it failed within that one, or with all of them taken. So no line was
--- begun after the fault.
-pub record BreaksOff {W : Type 0} (contents : W → Option (List ℕ)) (old new : Watched W) (outcomes : List LineOutcome) : Type 0 where
+-- A put failed within the last answer, and no flush failed. The writer took each answer before it whole.
+pub record BreaksWithin {W : Type 0} (contents : W → Option (List ℕ)) (old new : Watched W) (outcomes : List LineOutcome) : Type 0 where
   pub whole : List LineOutcome
-  pub last : List LineOutcome
-  pub outcomes_are : outcomes ≡ whole ++ last
-  pub one : length last ≤ 1
-  pub failed : FailedAfter contents old new (output_of whole) (output_of last)
+  pub last : LineOutcome
+  pub outcomes_are : outcomes ≡ whole ++ last ∷ []
+  pub failed : FailedAfter contents old new (output_of whole) (outcome_text last)
+
+-- A flush failed, and no other call. The writer took each answer whole.
+pub record BreaksAfter {W : Type 0} (contents : W → Option (List ℕ)) (old new : Watched W) (outcomes : List LineOutcome) : Type 0 where
+  pub took : Appends (contents (watched old)) (contents (watched new)) (output_of outcomes)
+  pub failed : FlushFailed old new
+  pub once : (failures new).all ≤ (failures old).all + 1
+
+-- A writer that had not failed did so within the last answer, or a flush failed behind it. A writer takes nothing more once it
+-- has failed: so no statement was begun after the fault.
+abbrev pub BreaksOff : {W : Type 0} → (W → Option (List ℕ)) → Watched W → Watched W → List LineOutcome → Type 0
+BreaksOff contents old new outcomes =
+    ((is_broken old ≡ false) × BreaksWithin contents old new outcomes) ⊎ BreaksAfter contents old new outcomes

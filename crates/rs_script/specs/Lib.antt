@@ -3,6 +3,7 @@ pub mod Requests
 pub mod Statements
 pub mod Session
 pub mod Model
+pub mod Room
 pub mod Outcomes
 pub mod Answers
 pub mod Script

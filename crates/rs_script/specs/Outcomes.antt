@@ -21,6 +21,7 @@ use Rattle.rs_store.specs.Verified.{AnswersVerify}
 use Rattle.rs_script.specs.Lines.{line_limit}
 use Rattle.rs_script.specs.Model.{shown_or}
 use Rattle.rs_script.specs.Requests.{request_of}
+use Rattle.rs_script.specs.Room.{TakesRoom, GroupTakesRoom}
 use Rattle.rs_script.specs.Statements.{Statement, single, grouped, cut_off, request_by}
 use Rattle.rs_script.specs.Session.{ScriptState, LineOutcome, moment_set, replied, shown, counted, verified, refused, Answer, unchanged}
 
@@ -79,18 +80,18 @@ RequestGives device old (Ok Status) answer = answer ≡ unchanged old (if_open o
 RequestGives device old (Ok Verify) answer = VerifyAnswers device old answer
 RequestGives device old (Err refusal) answer = answer ≡ unchanged old (refused refusal)
 
--- this, or room for the request was refused and nothing changed
-abbrev pub AnswerGives : {D : Type 0} → (D → DiskState) → ScriptState (Stored D) → Result Request Refusal → Answer (Stored D) → Type 0
-AnswerGives device old request answer = RequestGives device old request answer ⊎ (answer ≡ unchanged old (refused refusals.NoMemory))
+-- this, or the statement takes room, which was refused, and nothing changed
+abbrev pub AnswerGives : {D : Type 0} → (D → DiskState) → ScriptState (Stored D) → Result Request Refusal → Type 0 → Answer (Stored D) → Type 0
+AnswerGives device old request Room answer = RequestGives device old request answer ⊎ (Room × (answer ≡ unchanged old (refused refusals.NoMemory)))
 
 -- what may come of a line, where one past the limit is refused whatever it says
 abbrev pub LineGives : {D : Type 0} → (D → DiskState) → ScriptState (Stored D) → List ℕ → Answer (Stored D) → Type 0
 LineGives device old line answer =
     ((line_limit < length line) × (answer ≡ unchanged old (refused refusals.LongLine)))
-    ⊎ ((length line ≤ line_limit) × AnswerGives device old (request_of line) answer)
+    ⊎ ((length line ≤ line_limit) × AnswerGives device old (request_of line) (TakesRoom line) answer)
 
 -- what may come of a statement: a group that is cut off by the end of the input is refused as such
 abbrev pub StatementGives : {D : Type 0} → (D → DiskState) → ScriptState (Stored D) → Statement → Answer (Stored D) → Type 0
 StatementGives device old (single line) answer = LineGives device old line answer
-StatementGives device old (grouped first lines) answer = AnswerGives device old (request_by (grouped first lines)) answer
+StatementGives device old (grouped first lines) answer = AnswerGives device old (request_by (grouped first lines)) (GroupTakesRoom lines) answer
 StatementGives device old cut_off answer = RequestGives device old (request_by cut_off) answer

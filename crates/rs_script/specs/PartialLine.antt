@@ -39,5 +39,5 @@ pub record AsksNothing (line : List ℕ) : Type 0 where
 abbrev pub IsContent : Content → List ℕ → Type 0
 IsContent (Bytes bytes) line = (bytes.now ≡ line) × (length line ≤ line_limit)
 IsContent Foreign line = (length line ≤ line_limit) × AsksNothing line
-IsContent Refused line = (length line ≤ line_limit) × (group_size line ≡ None)
+IsContent Refused line = (length line ≤ line_limit) × (9 ≤ length line)
 IsContent TooLong line = line_limit < length line

@@ -1,10 +1,10 @@
 -- How far a script has come.
-use Rattle.std.specs.Prelude.{◌≡◌, ◌≤◌, ◌^◌, ℕ, ◌⊎◌, true, List, [], ◌∷◌, ◌++◌, length, map, flat_map, All, Option, Result}
+use Rattle.std.specs.Prelude.{◌≡◌, ◌≤◌, ◌+◌, ◌^◌, ℕ, ◌⊎◌, true, List, [], ◌∷◌, ◌++◌, length, map, flat_map, All, Option, Result}
 use Rattle.std.specs.Io.KnownBytes.{Consumes, IsAtEnd}
 use Rattle.rs_disk.specs.Medium.{DiskState}
 use Rattle.rs_io.specs.declared.watch.Watched.{Watched}
-use Rattle.rs_io.specs.Watch.{watched, is_flushed, EndFailed, Took, Wrote}
-use Rattle.rs_script.specs.Broken.{BreaksOff}
+use Rattle.rs_io.specs.Watch.{watched, calls, is_flushed, EndFailed, Took, Wrote}
+use Rattle.rs_script.specs.Broken.{BreaksWithin}
 use Rattle.rs_model.specs.declared.command.Command.{Command}
 use Rattle.rs_store.specs.Source.{Stored}
 use Rattle.rs_script.specs.declared.refusal.Refusal.{Refusal}
@@ -17,14 +17,21 @@ use Rattle.rs_script.specs.Taken.{KeepsGroup}
 use Rattle.rs_script.specs.Lines.{Splits, script_lines}
 use Rattle.rs_items.specs.Lines.{cut_return}
 use Rattle.rs_script.specs.Statements.{Statement, statement_lines, IsWholeStatement, AreWholeStatements, IsUnfinished}
-use Rattle.rs_script.specs.Outcomes.{AnswerGives, LineGives}
+use Rattle.rs_script.specs.Outcomes.{RequestGives, AnswerGives, LineGives}
 use Rattle.rs_script.specs.Script.{Transcript, ScriptGives}
 use Rattle.rs_script.specs.Session.{ScriptState, script_state, Answer, LineOutcome}
 
 -- a request was answered, the session is the one after it, and this holds of the answer's text
 pub record RequestAnswers {D : Type 0} (device : D → DiskState) (old : ScriptState (Stored D)) (request : Result Request Refusal) (new : ScriptState (Stored D)) (Written : List ℕ → Type 0) : Type 0 where
   pub answer : Answer (Stored D)
-  pub gives : AnswerGives device old request answer
+  pub gives : RequestGives device old request answer
+  pub session_is : answer.session ≡ new
+  pub written : Written (outcome_text answer.outcome)
+
+-- the same of a statement that asks this, where room that it takes may have been refused
+pub record AskedAnswers {D : Type 0} (device : D → DiskState) (old : ScriptState (Stored D)) (request : Result Request Refusal) (Room : Type 0) (new : ScriptState (Stored D)) (Written : List ℕ → Type 0) : Type 0 where
+  pub answer : Answer (Stored D)
+  pub gives : AnswerGives device old request Room answer
   pub session_is : answer.session ≡ new
   pub written : Written (outcome_text answer.outcome)
 
@@ -85,10 +92,10 @@ pub record Ended {D W : Type 0} (device : D → DiskState) (contents : W → Opt
   pub answered : Transcript device start whole outcomes commands now
   pub written : Wrote contents before after (output_of outcomes)
 
--- the statements of this input were answered, and the writer failed while the answers were written
+-- the statements of this input were answered, and a put failed within the last answer
 abbrev pub Answered : {D W : Type 0} → (D → DiskState) → (W → Option (List ℕ)) → ScriptState (Stored D) → Watched W → List ℕ → Watched W → ScriptState (Stored D) → Type 0
 Answered device contents start before input after now = (outcomes : List LineOutcome) × (commands : List (Command × ℕ))
-    × ScriptGives device start input outcomes commands now × BreaksOff contents before after outcomes
+    × ScriptGives device start input outcomes commands now × BreaksWithin contents before after outcomes
 
 -- where a script stands: what is kept of a line and of a group, the writer, and the session
 pub record Stand (D W : Type 0) : Type 0 where
@@ -107,8 +114,8 @@ ComesTo {D} {W} device contents old new bytes =
     → Progress device contents start before input old.line old.group old.writer old.session
     → Progress device contents start before (input ++ bytes) new.line new.group new.writer new.session
 
--- of a script that had come to this stand, the statements up to these bytes more are answered, and they are whole; then the writer
--- failed
+-- of a script that had come to this stand, the statements up to these bytes more are answered, and they are whole; a put of the last
+-- answer failed
 abbrev pub StopsBy : {D W : Type 0} → (D → DiskState) → (W → Option (List ℕ)) → Stand D W → List ℕ → Watched W → ScriptState (Stored D) → Type 0
 StopsBy {D} {W} device contents old bytes after now =
     (start : ScriptState (Stored D)) (before : Watched W) (input : List ℕ)
@@ -130,7 +137,7 @@ EndsAt {D} {W} device contents old new =
     → (outcomes : List LineOutcome) × (commands : List (Command × ℕ))
     × ScriptGives device start input outcomes commands new.session × Wrote contents before new.writer (output_of outcomes)
 
--- of a script that had come to this stand, and whose input ended there, all statements are answered; then the writer failed
+-- of a script that had come to this stand, and whose input ended there, all statements are answered; a put of the last answer failed
 abbrev pub StopsAt : {D W : Type 0} → (D → DiskState) → (W → Option (List ℕ)) → Stand D W → Watched W → ScriptState (Stored D) → Type 0
 StopsAt {D} {W} device contents old after now =
     (start : ScriptState (Stored D)) (before : Watched W) (input : List ℕ)
@@ -155,6 +162,11 @@ abbrev pub GaveStatements : {R : Type 0} → (R → Option (List ℕ)) → Watch
 GaveStatements remaining old new input part =
     Consumes (remaining (watched old)) (remaining (watched new)) (input ++ part) × AreWholeStatements input × IsUnfinished part
 
--- nothing more is read: the reader failed, and all that was written before was flushed; or it gave 2^40 bytes and more
+-- this many calls were made, or their count stands at its last value
+abbrev pub IsCalled : {T : Type 0} → ℕ → Watched T → Watched T → Type 0
+IsCalled count old new = (calls new ≡ calls old + count) ⊎ (2 ^ 64 ≤ calls new + 1)
+
+-- Nothing more is read: the reader failed, and all that was written before was flushed; or 2^40 reads of it were made, and each gave a
+-- byte at least.
 abbrev pub ReadsNoMore : {R W : Type 0} → Watched R → Watched R → Watched W → List ℕ → Type 0
-ReadsNoMore old new writer input = (EndFailed old new × (is_flushed writer ≡ true)) ⊎ (2 ^ 40 ≤ length input)
+ReadsNoMore old new writer input = (EndFailed old new × (is_flushed writer ≡ true)) ⊎ (IsCalled (2 ^ 40) old new × (2 ^ 40 ≤ length input))

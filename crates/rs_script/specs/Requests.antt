@@ -1,5 +1,5 @@
 -- What a line of a script asks for.
-use Rattle.std.specs.Prelude.{ℕ, Bool, nat_eq, if◌then◌else◌, List, [], ◌∷◌, drop, codes, bytes_eq, Option, Some, None, Result, Ok, Err}
+use Rattle.std.specs.Prelude.{ℕ, Bool, ◌||◌, nat_eq, if◌then◌else◌, List, [], ◌∷◌, drop, codes, bytes_eq, Option, Some, None, Result, Ok, Err}
 use Rattle.std.specs.List.{list_any, starts_with}
 use Rattle.rs_time.specs.Moment.{moment_of}
 use Rattle.rs_record.specs.Name.{is_name}
@@ -92,3 +92,7 @@ abbrev pub begins_request : List ℕ → Bool
 begins_request bytes =
     list_any (λ word. starts_with nat_eq bytes word)
     (codes "at " ∷ codes "put " ∷ codes "delete " ∷ codes "show " ∷ codes "group " ∷ [])
+
+-- the bytes begin as an item does
+abbrev pub begins_item : List ℕ → Bool
+begins_item bytes = starts_with nat_eq bytes (codes "put ") || starts_with nat_eq bytes (codes "delete ")

@@ -4,7 +4,7 @@ use Rattle.rs_disk.specs.Medium.{DiskState}
 use Rattle.rs_model.specs.State.{Source}
 use Rattle.rs_model.specs.declared.command.Command.{Command}
 use Rattle.rs_store.specs.Source.{Stored, state_of}
-use Rattle.rs_recovery.specs.Prefixes.{Recovers}
+use Rattle.rs_recovery.specs.Prefixes.{IsRunOf, Recovers}
 use Rattle.rs_store.specs.declared.refusal.Refusal as stored
 use Rattle.rs_store.specs.declared.refusal.Refusal.TheVariants as machine
 use Rattle.rs_script.specs.declared.refusal.Refusal.TheVariants as refusals
@@ -37,6 +37,11 @@ pub record Ran {D : Type 0} (device : D → DiskState) (old new : Stored D) : Ty
   pub gives : ScriptGives device (script_state old 0) input outcomes commands (script_state new last)
   pub recovers : Recovers device old commands new
   pub walks : MakesWalk device old 0 input outcomes new
+
+-- What a script asks of its source is a run, whose commands that count are those of the script.
+abbrev pub ScriptsAreRuns : {D : Type 0} → (D → DiskState) → Type 0
+ScriptsAreRuns {D} device = (old new : ScriptState (Stored D)) (input : List ℕ) (outcomes : List LineOutcome) (commands : List (Command × ℕ))
+    → ScriptGives device old input outcomes commands new → IsRunOf device old.source commands new.source
 
 -- Whenever a stop comes within a script, it leaves what the first of the commands make that count in it.
 abbrev pub ScriptsRecover : {D : Type 0} → (D → DiskState) → Type 0

@@ -5,12 +5,13 @@ use Rattle.rs_model.specs.declared.command.Item.{Item}
 use Rattle.rs_script.specs.declared.group.Taking.{Taking}
 use Rattle.rs_script.specs.declared.refusal.Refusal.{Refusal}
 use Rattle.rs_script.specs.declared.refusal.Refusal.TheVariants.{NoMemory}
+use Rattle.rs_script.specs.Room.{GroupTakesRoom}
 use Rattle.rs_script.specs.Statements.{group_size, items_of_group}
 
--- the items of these lines, or their first fault, or room for them was refused
+-- the items of these lines, or their first fault, or room was refused that one of them takes
 abbrev pub KeepsItems : Result (Vec Item Global) Refusal → List (List ℕ) → Type 0
 KeepsItems (Ok items) lines = items_of_group lines ≡ Ok items.items
-KeepsItems (Err refusal) lines = (items_of_group lines ≡ Err refusal) ⊎ (refusal ≡ NoMemory)
+KeepsItems (Err refusal) lines = (items_of_group lines ≡ Err refusal) ⊎ ((refusal ≡ NoMemory) × GroupTakesRoom lines)
 
 -- these lines of a group have come, and it lacks one and so many later ones; or none have, since there is no group
 abbrev pub KeepsGroup : Option Taking → List (List ℕ) → Type 0

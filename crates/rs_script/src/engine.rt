@@ -1,8 +1,8 @@
 //! The script engine: every statement of an input is answered in turn.
 
-ghost use Rattle.std.specs.Prelude.{◌≡◌, [], ◌++◌, ◌≤◌, ◌^◌, ◌*◌, true, length, ℕ, List, None, OnOk, OnErr, IsErrOf};
+ghost use Rattle.std.specs.Prelude.{◌≡◌, [], ◌++◌, ◌≤◌, ◌+◌, ◌^◌, ◌*◌, true, length, ℕ, List, None, OnOk, OnErr, IsErr, IsErrOf, IsTrue};
 ghost use Rattle.std.specs.Io.KnownBytes.{Consumes};
-ghost use Rattle.rs_io.specs.Watch.{watched, failures, is_flushed, EndFailed, Wrote, WritesOut};
+ghost use Rattle.rs_io.specs.Watch.{watched, calls, failures, is_broken, is_flushed, EndFailed, IsRefused, Wrote, WritesOut};
 ghost use Rattle.rs_script.specs.Answers.{output_of};
 ghost use Rattle.rs_script.specs.Broken.{BreaksOff};
 ghost use Rattle.rs_script.specs.PartialLine.{KeepsLine};
@@ -30,7 +30,7 @@ use thiserror::Error;
 /// Why a script ends early.
 #[derive(Clone, Copy, Debug, PartialEq, Eq, Error)]
 pub enum ScriptFault {
-    /// The reader failed, or gave 2^40 pieces. The statements that had come whole are answered.
+    /// The reader failed, or 2^40 reads of it came to no end. The statements that had come whole are answered.
     #[error("the input cannot be read")]
     Read,
     /// The writer failed. Commands that were accepted before stand.
@@ -86,7 +86,7 @@ fn take_line<D: Disk, W: Write>(
 }
 
 /// More bytes of the input.
-fn take_piece<D: Disk, W: Write>(
+pub fn take_piece<D: Disk, W: Write>(
     alloc: Global,
     source: &mut Source<D>,
     now: &mut Moment,
@@ -137,7 +137,7 @@ fn take_last<D: Disk, W: Write>(
 }
 
 /// The end of the input: the last line is taken, and a group that lacks a line then is refused.
-fn take_end<D: Disk, W: Write>(
+pub fn take_end<D: Disk, W: Write>(
     alloc: Global,
     source: &mut Source<D>,
     now: &mut Moment,
@@ -194,6 +194,13 @@ fn take_all<D: Disk, R: Read, W: Write>(
     ensures bound { (gave : List ℕ)
         × Consumes (R.remaining (watched reader.old)) (R.remaining (watched reader.new)) gave
         × (length gave ≤ 2 ^ 40 * 65536) }
+    ensures reads { calls reader.new ≤ calls reader.old + 2 ^ 40 }
+    ensures once { (failures reader.new).all ≤ (failures reader.old).all + 1 }
+    ensures broken_writer { IsTrue (is_broken writer.old)
+        → IsRefused writer.old writer.new result × (reader.new ≡ reader.old)
+        × (source.new ≡ source.old) }
+    ensures broken_reader { IsTrue (is_broken reader.old) → IsErr result
+        × (watched reader.new ≡ watched reader.old) × (source.new ≡ source.old) }
 {
     scripts_recover::<D>();
     scripts_make_walks::<D>();
@@ -250,7 +257,7 @@ pub fn script<D: Disk, R: Read, W: Write>(
         × TookAll R.remaining reader.old reader.new ran.input
         × Wrote W.contents writer.old writer.new (output_of ran.outcomes)) }
 
-    // A read failed, and all answers were flushed before it; or the reader gave 2^40 bytes or more.
+    // A read failed, and all answers were flushed before it; or 2^40 reads came to no end.
     // The whole statements were answered, and a part of one after them was not.
     ensures read { IsErrOf result ScriptFault.Read
         → (ran : Ran D.state source.old source.new) × (part : List ℕ)
@@ -259,8 +266,8 @@ pub fn script<D: Disk, R: Read, W: Write>(
         × ReadsNoMore reader.old reader.new writer.new (ran.input ++ part) }
 
     // A call of the writer failed, and none of the reader: what the statements so far asked for is
-    // done. They had come whole, or the input had ended. All their answers but the last went out
-    // whole, and of the last a beginning.
+    // done. They had come whole, or the input had ended. A put failed within the last answer, and the
+    // others went out whole; or all did, and a flush failed.
     ensures write { IsErrOf result ScriptFault.Write → (ran : Ran D.state source.old source.new)
         × Came R.remaining reader.old reader.new ran.input
         × BreaksOff W.contents writer.old writer.new ran.outcomes
@@ -269,10 +276,25 @@ pub fn script<D: Disk, R: Read, W: Write>(
     // At the end all that was written is flushed.
     ensures flushed { OnOk result (is_flushed writer.new ≡ true) }
 
-    // Whatever it answers, it read at most 2^40 times, 65,536 bytes each time.
+    // Whatever it answers, 2^40 times 65,536 bytes came at most.
     ensures bound { (gave : List ℕ)
         × Consumes (R.remaining (watched reader.old)) (R.remaining (watched reader.new)) gave
         × (length gave ≤ 2 ^ 40 * 65536) }
+
+    // And it read 2^40 times at most.
+    ensures reads { calls reader.new ≤ calls reader.old + 2 ^ 40 }
+
+    // A read that failed is not tried again.
+    ensures once { (failures reader.new).all ≤ (failures reader.old).all + 1 }
+
+    // On a writer that had failed nothing is read, and nothing done.
+    ensures broken_writer { IsTrue (is_broken writer.old)
+        → IsRefused writer.old writer.new result × (reader.new ≡ reader.old)
+        × (source.new ≡ source.old) }
+
+    // Of a reader that had failed nothing is read, and nothing done.
+    ensures broken_reader { IsTrue (is_broken reader.old) → IsErr result
+        × (watched reader.new ≡ watched reader.old) × (source.new ≡ source.old) }
 {
     let mut line = Line::new(alloc);
     let mut group = None;

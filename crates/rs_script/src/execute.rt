@@ -3,8 +3,9 @@
 ghost use Rattle.std.specs.Prelude.{◌≡◌, ℕ, List, Ok, OnOk, OnErr};
 ghost use Rattle.rs_io.specs.Watch.{failures, EndFailed, WritesOut};
 ghost use Rattle.rs_store.specs.Answered.{Answers};
-ghost use Rattle.rs_script.specs.Progress.{RequestAnswers};
+ghost use Rattle.rs_script.specs.Progress.{RequestAnswers, AskedAnswers};
 ghost use Rattle.rs_script.specs.Requests.{request_of};
+ghost use Rattle.rs_script.specs.Room.{TakesRoom, GroupTakesRoom};
 ghost use Rattle.rs_script.specs.Session.{script_state};
 ghost use Rattle.rs_script.specs.Statements.{items_of_group, group_request};
 ghost use Rattle.rs_script.specs.Taken.{KeepsItems};
@@ -72,8 +73,8 @@ pub fn answer_group<D: Disk, W: Write>(
     writer: &mut Watched<W>,
 ) -> Result<(), WriteFault>
     ensures answered { (lines : List (List ℕ)) → KeepsItems items lines
-        → RequestAnswers D.state (script_state source.old now)
-        (group_request (items_of_group lines)) (script_state source.new now)
+        → AskedAnswers D.state (script_state source.old now)
+        (group_request (items_of_group lines)) (GroupTakesRoom lines) (script_state source.new now)
         (WritesOut W.contents writer.old writer.new result) }
     ensures sound { OnOk result (failures writer.new ≡ failures writer.old) }
     ensures failed { OnErr result (EndFailed writer.old writer.new) }
@@ -204,8 +205,8 @@ pub fn answer_line<D: Disk, W: Write>(
     line: &[u8],
     writer: &mut Watched<W>,
 ) -> Result<(), WriteFault>
-    ensures answered { RequestAnswers D.state
-        (script_state source.old now.old) (request_of line.now) (script_state source.new now.new)
+    ensures answered { AskedAnswers D.state (script_state source.old now.old)
+        (request_of line.now) (TakesRoom line.now) (script_state source.new now.new)
         (WritesOut W.contents writer.old writer.new result) }
     ensures failed { OnErr result (EndFailed writer.old writer.new) }
 {

@@ -2,12 +2,13 @@
 
 ghost use Rattle.std.specs.Prelude.{◌≡◌, ◌⊎◌, ◌∷◌, [], ◌++◌, ◌≤◌, ℕ, List, IfSome};
 ghost use Rattle.rs_script.specs.PartialLine.{IsContent};
+ghost use Rattle.rs_script.specs.Room.{TakesRoom};
 ghost use Rattle.rs_script.specs.Statements.{group_size as size_of, grouped_item};
 ghost use Rattle.rs_script.specs.Taken.{KeepsItems};
 
 use crate::line::Content;
 use crate::refusal::Refusal;
-use rs_items::item_of;
+use crate::request::item_in_line;
 use rs_model::{Item, MOST_GROUPED};
 use rs_record::number;
 use std::alloc::Global;
@@ -68,10 +69,10 @@ pub fn with_line(
 /// The item of a line of a group.
 fn item_in(alloc: Global, content: Content<'_>) -> Result<Item, Refusal>
     ensures { (line : List ℕ) → IsContent content.entry line
-        → (result ≡ grouped_item line) ⊎ (result ≡ Err Refusal.NoMemory) }
+        → (result ≡ grouped_item line) ⊎ ((result ≡ Err Refusal.NoMemory) × TakesRoom line) }
 {
     match content {
-        Content::Bytes(bytes) => Ok(item_of(alloc, bytes)?),
+        Content::Bytes(bytes) => item_in_line(alloc, bytes),
         Content::Foreign => Err(Refusal::BadLine),
         Content::Refused => Err(Refusal::NoMemory),
         Content::TooLong => Err(Refusal::LongLine),

@@ -8,7 +8,7 @@ ghost use Rattle.rs_model.specs.declared.command.Command.{Command};
 ghost use Rattle.rs_store.specs.Source.{Stored, Holds, state_of};
 ghost use Rattle.rs_script.specs.Lines.{Splits};
 ghost use Rattle.rs_script.specs.Model.{answers_of};
-ghost use Rattle.rs_script.specs.Script.{ScriptGives, ScriptsRecover, ScriptsMakeWalks, AreDecided, told};
+ghost use Rattle.rs_script.specs.Script.{ScriptGives, ScriptsAreRuns, ScriptsRecover, ScriptsMakeWalks, AreDecided, told};
 ghost use Rattle.rs_script.specs.Session.{ScriptState, LineOutcome};
 ghost use Rattle.rs_script.specs.Statements.{Statement, IsScript};
 
@@ -59,13 +59,22 @@ pub fn transcript_folds<D: Disk>()
         → Holds D.state new.source (fold_of s commands) }
 {}
 
+/// What a script asks of its source is a run: its commands are asked in turn, and those that count are the
+/// run's. So what holds of runs holds of scripts.
+pub fn scripts_are_runs<D: Disk>()
+    ensures { ScriptsAreRuns D.state }
+{
+    held_sources_rest::<D>();
+    runs_go_on::<D>();
+    runs_recover::<D>();
+}
+
 /// The commands of a script are asked in turn: whenever a stop comes, it leaves what the first of them make that
 /// count, all that were answered by then among them.
 pub fn scripts_recover<D: Disk>()
     ensures { ScriptsRecover D.state }
 {
-    held_sources_rest::<D>();
-    runs_go_on::<D>();
+    scripts_are_runs::<D>();
     runs_recover::<D>();
 }
 

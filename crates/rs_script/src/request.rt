@@ -1,8 +1,10 @@
 //! What a line of a script asks for.
 
-ghost use Rattle.std.specs.Prelude.{◌≡◌, ◌⊎◌};
+ghost use Rattle.std.specs.Prelude.{◌≡◌, ◌⊎◌, ◌≤◌, length, IsTrue};
 ghost use Rattle.rs_items.specs.Items.{item_of_line};
-ghost use Rattle.rs_script.specs.Requests.{request_of, request_alone as alone, request_with as with_argument, at_request as at, show_request as show, item_request, begins_request as begins};
+ghost use Rattle.rs_script.specs.Requests.{request_of, request_alone as alone, request_with as with_argument, at_request as at, show_request as show, item_request, begins_request as begins, begins_item as begins_item_of};
+ghost use Rattle.rs_script.specs.Room.{TakesRoom};
+ghost use Rattle.rs_script.specs.Statements.{or_refused};
 
 use crate::refusal::Refusal;
 use rs_caps::doc_of;
@@ -43,7 +45,8 @@ pub enum Request {
 /// - [`Refusal::NoSuchDocument`]: no document has the path, at any time.
 /// - [`Refusal::NoMemory`]: there is no room for the name, the type or the bytes.
 pub fn parse_request(alloc: Global, line: &[u8]) -> Result<Request, Refusal>
-    ensures { (result ≡ request_of line.now) ⊎ (result ≡ Err Refusal.NoMemory) }
+    ensures { (result ≡ request_of line.now)
+        ⊎ ((result ≡ Err Refusal.NoMemory) × TakesRoom line.now) }
 {
     let Some((word, argument)) = split_field(line) else {
         return request_alone(line);
@@ -56,13 +59,32 @@ pub fn parse_request(alloc: Global, line: &[u8]) -> Result<Request, Refusal>
 
 /// What a line of an item asks for.
 fn parse_item(alloc: Global, line: &[u8]) -> Result<Request, Refusal>
-    ensures { (result ≡ item_request (item_of_line line.now)) ⊎ (result ≡ Err Refusal.NoMemory) }
+    ensures { (result ≡ item_request (item_of_line line.now))
+        ⊎ ((result ≡ Err Refusal.NoMemory) × IsTrue (begins_item_of line.now)) }
 {
-    let command = match item_of(alloc, line)? {
+    let command = match item_in_line(alloc, line)? {
         Item::Put { name, kind, bytes } => Command::Put { name, kind, bytes },
         Item::Delete { name } => Command::Delete { name },
     };
     Ok(Request::Run(command))
+}
+
+/// The item of a line. Room is asked for only where the line begins as an item does.
+pub fn item_in_line(alloc: Global, line: &[u8]) -> Result<Item, Refusal>
+    ensures { (result ≡ or_refused (item_of_line line.now))
+        ⊎ ((result ≡ Err Refusal.NoMemory) × IsTrue (begins_item_of line.now)) }
+{
+    if !begins_item(line) {
+        return Err(Refusal::BadLine);
+    }
+    Ok(item_of(alloc, line)?)
+}
+
+/// Whether `bytes` begin as an item does.
+fn begins_item(bytes: &[u8]) -> bool
+    ensures { result ≡ begins_item_of bytes.now }
+{
+    bytes.starts_with(b"put ") || bytes.starts_with(b"delete ")
 }
 
 /// Whether `bytes` begin as a line with fields after its first word. A line that does not, and is
@@ -100,7 +122,8 @@ fn request_with(
     argument: &[u8],
 ) -> Result<Request, Refusal>
     ensures { (result ≡ with_argument line.now word.now argument.now)
-        ⊎ (result ≡ Err Refusal.NoMemory) }
+        ⊎ ((result ≡ Err Refusal.NoMemory)
+        × ((9 ≤ length argument.now) ⊎ IsTrue (begins_item_of line.now))) }
 {
     if word == b"at".as_slice() {
         return at_request(argument);
@@ -129,7 +152,8 @@ fn at_request(ms: &[u8]) -> Result<Request, Refusal>
 
 /// What `show` asks for.
 fn show_request(alloc: Global, path: &[u8]) -> Result<Request, Refusal>
-    ensures { (result ≡ show path.now) ⊎ (result ≡ Err Refusal.NoMemory) }
+    ensures { (result ≡ show path.now)
+        ⊎ ((result ≡ Err Refusal.NoMemory) × (9 ≤ length path.now)) }
 {
     if !path.starts_with(b"/resource/") {
         return match doc_of(path) {

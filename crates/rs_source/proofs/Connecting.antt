@@ -10,7 +10,7 @@ use Rattle.rs_http.specs.declared.fault.FrontFault.{FrontFault}
 use Rattle.rs_http.specs.declared.fault.FrontFault.TheVariants.{Read, Write}
 use Rattle.rs_http.specs.declared.serve.Served.{Served}
 use Rattle.rs_store.specs.Advancing.{GoesOnBy, GoesOnOnce}
-use Rattle.rs_http.specs.Serving.{Serves, Breaks, Halts}
+use Rattle.rs_http.specs.Serving.{Output, Serves, Breaks, Halts}
 use Rattle.rs_source.specs.Serving.{Connects, Connections}
 
 fold_of-append : (s : Source) (commands more : List (Command × ℕ)) → fold_of s (commands ++ more) ≡ fold_of (fold_of s commands) more
@@ -19,7 +19,7 @@ fold_of-append s (c ∷ commands) more = fold_of-append (state_after s (step s c
 
 module _ {D : Type 0} (device : D → DiskState) (old new : Stored D) where
   -- whatever came of a request
-  pub request_connects : (now : ℕ) (left rest before after : Option (List ℕ)) (Took Came Wrote : List ℕ → Type 0) (Broken Stuck : Type 0) (result : Result Served FrontFault)
+  pub request_connects : (now : ℕ) (left rest : Option (List ℕ)) (before after : Output) (Took Came Wrote : List ℕ → Type 0) (Broken Stuck : Type 0) (result : Result Served FrontFault)
       → IfOk result (λ served. (input : List ℕ) × (output : List ℕ) × Took input × Wrote output × Serves device old now left input rest output served new)
       → (IsErrOf result Read → Broken × (input : List ℕ) × (output : List ℕ) × Came input × Wrote output × Breaks device old now left input rest output new)
       → (IsErrOf result Write → Stuck × (input : List ℕ) × Took input × Halts device old now left input rest before after new)

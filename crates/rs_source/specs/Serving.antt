@@ -4,7 +4,7 @@ use Rattle.rs_disk.specs.Medium.{DiskState}
 use Rattle.rs_store.specs.Source.{Stored}
 use Rattle.rs_http.specs.declared.serve.Served.{Served}
 use Rattle.rs_store.specs.Advancing.{GoesOnOnce}
-use Rattle.rs_http.specs.Serving.{Serves, Breaks, Halts}
+use Rattle.rs_http.specs.Serving.{Output, Serves, Breaks, Halts}
 
 -- what one request does that comes at this moment with this input, of a reader that had this left before and after: it was
 -- answered, or the reader failed in it, or the writer
@@ -12,7 +12,7 @@ abbrev pub Requests : {D : Type 0} → (D → DiskState) → Stored D → ℕ �
 Requests device old now left input rest new =
     ((output : List ℕ) × (served : Served) × Serves device old now left input rest output served new)
     ⊎ (((output : List ℕ) × Breaks device old now left input rest output new)
-    ⊎ ((before : Option (List ℕ)) × (after : Option (List ℕ)) × Halts device old now left input rest before after new))
+    ⊎ ((before : Output) × (after : Output) × Halts device old now left input rest before after new))
 
 -- what one connection does: nothing, or one request, which is one command of the model at most
 abbrev pub Connects : {D : Type 0} → (D → DiskState) → Stored D → Stored D → Type 0

@@ -1,6 +1,6 @@
 //! Sources on files.
 
-ghost use Rattle.std.specs.Prelude.{◌≡◌, ◌<◌, ◌≤◌, false, IfOk, IfErr, OnOk, IsErrOf, IsTrue};
+ghost use Rattle.std.specs.Prelude.{◌≡◌, ◌<◌, ◌≤◌, false, Some, None, IfOk, IfErr, OnOk, IsErrAnd, IsTrue};
 ghost use Rattle.rs_model.specs.State.{start_of, Source as State};
 ghost use Rattle.rs_record.specs.Base.{is_base};
 ghost use Rattle.rs_directory.specs.Limit.{IsLimit};
@@ -8,18 +8,60 @@ ghost use Rattle.rs_image.specs.StateOfImage.{StandsFor};
 ghost use Rattle.rs_file.specs.File.{state_of as device_of};
 ghost use Rattle.rs_store.specs.OnlyReads.{OnlyReads};
 ghost use Rattle.rs_store.specs.Source.{Holds, state_of};
-ghost use Rattle.rs_source.specs.Arguments.{IsOfCopy, IsOfFormat, IsOfOpen};
+ghost use Rattle.rs_source.specs.Arguments.{error_of_file, IsOfCopy, IsOfFormat, IsOfOpen};
+ghost use Rattle.rs_source.specs.Files.{MayBegin, IsUncopied, IsUnmade, IsUnopened};
 
 use crate::command::SourceArguments;
 use crate::program::ProgramError;
 use rs_disk::Disk;
-use rs_file::{FileDisk, Start};
+use rs_file::{FileDisk, FileFault, Start};
 use rs_recovery::recover;
 use rs_store::Source;
 use rs_time::Moment;
 use std::alloc::Global;
 use std::fs::File;
 use std::rt::Files;
+
+/// Why there is no source on a file.
+#[derive(Drop)]
+pub struct NoSource<D> {
+    /// The file as a disk, where it was opened or made as one.
+    pub disk: Option<D>,
+    /// What the program tells of it.
+    pub error: ProgramError,
+}
+
+impl<D> NoSource<D> {
+    /// The file is a disk, and there is no source on it.
+    fn on(disk: D, error: ProgramError) -> NoSource<D>
+        ensures disk { result.disk ≡ Some disk }
+        ensures error { result.error ≡ error }
+    {
+        NoSource {
+            disk: Some(disk),
+            error,
+        }
+    }
+}
+
+impl<D> From<FileFault> for NoSource<D> {
+    ghost from_gives = { λ fault lack. (lack.disk ≡ None) × (lack.error ≡ error_of_file fault) };
+
+    fn from(fault: FileFault) -> NoSource<D> {
+        NoSource {
+            disk: None,
+            error: fault.into(),
+        }
+    }
+}
+
+impl<D: Drop> From<NoSource<D>> for ProgramError {
+    ghost from_gives = { λ lack error. error ≡ lack.error };
+
+    fn from(lack: NoSource<D>) -> ProgramError {
+        lack.error
+    }
+}
 
 /// Makes a new file of this name, and a source on it, formatted at the moment 0.
 ///
@@ -35,23 +77,25 @@ pub fn format_file<R: Files<File = File>, S: Start>(
     file: &str,
     made: &SourceArguments<'_>,
     start: S,
-) -> Result<Source<FileDisk<S>>, ProgramError>
+) -> Result<Source<FileDisk<S>>, NoSource<FileDisk<S>>>
     ensures holds { IfOk result (λ source.
         Holds (device_of S.Start) source (start_of made.now.base.now made.now.limit 0)) }
     ensures size { IfOk result (λ source. (device_of S.Start source.disk).size ≡ made.now.size) }
-    ensures bad_base { IsErrOf result ProgramError.BadBase → is_base made.now.base.now ≡ false }
-    ensures bad_limit { IsErrOf result ProgramError.BadLimit
+    ensures bad_base { IsErrAnd result (λ lack. lack.error ≡ ProgramError.BadBase)
+        → is_base made.now.base.now ≡ false }
+    ensures bad_limit { IsErrAnd result (λ lack. lack.error ≡ ProgramError.BadLimit)
         → IsTrue (is_base made.now.base.now) × (¬ IsLimit made.now.limit) }
-    ensures too_small { IsErrOf result ProgramError.TooSmall
+    ensures too_small { IsErrAnd result (λ lack. lack.error ≡ ProgramError.TooSmall)
         → IsTrue (is_base made.now.base.now) × IsLimit made.now.limit × (made.now.size < 8192) }
-    ensures in_range { OnOk result (IsTrue (is_base made.now.base.now)
-        × IsLimit made.now.limit × (8192 ≤ made.now.size)) }
-    ensures err { IfErr result IsOfFormat }
+    ensures in_range { OnOk result
+        (MayBegin made.now.base.now made.now.limit made.now.size) }
+    ensures err { IfErr result (λ lack. IsOfFormat lack.error) }
+    ensures unmade { IfErr result IsUnmade }
 {
     let disk = FileDisk::create(rt, file, made.size, start)?;
     match Source::format(alloc, disk, made.base, made.limit, Moment::first()) {
         Ok(source) => Ok(source),
-        Err((_, fault)) => Err(fault.into()),
+        Err((disk, fault)) => Err(NoSource::on(disk, fault.into())),
     }
 }
 
@@ -67,7 +111,7 @@ pub fn open_file<R: Files<File = File>, S: Start>(
     alloc: Global,
     file: &str,
     start: S,
-) -> Result<Source<FileDisk<S>>, ProgramError>
+) -> Result<Source<FileDisk<S>>, NoSource<FileDisk<S>>>
     ensures is_open { IfOk result (λ source. source.is_closed ≡ false) }
 
     // What the file held is said of a file that has followed the model.
@@ -76,12 +120,13 @@ pub fn open_file<R: Files<File = File>, S: Start>(
     ensures held { IfOk result (λ source. IsTrue (device_of S.Start source.disk).honest
         → StandsFor S.Start.first (state_of (device_of S.Start) source)) }
 
-    ensures err { IfErr result IsOfOpen }
+    ensures err { IfErr result (λ lack. IsOfOpen lack.error) }
+    ensures unopened { IfErr result (IsUnopened (device_of S.Start) S.Start.first) }
 {
     let disk = FileDisk::open(rt, file, start)?;
     match recover(alloc, disk) {
         Ok(source) => Ok(source),
-        Err((_, fault)) => Err(fault.into()),
+        Err((disk, fault)) => Err(NoSource::on(disk, fault.into())),
     }
 }
 
@@ -100,20 +145,22 @@ pub fn copy_to_file<R: Files<File = File>, D: Disk, S: Start>(
     file: &str,
     size: u64,
     start: S,
-) -> Result<Source<FileDisk<S>>, ProgramError>
+) -> Result<Source<FileDisk<S>>, NoSource<FileDisk<S>>>
     // It is said of a device that has followed the model.
     ensures holds { (s : State) → Holds D.state source.old s
         → IsTrue (D.state source.new.disk).honest
         → IfOk result (λ copy. Holds (device_of S.Start) copy s) }
     ensures size { IfOk result (λ copy. (device_of S.Start copy.disk).size ≡ size) }
-    ensures too_small { IsErrOf result ProgramError.TooSmall → size < 8192 }
+    ensures too_small { IsErrAnd result (λ lack. lack.error ≡ ProgramError.TooSmall) → size < 8192 }
     ensures in_range { OnOk result (8192 ≤ size) }
-    ensures err { IfErr result IsOfCopy }
+    ensures err { IfErr result (λ lack. IsOfCopy lack.error) }
+    ensures uncopied { IfErr result (IsUncopied D.state (device_of S.Start)
+        source.old source.new S.Start.first size) }
     ensures reads_only { OnlyReads D.state source.old source.new }
 {
     let disk = FileDisk::create(rt, file, size, start)?;
     match source.copy_to(disk) {
         Ok(copy) => Ok(copy),
-        Err((_, fault)) => Err(fault.into()),
+        Err((disk, fault)) => Err(NoSource::on(disk, fault.into())),
     }
 }

@@ -7,6 +7,7 @@ ghost use Rattle.rs_directory.specs.Limit.{IsLimit};
 ghost use Rattle.rs_disk.specs.Memory.{memory_state};
 ghost use Rattle.rs_store.specs.Source.{Holds};
 ghost use Rattle.rs_source.specs.Arguments.{error_of, error_of_copy, error_of_file, error_of_format, error_of_opening, IsOfStart, exit_status, unread_of};
+ghost use Rattle.rs_source.specs.Files.{MayBegin};
 
 use rs_disk::MemoryDisk;
 use rs_file::FileFault;
@@ -176,7 +177,7 @@ pub fn start(
         → IsTrue (is_base base.now) × (¬ IsLimit limit) }
     ensures too_small { IsErrOf result ProgramError.TooSmall
         → IsTrue (is_base base.now) × IsLimit limit × (size < 8192) }
-    ensures in_range { OnOk result (IsTrue (is_base base.now) × IsLimit limit × (8192 ≤ size)) }
+    ensures in_range { OnOk result (MayBegin base.now limit size) }
     ensures err { IfErr result IsOfStart }
 {
     let Ok(disk) = MemoryDisk::new(alloc, size) else {

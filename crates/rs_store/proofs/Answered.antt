@@ -31,6 +31,7 @@ use Rattle.rs_plan.specs.Plans.{once_stored, planned_root, IsPlanned, LacksRoom,
 use Rattle.rs_store.specs.Writing.{of_plan}
 use Rattle.rs_store.specs.Commands.{IsCause, Leads}
 use Rattle.rs_store.specs.Answered.{moment_unless, IsUnchanged, Answers}
+use Rattle.rs_store.proofs.HasRoom.{planned_has_room}
 use Rattle.rs_store.proofs.Stays.{ready_after, stands_meanwhile, told_after, stands_now, state_kept, state_behind, reach_kept}
 use Rattle.rs_store.proofs.Follows.{state_follows, tells_next}
 
@@ -52,6 +53,9 @@ unless_ok (Some q) m n is = absurd cc
 
 no_device : NoMemory ≡ Device → ⊥
 no_device is = absurd cc
+
+no_full : NoMemory ≡ Full → ⊥
+no_full is = absurd cc
 
 none_some : (o : Option Refusal) (q : Refusal) → o ≡ None → o ≡ Some q → ⊥
 none_some o q none some = absurd cc
@@ -134,17 +138,19 @@ module _ {D : Type 0} (device : D → DiskState) (medium : (disk : D) → IsMedi
   tells_state s holds = (holds.told (device old.disk).now.seen (medium old.disk).image).state
 
   -- a refusal that leaves what was in memory
-  kept_answers : (new : Stored D) (r : Refusal) → IsCause device old new command now r → (r ≡ Device → ⊥)
+  kept_answers : (new : Stored D) (r : Refusal) → IsCause device old new command now r → (r ≡ Device → ⊥) → (r ≡ Full → new ≡ old)
       → ((q : Refusal) → decided old (state_of device old) command now ≡ Some q → (r ≡ q) × (new ≡ old))
       → new.is_closed ≡ old.is_closed → IsUnchanged device old new
       → ((s : Source) → Holds device old s → Holds device new s × Leaves (device old.disk) (device new.disk) (λ _ image. StandsFor image s))
       → Advances (device old.disk) (device new.disk) → (device new.disk).faults ≡ (device old.disk).faults → Answers device old new command now (Err r)
-  kept_answers new r cause other given closed same leads goes unmet =
+  kept_answers new r cause other full given closed same leads goes unmet =
       record {
         decides = λ q is. ap refusing (given q is).0;
         untouched = λ q is. (given q is).1;
+        full = λ is. let here : r ≡ Full = cc in full here;
         refused = λ q is. let here : r ≡ q = cc in subst (λ (x : Refusal). IsCause device old new command now x) here cause;
         accepted = tt;
+        planned = tt;
         generation = tt;
         version = tt;
         leads = λ s holds. kept_leads new s r other (leads s holds).0 (leads s holds).1;
@@ -169,16 +175,16 @@ module _ {D : Type 0} (device : D → DiskState) (medium : (disk : D) → IsMedi
   pub at_once : (r : Refusal) → decided old (state_of device old) command now ≡ Some r → Answers device old old command now (Err r)
   at_once r is =
       let of_early : IsEarly r = early old.is_closed (refusal_of (state_of device old) command now) (is_spent old) r is in
-      kept_answers old r (early_cause old r of_early is) (not_device r of_early) (λ q other. let same : r ≡ q = cc in (same, refl)) refl nothing_done at_rest no_call refl
+      kept_answers old r (early_cause old r of_early is) (not_device r of_early) (λ _. refl) (λ q other. let same : r ≡ q = cc in (same, refl)) refl nothing_done at_rest no_call refl
 
   -- without a plan
   pub unplanned : (fault : PlanFault) → decided old (state_of device old) command now ≡ None
       → (fault ≡ NoRoom → LacksRoom (rooted_in device old) command (moment_at (state_of device old) now))
       → Answers device old old command now (Err (of_plan fault))
   unplanned NoRoom is room =
-      kept_answers old Full (is, room refl) (λ (same : Full ≡ Device). absurd cc) (λ q other. absurd cc) refl nothing_done at_rest no_call refl
+      kept_answers old Full (is, room refl) (λ (same : Full ≡ Device). absurd cc) (λ _. refl) (λ q other. absurd cc) refl nothing_done at_rest no_call refl
   unplanned NoPlanMemory is room =
-      kept_answers old NoMemory is (λ (same : NoMemory ≡ Device). absurd cc) (λ q other. absurd cc) refl nothing_done at_rest no_call refl
+      kept_answers old NoMemory is (λ (same : NoMemory ≡ Device). absurd cc) (λ _. refl) (λ q other. absurd cc) refl nothing_done at_rest no_call refl
 
   -- with a plan
   module _ (p : Plan) (bodies : List (List ℕ)) (whole : IsWhole (device old.disk).size old.slots.root old.contents)
@@ -195,7 +201,7 @@ module _ {D : Type 0} (device : D → DiskState) (medium : (disk : D) → IsMedi
         → Answers device old (record { disk = mid; slots = old.slots; contents = old.contents; is_closed = old.is_closed }) command now (Err NoMemory)
     stopped goes unmet =
         kept_answers (record { disk = mid; slots = old.slots; contents = old.contents; is_closed = old.is_closed }) NoMemory free
-        (λ (is : NoMemory ≡ Device). absurd (no_device is)) (λ q other. absurd (none_some (decided old (state_of device old) command now) q free other)) refl
+        (λ (is : NoMemory ≡ Device). absurd (no_device is)) (λ (is : NoMemory ≡ Full). absurd (no_full is)) (λ q other. absurd (none_some (decided old (state_of device old) command now) q free other)) refl
         (record { slots = refl; contents = refl; state = kept_state })
         (λ s holds. (
           record {
@@ -226,8 +232,12 @@ module _ {D : Type 0} (device : D → DiskState) (medium : (disk : D) → IsMedi
         record {
           decides = λ q is. absurd cc;
           untouched = λ q is. absurd cc;
-          refused = λ q is. let here : Device ≡ q = cc in subst (λ (x : Refusal). IsCause device old new command now x) here (free, failed);
+          full = λ is. absurd cc;
+          refused = λ q is. let here : Device ≡ q = cc in
+              subst (λ (x : Refusal). IsCause device old new command now x) here
+              (free, planned_has_room (rooted_in device old) command (moment_at (state_of device old) now) p planned, failed);
           accepted = tt;
+          planned = tt;
           generation = tt;
           version = tt;
           leads = λ s holds. subst (λ (t : Source). Leaves (device old.disk) (device new.disk) (λ _ image. StandsFor image s ⊎ StandsFor image t))
@@ -333,8 +343,10 @@ module _ {D : Type 0} (device : D → DiskState) (medium : (disk : D) → IsMedi
           record {
             decides = λ q other. absurd cc;
             untouched = λ q other. absurd cc;
+            full = λ other. absurd cc;
             refused = λ q other. absurd cc;
             accepted = steps;
+            planned = record { plan = p; planned = planned; contents = contents; root = at ∙ root_is };
             generation = ap (λ (r : Root). r.generation) (at ∙ root_is);
             version = ap (λ (r : Root). r.version) (at ∙ root_is);
             leads = λ s holds.

@@ -83,10 +83,15 @@ module _ {D E : Type 0} (device : D → DiskState) (other : E → DiskState) (ol
     too_small = (λ is. absurd cc, λ is. absurd (true≢false (sym shut ∙ is.0)));
     full = λ is. absurd cc;
     untouched = λ _. refl;
+    unread = λ _. refl;
+    room = λ met. ⊎_elim (λ is. absurd cc) (λ is. absurd cc) met;
     failed = λ is. absurd cc;
     sound = λ _. (refl, refl);
     damaged = λ is. absurd cc;
     first = tt;
+    slots = tt;
+    intact = tt;
+    lies = tt;
     holds = λ s holds honest. tt;
     any_moment = λ s holds honest cut. absurd (true≢false (sym shut ∙ holds.is_open));
   }
@@ -108,18 +113,24 @@ module _ {D E : Type 0} (device : D → DiskState) (other : E → DiskState) (ol
       too_small = (λ none. absurd none, λ is. absurd (no_fault copied copying.TooSmall (made.too_small.1 is.1)));
       full = λ none. absurd none;
       untouched = λ none. ⊎_elim (λ one. ⊎_elim (λ a. absurd a) (λ b. absurd b) one) (λ b. absurd b) none;
+      unread = λ none. ⊎_elim (λ one. ⊎_elim (λ a. absurd a) (λ b. absurd b) one) (λ b. absurd b) none;
+      room = λ none. ⊎_elim (λ a. absurd a) (λ b. absurd b) none;
       failed = λ none. absurd none;
       sound = λ _. made.sound (no_fault copied copying.Device);
       damaged = λ none. absurd none;
       first = (made.copied.generation, made.copied.version);
+      slots = (made.copied.slots, made.copied.ready);
+      intact = made.copied.intact;
+      lies = record { used = copied.used; lies = made.lies };
       holds = λ s holds honest. record { is_open = refl; ready = made.copied.ready; told = made.holds s honest (tells s holds) };
       any_moment = λ s holds honest cut. made.any_moment s honest (tells s holds) cut;
     }
 
     -- it was refused
     pub refused_so : (fault : copies.CopyFault) → Copied_so (Err fault) → (refusing fault ≡ refusing copying.TooSmall ⊎ refusing fault ≡ refusing copying.Full → disk ≡ to)
+        → (refusing fault ≡ refusing copying.TooSmall ⊎ refusing fault ≡ refusing copying.Full → new ≡ old)
         → AnswersCopy device other old new to (Err (disk, fault_of_copy fault))
-    refused_so fault made untouched = record {
+    refused_so fault made untouched unread = record {
       reads_only = only;
       advances = made.advances;
       closed = (λ is. absurd (never_closed fault is), λ shut. absurd (true≢false (sym shut ∙ open_still)));
@@ -131,10 +142,17 @@ module _ {D E : Type 0} (device : D → DiskState) (other : E → DiskState) (ol
       untouched = λ early. ⊎_elim
           (λ one. ⊎_elim (λ is. absurd (never_closed fault is)) (λ is. untouched (inl (ap refusing (is_small fault is)))) one)
           (λ is. untouched (inr (ap refusing (is_full fault is)))) early;
+      unread = λ early. ⊎_elim
+          (λ one. ⊎_elim (λ is. absurd (never_closed fault is)) (λ is. unread (inl (ap refusing (is_small fault is)))) one)
+          (λ is. unread (inr (ap refusing (is_full fault is)))) early;
+      room = λ met. made.room (⊎_elim (λ is. inl (ap refusing (is_failed fault is))) (λ is. inr (ap refusing (is_damaged fault is))) met);
       failed = λ is. made.failed (ap refusing (is_failed fault is));
       sound = λ not_device. made.sound (λ is. not_device (ap fault_of_copy (same_fault fault copying.Device is)));
       damaged = λ is honest all. made.damaged (ap refusing (is_damaged fault is)) honest (bodies_intact (device old.disk).now.seen (records_of old.contents.catalogue) all);
       first = tt;
+      slots = tt;
+      intact = tt;
+      lies = tt;
       holds = λ s holds honest. tt;
       any_moment = λ s holds honest cut. made.any_moment s honest (tells s holds) cut;
     }

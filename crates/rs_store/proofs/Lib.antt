@@ -1,6 +1,7 @@
 pub mod Written
 pub mod Stays
 pub mod Follows
+pub mod HasRoom
 pub mod Answered
 pub mod Lookups
 pub mod Opened

@@ -15,11 +15,12 @@ use Rattle.rs_model.specs.State.{Source}
 use Rattle.rs_image.specs.declared.contents.Contents.{Contents}
 use Rattle.rs_image.specs.Reach.{AreInside}
 use Rattle.rs_image.specs.StateOfImage.{Tells, StandsFor, listing, state_in}
+use Rattle.rs_image.specs.Loading.{IsDirectoryPlaced}
 use Rattle.rs_page.specs.declared.page.load.LoadFault.{LoadFault}
 use Rattle.rs_page.specs.declared.page.load.LoadFault.TheVariants as lists
 use Rattle.rs_store.specs.declared.opening.OpenFault.{OpenFault}
 use Rattle.rs_store.specs.declared.opening.OpenFault.TheVariants.{NotASource, Damaged, Device, NoMemory}
-use Rattle.rs_store.specs.Opening.{of_lists, IsNotOpened}
+use Rattle.rs_store.specs.Opening.{of_lists, IsNotOpened, MayAskForMemory}
 use Rattle.rs_store.specs.Source.{Holds}
 
 -- a fault of a later run is one of the whole
@@ -90,18 +91,25 @@ stands_told device disk slots c seen rests stand told =
 -- what is said of each fault of the lists is said of the answer by its name
 pub lists_not_opened : (old new : DiskState) (fault : LoadFault)
     → (fault ≡ lists.Damaged → IsTrue new.honest → IsSome (current old.now.seen) × ((s : Source) → ¬ StandsFor old.now.seen s))
-    → (fault ≡ lists.Device → HasFailed old new) → IsNotOpened old new (of_lists fault)
-lists_not_opened old new lists.Damaged damaged device = damaged refl
-lists_not_opened old new lists.Device damaged device = device refl
-lists_not_opened old new lists.NoMemory damaged device = tt
+    → (fault ≡ lists.Device → HasFailed old new)
+    → (fault ≡ lists.NoMemory → IsTrue new.honest → MayAskForMemory old.size old.now.seen) → IsNotOpened old new (of_lists fault)
+lists_not_opened old new lists.Damaged damaged device memory = damaged refl
+lists_not_opened old new lists.Device damaged device memory = device refl
+lists_not_opened old new lists.NoMemory damaged device memory = memory refl
 
 -- a refusal by what a disk held is one by what it held before it was settled
-pub not_opened_before : (old mid new : DiskState) → mid.now.seen ≡ old.now.seen → old.faults ≤ mid.faults → (fault : OpenFault)
+pub not_opened_before : (old mid new : DiskState) → mid.now.seen ≡ old.now.seen → mid.size ≡ old.size → old.faults ≤ mid.faults → (fault : OpenFault)
     → IsNotOpened mid new fault → IsNotOpened old new fault
-not_opened_before old mid new same le NotASource refused = λ honest. sym (ap current same) ∙ refused honest
-not_opened_before old mid new same le Damaged refused = λ honest. (
+not_opened_before old mid new same size le NotASource refused = λ honest. sym (ap current same) ∙ refused honest
+not_opened_before old mid new same size le Damaged refused = λ honest. (
   subst (λ (l : List ℕ). IsSome (current l)) same (refused honest).0,
   λ s stands. (refused honest).1 s (subst (λ (l : List ℕ). StandsFor l s) (sym same) stands),
 )
-not_opened_before old mid new same le Device refused = failed_behind old mid new le refused
-not_opened_before old mid new same le NoMemory refused = tt
+not_opened_before old mid new same size le Device refused = failed_behind old mid new le refused
+not_opened_before old mid new same size le NoMemory refused = λ honest.
+    let may = refused honest in
+    record {
+      standing = may.standing;
+      slots = sym (ap current same) ∙ may.slots;
+      directory = subst (λ (n : ℕ). IsDirectoryPlaced n may.standing.root) size may.directory;
+    }

@@ -1,5 +1,5 @@
 -- What is answered to a put of bytes is answered to the put that a reader brings them to.
-use Rattle.std.proofs.Common.{◌≡◌, ℕ, ◌+◌, ◌<◌, ◌≤◌, arith, List, [], ◌++◌, length, take, Option, Result, Ok, Err, refl, sym, ◌∙◌, ap, subst}
+use Rattle.std.proofs.Common.{◌≡◌, inl, inr, ℕ, ◌+◌, ◌<◌, ◌≤◌, arith, List, [], ◌++◌, length, take, Option, Result, Ok, Err, refl, sym, ◌∙◌, ap, subst}
 use Rattle.std.specs.Prelude.{replicate, IfErr, IsErrOf}
 use Rattle.std.proofs.Math.Seq.{take-length}
 use Rattle.std.proofs.lemmas.List.{length-append, length-replicate}
@@ -32,7 +32,7 @@ nothing_came n ReadFault = refl
 nothing_came n ShortBody = refl
 nothing_came n Device = omega arith
 nothing_came n Damaged = refl
-nothing_came n NoMemory = omega arith
+nothing_came n NoMemory = inl refl
 
 -- and all of it with a late one
 come_late : (n : ℕ) (came : List ℕ) (r : Refusal) → IsLate r → length came ≡ n → MayHaveCome n came r
@@ -48,7 +48,7 @@ come_late n came ReadFault late whole = absurd late
 come_late n came ShortBody late whole = absurd late
 come_late n came Device late whole = omega (arith, whole)
 come_late n came Damaged late whole = absurd late
-come_late n came NoMemory late whole = omega (arith, whole)
+come_late n came NoMemory late whole = inr whole
 
 module _ {D : Type 0} (device : D → DiskState) (old new : Stored D) (name kind : List ℕ) (n now : ℕ) (came : List ℕ) where
   -- a refusal that no reader gives

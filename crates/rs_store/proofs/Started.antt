@@ -1,16 +1,18 @@
 -- What was just formatted tells the state of a source at its start.
-use Rattle.std.proofs.Common.{◌≡◌, ◌≤◌, ◌<◌, ◌*◌, ℕ, false, true, List, [], ◌∷◌, Result, Ok, Err, length, take, drop, sym, ◌∙◌, ap, subst, refl, arith, ⊎_elim}
+use Rattle.std.proofs.Common.{◌≡◌, ◌≤◌, ◌<◌, ◌*◌, ◌+◌, ℕ, false, true, List, [], ◌∷◌, ◌++◌, Result, Ok, Err, length, take, drop, sym, ◌∙◌, ap, subst, refl, arith, ⊎_elim}
 use Rattle.std.specs.Prelude.{OnOk}
 use Rattle.std.proofs.lemmas.Bool.{false≢true}
+use Rattle.std.proofs.lemmas.List.{length-append, length-drop}
 use Rattle.std.proofs.lemmas.List.Elements.{All-nil}
+use Rattle.std.proofs.Math.Seq.{take-append_seam}
 use Rattle.rs_extent.specs.declared.Extent.{Extent}
 use Rattle.rs_disk.specs.Medium.{Medium, DiskState, IsImage, resting}
 use Rattle.rs_disk.proofs.Images.{resting_image}
 use Rattle.rs_extent.specs.Extents.{in_some}
 use Rattle.rs_body.specs.Blocks.{part, blocks_of}
 use Rattle.rs_extent.proofs.Sets.{within_is, some_split}
-use Rattle.rs_commit.specs.Commit.{SameBehind, IsReady}
-use Rattle.rs_commit.specs.Format.{fresh}
+use Rattle.rs_commit.specs.Commit.{SameBehind, IsReady, behind_slots}
+use Rattle.rs_commit.specs.Format.{formatted, fresh}
 use Rattle.rs_commit.specs.declared.root.Root.{Root}
 use Rattle.rs_commit.specs.Slots.{Standing}
 use Rattle.rs_record.specs.declared.record.Record.{Record}
@@ -34,6 +36,18 @@ use Rattle.rs_store.proofs.Opened.{some_bytes}
 pub either_way : {T E P : Type 0} (r : Result T E) → P → OnOk r P
 either_way (Ok x) p = p
 either_way (Err e) p = tt
+
+-- blocks 0 and 1 are as they were made
+front_of : (front rest seen : List ℕ) → seen ≡ front ++ rest → length front ≡ 1024 → take 1024 seen ≡ front
+front_of front rest seen is long =
+    ap (λ (l : List ℕ). take 1024 l) is ∙ ap (λ (n : ℕ). take n (front ++ rest)) (sym long) ∙ take-append_seam front rest
+
+pub front_made : (root : Root) (old : List ℕ) (new : Medium) → 1024 ≤ length old → length new.seen ≡ length old → new ≡ resting (formatted root ++ behind_slots old)
+    → take 1024 new.seen ≡ formatted root
+front_made root old new room size made =
+    let seen : new.seen ≡ formatted root ++ behind_slots old = ap (λ (m : Medium). m.seen) made in
+    let long : length new.seen ≡ length (formatted root) + length (behind_slots old) = ap length seen ∙ length-append (formatted root) (behind_slots old) in
+    front_of (formatted root) (behind_slots old) new.seen seen (omega (arith, room, size, long, length-drop 1024 old))
 
 -- what lies from block 2 on is behind the slots
 pub part_behind : (e : Extent) (n : ℕ) (one two : List ℕ) → e.first ≡ 2 → SameBehind one two → part e n one ≡ part e n two

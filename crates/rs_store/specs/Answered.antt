@@ -4,12 +4,14 @@ use Rattle.rs_disk.specs.Leaves.{Advances, TellsFaults}
 use Rattle.rs_disk.specs.Medium.{DiskState}
 use Rattle.rs_commit.specs.Slots.{written_version}
 use Rattle.rs_model.specs.State.{Source}
-use Rattle.rs_model.specs.Step.{step}
+use Rattle.rs_model.specs.Step.{step, moment_at}
 use Rattle.rs_model.specs.declared.command.Command.{Command}
 use Rattle.rs_model.specs.declared.command.Reply.{Reply}
 use Rattle.rs_store.specs.declared.refusal.Refusal.{Refusal}
-use Rattle.rs_store.specs.declared.refusal.Refusal.TheVariants.{Device}
-use Rattle.rs_store.specs.Source.{Stored, Holds, state_of}
+use Rattle.rs_plan.specs.declared.plan.Plan.{Plan}
+use Rattle.rs_plan.specs.Plans.{once_stored, planned_root, IsPlanned}
+use Rattle.rs_store.specs.declared.refusal.Refusal.TheVariants.{Full, Device}
+use Rattle.rs_store.specs.Source.{Stored, Holds, rooted_in, state_of}
 use Rattle.rs_store.specs.Refusals.{decided}
 use Rattle.rs_store.specs.Commands.{IsCause, Leads}
 
@@ -24,10 +26,20 @@ pub record IsUnchanged {D : Type 0} (device : D → DiskState) (old new : Stored
   pub contents : new.contents ≡ old.contents
   pub state : state_of device new ≡ state_of device old
 
+-- A command was carried out by its plan: the lists are those of the plan, stored in the places that it has for them, and the root
+-- is the next one. So a page that the plan doesn't touch keeps its items, its extent and its digest.
+pub record IsCarriedOut {D : Type 0} (device : D → DiskState) (old new : Stored D) (command : Command) (now : ℕ) : Type 0 where
+  pub plan : Plan
+  pub planned : IsPlanned (rooted_in device old) command (moment_at (state_of device old) now) plan
+  pub contents : new.contents ≡ once_stored plan.contents
+  pub root : new.slots.root ≡ planned_root old.slots.root plan
+
 -- What a source answers to a command that comes at `now`, and what it is then.
 -- `decides`, `untouched`: what is decided before anything is asked of memory or the disk is answered, and nothing changes.
+-- `full`: Full is answered before anything is written or called: the source is as it was.
 -- `refused`: the cause of each refusal is there.
 -- `accepted`: what is accepted is the step of the state that the lists tell, and its reply.
+-- `planned`: what is accepted is carried out by its plan, so that the pages and the places are the ones that the rules give.
 -- `generation`, `version`: each accepted command takes one generation of the root, which has the version that is written then.
 -- `leads`: of a source that holds a state, what is held then, and what each image of a crash meanwhile stands for.
 -- `told`: it answers Device only where a device call failed, and where it answers anything else none did.
@@ -37,8 +49,10 @@ pub record IsUnchanged {D : Type 0} (device : D → DiskState) (old new : Stored
 pub record Answers {D : Type 0} (device : D → DiskState) (old new : Stored D) (command : Command) (now : ℕ) (result : Result Reply Refusal) : Type 0 where
   pub decides : (r : Refusal) → decided old (state_of device old) command now ≡ Some r → result ≡ Err r
   pub untouched : (r : Refusal) → decided old (state_of device old) command now ≡ Some r → new ≡ old
+  pub full : IsErrOf result Full → new ≡ old
   pub refused : (r : Refusal) → IsErrOf result r → IsCause device old new command now r
   pub accepted : IfOk result (λ reply. step (state_of device old) command now ≡ Ok (state_of device new, reply))
+  pub planned : IfOk result (λ _. IsCarriedOut device old new command now)
   pub generation : IfOk result (λ _. new.slots.root.generation ≡ old.slots.root.generation + 1)
   pub version : IfOk result (λ _. new.slots.root.version ≡ written_version)
   pub leads : (s : Source) → Holds device old s → Leads device old new s command now result

@@ -18,7 +18,8 @@ abbrev pub IsCause : {D : Type 0} → (D → DiskState) → Stored D → Stored 
 IsCause device old new command now Full =
     (decided old (state_of device old) command now ≡ None) × LacksRoom (rooted_in device old) command (moment_at (state_of device old) now)
 IsCause device old new command now Device =
-    (decided old (state_of device old) command now ≡ None) × HasFailed (device old.disk) (device new.disk)
+    (decided old (state_of device old) command now ≡ None)
+    × (¬ LacksRoom (rooted_in device old) command (moment_at (state_of device old) now)) × HasFailed (device old.disk) (device new.disk)
 IsCause device old new command now Damaged = ⊥
 IsCause device old new command now ReadFault = ⊥
 IsCause device old new command now ShortBody = ⊥

@@ -12,6 +12,7 @@ use Rattle.rs_store.specs.declared.opening.OpenFault.{OpenFault}
 use Rattle.rs_store.specs.declared.opening.OpenFault.TheVariants.{NotASource, Damaged, Device, NoMemory}
 use Rattle.rs_image.specs.declared.contents.Contents.{Contents}
 use Rattle.rs_image.specs.StateOfImage.{StandsFor, Tells, state_in}
+use Rattle.rs_image.specs.Loading.{IsDirectoryPlaced}
 use Rattle.rs_model.specs.State.{Source}
 use Rattle.rs_store.specs.Source.{Stored, Holds, state_of}
 
@@ -46,10 +47,18 @@ pub record IsOpened {D : Type 0} (device : D → DiskState) (old : DiskState) (s
   pub holds : IsTrue (device source.disk).honest
       → Holds device source (state_of device source) × StandsFor old.now.seen (state_of device source)
 
+-- An opening of a disk of this many bytes may ask for memory: the slots tell a root, and the directory of that lies behind the slots
+-- on the disk, in exactly the blocks of its length.
+pub record MayAskForMemory (size : ℕ) (seen : List ℕ) : Type 0 where
+  pub standing : Standing
+  pub slots : current seen ≡ Some standing
+  pub directory : IsDirectoryPlaced size standing.root
+
 -- Why no source was opened; what the disk held is said of a device that has followed the model: its slots tell no root; they
--- tell one, and the disk stands for no state; the device failed; or memory was refused.
+-- tell one, and the disk stands for no state; the device failed; or memory was refused, which is asked for only where the places
+-- allow it.
 abbrev pub IsNotOpened : DiskState → DiskState → OpenFault → Type 0
 IsNotOpened old new NotASource = IsTrue new.honest → current old.now.seen ≡ None
 IsNotOpened old new Damaged = IsTrue new.honest → IsSome (current old.now.seen) × ((s : Source) → ¬ StandsFor old.now.seen s)
 IsNotOpened old new Device = HasFailed old new
-IsNotOpened old new NoMemory = Unit {0}
+IsNotOpened old new NoMemory = IsTrue new.honest → MayAskForMemory old.size old.now.seen

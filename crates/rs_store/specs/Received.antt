@@ -1,5 +1,5 @@
 -- What a source answers to a put whose body a reader brings.
-use Rattle.std.specs.Prelude.{◌≡◌, ◌<◌, ◌≤◌, ℕ, List, [], length, take, Option, None, Result, Ok, Err}
+use Rattle.std.specs.Prelude.{◌≡◌, ◌⊎◌, ◌<◌, ◌≤◌, ℕ, List, [], length, take, Option, None, Result, Ok, Err}
 use Rattle.std.specs.Io.KnownBytes.{IsAtEnd}
 use Rattle.rs_disk.specs.Medium.{DiskState}
 use Rattle.rs_disk.specs.Leaves.{Advances, Leaves}
@@ -45,10 +45,11 @@ IsLate Device = Unit {0}
 IsLate NoMemory = Unit {0}
 IsLate refusal = ⊥
 
--- what may have come of a body of n bytes where it is refused so: nothing, or with a late refusal no more than the body has
+-- What may have come of a body of n bytes where it is refused so. The device may fail at any piece of it. Memory is asked for before
+-- any of it came, and after all. With any other refusal nothing came.
 abbrev pub MayHaveCome : ℕ → List ℕ → Refusal → Type 0
 MayHaveCome n came Device = length came ≤ n
-MayHaveCome n came NoMemory = length came ≤ n
+MayHaveCome n came NoMemory = (came ≡ []) ⊎ (length came ≡ n)
 MayHaveCome n came refusal = came ≡ []
 
 -- What a source answers to a put of the next n bytes of a reader, of which these came. Accepted, they are the body, and the

@@ -5,8 +5,6 @@ use Rattle.rs_fixity.specs.Digests.{digests}
 use Rattle.rs_model.specs.declared.command.Command.{Command}
 use Rattle.rs_page.specs.declared.page.store.StoreFault.{StoreFault}
 use Rattle.rs_page.specs.declared.page.store.StoreFault.TheVariants.{Device as NoDevice, NoMemory as NoPageMemory}
-use Rattle.rs_catalogue.specs.Catalogue.{IsCatalogue}
-use Rattle.rs_changes.specs.History.{IsHistory}
 use Rattle.rs_image.specs.declared.contents.Contents.{Contents}
 use Rattle.rs_directory.specs.Directory.{written_format}
 use Rattle.rs_body.specs.Blocks.{IsSized}

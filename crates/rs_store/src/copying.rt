@@ -62,7 +62,7 @@ impl<D: Disk> Source<D> {
     /// - [`CopyFault::Closed`], [`CopyFault::TooSmall`] and [`CopyFault::Full`], of several the first,
     ///   before a call of either disk.
     /// - [`CopyFault::Device`] where a call of either disk failed, and [`CopyFault::Damaged`] where a body
-    ///   does not have its recorded SHA-256, as they are met.
+    ///   does not have its recorded SHA-256, as they are met, on a new disk that has room.
     /// - [`CopyFault::NoMemory`] where a growth of memory is refused.
     pub fn copy_to<E: Disk>(&mut self, disk: E) -> Result<Source<E>, (E, CopyFault)>
         ensures { AnswersCopy D.state E.state self.old self.new disk result }

@@ -1,6 +1,6 @@
 //! How a source is made.
 
-ghost use Rattle.std.specs.Prelude.{◌≡◌, ◌↔◌, ◌*◌, ◌<◌, ◌≤◌, false, length, IfOk, OnOk, IfErr, IsErrAnd, IsErrOf, IsTrue};
+ghost use Rattle.std.specs.Prelude.{◌≡◌, ◌↔◌, ◌*◌, ◌<◌, ◌≤◌, false, length, take, IfOk, OnOk, IfErr, IsErrAnd, IsErrOf, IsTrue};
 ghost use Rattle.rs_disk.specs.Medium.{resting};
 ghost use Rattle.rs_disk.specs.Leaves.{Runs};
 ghost use Rattle.rs_extent.specs.Extents.{IsOnDisk};
@@ -8,14 +8,14 @@ ghost use Rattle.rs_body.specs.Blocks.{part};
 ghost use Rattle.rs_record.specs.Base.{is_base};
 ghost use Rattle.rs_commit.specs.Commit.{IsReady};
 ghost use Rattle.rs_commit.specs.Slots.{written_version};
-ghost use Rattle.rs_commit.specs.Format.{fresh};
+ghost use Rattle.rs_commit.specs.Format.{formatted, fresh};
 ghost use Rattle.rs_directory.specs.Limit.{IsLimit};
 ghost use Rattle.rs_model.specs.State.{start_of};
 ghost use Rattle.rs_image.specs.Reach.{blocks_of_disk};
 ghost use Rattle.rs_image.specs.Rooted.{rooted, MemoryIsSound};
 ghost use Rattle.rs_store.specs.Source.{Holds};
 ghost use Rattle.rs_store.specs.Opening.{disk_of};
-ghost use Rattle.rs_store.specs.Formatting.{first_header as header_of, IsBlank, device_in_format};
+ghost use Rattle.rs_store.specs.Formatting.{first_header as header_of, first_contents, first_root, IsBlank, device_in_format};
 
 use crate::Source;
 use rs_body::{blocks_for, write_body};
@@ -104,6 +104,15 @@ impl<D: Disk> Source<D> {
         // Of every device, since nothing is read.
         ensures holds { IfOk result (λ source. Holds D.state source (start_of base.now limit now)) }
         ensures version { IfOk result (λ source. source.slots.root.version ≡ written_version) }
+
+        // Its lists are empty, its root is the first one, in the first slot, and its directory lies
+        // from block 2 on. Blocks 0 and 1 are written whole.
+        ensures contents { IfOk result
+            (λ source. source.contents ≡ first_contents base.now limit now) }
+        ensures slots { IfOk result
+            (λ source. source.slots ≡ fresh (first_root (first_contents base.now limit now))) }
+        ensures front { IfOk result (λ source.
+            take 1024 (D.state source.disk).now.seen ≡ formatted source.slots.root) }
 
         ensures bad_base { IsErrAnd result (λ e. e.1 ≡ FormatFault.BadBase)
             ↔ (is_base base.now ≡ false) }
@@ -240,6 +249,8 @@ fn write_blank<D: Disk>(disk: &mut D, blank: &Blank) -> Result<Slots, Fault>
     requires fits { length blank.now.directory.items ≤ 512 * blank.now.root.directory.blocks }
     ensures runs { Runs (D.state disk.old) (D.state disk.new) result }
     ensures slots { IfOk result (λ slots. slots ≡ fresh blank.now.root) }
+    ensures front { OnOk result
+        (take 1024 (D.state disk.new).now.seen ≡ formatted blank.now.root) }
     ensures ready { OnOk result (IsReady (fresh blank.now.root) (D.state disk.new).now) }
     ensures resting { OnOk result ((D.state disk.new).now ≡ resting (D.state disk.new).now.seen) }
     ensures reads { OnOk result

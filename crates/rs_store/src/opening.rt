@@ -91,7 +91,8 @@ impl<D: Disk> Source<D> {
     /// - [`OpenFault::NotASource`] exactly where the slots tell no root.
     /// - [`OpenFault::Damaged`] where the root tells no state: a rule of the format is broken.
     /// - [`OpenFault::Device`] where a device call failed; no other answer comes where one did.
-    /// - [`OpenFault::NoMemory`] where a growth of memory was refused.
+    /// - [`OpenFault::NoMemory`] where a growth of memory was refused. None is asked for before the
+    ///   root's directory was found to lie behind the slots, in exactly the blocks of its length.
     ///
     /// One of the first two comes only where the device and the memory allowed to find out.
     pub fn open(alloc: Global, disk: D) -> Result<Source<D>, (D, OpenFault)>

@@ -1,5 +1,5 @@
-//! Copies of a source to another disk: stopped at each of its calls, to disks that are too small, and of a
-//! damaged body.
+//! Copies of a source to another disk: stopped at each of its calls, to disks that are too small, also of a
+//! source that can't be read, and of a damaged body.
 
 use super::asking::Asked::{self, Delete, Publish, Put};
 use super::asking::{ask, disk_of, made, opened, told};
@@ -132,15 +132,14 @@ fn holds_one(rt: &(impl Abort + AllocGlobal), source: &Source<MemoryDisk>) {
 
 #[test]
 fn a_disk_is_too_small_for_a_copy(rt: HostRuntime) {
-    let mut source = made(&rt, disk_of(&rt, 16384));
-    let _answer = ask(&rt, &mut source, Put(b"a", &BODY));
+    let mut source = opened(&rt, disk_with_a_body(&rt));
     is_not_copied(&rt, &mut source);
     holds_one(&rt, &copied(&rt, &mut source, disk_of(&rt, 8704)));
 }
 
-/// Damages the body of `b`.
-fn damage(rt: &impl Abort, disk: &mut MemoryDisk) {
-    let at = 3_072;
+/// Damages a body that begins at this byte of a disk.
+fn damage(rt: &impl Abort, disk: &mut MemoryDisk, at: u16) {
+    let at = at as u64;
     assert!(rt; at + 3 <= disk.size());
     disk.write(at, b"TWO").expect(rt, "a write");
 }
@@ -153,9 +152,49 @@ fn is_damage(rt: &impl Abort, fault: CopyFault) {
 #[test]
 fn a_damaged_body_is_not_copied(rt: HostRuntime) {
     let mut disk = filled(&rt).into_disk();
-    damage(&rt, &mut disk);
+    damage(&rt, &mut disk, 3_072);
     let mut source = opened(&rt, disk);
     let (disk, fault) = refused(&rt, &mut source, disk_of(&rt, 32768));
     is_damage(&rt, fault);
     images_tell(&rt, &disk, "nothing");
+}
+
+/// The disk of a source with a body of 5,633 bytes, which lies behind the directory that was made with it: from
+/// block 3 on.
+fn disk_with_a_body(rt: &(impl Abort + AllocGlobal)) -> MemoryDisk {
+    let mut source = made(rt, disk_of(rt, 16384));
+    let _answer = ask(rt, &mut source, Put(b"a", &BODY));
+    source.into_disk()
+}
+
+/// Looks whether a source is not copied to 16 blocks for want of room, and not to 17 for this fault. A call of
+/// the new disk would fail in the first copy.
+fn room_comes_first(
+    rt: &(impl Abort + AllocGlobal),
+    source: &mut Source<MemoryDisk>,
+    want: CopyFault,
+) {
+    let mut small = disk_of(rt, 8192);
+    small.stop_after(0);
+    let (small, fault) = refused(rt, source, small);
+    assert_eq!(rt; (fault, small.calls()), (Full, 0));
+    let (_disk, fault) = refused(rt, source, disk_of(rt, 8704));
+    assert_eq!(rt; fault, want);
+}
+
+#[test]
+fn want_of_room_comes_before_a_fault_of_a_device(rt: HostRuntime) {
+    let mut disk = disk_with_a_body(&rt);
+    // An opening makes six calls: a sync, and reads of two slots, the directory and two pages.
+    disk.fail_once(6);
+    let mut source = opened(&rt, disk);
+    room_comes_first(&rt, &mut source, Device);
+}
+
+#[test]
+fn want_of_room_comes_before_damage(rt: HostRuntime) {
+    let mut disk = disk_with_a_body(&rt);
+    damage(&rt, &mut disk, 1_536);
+    let mut source = opened(&rt, disk);
+    room_comes_first(&rt, &mut source, Damaged);
 }

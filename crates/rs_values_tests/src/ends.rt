@@ -49,19 +49,22 @@ impl<W: Write> Write for FailsOnce<W> {
     }
 }
 
-/// The call of a reader of `abcde` that fails, the number of bytes that each of five reads gives, none where it fails, and
-/// how many failures the reader then tells.
-const READS: [(u32, [Option<usize>; 5], u64); 6] = [
-    (0, [None, Some(2), Some(2), Some(1), Some(0)], 1),
-    (1, [Some(2), None, Some(2), Some(1), Some(0)], 1),
-    (2, [Some(2), Some(2), None, Some(1), Some(0)], 1),
-    (3, [Some(2), Some(2), Some(1), None, Some(0)], 1),
-    (4, [Some(2), Some(2), Some(1), Some(0), None], 1),
-    (5, [Some(2), Some(2), Some(1), Some(0), Some(0)], 0),
+/// The call of a reader of `abcde` that fails, the number of bytes that each of five reads gives, none where it fails, how many
+/// failures the reader then tells, how many calls of the reader inside, and how many bytes are left. Behind a failure each read
+/// fails, though the reader inside would give more, and it is not asked.
+type Reads = (u32, [Option<usize>; 5], u64, u64, usize);
+
+const READS: [Reads; 6] = [
+    (0, [None, None, None, None, None], 5, 1, 5),
+    (1, [Some(2), None, None, None, None], 4, 2, 3),
+    (2, [Some(2), Some(2), None, None, None], 3, 3, 1),
+    (3, [Some(2), Some(2), Some(1), None, None], 2, 4, 0),
+    (4, [Some(2), Some(2), Some(1), Some(0), None], 1, 5, 0),
+    (5, [Some(2), Some(2), Some(1), Some(0), Some(0)], 0, 5, 0),
 ];
 
-/// What the reads give, how many failures the reader tells then, and how many bytes are left.
-fn told_by_reads(fails_at: u32) -> ([Option<usize>; 5], u64, usize) {
+/// What the reads give and the reader tells then.
+fn told_by_reads(fails_at: u32) -> Reads {
     let mut reader = Watched::new(FailsOnce {
         inner: b"abcde".as_slice(),
         calls_before: Some(fails_at),
@@ -70,18 +73,32 @@ fn told_by_reads(fails_at: u32) -> ([Option<usize>; 5], u64, usize) {
     for answer in &mut told {
         *answer = reader.read(&mut [0; 4]).ok();
     }
-    (told, reader.failures(), reader.get_ref().inner.len())
+    let left = reader.get_ref().inner.len();
+    (fails_at, told, reader.failures(), reader.calls(), left)
 }
 
 #[test]
-fn a_read_fails_where_the_reader_does(rt: HostRuntime) {
-    for (fails_at, told, failures) in READS {
-        assert_eq!(rt;
-            told_by_reads(fails_at),
-            (told, failures, 0),
-            "call {fails_at} fails"
-        );
+fn a_read_fails_from_where_the_reader_does(rt: HostRuntime) {
+    for want in READS {
+        assert_eq!(rt; told_by_reads(want.0), want);
     }
+}
+
+/// A reader of which each read is interrupted.
+#[derive(Drop)]
+struct InterruptedReader;
+
+impl Read for InterruptedReader {
+    fn read(&mut self, _: &mut [u8]) -> io::Result<usize> {
+        Err(io::Error::from(ErrorKind::Interrupted))
+    }
+}
+
+#[test]
+fn an_interrupted_read_is_a_fault(rt: HostRuntime) {
+    let mut reader = Watched::new(InterruptedReader);
+    assert!(rt; reader.read(&mut [0; 4]).is_err());
+    assert_eq!(rt; (reader.failures(), reader.calls()), (1, 1));
 }
 
 const WROTE: Result<(), WriteFault> = Ok(());
@@ -89,18 +106,25 @@ const WROTE: Result<(), WriteFault> = Ok(());
 const FAILED: Result<(), WriteFault> = Err(WriteFault);
 
 /// The call of a writer that fails, what is answered then to the bytes `abcd`, to a text of three pieces and to a flush,
-/// how many failures the writer then tells, and all that is written.
-const WRITES: [(u32, [Result<(), WriteFault>; 3], u64, &[u8]); 7] = [
-    (0, [FAILED, WROTE, WROTE], 1, b"12:30"),
-    (1, [FAILED, WROTE, WROTE], 1, b"ab12:30"),
-    (2, [WROTE, FAILED, WROTE], 1, b"abcd"),
-    (3, [WROTE, FAILED, WROTE], 1, b"abcd12"),
-    (4, [WROTE, FAILED, WROTE], 1, b"abcd12:"),
-    (5, [WROTE, WROTE, FAILED], 1, b"abcd12:30"),
-    (6, [WROTE, WROTE, WROTE], 0, b"abcd12:30"),
+/// how many failures the writer then tells, how many calls of the writer inside, and all that is written. Behind a failure
+/// each call fails, and the writer inside is not asked.
+type Writes = (u32, [Result<(), WriteFault>; 3], u64, u64, &'static [u8]);
+
+const WRITES: [Writes; 7] = [
+    (0, [FAILED, FAILED, FAILED], 3, 1, b""),
+    (1, [FAILED, FAILED, FAILED], 3, 2, b"ab"),
+    (2, [WROTE, FAILED, FAILED], 2, 3, b"abcd"),
+    (3, [WROTE, FAILED, FAILED], 2, 4, b"abcd12"),
+    (4, [WROTE, FAILED, FAILED], 2, 5, b"abcd12:"),
+    (5, [WROTE, WROTE, FAILED], 1, 6, b"abcd12:30"),
+    (6, [WROTE, WROTE, WROTE], 0, 6, b"abcd12:30"),
 ];
 
-fn told_by_writes(alloc: Global, fails_at: u32) -> ([Result<(), WriteFault>; 3], u64, Vec<u8>) {
+/// What is answered and told, and what is written.
+fn told_by_writes(
+    alloc: Global,
+    fails_at: u32,
+) -> ([Result<(), WriteFault>; 3], u64, u64, Vec<u8>) {
     let mut writer = Watched::new(FailsOnce {
         inner: Vec::new(alloc),
         calls_before: Some(fails_at),
@@ -110,17 +134,17 @@ fn told_by_writes(alloc: Global, fails_at: u32) -> ([Result<(), WriteFault>; 3],
         writer.put_all(&[b"12", b":", b"30"]),
         writer.flush(),
     ];
-    let failures = writer.failures();
-    (told, failures, writer.into_inner().inner)
+    let (failures, calls) = (writer.failures(), writer.calls());
+    (told, failures, calls, writer.into_inner().inner)
 }
 
 #[test]
-fn a_write_fails_where_the_writer_does(rt: HostRuntime) {
-    for (fails_at, want, failures, written) in WRITES {
-        let (told, counted, bytes) = told_by_writes(rt.alloc(), fails_at);
+fn a_write_fails_from_where_the_writer_does(rt: HostRuntime) {
+    for (fails_at, want, failures, calls, written) in WRITES {
+        let (told, counted, called, bytes) = told_by_writes(rt.alloc(), fails_at);
         assert_eq!(rt;
-            (told, counted, bytes.as_slice()),
-            (want, failures, written),
+            (told, counted, called, bytes.as_slice()),
+            (want, failures, calls, written),
             "call {fails_at} fails"
         );
     }
@@ -169,13 +193,12 @@ impl<W: Write> Write for Interrupted<W> {
 }
 
 /// How many calls of a writer are interrupted, what is answered then to the bytes `ab` and to `cd`, how many failures the
-/// writer then tells, and all that is written: 100 are tried again, by each put anew.
-const INTERRUPTIONS: [(u32, [Result<(), WriteFault>; 2], u64, &[u8]); 5] = [
+/// writer then tells, and all that is written: 100 are tried again in one put.
+const INTERRUPTIONS: [(u32, [Result<(), WriteFault>; 2], u64, &[u8]); 4] = [
     (0, [WROTE, WROTE], 0, b"abcd"),
     (1, [WROTE, WROTE], 0, b"abcd"),
     (100, [WROTE, WROTE], 0, b"abcd"),
-    (101, [FAILED, WROTE], 1, b"cd"),
-    (202, [FAILED, FAILED], 2, b""),
+    (101, [FAILED, FAILED], 2, b""),
 ];
 
 #[test]
@@ -212,7 +235,7 @@ fn a_write_of_no_byte_is_a_fault(rt: HostRuntime) {
     assert_eq!(rt; writer.put(b""), WROTE);
     assert_eq!(rt; writer.failures(), 0);
     assert_eq!(rt; writer.put(b"a"), FAILED);
-    assert_eq!(rt; writer.failures(), 1);
+    assert_eq!(rt; (writer.failures(), writer.calls()), (1, 1));
 }
 
 /// A writer of which each call fails.
@@ -237,22 +260,25 @@ fn each_failure_is_counted(rt: HostRuntime) {
         assert_eq!(rt; writer.put(b"abcd"), FAILED);
     }
     assert_eq!(rt; writer.flush(), FAILED);
-    assert_eq!(rt; writer.failures(), 4);
+    assert_eq!(rt; (writer.failures(), writer.calls()), (4, 1));
+    assert!(rt; writer.is_broken());
 }
 
 #[test]
 fn flushed_until_more_is_put(rt: HostRuntime) {
     let mut writer = Watched::new(FailsOnce {
         inner: Vec::new(rt.alloc()),
-        calls_before: Some(1),
+        calls_before: Some(3),
     });
     assert!(rt; writer.is_flushed());
     assert_eq!(rt; writer.put(b"ab"), WROTE);
-    assert!(rt; !writer.is_flushed());
-    assert_eq!(rt; writer.flush(), FAILED);
     assert!(rt; !writer.is_flushed());
     assert_eq!(rt; writer.flush(), WROTE);
     assert!(rt; writer.is_flushed());
     assert_eq!(rt; writer.put(b"c"), WROTE);
     assert!(rt; !writer.is_flushed());
+    assert_eq!(rt; writer.flush(), FAILED);
+    assert!(rt; !writer.is_flushed() && writer.is_broken());
+    assert_eq!(rt; writer.flush(), FAILED);
+    assert_eq!(rt; writer.calls(), 4);
 }

@@ -6,8 +6,10 @@ use Rattle.rs_disk.specs.Calls.{Writes, Tears}
 use Rattle.rs_extent.specs.declared.Extent.{Extent}
 use Rattle.rs_extent.specs.Blocks.{block_size}
 use Rattle.rs_extent.specs.Extents.{IsOnDisk}
-use Rattle.rs_body.specs.Blocks.{part}
+use Rattle.rs_body.specs.Blocks.{part, place_of}
+use Rattle.rs_disk.proofs.Steps.{write_leaves}
 use Rattle.rs_body.proofs.KeptBlocks.{outside_write, piece_follows, has_room}
+use Rattle.rs_body.proofs.Torn.{write_tears}
 use Rattle.rs_body.proofs.write.write_piece.Goals as goal
 
 some_bytes : (n : ℕ) → false ≡ (n == 0) → 0 < n
@@ -43,5 +45,26 @@ returns-clause-outside g c kept beside =
     let new = g.D.Disk.state c.write.new.self in
     outside_write kept c.args.extent c.args.at old new c.args.piece.now c.write.result c.write.ensures.counts (g.met.D.Disk.holds c.args.disk.now) beside c.requires.fits
     (lies c.args.extent c.args.at n old.size (some_bytes n c.if-is_empty.ensures) c.requires.fits c.requires.room)
+    (subst (λ (from : ℕ). OnOk c.write.result (Writes (from + c.args.at) c.args.piece.now old new)) c.offset_of.ensures c.write.ensures.writes)
+    (subst (λ (from : ℕ). OnErr c.write.result (Tears (from + c.args.at) n old new)) c.offset_of.ensures c.write.ensures.tears)
+
+pub returns-clause-torn : goal.returns-clause-torn
+returns-clause-torn g c =
+    let n = length c.args.piece.now in
+    let old = g.D.Disk.state c.args.disk.now in
+    let new = g.D.Disk.state c.write.new.self in
+    let room = lies c.args.extent c.args.at n old.size (some_bytes n c.if-is_empty.ensures) c.requires.fits c.requires.room in
+    let is = g.met.D.Disk.holds c.args.disk.now in
+    write_tears old new (place_of c.args.extent c.args.at) c.args.piece.now c.write.result (omega (arith, room, is.image.size, is.settled))
+    (subst (λ (from : ℕ). OnOk c.write.result (Writes (from + c.args.at) c.args.piece.now old new)) c.offset_of.ensures c.write.ensures.writes)
+    (subst (λ (from : ℕ). OnErr c.write.result (Tears (from + c.args.at) n old new)) c.offset_of.ensures c.write.ensures.tears)
+
+pub returns-clause-any_moment : goal.returns-clause-any_moment
+returns-clause-any_moment g c =
+    let n = length c.args.piece.now in
+    let old = g.D.Disk.state c.args.disk.now in
+    let new = g.D.Disk.state c.write.new.self in
+    let room = lies c.args.extent c.args.at n old.size (some_bytes n c.if-is_empty.ensures) c.requires.fits c.requires.room in
+    write_leaves old new (place_of c.args.extent c.args.at) c.args.piece.now c.write.result c.write.ensures.counts (g.met.D.Disk.holds c.args.disk.now) room
     (subst (λ (from : ℕ). OnOk c.write.result (Writes (from + c.args.at) c.args.piece.now old new)) c.offset_of.ensures c.write.ensures.writes)
     (subst (λ (from : ℕ). OnErr c.write.result (Tears (from + c.args.at) n old new)) c.offset_of.ensures c.write.ensures.tears)

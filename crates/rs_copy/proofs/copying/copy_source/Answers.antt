@@ -15,8 +15,11 @@ returns-in_err-slots-clause-copies g c =
     let fault = c.in_err-slots.field-0.0 in
     let l = c.in_ok-layout.layout in
     let l' = c.write_copy.new.layout in
+    let laid : IsLaidOut old.size c.contents-contents.result.now l.contents l.directory l.used =
+    subst (λ (n : ℕ). IsLaidOut n c.contents-contents.result.now l.contents l.directory l.used) c.size-2.ensures c.in_ok-layout.ensures.laid_out in
     copies_failed c.args.old.now before after old new l l' fault c.from_residual-in_err-slots.result
     (λ small. absurd (omega (arith, small, c.if-size-lt-SMALLEST_DISK.false, c.size.ensures)))
+    (subst (λ (x : Contents). IsLaidOut old.size x l.contents l.directory l.used) c.contents-contents.ensures.contents laid)
     (err_is c.from_residual-in_err-slots.result fault c.from_residual-in_err-slots.ensures.1)
     (subst (λ (x : Contents). WritesCopy x l l' before after old new (Err fault)) c.contents-contents.ensures.contents c.in_err-slots.ensures)
 

@@ -9,6 +9,7 @@ use Rattle.rs_http.specs.Responses.{replied, refused}
 use Rattle.rs_http.specs.Outcomes.{PutComesTo, outcome_replied}
 use Rattle.rs_http.proofs.Asking.{answered}
 use Rattle.rs_http.proofs.Endings.{sent_ends}
+use Rattle.rs_http.proofs.Sent.{sent_unread, sent_sound, sent_alone}
 use Rattle.rs_http.proofs.answer.put.Goals as goal
 
 pub returns-in-Ok-clause-ends : goal.returns-in-Ok-clause-ends
@@ -50,3 +51,19 @@ returns-in_default-clause-ends g c = λ waits.
     sent_ends g.D.Disk.state c.args.source.now c.put_from.new.self c.args.now asked asked c.args.framing left rest g.W.Write.contents before after came.0
     comes c.write_refusal.result c.sent-in_default.result came.1 refl c.sent-in_default.ensures
     (answered c.args.framing (WritesOut g.W.Write.contents before after c.write_refusal.result) comes c.write_refusal.result (refused c.in-Err.refusal) is c.write_refusal.ensures.status c.write_refusal.ensures.written) (λ o h. h)
+
+pub returns-in-Ok-clause-sound : goal.returns-in-Ok-clause-sound
+returns-in-Ok-clause-sound g c =
+    sent_sound g.W.Write.contents c.args.reader.now c.put_from.new.reader c.args.writer.now c.write_reply.new.writer _ (c.put_from.ensures.sound (λ broken. absurd cc))
+    c.write_reply.result c.sent.result c.sent.ensures c.write_reply.ensures.written
+
+pub returns-in-Ok-clause-read : goal.returns-in-Ok-clause-read
+returns-in-Ok-clause-read g c = λ is. absurd (sent_unread c.write_reply.result c.sent.result c.sent.ensures is)
+
+pub returns-in-Ok-clause-write : goal.returns-in-Ok-clause-write
+returns-in-Ok-clause-write g c =
+    sent_alone g.W.Write.contents c.args.reader.now c.put_from.new.reader c.args.writer.now c.write_reply.new.writer _ (c.put_from.ensures.sound (λ broken. absurd cc))
+    c.write_reply.result c.sent.result c.sent.ensures c.write_reply.ensures.written
+
+pub returns-in-Ok-clause-silent : goal.returns-in-Ok-clause-silent
+returns-in-Ok-clause-silent g c = λ is. absurd (sent_unread c.write_reply.result c.sent.result c.sent.ensures is)

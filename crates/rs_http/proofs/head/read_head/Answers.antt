@@ -15,11 +15,14 @@ loop-came-init g c = record {
 pub returns-in_err-byte-clause-err : goal.returns-in_err-byte-clause-err
 returns-in_err-byte-clause-err g c =
     let bytes = take c.loop-came.came c.loop-came.buf in
+    let small : c.loop-came.came < length c.loop-came.buf = omega arith in
+    let short : length bytes < 8192 = grind (arith, common_steps) in
     on_err c.from_residual.result (
       bytes,
       Consumes-kept (g.R.Read.remaining (watched c.args.reader.now)) (g.R.Read.remaining (watched c.loop-came.reader)) (g.R.Read.remaining (watched c.read_byte.new.reader)) bytes
           c.loop-came.invariant.came.0 c.in_err-byte.ensures.err,
       c.loop-came.invariant.open_yet,
+      short,
     )
 
 pub returns-then-is_end-clause-ok : goal.returns-then-is_end-clause-ok

@@ -1,6 +1,6 @@
 -- The head, and then the answer to what it asks for.
 use Rattle.std.proofs.Common.{◌≡◌, ◌∙◌, Ok, Err, take, ap}
-use Rattle.rs_io.specs.Watch.{watched}
+use Rattle.rs_io.specs.Watch.{watched, seen_by}
 use Rattle.rs_io.proofs.Faults.{later_fault}
 use Rattle.rs_http.specs.declared.fault.FrontFault.TheVariants.{Read, Write}
 use Rattle.rs_http.proofs.Endings.{served, broken, halted}
@@ -12,7 +12,7 @@ returns-in-Ok-answer-clause-ok g c =
     let bytes = take c.in-Ok.came c.read_head.new.buf in
     let whole = served g.D.Disk.state c.args.source.now c.answer.new.source c.args.now c.in-Some.request bytes c.in-Ok.read
     (g.R.Read.remaining (watched c.args.reader.now)) (g.R.Read.remaining (watched c.read_head.new.reader)) (g.R.Read.remaining (watched c.answer.new.reader))
-    (g.W.Write.contents (watched c.args.writer.now)) (g.W.Write.contents (watched c.answer.new.writer))
+    (seen_by g.W.Write.contents c.args.writer.now) (seen_by g.W.Write.contents c.answer.new.writer)
     (λ plan more outcome. c.requests_recover.ensures.answered c.args.source.now c.answer.new.source c.args.now plan more (g.R.Read.remaining (watched c.answer.new.reader)) outcome)
     (c.requests_recover.ensures.broken c.args.source.now c.answer.new.source c.args.now)
     (λ more outcome. c.requests_make_walks.ensures.answered c.args.source.now c.answer.new.source c.args.now bytes c.in-Ok.read c.in-Some.request more (g.R.Read.remaining (watched c.answer.new.reader)) outcome c.in-Some.ensures)
@@ -27,7 +27,7 @@ returns-in-Err-clause-read g c = λ e.
     let is : c.in-Err.fault ≡ Read = cc in
     let whole = broken g.D.Disk.state c.args.source.now c.answer.new.source c.args.now c.in-Some.request bytes c.in-Ok.read
     (g.R.Read.remaining (watched c.args.reader.now)) (g.R.Read.remaining (watched c.read_head.new.reader)) (g.R.Read.remaining (watched c.answer.new.reader))
-    (g.W.Write.contents (watched c.args.writer.now)) (g.W.Write.contents (watched c.answer.new.writer))
+    (seen_by g.W.Write.contents c.args.writer.now) (seen_by g.W.Write.contents c.answer.new.writer)
     (λ plan more outcome. c.requests_recover.ensures.answered c.args.source.now c.answer.new.source c.args.now plan more (g.R.Read.remaining (watched c.answer.new.reader)) outcome)
     (c.requests_recover.ensures.broken c.args.source.now c.answer.new.source c.args.now)
     (λ more outcome. c.requests_make_walks.ensures.answered c.args.source.now c.answer.new.source c.args.now bytes c.in-Ok.read c.in-Some.request more (g.R.Read.remaining (watched c.answer.new.reader)) outcome c.in-Some.ensures)
@@ -42,7 +42,7 @@ returns-in-Err-clause-write g c = λ e.
     let is : c.in-Err.fault ≡ Write = cc in
     let whole = halted g.D.Disk.state c.args.source.now c.answer.new.source c.args.now c.in-Some.request bytes c.in-Ok.read
     (g.R.Read.remaining (watched c.args.reader.now)) (g.R.Read.remaining (watched c.read_head.new.reader)) (g.R.Read.remaining (watched c.answer.new.reader))
-    (g.W.Write.contents (watched c.args.writer.now)) (g.W.Write.contents (watched c.answer.new.writer))
+    (seen_by g.W.Write.contents c.args.writer.now) (seen_by g.W.Write.contents c.answer.new.writer)
     (λ plan more outcome. c.requests_recover.ensures.answered c.args.source.now c.answer.new.source c.args.now plan more (g.R.Read.remaining (watched c.answer.new.reader)) outcome)
     (c.requests_recover.ensures.broken c.args.source.now c.answer.new.source c.args.now)
     (λ more outcome. c.requests_make_walks.ensures.answered c.args.source.now c.answer.new.source c.args.now bytes c.in-Ok.read c.in-Some.request more (g.R.Read.remaining (watched c.answer.new.reader)) outcome c.in-Some.ensures)
@@ -55,12 +55,12 @@ pub returns-in-Ok-answer-clause-goes_on : goal.returns-in-Ok-answer-clause-goes_
 returns-in-Ok-answer-clause-goes_on g c =
     request_goes g.D.Disk.state c.args.source.now c.answer.new.source c.args.now c.in-Some.request
     (g.R.Read.remaining (watched c.read_head.new.reader)) (g.R.Read.remaining (watched c.answer.new.reader))
-    (g.W.Write.contents (watched c.args.writer.now)) (g.W.Write.contents (watched c.answer.new.writer))
+    (seen_by g.W.Write.contents c.args.writer.now) (seen_by g.W.Write.contents c.answer.new.writer)
     (Ok c.in-Ok-answer.status) c.in-Ok-answer.ensures.ends
 
 pub returns-in-Err-clause-goes_on : goal.returns-in-Err-clause-goes_on
 returns-in-Err-clause-goes_on g c =
     request_goes g.D.Disk.state c.args.source.now c.answer.new.source c.args.now c.in-Some.request
     (g.R.Read.remaining (watched c.read_head.new.reader)) (g.R.Read.remaining (watched c.answer.new.reader))
-    (g.W.Write.contents (watched c.args.writer.now)) (g.W.Write.contents (watched c.answer.new.writer))
+    (seen_by g.W.Write.contents c.args.writer.now) (seen_by g.W.Write.contents c.answer.new.writer)
     (Err c.in-Err.fault) c.in-Err.ensures.ends

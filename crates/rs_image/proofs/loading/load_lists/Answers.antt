@@ -9,4 +9,4 @@ returns-in_err-lists-clause-device g c =
     let state = g.D.Disk.state in
     let given = err_from_is_err_and c.from_residual.result c.from_residual.ensures.1 in
     rw (given.1, given.2)
-    (tells_behind (state c.args.disk.now) (state c.args.disk.now) (state c.load_placed.new.disk) c.in_err-lists.field-0.0 refl c.in_err-lists.ensures.device)
+    (tells_behind (state c.args.disk.now) (state c.args.disk.now) (state c.load_pages.new.disk) c.in_err-lists.field-0.0 refl c.in_err-lists.ensures.device)

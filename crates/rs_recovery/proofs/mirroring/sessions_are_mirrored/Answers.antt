@@ -2,5 +2,5 @@ use Rattle.rs_recovery.proofs.Mirrored.{sessions_mirrored}
 use Rattle.rs_recovery.proofs.mirroring.sessions_are_mirrored.Goals as goal
 
 pub returns : goal.returns
-returns g c =
-    sessions_mirrored g.D.Disk.state g.met.D.Disk.holds c.destination_mirrors.ensures.mirrored c.destination_mirrors.ensures.held c.walks_are_catalogued.ensures.held c.sessions_stand.ensures
+returns c =
+    sessions_mirrored c.destination_mirrors.ensures.mirrored c.destination_mirrors.ensures.held c.walks_are_catalogued.ensures.held c.sessions_stand.ensures

@@ -35,7 +35,7 @@ returns-clause-headline g c = λ base limit moment before sessions are bytes hon
     let found = c.sessions_stand.ensures start sessions are in
     let commands = commands_standing sessions found.0 in
     let s = fold_of start commands in
-    let here : StandsFor (g.D.Disk.state c.args.disk).now.seen s = subst (λ (l : List ℕ). StandsFor l s) (sym bytes) (left_standing g.D.Disk.state start sessions found.0 are found.1.holds) in
+    let here : StandsFor (g.D.Disk.state c.args.disk).now.seen s = subst (λ (l : List ℕ). StandsFor l s) (sym bytes) (left_standing start sessions found.0 are found.1.holds) in
     let regular = c.fold_is_regular.ensures.regular start commands began in
     record {
       standing = found.0;

@@ -1,11 +1,9 @@
 use Rattle.std.proofs.Common.{sym, Ok}
-use Rattle.rs_disk.specs.declared.memory.MemoryDisk.{MemoryDisk}
-use Rattle.rs_disk.specs.Memory.{memory_state}
 use Rattle.rs_recovery.proofs.Halted.{may_format, format_halted}
 use Rattle.rs_recovery.proofs.surviving.format_and_run.Goals as goal
 
 pub returns-in-Ok-run-clause-ran : goal.returns-in-Ok-run-clause-ran
-returns-in-Ok-run-clause-ran c = record {
+returns-in-Ok-run-clause-ran g c = record {
   first = c.in-Ok.source;
   last = c.run.new.self;
   began = c.in-Ok.ensures.holds;
@@ -14,18 +12,18 @@ returns-in-Ok-run-clause-ran c = record {
 }
 
 pub returns-in-Ok-run-clause-may : goal.returns-in-Ok-run-clause-may
-returns-in-Ok-run-clause-may c =
-    may_format {D = MemoryDisk} c.args.base.now c.args.limit (memory_state c.args.disk).size (Ok c.in-Ok.source)
+returns-in-Ok-run-clause-may g c =
+    may_format {D = g.row.D.Denot} c.args.base.now c.args.limit (g.D.Disk.state c.args.disk).size (Ok c.in-Ok.source)
     c.in-Ok.ensures.bad_base c.in-Ok.ensures.bad_limit c.in-Ok.ensures.too_small (λ is. is) (λ is. is) (λ is. is)
 
 pub returns-in-Err-clause-halted : goal.returns-in-Err-clause-halted
-returns-in-Err-clause-halted c =
-    format_halted {D = MemoryDisk} c.args.base.now c.args.limit (memory_state c.args.disk).size c.in-Err.field-0-0 c.in-Err.fault
+returns-in-Err-clause-halted g c =
+    format_halted {D = g.row.D.Denot} c.args.base.now c.args.limit (g.D.Disk.state c.args.disk).size c.in-Err.field-0-0 c.in-Err.fault
     c.in-Err.ensures.bad_base c.in-Err.ensures.bad_limit c.in-Err.ensures.too_small
 
 pub returns-in-Err-run-clause-halted : goal.returns-in-Err-run-clause-halted
-returns-in-Err-run-clause-halted c = (
+returns-in-Err-run-clause-halted g c = (
   c.in-Err-run.ensures.only,
-  may_format {D = MemoryDisk} c.args.base.now c.args.limit (memory_state c.args.disk).size (Ok c.in-Ok.source)
+  may_format {D = g.row.D.Denot} c.args.base.now c.args.limit (g.D.Disk.state c.args.disk).size (Ok c.in-Ok.source)
       c.in-Ok.ensures.bad_base c.in-Ok.ensures.bad_limit c.in-Ok.ensures.too_small (λ is. is) (λ is. is) (λ is. is),
 )

@@ -10,7 +10,7 @@ use Rattle.rs_script.proofs.group.size_begun.Goals as goal
 unkept : (content : Content) (line : List ℕ) → (content ≡ Foreign) ⊎ ((content ≡ Refused) ⊎ (content ≡ TooLong)) → IsContent content line
     → None ≡ group_size line
 unkept content line (inl e) is = let k : IsContent Foreign line = subst (λ (c : Content). IsContent c line) e is in sym k.1.no_group
-unkept content line (inr (inl e)) is = let k : IsContent Refused line = subst (λ (c : Content). IsContent c line) e is in sym k.1
+unkept content line (inr (inl e)) is = let k : IsContent Refused line = subst (λ (c : Content). IsContent c line) e is in sym (long_begins_none line (omega (arith, k.1)))
 unkept content line (inr (inr e)) is =
     let k : IsContent TooLong line = subst (λ (c : Content). IsContent c line) e is in
     sym (long_begins_none line (omega (arith, k)))

@@ -4,17 +4,17 @@ use Rattle.rs_model.specs.declared.command.Item.{Item}
 use Rattle.rs_script.specs.declared.refusal.Refusal.{Refusal}
 use Rattle.rs_script.specs.declared.refusal.Refusal.TheVariants.{NoMemory}
 use Rattle.rs_script.specs.Taken.{KeepsItems}
-use Rattle.rs_script.proofs.GroupItems.{stays_refused, is_refused, has_item}
+use Rattle.rs_script.proofs.GroupItems.{stays_refused, is_refused, no_room, has_item}
 use Rattle.rs_script.proofs.group.with_line.Goals as goal
 
-refused_so : (result found : Result Item Refusal) (refusal : Refusal) → result ≡ Err refusal → (result ≡ found) ⊎ (result ≡ Err NoMemory)
-    → (Err refusal ≡ found) ⊎ (refusal ≡ NoMemory)
+refused_so : {Room : Type 0} (result found : Result Item Refusal) (refusal : Refusal) → result ≡ Err refusal → (result ≡ found) ⊎ ((result ≡ Err NoMemory) × Room)
+    → (Err refusal ≡ found) ⊎ ((refusal ≡ NoMemory) × Room)
 refused_so result found refusal is (inl e) = inl (sym is ∙ e)
-refused_so result found refusal is (inr e) = inr (cc)
+refused_so result found refusal is (inr (e, room)) = inr (cc, room)
 
-given_so : (result found : Result Item Refusal) (item : Item) → result ≡ Ok item → (result ≡ found) ⊎ (result ≡ Err NoMemory) → Ok item ≡ found
+given_so : {Room : Type 0} (result found : Result Item Refusal) (item : Item) → result ≡ Ok item → (result ≡ found) ⊎ ((result ≡ Err NoMemory) × Room) → Ok item ≡ found
 given_so result found item is (inl e) = sym is ∙ e
-given_so result found item is (inr e) = absurd cc
+given_so result found item is (inr (e, room)) = absurd cc
 
 keeps_so : (items : Result (Vec Item Global) Refusal) (same : Result (Vec Item Global) Refusal) (lines : List (List ℕ)) → items ≡ same
     → KeepsItems items lines → KeepsItems same lines
@@ -40,3 +40,9 @@ returns-in-Ok c = λ line lines is kept.
     has_item c.in_ok-items.items c.push.new.self lines line c.in_ok-item.item
     (keeps_so c.args.items (Ok c.in_ok-items.items) lines c.in_ok-items.was kept)
     (given_so c.item_in.result _ c.in_ok-item.item c.in_ok-item.was (c.item_in.ensures line is)) c.in-Ok.ensures.items
+
+pub returns-in-Err : goal.returns-in-Err
+returns-in-Err c = λ line lines is kept.
+    no_room c.in_ok-items.items lines line c.in_ok-item.item
+    (keeps_so c.args.items (Ok c.in_ok-items.items) lines c.in_ok-items.was kept)
+    (given_so c.item_in.result _ c.in_ok-item.item c.in_ok-item.was (c.item_in.ensures line is))

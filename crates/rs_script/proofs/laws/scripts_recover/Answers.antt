@@ -1,7 +1,5 @@
-use Rattle.rs_script.proofs.Runs.{scripts_recover}
 use Rattle.rs_script.proofs.laws.scripts_recover.Goals as goal
 
 pub returns : goal.returns
-returns g c =
-    scripts_recover g.D.Disk.state c.held_sources_rest.ensures.idle c.runs_go_on.ensures.reading
-    c.runs_recover.ensures.recover c.runs_recover.ensures.idle c.runs_recover.ensures.command c.runs_recover.ensures.join
+returns g c = λ old new input outcomes commands gives.
+    c.runs_recover.ensures.recover old.source new.source commands (c.scripts_are_runs.ensures old new input outcomes commands gives)

@@ -21,7 +21,7 @@ pub returns-in-Refused-clause-answered : goal.returns-in-Refused-clause-answered
 returns-in-Refused-clause-answered g c = λ line is.
     let k : IsContent Refused line = rw c.in-Refused.is at is in
     no_room_for_line g.D.Disk.state (script_state c.args.source.now c.args.now.now) line _
-    k.0 c.write_refusal-in-Refused.ensures.written
+    k c.write_refusal-in-Refused.ensures.written
 
 pub returns-in-TooLong-clause-answered : goal.returns-in-TooLong-clause-answered
 returns-in-TooLong-clause-answered g c = λ line is.

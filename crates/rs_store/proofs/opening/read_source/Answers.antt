@@ -4,7 +4,9 @@ use Rattle.std.proofs.lemmas.Result.{err_from_is_err_and}
 use Rattle.rs_disk.specs.Medium.{Medium}
 use Rattle.rs_disk.proofs.Steps.{rest_on}
 use Rattle.rs_commit.specs.Slots.{Standing, current}
+use Rattle.rs_commit.specs.declared.root.Root.{Root}
 use Rattle.rs_image.specs.StateOfImage.{Tells}
+use Rattle.rs_image.specs.Loading.{IsDirectoryPlaced}
 use Rattle.rs_store.proofs.Opened.{small_tells_nothing, untold_stands_for_nothing, lists_not_opened, failed_behind}
 use Rattle.rs_store.proofs.opening.read_source.Goals as goal
 
@@ -25,6 +27,7 @@ returns-in_err-found-clause-refused g c =
     let root = c.in_ok-slots.root in
     let fault = c.in_err-found.field-0.0 in
     let seen : new.now.seen ≡ old.now.seen = ap (λ (m : Medium). m.seen) (c.load.ensures.reads.rests.now ∙ c.open_slots.ensures.rests.now) in
+    let size : new.size ≡ old.size = c.load.ensures.reads.rests.size ∙ c.open_slots.ensures.rests.size in
     let found : IsTrue new.honest → current old.now.seen ≡ Some slots = λ honest. c.in_ok-slots.ensures.found (c.load.ensures.reads.rests.lasts honest) in
     let given = err_from_is_err_and c.from_residual-in_err-found.result c.from_residual-in_err-found.ensures.1 in
     rw (given.1, given.2) (lists_not_opened old new fault
@@ -33,7 +36,13 @@ returns-in_err-found-clause-refused g c =
       λ s stands. untold_stands_for_nothing old.now.seen slots root (found honest) c.in_ok-slots.ensures.root
           (λ l s told. c.in_err-found.ensures.damaged (cc) honest l s (subst (λ (image : List ℕ). Tells root l image s) (sym seen) told)) s stands,
     ))
-    (λ is. failed_behind old mid new c.open_slots.ensures.rests.faults (c.in_err-found.ensures.device.failed (cc))))
+    (λ is. failed_behind old mid new c.open_slots.ensures.rests.faults (c.in_err-found.ensures.device.failed (cc)))
+    (λ is honest. record {
+      standing = slots;
+      slots = found honest;
+      directory = subst (λ (n : ℕ). IsDirectoryPlaced n slots.root) size
+          (subst (λ (r : Root). IsDirectoryPlaced new.size r) (sym c.in_ok-slots.ensures.root) (c.in_err-found.ensures.no_memory (cc)));
+    }))
 
 pub returns-clause-rests : goal.returns-clause-rests
 returns-clause-rests g c =

@@ -39,7 +39,7 @@ returns-clause-refused g c =
     let new = g.D.Disk.state c.read_source.new.disk in
     let sync : Runs old mid c.sync.result = runs_one old mid c.sync.result c.sync.ensures.counts in
     refused_before c.read_source.result old mid new
-    (not_opened_before old mid new (ap (λ (m : Medium). m.seen) c.in_ok-sync.ensures.settles.now) sync.faults) c.read_source.ensures.refused
+    (not_opened_before old mid new (ap (λ (m : Medium). m.seen) c.in_ok-sync.ensures.settles.now) sync.size sync.faults) c.read_source.ensures.refused
 
 pub returns-clause-writes_nothing : goal.returns-clause-writes_nothing
 returns-clause-writes_nothing g c =

@@ -30,9 +30,10 @@ returns-in-None-2-clause-fault g c =
     let tried = c.put_some.new.self in
     let nothing : Wrote contents c.loop-written.self tried [] = rw c.in-None.is at c.in_ok-count.ensures.ok in
     let rest = take (length bytes - written) (drop written bytes) in
-    let kept : Keeps (contents (watched tried)) (contents (watched c.count_failure.new.self)) = rw c.count_failure.ensures.inner (Keeps-refl _) in
-    failed_last contents c.args.self.now c.loop-written.self c.count_failure.new.self _ rest _ c.loop-written.invariant.wrote
-    (failed_last contents c.loop-written.self tried c.count_failure.new.self [] rest rest nothing (failed_at_once contents tried c.count_failure.new.self rest kept c.count_failure.ensures.failed) refl)
+    let after = c.count_failure-in-None-2.new.self in
+    let kept : Keeps (contents (watched tried)) (contents (watched after)) = rw c.count_failure-in-None-2.ensures.inner (Keeps-refl _) in
+    failed_last contents c.args.self.now c.loop-written.self after _ rest _ c.loop-written.invariant.wrote
+    (failed_last contents c.loop-written.self tried after [] rest rest nothing (failed_at_once contents tried after rest kept c.count_failure-in-None-2.ensures.failed) refl)
     (rest_of bytes written)
 
 pub loop-written-preserved-in-Some : goal.loop-written-preserved-in-Some
@@ -49,4 +50,5 @@ loop-written-preserved-in-Some g c =
       few = c.loop-written.invariant.few;
       wrote = (appends_then _ _ _ _ _ _ c.loop-written.invariant.wrote.0 took.0 (more_of bytes written count), took.1 ∙ c.loop-written.invariant.wrote.1);
       unflushed = c.in_ok-count.ensures.flushed ∙ c.loop-written.invariant.unflushed;
+      calls = grind (arith, c.loop-written.invariant.calls, c.in_ok-count.ensures.called);
     }

@@ -1,5 +1,5 @@
 use Rattle.std.proofs.Common.{◌≡◌, ◌+◌, ◌-◌, ◌≤◌, take, length, false}
-use Rattle.rs_io.specs.Watch.{is_flushed, Wrote}
+use Rattle.rs_io.specs.Watch.{calls, is_flushed, Wrote}
 use Rattle.rs_io.proofs.watch.Watched.put.Given as goal
 
 abbrev pub invariant-loop-written : goal.invariant-loop-written
@@ -9,6 +9,7 @@ invariant-loop-written g l =
       few : l.interruptions ≤ 100;
       wrote : Wrote g.W.Write.contents l.fn.self l.self (take l.written l.bytes);
       unflushed : is_flushed l.self ≡ false;
+      calls : calls l.fn.self ≤ calls l.self;
     }
 
 abbrev pub decreases-loop-written : goal.decreases-loop-written

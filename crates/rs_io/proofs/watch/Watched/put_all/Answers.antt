@@ -12,4 +12,4 @@ returns-in_err-put-clause-fault g c =
     let piece = get_or pieces i none in
     on_fault c.from_residual.result
     (failed_each g.W.Write.contents (λ p. p.now) pieces i piece c.args.self.now c.loop-piece.self c.put.new.self
-    c.loop-piece-test.true (get_or_default pieces i none piece c.loop-piece-test.true) c.loop-piece.invariant.0 c.in_err-put.ensures.fault)
+    c.loop-piece-test.true (get_or_default pieces i none piece c.loop-piece-test.true) c.loop-piece.invariant.wrote c.in_err-put.ensures.fault)

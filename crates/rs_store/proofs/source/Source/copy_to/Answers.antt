@@ -1,4 +1,4 @@
-use Rattle.std.proofs.Common.{inl, inr, ⊎_elim, refl, ◌∙◌, subst, Result}
+use Rattle.std.proofs.Common.{◌≡◌, inl, inr, ⊎_elim, refl, ◌∙◌, subst, Result}
 use Rattle.rs_image.specs.Rooted.{Rooted}
 use Rattle.rs_copy.specs.Copies.{Copies}
 use Rattle.rs_copy.specs.declared.copying.Copied.{Copied}
@@ -29,5 +29,8 @@ returns g c =
       | in-Err w ↦ rw (w.result-is, w.into.ensures)
           (refused_so device other o to g.met.D.Disk.holds c.if-self.false new only disk w.in-Err.fault
           (subst (λ (r : Result Copied copies.CopyFault). Copies (rooted_in device o) (device o.disk) (device new.disk) (other to) (other disk) r) w.in-Err.is here)
-          (λ early. c.copy_source.ensures.untouched (⊎_elim (λ small. inl (w.in-Err.is ∙ small)) (λ full. inr (w.in-Err.is ∙ full)) early)))
+          (λ early. c.copy_source.ensures.untouched (⊎_elim (λ small. inl (w.in-Err.is ∙ small)) (λ full. inr (w.in-Err.is ∙ full)) early))
+          (λ early.
+          let left : c.copy_source.new.from ≡ c.self.inside.disk = c.copy_source.ensures.unread (⊎_elim (λ small. inl (w.in-Err.is ∙ small)) (λ full. inr (w.in-Err.is ∙ full)) early) in
+          λ i. record { disk = left i; slots = c.self.inside.slots; contents = c.self.inside.contents; is_closed = c.self.inside.is_closed }))
     ])

@@ -1,0 +1,135 @@
+-- A source after two stops, on disks of three types.
+use Rattle.std.proofs.Common.{ℕ, List, [], ◌∷◌, ◌++◌, take, refl, Ok, Err}
+use Rattle.std.specs.Prelude.{IsTrue}
+use Rattle.rs_disk.specs.Medium.{DiskState}
+use Rattle.rs_image.specs.StateOfImage.{StandsFor}
+use Rattle.rs_model.specs.State.{Source, start_of}
+use Rattle.rs_model.specs.Step.{fold_of}
+use Rattle.rs_store.specs.declared.opening.OpenFault.TheVariants as openings
+use Rattle.rs_store.specs.Counted.{counted_commands}
+use Rattle.rs_store.specs.Laws.{RunsLeavePrefixes}
+use Rattle.rs_store.specs.Source.{Stored, Holds}
+use Rattle.rs_store.specs.declared.opening.OpenFault.{OpenFault}
+use Rattle.rs_recovery.specs.declared.surviving.Halt.{Halt}
+use Rattle.rs_recovery.specs.declared.surviving.Halt.TheVariants.{Opening}
+use Rattle.rs_recovery.specs.AnyDisk.{AreSound}
+use Rattle.rs_recovery.specs.AsSessions.{session_of}
+use Rattle.rs_recovery.specs.Sessions.{Session, AreSessions, AreStanding, commands_standing}
+use Rattle.rs_recovery.specs.Recovered.{IsExcuse, YieldsHeld, Headline}
+use Rattle.rs_recovery.specs.Surviving.{HasRun, IsLost}
+use Rattle.rs_recovery.specs.Reopened.{HasRunOn, TwoPrefixes, RanTwice, AreLeftBy, SurvivesTwice, IsOtherThanLeft, IsOtherThanLeftThen}
+use Rattle.rs_recovery.proofs.Below.{Commands, Acks}
+use Rattle.rs_recovery.proofs.OnAny.{holds_on, opened_on_the_same, runs_are_sessions}
+
+-- what is an excuse is no loss
+pub not_lost : (before after : DiskState) (fault : OpenFault) → IsExcuse before after fault → IsLost (Opening fault) → ⊥
+not_lost before after openings.NotASource excuse lost = absurd excuse
+not_lost before after openings.Damaged excuse lost = absurd excuse
+not_lost before after openings.Device excuse lost = absurd lost
+not_lost before after openings.NoMemory excuse lost = absurd lost
+
+module _ {A B C : Type 0} (one : A → DiskState) (two : B → DiskState) (three : C → DiskState) (sound_one : AreSound one) (sound_two : AreSound two)
+    {Gives : A → B → Type 0} (base : List ℕ) (limit moment : ℕ) (cs : Commands) (acks : Acks) (more : Commands) (answers : Acks) (left : B)
+    (ran : RanTwice one two Gives (start_of base limit moment) cs acks more answers left) (third : C) (m n : ℕ) (left_by : AreLeftBy one two three ran third m n) where
+  abbrev start : Source
+  start = start_of base limit moment
+
+  abbrev earlier : Session
+  earlier = session_of one sound_one ran.run.first cs acks ran.run.last m (two ran.second).now.seen
+
+  abbrev later : Session
+  later = session_of two sound_two ran.run_on.first more answers ran.run_on.last n (three third).now.seen
+
+  abbrev sessions : List Session
+  sessions = later ∷ earlier ∷ []
+
+  are_sessions : AreSessions start sessions
+  are_sessions = (
+    runs_are_sessions two sound_two ran.run_on.first ran.run_on.last more answers n (three third).now.seen ran.run_on.turn left_by.stop_then,
+    (opened_on_the_same two sound_two (two ran.second).now.seen ran.run_on.first).0 (ran.run_on.began left_by.honest),
+    (
+      runs_are_sessions one sound_one ran.run.first ran.run.last cs acks m (two ran.second).now.seen ran.run.turn left_by.stop,
+      holds_on one sound_one ran.run.first start ran.run.began,
+    ),
+  )
+
+  abbrev IsHeld : Stored C → Type 0
+  IsHeld source = (these : Commands) × TwoPrefixes cs acks more answers m n these × Holds three source (fold_of start these) × YieldsHeld (fold_of start these)
+
+  by_two : (source : Stored C) (standing : List ℕ) → AreStanding start sessions standing
+      → Holds three source (fold_of start (commands_standing sessions standing)) → YieldsHeld (fold_of start (commands_standing sessions standing)) → IsHeld source
+  by_two source [] stand holds yields = absurd stand
+  by_two source (k ∷ []) stand holds yields = absurd stand.3
+  by_two source (k ∷ j ∷ []) stand holds yields = (
+    take j (counted_commands cs acks) ++ take k (counted_commands more answers),
+    record {
+      j = j;
+      least = stand.3.0;
+      most = stand.3.1;
+      k = k;
+      least_then = stand.0;
+      most_then = stand.1;
+      are = refl;
+    },
+    holds,
+    yields,
+  )
+  by_two source (k ∷ j ∷ i ∷ standing) stand holds yields = absurd stand.3.3
+
+  pub survives_twice : (source : Stored C) → Headline three third (Ok source) → IsTrue (three source.disk).honest → IsHeld source
+  survives_twice source headline honest =
+      let is = headline base limit moment [] sessions are_sessions refl honest in
+      by_two source is.standing is.stand.holds is.state is.yields
+
+  -- and where no source was opened on the third disk, it was not told to hold none
+  pub none_lost : (back : C) (fault : OpenFault) → Headline three third (Err (back, fault)) → IsTrue (three back).honest → IsLost (Opening fault) → ⊥
+  none_lost back fault headline honest =
+      let is = headline base limit moment [] sessions are_sessions refl honest in
+      not_lost (three third) (three back) fault is.state
+
+module _ {A B : Type 0} (one : A → DiskState) (two : B → DiskState) {Gives : A → B → Type 0} (base : List ℕ) (limit moment : ℕ)
+    (cs : Commands) (acks : Acks) (left_first : A) (run : HasRun one (start_of base limit moment) cs acks left_first)
+    (second : B) (given : Gives left_first second) where
+  -- no source was opened on the second disk
+  pub second_lost : RunsLeavePrefixes one → (back : B) (halt : Halt)
+      → (IsTrue (two back).honest → (s : Source) → StandsFor (two second).now.seen s → ¬ IsLost halt) → IsLost halt → IsOtherThanLeft one two Gives (start_of base limit moment) cs
+  second_lost moments back halt found lost = record {
+    left = left_first;
+    acks = acks;
+    run = run;
+    second = second;
+    given = given;
+    back = back;
+    other = λ m stop honest.
+        let p = (moments (start_of base limit moment) run.first cs acks run.last run.began run.turn).each m (two second).now.seen stop.from stop.to stop.left in
+        found honest (fold_of (start_of base limit moment) (take p.j (counted_commands cs acks))) p.stands lost;
+  }
+
+  module _ {C : Type 0} (three : C → DiskState) (sound_one : AreSound one) (sound_two : AreSound two)
+      (more : Commands) (answers : Acks) (left : B) (run_on : HasRunOn two (two second).now.seen more answers left) (third : C) where
+    abbrev ran_twice : RanTwice one two Gives (start_of base limit moment) cs acks more answers left
+    ran_twice = record { left_first = left_first; run = run; second = second; given = given; run_on = run_on }
+
+    pub recovered_twice : {GivesThen : B → C → Type 0} → GivesThen left third → (source : Stored C) → Headline three third (Ok source) → SurvivesTwice one two three Gives GivesThen (start_of base limit moment) cs acks more answers source
+    recovered_twice given_then source headline = record {
+      left = left;
+      ran = ran_twice;
+      third = third;
+      given = given_then;
+      recovered = λ m n left_by.
+          survives_twice one two three sound_one sound_two base limit moment cs acks more answers left ran_twice third m n left_by source headline;
+    }
+
+    pub third_lost : {GivesThen : B → C → Type 0} → GivesThen left third → (back : C) (fault : OpenFault) → Headline three third (Err (back, fault)) → IsLost (Opening fault)
+        → IsOtherThanLeftThen one two three Gives GivesThen (start_of base limit moment) cs more
+    third_lost given_then back fault headline lost = record {
+      left = left;
+      acks = acks;
+      answers = answers;
+      ran = ran_twice;
+      third = third;
+      given = given_then;
+      back = back;
+      other = λ m n left_by honest.
+          none_lost one two three sound_one sound_two base limit moment cs acks more answers left ran_twice third m n left_by back fault headline honest lost;
+    }

@@ -1,0 +1,94 @@
+//! A source whose disk is opened anew after each stop, as one of another type.
+
+ghost use Rattle.std.specs.Prelude.{IfOk, IfErr, IsTrue, Some};
+ghost use Rattle.rs_image.specs.StateOfImage.{StandsFor};
+ghost use Rattle.rs_model.specs.State.{Source as State, start_of};
+ghost use Rattle.rs_recovery.specs.Surviving.{IsLost};
+ghost use Rattle.rs_recovery.specs.Reopened.{HasRunOn, SurvivesTwice, LosesNone};
+
+use crate::recover;
+use crate::surviving::{Halt, format_and_run};
+use rs_disk::Disk;
+use rs_model::Command;
+use rs_store::laws::runs_leave_prefixes;
+use rs_store::{Ack, Source};
+use rs_time::Moment;
+use std::alloc::Global;
+
+// Recovers the source on a disk and runs commands on it. It gives the answers, and the disk that the run left.
+fn recover_and_run<D: Disk + Drop>(
+    alloc: Global,
+    disk: D,
+    commands: &[(Command, Moment)],
+) -> Result<(Vec<Ack>, D), (D, Halt)>
+    ensures ran { IfOk result
+        (λ x. HasRunOn D.state (D.state disk).now.seen commands.now x.0.items x.1) }
+    ensures found { IfErr result (λ e. IsTrue (D.state e.0).honest
+        → (s : State) → StandsFor (D.state disk).now.seen s → ¬ IsLost e.1) }
+{
+    let mut source = match recover(alloc, disk) {
+        Ok(source) => source,
+        Err((disk, fault)) => return Err((disk, Halt::Opening(fault))),
+    };
+    match source.run(commands) {
+        Ok(acks) => Ok((acks, source.into_disk())),
+        Err(refusal) => Err((source.into_disk(), Halt::Running(refusal))),
+    }
+}
+
+/// Formats a disk and runs commands; recovers the source on the disk that `second` gives then, and
+/// runs more; and recovers it on the disk that `third` gives then. Each of the two is given the disk
+/// that the run before has left, so that a file can be let go before it is opened again.
+///
+/// It gives the answers of both runs, and the source that was recovered. The three disks may be of
+/// three types: where the bytes of each are an image that a stop of the run before may have left, what
+/// is recovered is what the clause `headline` of [`recover`] promises.
+///
+/// # Errors
+///
+/// Each step's own. No disk is told to hold no source, or a damaged one, that holds what the stop before has left.
+pub fn format_run_recover_twice<A, B, C, F, G>(
+    alloc: Global,
+    disk: A,
+    base: &[u8],
+    limit: u16,
+    now: Moment,
+    commands: &[(Command, Moment)],
+    second: F,
+    more: &[(Command, Moment)],
+    third: G,
+) -> Result<(Vec<Ack>, Vec<Ack>, Source<C>), Halt>
+where
+    A: Disk + Drop,
+    B: Disk + Drop,
+    C: Disk + Drop,
+    F: FnOnce(A) -> Option<B>,
+    G: FnOnce(B) -> Option<C>,
+    requires second { F.IsAlwaysCallable second }
+    requires third { G.IsAlwaysCallable third }
+    ensures survives { IfOk result (λ x. SurvivesTwice A.state B.state C.state
+        (λ left given. F.post second left (Some given))
+        (λ left given. G.post third left (Some given))
+        (start_of base.now limit now) commands.now x.0.items more.now x.1.items x.2) }
+    ensures found { IfErr result (LosesNone A.state B.state C.state
+        (λ left given. F.post second left (Some given))
+        (λ left given. G.post third left (Some given))
+        (start_of base.now limit now) commands.now more.now) }
+{
+    runs_leave_prefixes::<A>();
+    let (acks, left) = format_and_run(alloc, disk, base, limit, now, commands)?;
+    let Some(disk) = second(left) else {
+        return Err(Halt::Imaging);
+    };
+    let (answers, left) = match recover_and_run(alloc, disk, more) {
+        Ok(ran) => ran,
+        Err((_, halt)) => return Err(halt),
+    };
+    let Some(disk) = third(left) else {
+        return Err(Halt::Imaging);
+    };
+    match recover(alloc, disk) {
+        Ok(source) => Ok((acks, answers, source)),
+        Err((_, fault)) => Err(Halt::Opening(fault)),
+    }
+}

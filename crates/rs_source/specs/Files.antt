@@ -1,0 +1,39 @@
+-- Why there is no source on a file.
+use Rattle.std.specs.Prelude.{◌≡◌, ◌⊎◌, ◌≤◌, ℕ, List, Result, Ok, Err, MatchOption, IsTrue}
+use Rattle.rs_disk.specs.Medium.{DiskState}
+use Rattle.rs_record.specs.Base.{is_base}
+use Rattle.rs_directory.specs.Limit.{IsLimit}
+use Rattle.rs_file.specs.Replay.{opened}
+use Rattle.rs_store.specs.Opening.{IsNotOpened}
+use Rattle.rs_store.specs.Copied.{AnswersCopy}
+use Rattle.rs_store.specs.Source.{Stored}
+use Rattle.rs_store.specs.declared.opening.OpenFault.{OpenFault}
+use Rattle.rs_store.specs.declared.copying.CopyFault.{CopyFault}
+use Rattle.rs_source.specs.declared.file.NoSource.{NoSource}
+use Rattle.rs_source.specs.declared.program.ProgramError.{ProgramError}
+use Rattle.rs_source.specs.declared.program.ProgramError.TheVariants.{Exists, Device}
+use Rattle.rs_source.specs.Arguments.{error_of_opening, error_of_copy, Made}
+
+-- A source can be made so: the base and the limit are lawful, and the disk has room.
+pub record MayBegin (base : List ℕ) (limit size : ℕ) : Type 0 where
+  pub lawful : IsTrue (is_base base)
+  pub among : IsLimit limit
+  pub room : 8192 ≤ size
+
+-- No source was opened on a file that held these bytes first: it could not be opened as a disk; or it was, and the cause of the
+-- refusal is there.
+abbrev pub IsUnopened : {D : Type 0} → (D → DiskState) → List ℕ → NoSource D → Type 0
+IsUnopened device first lack =
+    MatchOption lack.disk (lack.error ≡ Device)
+    (λ disk. (fault : OpenFault) × (lack.error ≡ error_of_opening fault) × IsNotOpened (opened first (device disk).size) (device disk) fault)
+
+-- a new file could not be made as a disk: there is something of its name, or the system failed
+abbrev pub IsUnmade : {D : Type 0} → NoSource D → Type 0
+IsUnmade lack = MatchOption lack.disk ((lack.error ≡ Exists) ⊎ (lack.error ≡ Device)) (λ _. ¬ (lack.error ≡ Exists))
+
+-- No source was copied to a new file that held these bytes first: it could not be made as a disk; or it was, and the source answers so.
+abbrev pub IsUncopied : {D E : Type 0} → (D → DiskState) → (E → DiskState) → Stored D → Stored D → List ℕ → ℕ → NoSource E → Type 0
+IsUncopied {D} {E} device other old new first size lack =
+    MatchOption lack.disk (((lack.error ≡ Exists) ⊎ (lack.error ≡ Device)) × (new ≡ old))
+    (λ disk. (fault : CopyFault) × (to : E) × (lack.error ≡ error_of_copy fault) × (other to ≡ opened first size)
+    × AnswersCopy device other old new to (Err (disk, fault)))
