@@ -163,7 +163,7 @@ begun_counts {D} device m old (c ∷ cs) [] new turn = absurd turn
 
 module _ {D : Type 0} (device : D → DiskState) (sound : (disk : D) → IsMedium (device disk).size (device disk).now) (below : Below device) where
   -- a command that was answered Device is one that the model accepts
-  not_refused : (old new : Stored D) (s : Source) (command : Command) (now : ℕ) → Holds device old s → Answers device old new command now (Err Device) → refusal_of s command now ≡ None
+  pub not_refused : (old new : Stored D) (s : Source) (command : Command) (now : ℕ) → Holds device old s → Answers device old new command now (Err Device) → refusal_of s command now ≡ None
   not_refused old new s command now holds answers =
       let same : state_of device old ≡ s = (holds.told (device old.disk).now.seen (sound old.disk).image).state in
       let none : decided old (state_of device old) command now ≡ None = (answers.refused Device refl).0 in

@@ -4,6 +4,9 @@ pub mod TurnsJoined
 pub mod Counts
 pub mod Sessions
 pub mod OnAny
+pub mod DiskSessions
+pub mod Made
+pub mod Seen
 pub mod Acknowledged
 pub mod Prefixes
 pub mod Reopened

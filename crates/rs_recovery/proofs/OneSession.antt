@@ -14,7 +14,7 @@ use Rattle.rs_store.specs.Runs.{InTurn}
 use Rattle.rs_recovery.specs.AnyDisk.{state_of_any}
 use Rattle.rs_recovery.specs.AsSessions.{session_of}
 use Rattle.rs_recovery.specs.Sessions.{Session, IsStoppedSession, AreStanding, commands_standing}
-use Rattle.rs_recovery.specs.Recovered.{YieldsHeld, Headline}
+use Rattle.rs_recovery.specs.Recovered.{YieldsHeld, GivesBackSessions}
 use Rattle.rs_recovery.specs.Surviving.{Survives, IsLost}
 use Rattle.rs_store.specs.Laws.{CallsRise}
 use Rattle.rs_recovery.proofs.Below.{Commands, Acks}
@@ -55,11 +55,11 @@ module _ (rise : CallsRise memory_state) (base : List ℕ) (limit moment : ℕ) 
   by_one left is_left choice chosen source (j ∷ k ∷ standing) hold state yields = absurd hold.3
 
   pub survives : (left : MemoryDisk) → last.disk ≡ left → (choice : List ℕ) → image ≡ image_of choice (memory_state left).now → (source : Stored MemoryDisk)
-      → Headline memory_state disk (Ok source) → Survives (start_of base limit moment) cs acks left choice source
+      → GivesBackSessions memory_state disk (Ok source) → Survives (start_of base limit moment) cs acks left choice source
   survives left is_left choice chosen source headline =
       let is = headline base limit moment [] (session ∷ []) (stopped, began) (ap (λ (m : Medium). m.seen) bytes) refl in
       by_one left is_left choice chosen source is.standing is.stand.holds is.state is.yields
 
-  pub is_found : (back : MemoryDisk) (fault : OpenFault) → Headline memory_state disk (Err (back, fault)) → IsLost (Opening fault) → ⊥
+  pub is_found : (back : MemoryDisk) (fault : OpenFault) → GivesBackSessions memory_state disk (Err (back, fault)) → IsLost (Opening fault) → ⊥
   is_found back fault headline =
       not_lost (memory_state disk) (memory_state back) fault (headline base limit moment [] (session ∷ []) (stopped, began) (ap (λ (m : Medium). m.seen) bytes) refl).state

@@ -15,7 +15,7 @@ use Rattle.rs_recovery.specs.declared.surviving.Halt.TheVariants.{Opening}
 use Rattle.rs_recovery.specs.AnyDisk.{AreSound}
 use Rattle.rs_recovery.specs.AsSessions.{session_of}
 use Rattle.rs_recovery.specs.Sessions.{Session, AreSessions, AreStanding, commands_standing}
-use Rattle.rs_recovery.specs.Recovered.{IsExcuse, YieldsHeld, Headline}
+use Rattle.rs_recovery.specs.Recovered.{IsExcuse, YieldsHeld, GivesBackSessions}
 use Rattle.rs_recovery.specs.Surviving.{HasRun, IsLost}
 use Rattle.rs_recovery.specs.Reopened.{HasRunOn, TwoPrefixes, RanTwice, AreLeftBy, SurvivesTwice, IsOtherThanLeft, IsOtherThanLeftThen}
 use Rattle.rs_recovery.proofs.Below.{Commands, Acks}
@@ -76,13 +76,13 @@ module _ {A B C : Type 0} (one : A → DiskState) (two : B → DiskState) (three
   )
   by_two source (k ∷ j ∷ i ∷ standing) stand holds yields = absurd stand.3.3
 
-  pub survives_twice : (source : Stored C) → Headline three third (Ok source) → IsTrue (three source.disk).honest → IsHeld source
+  pub survives_twice : (source : Stored C) → GivesBackSessions three third (Ok source) → IsTrue (three source.disk).honest → IsHeld source
   survives_twice source headline honest =
       let is = headline base limit moment [] sessions are_sessions refl honest in
       by_two source is.standing is.stand.holds is.state is.yields
 
   -- and where no source was opened on the third disk, it was not told to hold none
-  pub none_lost : (back : C) (fault : OpenFault) → Headline three third (Err (back, fault)) → IsTrue (three back).honest → IsLost (Opening fault) → ⊥
+  pub none_lost : (back : C) (fault : OpenFault) → GivesBackSessions three third (Err (back, fault)) → IsTrue (three back).honest → IsLost (Opening fault) → ⊥
   none_lost back fault headline honest =
       let is = headline base limit moment [] sessions are_sessions refl honest in
       not_lost (three third) (three back) fault is.state
@@ -110,7 +110,7 @@ module _ {A B : Type 0} (one : A → DiskState) (two : B → DiskState) {Gives :
     abbrev ran_twice : RanTwice one two Gives (start_of base limit moment) cs acks more answers left
     ran_twice = record { left_first = left_first; run = run; second = second; given = given; run_on = run_on }
 
-    pub recovered_twice : {GivesThen : B → C → Type 0} → GivesThen left third → (source : Stored C) → Headline three third (Ok source) → SurvivesTwice one two three Gives GivesThen (start_of base limit moment) cs acks more answers source
+    pub recovered_twice : {GivesThen : B → C → Type 0} → GivesThen left third → (source : Stored C) → GivesBackSessions three third (Ok source) → SurvivesTwice one two three Gives GivesThen (start_of base limit moment) cs acks more answers source
     recovered_twice given_then source headline = record {
       left = left;
       ran = ran_twice;
@@ -120,7 +120,7 @@ module _ {A B : Type 0} (one : A → DiskState) (two : B → DiskState) {Gives :
           survives_twice one two three sound_one sound_two base limit moment cs acks more answers left ran_twice third m n left_by source headline;
     }
 
-    pub third_lost : {GivesThen : B → C → Type 0} → GivesThen left third → (back : C) (fault : OpenFault) → Headline three third (Err (back, fault)) → IsLost (Opening fault)
+    pub third_lost : {GivesThen : B → C → Type 0} → GivesThen left third → (back : C) (fault : OpenFault) → GivesBackSessions three third (Err (back, fault)) → IsLost (Opening fault)
         → IsOtherThanLeftThen one two three Gives GivesThen (start_of base limit moment) cs more
     third_lost given_then back fault headline lost = record {
       left = left;

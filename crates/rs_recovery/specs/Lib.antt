@@ -5,6 +5,8 @@ pub mod Prefixes
 pub mod Sessions
 pub mod AsSessions
 pub mod Served
+pub mod DiskSessions
+pub mod Seen
 pub mod Recovered
 pub mod Surviving
 pub mod Reopened

@@ -17,6 +17,7 @@ ghost use Rattle.rs_recovery.specs.Prefixes.{RunsRecover, IdleIsRun, CommandIsRu
 ghost use Rattle.rs_recovery.specs.Sessions.{OneStanding, OpeningsStopToo, CopiesBeginSessions};
 ghost use Rattle.rs_recovery.specs.AsSessions.{HoldsTheSame, OpenedOnTheSame, AnswersTheSame, RunsAreSessions, AskedAreSessions};
 ghost use Rattle.rs_recovery.specs.Served.{SessionsStand};
+ghost use Rattle.rs_recovery.specs.Seen.{RunsAreSeen, CountedAreMade, SessionsAreSeen, FoldsAreMade};
 ghost use Rattle.rs_recovery.specs.Recovered.{YieldsHeld};
 ghost use Rattle.rs_recovery.specs.Documents.{DocumentsAreOfTheState};
 
@@ -66,7 +67,7 @@ fn laws_below<D: Disk>()
 }
 
 // The same of sources on any disk.
-fn laws_of_any()
+pub(crate) fn laws_of_any()
     ensures { Below state_of_any }
 {
     stands_once();
@@ -82,6 +83,18 @@ pub fn runs_are_sessions<D: Disk>()
     ensures runs { RunsAreSessions D.state }
     ensures asked { AskedAreSessions D.state }
 {}
+
+/// What the disks saw of sessions: the commands were answered so, the model accepts each that counts, and what commands make of a
+/// state the accepted ones of them make.
+pub fn sessions_are_seen<D: Disk>()
+    ensures runs { RunsAreSeen D.state }
+    ensures counted { CountedAreMade D.state }
+    ensures sessions { SessionsAreSeen }
+    ensures folds { FoldsAreMade }
+{
+    laws_below::<D>();
+    laws_of_any();
+}
 
 /// Whatever the stops, commands of each session stand, and those behind a source that could be asked
 /// are the first of those behind every later one. The sessions may be on disks of several types.

@@ -1,17 +1,17 @@
 //! What is recovered after a stop.
 
-ghost use Rattle.std.specs.Prelude.{◌≡◌, ℕ, List, IfOk, IfErr, IsErrAnd, IsTrue};
+ghost use Rattle.std.specs.Prelude.{◌≡◌, ◌+◌, ◌<◌, ℕ, List, IfOk, IfErr, IsErrAnd, IsTrue};
 ghost use Rattle.rs_disk.specs.Leaves.{WritesNothing, TellsFaults};
 ghost use Rattle.rs_model.specs.State.{Source as State};
 ghost use Rattle.rs_model.specs.declared.command.Command.{Command};
 ghost use Rattle.rs_image.specs.StateOfImage.{StandsFor};
-ghost use Rattle.rs_store.specs.Opening.{disk_of, IsOpened, IsNotOpened};
+ghost use Rattle.rs_store.specs.Opening.{disk_of, IsOpened, IsNotOpened, ArePagesPlaced};
 ghost use Rattle.rs_store.specs.declared.running.Ack.{Ack};
 ghost use Rattle.rs_store.specs.Runs.{StandsForPrefix};
 ghost use Rattle.rs_recovery.specs.Sessions.{IsOpenedOn};
-ghost use Rattle.rs_recovery.specs.Recovered.{HandsBack, HandsBackPrefix, Headline};
+ghost use Rattle.rs_recovery.specs.Recovered.{HandsBack, HandsBackPrefix, GivesBackSessions, Headline};
 
-use crate::laws::sessions_stand;
+use crate::laws::{laws_of_any, sessions_stand};
 use rs_disk::Disk;
 use rs_image::laws::stands_once;
 use rs_model::{fold_is_regular, start_is_regular};
@@ -25,7 +25,8 @@ use std::alloc::Global;
 /// the latest Resource List, followed by the changes recorded after its at-moment in their order, yields exactly the resources
 /// held, with their lengths, hashes and types.*
 ///
-/// The clause `headline` says it. Its premises: the source was formatted with the answer Ok, or is a copy of one that was, by
+/// The clause `headline` says it of what the disks saw of the sessions, and `sessions` of sessions whose sources may be asked
+/// meanwhile. The premises: the source was formatted with the answer Ok, or is a copy of one that was, by
 /// [`Source::copy_to`] with that answer; the disk follows the model of rs_disk, and nobody else writes it; the moments are
 /// those that were handed in; and a read gives now what the last stop left. That the source is recovered and not refused has
 /// two more, that no growth of memory is refused and that the device does not fail.
@@ -48,16 +49,21 @@ pub fn recover<D: Disk>(alloc: Global, disk: D) -> Result<Source<D>, (D, OpenFau
         → StandsForPrefix s commands acks m (D.state disk).now.seen
         → HandsBackPrefix D.state disk result s commands acks m }
     ensures headline { Headline D.state disk result }
+    ensures sessions { GivesBackSessions D.state disk result }
 
     // Why no source was opened, and what the answer tells of the device, whatever the disk held.
     ensures refused { IfErr result (λ e. IsNotOpened (D.state disk) (D.state e.0) e.1) }
     ensures told { TellsFaults (IsErrAnd result (λ e. e.1 ≡ OpenFault.Device))
         (D.state disk) (D.state (disk_of result)) }
+    ensures no_memory_behind { IfErr result (λ e. e.1 ≡ OpenFault.NoMemory
+        → IsTrue (D.state e.0).honest → (D.state disk).calls + 3 < (D.state e.0).calls
+        → ArePagesPlaced (D.state disk).size (D.state disk).now.seen) }
 
     // What a read gives is as it was; a stop within it leaves an image of its entry; and a device that has followed the model
     // then had followed it before.
     ensures writes_nothing { WritesNothing (D.state disk) (D.state (disk_of result)) }
 {
+    laws_of_any();
     sessions_stand();
     start_is_regular();
     fold_is_regular();

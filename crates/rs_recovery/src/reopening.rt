@@ -42,7 +42,7 @@ fn recover_and_run<D: Disk + Drop>(
 ///
 /// It gives the answers of both runs, and the source that was recovered. The three disks may be of
 /// three types: where the bytes of each are an image that a stop of the run before may have left, what
-/// is recovered is what the clause `headline` of [`recover`] promises.
+/// is recovered is what the clause `sessions` of [`recover`] promises.
 ///
 /// # Errors
 ///

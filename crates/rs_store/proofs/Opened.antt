@@ -1,9 +1,11 @@
 -- What an opening finds: where no state is stood for, and when a source holds what its lists tell.
-use Rattle.std.proofs.Common.{◌≡◌, inl, inr, ◌≤◌, ◌<◌, ℕ, false, List, ◌∷◌, Some, IsTrue, length, sym, ◌∙◌, ap, subst, refl, arith}
-use Rattle.std.specs.Prelude.{IsSome}
+use Rattle.std.proofs.Common.{◌≡◌, inl, inr, ◌+◌, ◌≤◌, ◌<◌, ◌^◌, ℕ, false, List, ◌∷◌, Some, Result, Err, IsTrue, length, sym, ◌∙◌, ap, subst, refl, arith}
+use Rattle.std.specs.Prelude.{IsSome, IsErrOf}
+use Rattle.std.proofs.lemmas.Bool.{cases_lt}
 use Rattle.std.proofs.lemmas.List.{length-append, length-take}
 use Rattle.rs_extent.specs.declared.Extent.{Extent}
 use Rattle.rs_disk.specs.Medium.{Medium, DiskState, IsImage, resting}
+use Rattle.rs_disk.specs.Calls.{CountsCall}
 use Rattle.rs_disk.specs.Leaves.{HasFailed}
 use Rattle.rs_disk.proofs.Images.{resting_image}
 use Rattle.rs_body.specs.Blocks.{part, IsSized}
@@ -113,3 +115,16 @@ not_opened_before old mid new same size le NoMemory refused = λ honest.
       slots = sym (ap current same) ∙ may.slots;
       directory = subst (λ (n : ℕ). IsDirectoryPlaced n may.standing.root) size may.directory;
     }
+
+-- what read the slots and the directory was four calls at least
+pub one_call_more : {T E : Type 0} (old mid : DiskState) (result : Result T E) → CountsCall old mid result → mid.calls ≤ old.calls + 1
+one_call_more old mid result counts = elim (cases_lt (old.calls + 1) (2 ^ 64)) [
+  | inl lt ↦ omega (arith, counts.calls lt)
+  | inr most ↦ let same : mid.calls ≡ old.calls = ap (λ (d : DiskState). d.calls) (counts.spent most).0 in omega (arith, same)
+]
+
+-- a refusal of memory is one of the lists'
+pub no_memory_of_lists : {T : Type 0} (fault : LoadFault) (P : Type 0) → (fault ≡ lists.NoMemory → P) → IsErrOf {T = T} (Err (of_lists fault)) NoMemory → P
+no_memory_of_lists lists.Damaged P from is = absurd cc
+no_memory_of_lists lists.Device P from is = absurd cc
+no_memory_of_lists lists.NoMemory P from is = from refl

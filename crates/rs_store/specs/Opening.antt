@@ -12,7 +12,7 @@ use Rattle.rs_store.specs.declared.opening.OpenFault.{OpenFault}
 use Rattle.rs_store.specs.declared.opening.OpenFault.TheVariants.{NotASource, Damaged, Device, NoMemory}
 use Rattle.rs_image.specs.declared.contents.Contents.{Contents}
 use Rattle.rs_image.specs.StateOfImage.{StandsFor, Tells, state_in}
-use Rattle.rs_image.specs.Loading.{IsDirectoryPlaced}
+use Rattle.rs_image.specs.Loading.{IsDirectoryPlaced, NamesPlaced}
 use Rattle.rs_model.specs.State.{Source}
 use Rattle.rs_store.specs.Source.{Stored, Holds, state_of}
 
@@ -53,6 +53,13 @@ pub record MayAskForMemory (size : ℕ) (seen : List ℕ) : Type 0 where
   pub standing : Standing
   pub slots : current seen ≡ Some standing
   pub directory : IsDirectoryPlaced size standing.root
+
+-- Each page that an opening of a disk of this many bytes reads is placed: the slots tell a root, and the directory of that names no
+-- page that is not.
+pub record ArePagesPlaced (size : ℕ) (seen : List ℕ) : Type 0 where
+  pub standing : Standing
+  pub slots : current seen ≡ Some standing
+  pub pages : NamesPlaced size standing.root seen
 
 -- Why no source was opened; what the disk held is said of a device that has followed the model: its slots tell no root; they
 -- tell one, and the disk stands for no state; the device failed; or memory was refused, which is asked for only where the places

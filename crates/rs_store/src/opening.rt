@@ -1,11 +1,11 @@
 //! How a source is opened.
 
-ghost use Rattle.std.specs.Prelude.{◌≡◌, IfOk, IfErr, OnOk, IsErrOf, IsErrAnd, IsTrue};
+ghost use Rattle.std.specs.Prelude.{◌≡◌, ◌+◌, ◌<◌, IfOk, IfErr, OnOk, IsErrOf, IsErrAnd, IsTrue};
 ghost use Rattle.rs_disk.specs.Medium.{resting};
 ghost use Rattle.rs_disk.specs.Leaves.{Rests, WritesNothing, TellsFaults};
 ghost use Rattle.rs_commit.specs.Commit.{AreSettled};
 ghost use Rattle.rs_image.specs.Rooted.{rooted, MemoryIsSound};
-ghost use Rattle.rs_store.specs.Opening.{disk_of, IsFound, IsOpened, IsNotOpened};
+ghost use Rattle.rs_store.specs.Opening.{disk_of, IsFound, IsOpened, IsNotOpened, ArePagesPlaced};
 
 use crate::Source;
 use rs_catalogue::LoadFault;
@@ -92,7 +92,9 @@ impl<D: Disk> Source<D> {
     /// - [`OpenFault::Damaged`] where the root tells no state: a rule of the format is broken.
     /// - [`OpenFault::Device`] where a device call failed; no other answer comes where one did.
     /// - [`OpenFault::NoMemory`] where a growth of memory was refused. None is asked for before the
-    ///   root's directory was found to lie behind the slots, in exactly the blocks of its length.
+    ///   root's directory was found to lie behind the slots, in exactly the blocks of its length. Once
+    ///   the directory is read, with the fourth call, none is asked for unless each page that it names
+    ///   lies so.
     ///
     /// One of the first two comes only where the device and the memory allowed to find out.
     pub fn open(alloc: Global, disk: D) -> Result<Source<D>, (D, OpenFault)>
@@ -100,6 +102,9 @@ impl<D: Disk> Source<D> {
         ensures refused { IfErr result (λ e. IsNotOpened (D.state disk) (D.state e.0) e.1) }
         ensures told { TellsFaults (IsErrAnd result (λ e. e.1 ≡ OpenFault.Device))
             (D.state disk) (D.state (disk_of result)) }
+        ensures no_memory_behind { IfErr result (λ e. e.1 ≡ OpenFault.NoMemory
+            → IsTrue (D.state e.0).honest → (D.state disk).calls + 3 < (D.state e.0).calls
+            → ArePagesPlaced (D.state disk).size (D.state disk).now.seen) }
 
         // Whatever it answers, a crash within it leaves an image of its entry, and a read gives what
         // it gave.
@@ -130,6 +135,9 @@ fn recover<D: Disk>(alloc: Global, disk: &mut D) -> Result<(Slots, Loaded), Open
     ensures refused { IfErr result (IsNotOpened (D.state disk.old) (D.state disk.new)) }
     ensures told { TellsFaults (IsErrOf result OpenFault.Device)
         (D.state disk.old) (D.state disk.new) }
+    ensures no_memory_behind { IsErrOf result OpenFault.NoMemory → IsTrue (D.state disk.new).honest
+        → (D.state disk.old).calls + 3 < (D.state disk.new).calls
+        → ArePagesPlaced (D.state disk.old).size (D.state disk.old).now.seen }
     ensures writes_nothing { WritesNothing (D.state disk.old) (D.state disk.new) }
 {
     disk.sync()?;
@@ -146,6 +154,9 @@ fn read_source<D: Disk>(alloc: Global, disk: &mut D) -> Result<(Slots, Loaded), 
     ensures refused { IfErr result (IsNotOpened (D.state disk.old) (D.state disk.new)) }
     ensures told { TellsFaults (IsErrOf result OpenFault.Device)
         (D.state disk.old) (D.state disk.new) }
+    ensures no_memory_behind { IsErrOf result OpenFault.NoMemory → IsTrue (D.state disk.new).honest
+        → (D.state disk.old).calls + 2 < (D.state disk.new).calls
+        → ArePagesPlaced (D.state disk.old).size (D.state disk.old).now.seen }
     ensures rests { Rests (D.state disk.old) (D.state disk.new) }
 {
     let (slots, root) = open_slots(disk)?;

@@ -6,8 +6,8 @@ use Rattle.rs_disk.proofs.Steps.{rest_on}
 use Rattle.rs_commit.specs.Slots.{Standing, current}
 use Rattle.rs_commit.specs.declared.root.Root.{Root}
 use Rattle.rs_image.specs.StateOfImage.{Tells}
-use Rattle.rs_image.specs.Loading.{IsDirectoryPlaced}
-use Rattle.rs_store.proofs.Opened.{small_tells_nothing, untold_stands_for_nothing, lists_not_opened, failed_behind}
+use Rattle.rs_image.specs.Loading.{IsDirectoryPlaced, NamesPlaced}
+use Rattle.rs_store.proofs.Opened.{small_tells_nothing, untold_stands_for_nothing, lists_not_opened, failed_behind, no_memory_of_lists}
 use Rattle.rs_store.proofs.opening.read_source.Goals as goal
 
 pub returns-then-size-lt-SLOTS_SIZE-clause-refused : goal.returns-then-size-lt-SLOTS_SIZE-clause-refused
@@ -47,3 +47,20 @@ returns-in_err-found-clause-refused g c =
 pub returns-clause-rests : goal.returns-clause-rests
 returns-clause-rests g c =
     rest_on (g.D.Disk.state c.args.disk.now) (g.D.Disk.state c.open_slots.new.disk) (g.D.Disk.state c.load.new.disk) c.open_slots.ensures.rests c.load.ensures.reads.rests
+
+pub returns-in_err-found-clause-no_memory_behind : goal.returns-in_err-found-clause-no_memory_behind
+returns-in_err-found-clause-no_memory_behind g c =
+    let old = g.D.Disk.state c.args.disk.now in
+    let new = g.D.Disk.state c.load.new.disk in
+    let slots = c.in_ok-slots.slots in
+    let seen : new.now.seen ≡ old.now.seen = ap (λ (m : Medium). m.seen) (c.load.ensures.reads.rests.now ∙ c.open_slots.ensures.rests.now) in
+    let size : new.size ≡ old.size = c.load.ensures.reads.rests.size ∙ c.open_slots.ensures.rests.size in
+    let given = err_from_is_err_and c.from_residual-in_err-found.result c.from_residual-in_err-found.ensures.1 in
+    rw (given.1, given.2) (no_memory_of_lists c.in_err-found.field-0.0 _ (λ is honest more. record {
+      standing = slots;
+      slots = c.in_ok-slots.ensures.found (c.load.ensures.reads.rests.lasts honest);
+      pages = subst (λ (n : ℕ). NamesPlaced n slots.root old.now.seen) size
+          (subst (λ (image : List ℕ). NamesPlaced new.size slots.root image) seen
+          (subst (λ (r : Root). NamesPlaced new.size r new.now.seen) (sym c.in_ok-slots.ensures.root)
+          (c.in_err-found.ensures.no_memory_behind (cc) honest (omega (arith, more, c.open_slots.ensures.calls)))));
+    }))
