@@ -7,7 +7,8 @@ refused
   - before the script begins, the program writes nothing and ends with `rs_source: NoMemory` and status 1, or with
     `rs_source: Device` where it was the disk's note of a write;
   - within a line, exactly that line is answered `refused NoMemory`, and all other lines as if the script were without
-    it: so nothing was changed, and later lines work;
+    it: so nothing was changed, and later lines work; a line of at most 8 bytes that is no item and asks the source for
+    nothing that takes memory is never refused so;
   - for the disk's note of a write, that line is answered `refused Device`, all lines before it as ever, and each later
     line that asks the source `refused Closed`;
   - within a request, its response is 503 NoMemory, or none where there is no memory to begin; the next request finds
@@ -42,6 +43,8 @@ FAILED = b"refused Device\n"
 CLOSED = b"refused Closed\n"
 # What lines are answered for which the source is not asked.
 UNASKED = {b"ok\n"} | {b"refused " + name + b"\n" for name in [b"BadLine", b"BadMoment", b"BadName", b"BadHex", b"BadType", b"LongLine"]}
+# A line is kept in memory from so many bytes on, and so are the parts of an item. These lines ask the source for memory.
+KEPT, ITEMS, ASKING = 9, (b"put ", b"delete "), (b"publish", b"verify")
 SHIM = r"""
 #include <stddef.h>
 #include <stdlib.h>
@@ -78,6 +81,7 @@ put x// 00 a/b
 put e 6 a/b
 put e 66 a
 at 0000000000000016
+at 12345
 no such line at all
 
 put f/g 00112233445566778899aabbccddeeff application/octet-stream
@@ -132,6 +136,11 @@ def answers(output):
     return found
 
 
+def takes_room(line):
+    """Whether a line takes memory by itself, whatever it asks for."""
+    return len(line) >= KEPT or line.startswith(ITEMS)
+
+
 def wrong(lines, result):
     """What is wrong with a run, or nothing."""
     status, output, error = result
@@ -152,6 +161,8 @@ def wrong(lines, result):
     if not refused:
         return given != usual(lines) and "other answers, and none refused"
     place = refused[0]
+    if not takes_room(lines[place]) and lines[place] not in ASKING:
+        return f"line {place} is refused, which takes no memory"
     without = usual(lines[:place] + lines[place + 1:])
     return without != given[:place] + given[place + 1:] and f"other answers around line {place}"
 
@@ -167,6 +178,7 @@ def passing():
         "two lines are refused": [*right[:place], REFUSED, REFUSED, *right[place + 1:]],
         "a failed line closes nothing": [*whole[:place], FAILED, *whole[place + 1:]],
         "an answer is left out": whole[:-1],
+        "a line is refused that takes no memory": [*whole[:-1], REFUSED],
     }
     found = [name for name, it in made.items() if not wrong(LINES, (0, b"".join(it), b""))]
     is_right = not wrong(LINES, (0, b"".join([*right[:place], REFUSED, *right[place:]]), b""))
