@@ -7,15 +7,16 @@ refused
   - before the script begins, the program writes nothing and ends with `rs_source: NoMemory` and status 1, or with
     `rs_source: Device` where it was the disk's note of a write;
   - within a line, exactly that line is answered `refused NoMemory`, and all other lines as if the script were without
-    it: so nothing was changed, and later lines work; a line of at most 8 bytes that is no item and asks the source for
-    nothing that takes memory is never refused so;
+    it: so nothing was changed, and later lines work; a group is one line here. A line of at most 8 bytes that is no item
+    is never refused so, unless it asks the source for what takes memory; nor is a group whose first line is such a one;
   - for the disk's note of a write, that line is answered `refused Device`, all lines before it as ever, and each later
     line that asks the source `refused Closed`;
   - within a request, its response is 503 NoMemory, or none where there is no memory to begin; the next request finds
     nothing changed, and the same request is then answered as ever.
 What is answered else is a plain reading of docs/SCRIPT.md and docs/HTTP.md (line_judge.py, request_judge.py). A long
-script has every line and every document, bodies that grow, and bad lines; it is given at once, and in pieces of 7 bytes
-and of one byte. The worked rows of scripts and of requests whose ends check_ends.py makes fail are given at once.
+script has every line and every document, bodies that grow, and bad lines, and a short one has groups; both are given at
+once, and in pieces of 7 bytes and of one byte. The worked rows of scripts and of requests whose ends check_ends.py makes
+fail are given at once.
 
 usage: check_memory.py [PROGRAM]     the built program, where none is given
 Exit status 1 where anything differs.
@@ -94,6 +95,18 @@ show /resourcelist.xml
 show /resource/f/g
 verify
 status""".encode().split(b"\n")
+GROUPS = [
+    b"at 951782400000",
+    b"group 2\nput a 616263 text/plain\nput b - a/b",
+    b"group 1\nstatus",
+    b"group 2\nbad\ndelete a",
+    b"group 2\ndelete a\nbad",
+    b"group 3\nput b 62 a/b\ndelete a\nput b 6262 a/b",
+    b"group 2\nput c 63 a/b\ndelete zz",
+    b"show /resource/b",
+    b"verify",
+    b"status",
+]
 
 
 def feed(pipe, data, piece):
@@ -121,7 +134,7 @@ def run(program, lines, piece, shim, refused_at):
 def usual(lines):
     """The answer to each line where no growth is refused."""
     judge = line_judge.Judge(Source(crash_model.State(BASE, LIMIT), SIZE))
-    return [judge.answer(it) for it in lines]
+    return [b"".join(judge.answer(it) for it in line.split(b"\n")) for line in lines]
 
 
 def answers(output):
@@ -137,8 +150,9 @@ def answers(output):
 
 
 def takes_room(line):
-    """Whether a line takes memory by itself, whatever it asks for."""
-    return len(line) >= KEPT or line.startswith(ITEMS)
+    """Whether a line takes memory by itself, whatever it asks for; a group does where its first line does."""
+    first = line.split(b"\n")[:2][-1]
+    return len(first) >= KEPT or first.startswith(ITEMS)
 
 
 def wrong(lines, result):
@@ -256,7 +270,8 @@ def main():
     program = os.path.abspath(sys.argv[1] if len(sys.argv) > 1 else PROGRAM)
     with tempfile.TemporaryDirectory() as room:
         shim = interposed(room, "refusing", SHIM)
-        faults = sum(refuse_in_script(program, shim, "each line", LINES, piece) for piece in (0, 7, 1))
+        scripts = [("each line", LINES), ("groups", GROUPS)]
+        faults = sum(refuse_in_script(program, shim, *script, piece) for script in scripts for piece in (0, 7, 1))
         for name in ROWS_OF_SCRIPTS:
             faults += refuse_in_script(program, shim, name, Script(name).lines, 0)
         faults += refuse_in_requests(program, room)
