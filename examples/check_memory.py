@@ -12,7 +12,8 @@ refused
   - for the disk's note of a write, that line is answered `refused Device`, all lines before it as ever, and each later
     line that asks the source `refused Closed`;
   - within a request, its response is 503 NoMemory, or none where there is no memory to begin; the next request finds
-    nothing changed, and the same request is then answered as ever.
+    nothing changed, and the same request is then answered as ever. One whose head is refused is never answered 503, nor is
+    one of a document.
 What is answered else is a plain reading of docs/SCRIPT.md and docs/HTTP.md (line_judge.py, request_judge.py). A long
 script has every line and every document, bodies that grow, and bad lines, and a short one has groups; both are given at
 once, and in pieces of 7 bytes and of one byte. The worked rows of scripts and of requests whose ends check_ends.py makes
@@ -34,7 +35,7 @@ import line_judge
 from check_rows import CLOCK, MEMORY, PROGRAM, interposed
 from ends_of_requests import LOOK, Model, exchanges, told
 from ends_of_scripts import ROWS_OF_SCRIPTS, Script
-from front_model import Source
+from front_model import Source, is_document
 from request_judge import CONTINUE, date_of, response
 from served_source import exchanged
 
@@ -46,6 +47,8 @@ CLOSED = b"refused Closed\n"
 UNASKED = {b"ok\n"} | {b"refused " + name + b"\n" for name in [b"BadLine", b"BadMoment", b"BadName", b"BadHex", b"BadType", b"LongLine"]}
 # A line is kept in memory from so many bytes on, and so are the parts of an item. These lines ask the source for memory.
 KEPT, ITEMS, ASKING = 9, (b"put ", b"delete "), (b"publish", b"verify")
+# The ends of responses to requests whose head is refused.
+OF_HEADS = (b"\nTooLong\n", b"\nNoLength\n", b"\nTransferEncoding\n", b"\nBadMethod\n")
 SHIM = r"""
 #include <stddef.h>
 #include <stdlib.h>
@@ -195,6 +198,7 @@ def passing():
         "a line is refused that takes no memory": [*whole[:-1], REFUSED],
     }
     found = [name for name, it in made.items() if not wrong(LINES, (0, b"".join(it), b""))]
+    found += ["a request is answered 503 that takes no memory"] if no_memory(Model(crash_model.State(BASE, LIMIT)), LOOK) != {b""} else []
     is_right = not wrong(LINES, (0, b"".join([*right[:place], REFUSED, *right[place:]]), b""))
     return found + ([] if is_right else ["the right answers, which are as they have to be"])
 
@@ -217,8 +221,15 @@ def refuse_in_script(program, shim, name, lines, piece):
     return faults + (within == 0) + (noted == 0)
 
 
+def takes_memory(model, sent):
+    """Whether a request takes memory: one of a document takes none, nor does one whose head is refused."""
+    return not is_document(sent.split(b" ")[1]) and not model.peeked(sent).endswith(OF_HEADS)
+
+
 def no_memory(model, sent):
     """What a request is answered for want of memory: no response, or the refusal, behind the word to go on or alone."""
+    if not takes_memory(model, sent):
+        return {b""}
     waits = model.peeked(sent).startswith(CONTINUE)
     it = response(503, date_of(CLOCK), "text/plain", b"NoMemory\n", is_head=sent.startswith(b"HEAD "))
     return {b"", it, CONTINUE + it} if waits else {b"", it}
