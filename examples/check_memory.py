@@ -7,14 +7,17 @@ refused
   - before the script begins, the program writes nothing and ends with `rs_source: NoMemory` and status 1, or with
     `rs_source: Device` where it was the disk's note of a write;
   - within a line, exactly that line is answered `refused NoMemory`, and all other lines as if the script were without
-    it: so nothing was changed, and later lines work;
+    it: so nothing was changed, and later lines work; a group is one line here. A line of at most 8 bytes that is no item
+    is never refused so, unless it asks the source for what takes memory; nor is a group whose first line is such a one;
   - for the disk's note of a write, that line is answered `refused Device`, all lines before it as ever, and each later
     line that asks the source `refused Closed`;
   - within a request, its response is 503 NoMemory, or none where there is no memory to begin; the next request finds
-    nothing changed, and the same request is then answered as ever.
+    nothing changed, and the same request is then answered as ever. One whose head is refused is never answered 503, nor is
+    one of a document.
 What is answered else is a plain reading of docs/SCRIPT.md and docs/HTTP.md (line_judge.py, request_judge.py). A long
-script has every line and every document, bodies that grow, and bad lines; it is given at once, and in pieces of 7 bytes
-and of one byte. The worked rows of scripts and of requests whose ends check_ends.py makes fail are given at once.
+script has every line and every document, bodies that grow, and bad lines, and a short one has groups; both are given at
+once, and in pieces of 7 bytes and of one byte. The worked rows of scripts and of requests whose ends check_ends.py makes
+fail are given at once.
 
 usage: check_memory.py [PROGRAM]     the built program, where none is given
 Exit status 1 where anything differs.
@@ -32,7 +35,7 @@ import line_judge
 from check_rows import CLOCK, MEMORY, PROGRAM, interposed
 from ends_of_requests import LOOK, Model, exchanges, told
 from ends_of_scripts import ROWS_OF_SCRIPTS, Script
-from front_model import Source
+from front_model import Source, is_document
 from request_judge import CONTINUE, date_of, response
 from served_source import exchanged
 
@@ -42,6 +45,10 @@ FAILED = b"refused Device\n"
 CLOSED = b"refused Closed\n"
 # What lines are answered for which the source is not asked.
 UNASKED = {b"ok\n"} | {b"refused " + name + b"\n" for name in [b"BadLine", b"BadMoment", b"BadName", b"BadHex", b"BadType", b"LongLine"]}
+# A line is kept in memory from so many bytes on, and so are the parts of an item. These lines ask the source for memory.
+KEPT, ITEMS, ASKING = 9, (b"put ", b"delete "), (b"publish", b"verify")
+# The ends of responses to requests whose head is refused.
+OF_HEADS = (b"\nTooLong\n", b"\nNoLength\n", b"\nTransferEncoding\n", b"\nBadMethod\n")
 SHIM = r"""
 #include <stddef.h>
 #include <stdlib.h>
@@ -78,6 +85,7 @@ put x// 00 a/b
 put e 6 a/b
 put e 66 a
 at 0000000000000016
+at 12345
 no such line at all
 
 put f/g 00112233445566778899aabbccddeeff application/octet-stream
@@ -90,6 +98,18 @@ show /resourcelist.xml
 show /resource/f/g
 verify
 status""".encode().split(b"\n")
+GROUPS = [
+    b"at 951782400000",
+    b"group 2\nput a 616263 text/plain\nput b - a/b",
+    b"group 1\nstatus",
+    b"group 2\nbad\ndelete a",
+    b"group 2\ndelete a\nbad",
+    b"group 3\nput b 62 a/b\ndelete a\nput b 6262 a/b",
+    b"group 2\nput c 63 a/b\ndelete zz",
+    b"show /resource/b",
+    b"verify",
+    b"status",
+]
 
 
 def feed(pipe, data, piece):
@@ -117,7 +137,7 @@ def run(program, lines, piece, shim, refused_at):
 def usual(lines):
     """The answer to each line where no growth is refused."""
     judge = line_judge.Judge(Source(crash_model.State(BASE, LIMIT), SIZE))
-    return [judge.answer(it) for it in lines]
+    return [b"".join(judge.answer(it) for it in line.split(b"\n")) for line in lines]
 
 
 def answers(output):
@@ -130,6 +150,12 @@ def answers(output):
         found.append(output[:end])
         output = output[end:]
     return found
+
+
+def takes_room(line):
+    """Whether a line takes memory by itself, whatever it asks for; a group does where its first line does."""
+    first = line.split(b"\n")[:2][-1]
+    return len(first) >= KEPT or first.startswith(ITEMS)
 
 
 def wrong(lines, result):
@@ -152,6 +178,8 @@ def wrong(lines, result):
     if not refused:
         return given != usual(lines) and "other answers, and none refused"
     place = refused[0]
+    if not takes_room(lines[place]) and lines[place] not in ASKING:
+        return f"line {place} is refused, which takes no memory"
     without = usual(lines[:place] + lines[place + 1:])
     return without != given[:place] + given[place + 1:] and f"other answers around line {place}"
 
@@ -167,8 +195,10 @@ def passing():
         "two lines are refused": [*right[:place], REFUSED, REFUSED, *right[place + 1:]],
         "a failed line closes nothing": [*whole[:place], FAILED, *whole[place + 1:]],
         "an answer is left out": whole[:-1],
+        "a line is refused that takes no memory": [*whole[:-1], REFUSED],
     }
     found = [name for name, it in made.items() if not wrong(LINES, (0, b"".join(it), b""))]
+    found += ["a request is answered 503 that takes no memory"] if no_memory(Model(crash_model.State(BASE, LIMIT)), LOOK) != {b""} else []
     is_right = not wrong(LINES, (0, b"".join([*right[:place], REFUSED, *right[place:]]), b""))
     return found + ([] if is_right else ["the right answers, which are as they have to be"])
 
@@ -191,8 +221,15 @@ def refuse_in_script(program, shim, name, lines, piece):
     return faults + (within == 0) + (noted == 0)
 
 
+def takes_memory(model, sent):
+    """Whether a request takes memory: one of a document takes none, nor does one whose head is refused."""
+    return not is_document(sent.split(b" ")[1]) and not model.peeked(sent).endswith(OF_HEADS)
+
+
 def no_memory(model, sent):
     """What a request is answered for want of memory: no response, or the refusal, behind the word to go on or alone."""
+    if not takes_memory(model, sent):
+        return {b""}
     waits = model.peeked(sent).startswith(CONTINUE)
     it = response(503, date_of(CLOCK), "text/plain", b"NoMemory\n", is_head=sent.startswith(b"HEAD "))
     return {b"", it, CONTINUE + it} if waits else {b"", it}
@@ -244,7 +281,8 @@ def main():
     program = os.path.abspath(sys.argv[1] if len(sys.argv) > 1 else PROGRAM)
     with tempfile.TemporaryDirectory() as room:
         shim = interposed(room, "refusing", SHIM)
-        faults = sum(refuse_in_script(program, shim, "each line", LINES, piece) for piece in (0, 7, 1))
+        scripts = [("each line", LINES), ("groups", GROUPS)]
+        faults = sum(refuse_in_script(program, shim, *script, piece) for script in scripts for piece in (0, 7, 1))
         for name in ROWS_OF_SCRIPTS:
             faults += refuse_in_script(program, shim, name, Script(name).lines, 0)
         faults += refuse_in_requests(program, room)
