@@ -1,5 +1,5 @@
 -- Why there is no source on a file.
-use Rattle.std.specs.Prelude.{◌≡◌, ◌⊎◌, ◌≤◌, ℕ, List, Result, Ok, Err, MatchOption, IsTrue}
+use Rattle.std.specs.Prelude.{◌≡◌, ◌⊎◌, ◌≤◌, ℕ, List, Err, MatchOption, IsTrue}
 use Rattle.rs_disk.specs.Medium.{DiskState}
 use Rattle.rs_record.specs.Base.{is_base}
 use Rattle.rs_directory.specs.Limit.{IsLimit}
@@ -10,9 +10,8 @@ use Rattle.rs_store.specs.Source.{Stored}
 use Rattle.rs_store.specs.declared.opening.OpenFault.{OpenFault}
 use Rattle.rs_store.specs.declared.copying.CopyFault.{CopyFault}
 use Rattle.rs_source.specs.declared.file.NoSource.{NoSource}
-use Rattle.rs_source.specs.declared.program.ProgramError.{ProgramError}
 use Rattle.rs_source.specs.declared.program.ProgramError.TheVariants.{Exists, Device}
-use Rattle.rs_source.specs.Arguments.{error_of_opening, error_of_copy, Made}
+use Rattle.rs_source.specs.Arguments.{error_of_opening, error_of_copy}
 
 -- A source can be made so: the base and the limit are lawful, and the disk has room.
 pub record MayBegin (base : List ℕ) (limit size : ℕ) : Type 0 where

@@ -1,6 +1,6 @@
 //! Sources on files.
 
-ghost use Rattle.std.specs.Prelude.{◌≡◌, ◌<◌, ◌≤◌, false, Some, None, IfOk, IfErr, OnOk, IsErrAnd, IsTrue};
+ghost use Rattle.std.specs.Prelude.{◌≡◌, ◌<◌, ◌≤◌, false, Some, None, MatchOption, IfOk, IfErr, OnOk, IsErrAnd, IsTrue};
 ghost use Rattle.rs_model.specs.State.{start_of, Source as State};
 ghost use Rattle.rs_record.specs.Base.{is_base};
 ghost use Rattle.rs_directory.specs.Limit.{IsLimit};
@@ -87,6 +87,9 @@ pub fn format_file<R: Files<File = File>, S: Start>(
         → IsTrue (is_base made.now.base.now) × (¬ IsLimit made.now.limit) }
     ensures too_small { IsErrAnd result (λ lack. lack.error ≡ ProgramError.TooSmall)
         → IsTrue (is_base made.now.base.now) × IsLimit made.now.limit × (made.now.size < 8192) }
+    ensures device { IfErr result (λ lack. lack.error ≡ ProgramError.Device
+        → MatchOption lack.disk (Unit {0})
+        (λ _. MayBegin made.now.base.now made.now.limit made.now.size)) }
     ensures in_range { OnOk result
         (MayBegin made.now.base.now made.now.limit made.now.size) }
     ensures err { IfErr result (λ lack. IsOfFormat lack.error) }

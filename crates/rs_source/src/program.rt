@@ -164,7 +164,7 @@ pub fn unread(kind: ErrorKind) -> ProgramError
 ///
 /// [`ProgramError::BadBase`], then [`ProgramError::BadLimit`], then [`ProgramError::TooSmall`];
 /// [`ProgramError::NoMemory`] where there is no room for the disk or the base, and
-/// [`ProgramError::Device`] where there is none for what the disk notes.
+/// [`ProgramError::Device`] where there is none for what the disk notes, which comes after the first three.
 pub fn start(
     alloc: Global,
     size: u64,
@@ -177,6 +177,7 @@ pub fn start(
         → IsTrue (is_base base.now) × (¬ IsLimit limit) }
     ensures too_small { IsErrOf result ProgramError.TooSmall
         → IsTrue (is_base base.now) × IsLimit limit × (size < 8192) }
+    ensures device { IsErrOf result ProgramError.Device → MayBegin base.now limit size }
     ensures in_range { OnOk result (MayBegin base.now limit size) }
     ensures err { IfErr result IsOfStart }
 {
