@@ -33,10 +33,11 @@ import record
 from meter import Meter
 
 ROOT = Path(__file__).resolve().parent.parent
-# What is looked at on the proved program: examples/check_NAME.py for each.
-CHECKS = ["rows", "calls", "edges", "growths", "large", "documents", "pages", "kept", "tour", "mirror", "folder", "sizes", "pictures", "install"]
-# And those that have a short form: examples/NAME.py for each.
-SHORT = ["crash", "hostile", "hostile_lines", "hostile_requests", "check_ends"]
+# What is looked at on the proved program: the module tests.NAME of each.
+CHECKS = ["rows", "system.calls", "system.edges", "system.growths", "system.large", "system.documents", "system.pages", "system.kept", "system.tour",
+          "mirror", "system.folder", "system.sizes", "pictures", "system.install"]
+# And those that have a short form.
+SHORT = ["crash", "hostile.disks", "hostile.lines", "hostile.requests", "ends"]
 
 
 def copied(room):
@@ -125,12 +126,12 @@ def lanes():
     return max(1, min(len(os.sched_getaffinity(0)), free // 4_000_000))
 
 
-def script(*words):
-    """A part that is a program of its own, and passes with status 0."""
+def script(*words, folder=None):
+    """A part that is a program of its own, run in a folder, and passes with status 0."""
 
     def run():
-        status = subprocess.run([sys.executable, *map(str, words)]).returncode
-        return (0, [f"{words[0]} ended with status {status}"]) if status else (1, [])
+        status = subprocess.run([sys.executable, *map(str, words)], cwd=folder).returncode
+        return (0, [f"{' '.join(map(str, words))} ended with status {status}"]) if status else (1, [])
 
     return run
 
@@ -157,15 +158,15 @@ def main():
         parts.run("the layout", layout)
         parts.run("the texts of edits", fitting)
         parts.run("the record of edits", dates)
-        parts.run("proofs by hand", script(copy / "examples" / "check_hand_proofs.py"))
+        parts.run("proofs by hand", script(copy / "gate" / "check_hand_proofs.py"))
         parts.run("the statement", script(copy / "statement" / "statement.py", "--check"))
         parts.run("the statement's own tests", script(copy / "statement" / "test_statement.py"))
         if parts.run("proofs, tests and builds", lambda: toolchain(copy)):
             parts.run("must-fail edits", lambda: some_edits(copy))
             for name in CHECKS:
-                parts.run(name, script(copy / "examples" / f"check_{name}.py"))
+                parts.run(name, script("-m", f"tests.{name}", folder=copy))
             for name in SHORT:
-                parts.run(name, script(copy / "examples" / f"{name}.py", "--short"))
+                parts.run(name, script("-m", f"tests.{name}", "--short", folder=copy))
         tell(parts, meter, started)
     for it in parts.failed:
         print(f"FAILED: {it}")
