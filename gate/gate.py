@@ -10,7 +10,7 @@
     memory at an opening, what is large, the documents read by tools that are not ours, the pages that it leaves on a file, the blocks that it takes, the tour, mirrors of
     sources that are killed meanwhile, folders that are published, the sizes of disks, the pictures of docs/, what is installed
     beside it, the images of crashes at its calls on a file, hostile disks, lines and requests, ends that fail;
-  - the tests of the gate itself, the layout of the files, the texts of edits, the list of proofs by hand, and the statement: what
+  - the tests of the gate and of its set-up, the layout of the files, the texts of edits, the list of proofs by hand, and the statement: what
     has to be read for each promise (docs/RECOVERY.md counts it), and where the evidence is.
 
 N counts crates, edits and the other parts. The minutes of a processor of each part are told before.
@@ -30,6 +30,7 @@ import edit
 import edits
 import kit
 import record
+import setup
 from meter import Meter
 
 ROOT = Path(__file__).resolve().parent.parent
@@ -148,6 +149,7 @@ def tell(parts, meter, started):
 
 
 def main():
+    setup.main()
     parts, started = Parts(), time.time()
     with tempfile.TemporaryDirectory(prefix="gate-") as room, Meter(room) as meter:
         # The toolchain runs programs as nobody, on copies below this folder.
@@ -155,6 +157,7 @@ def main():
         os.environ["TMPDIR"] = tempfile.tempdir = room
         copy = copied(room)
         parts.run("the gate's own tests", script(ROOT / "gate" / "test_gate.py"))
+        parts.run("the set-up's own tests", script(ROOT / "gate" / "tests" / "test_setup.py"))
         parts.run("the layout", layout)
         parts.run("the texts of edits", fitting)
         parts.run("the record of edits", dates)
