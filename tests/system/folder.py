@@ -1,7 +1,7 @@
-"""Fills sources on the proved program from folders, by publish_folder.py, and looks at what they hold then.
+"""Fills sources on the proved program from folders, by publish_folder, and looks at what they hold then.
 
 Each function below is one thing that has to hold, and its first line says what. Names are percent-encoded here byte by byte, apart from
-publish_folder.py; what a source holds is asked of the program itself, by scripts, once the server was killed.
+publish_folder; what a source holds is asked of the program itself, by scripts, once the server was killed.
 
 usage: python3 -m tests.system.folder [PROGRAM] [NAME..]     names of functions (all, where none is given)
 Exit status 1 where one does not hold.
@@ -41,7 +41,7 @@ def format_source(program, room, size=4 << 20, limit=1000):
 
 
 def publish(room, url, *words):
-    """The exit status of a run of publish_folder.py, what it wrote, and its complaints."""
+    """The exit status of a run of publish_folder, what it wrote, and its complaints."""
     ran = subprocess.run([sys.executable, PUBLISH, "folder", url, *words], cwd=room, capture_output=True, text=True, timeout=SECONDS)
     return ran.returncode, ran.stdout, ran.stderr
 
