@@ -12,12 +12,18 @@ sys.path.insert(0, str(Path(__file__).resolve().parent.parent))
 
 import setup
 
-TABLE = "# a remark\n\nsh-package | sh | test | to begin with\nnone | no-such-command | test | the tour\nlater | no-such-either | bench | speed\nfile | /no/such/file | test | pages\n"
+TABLE = """# a remark
+
+shell | sh | gate | to begin with
+none | no-such-command | test | the tour
+later | no-such-either | bench | speed
+file | /no/such/file | test | pages
+"""
 
 
 class SetUp(unittest.TestCase):
     def test_what_is_missing(self):
-        self.assertEqual([it.name for it in setup.packages(TABLE)], ["sh-package", "none", "later", "file"])
+        self.assertEqual([it.name for it in setup.packages(TABLE)], ["shell", "none", "later", "file"])
         self.assertEqual([it.name for it in setup.missing(TABLE)], ["none", "file"])
 
     def said(self, user, **environment):
@@ -27,7 +33,7 @@ class SetUp(unittest.TestCase):
             patched.enter_context(unittest.mock.patch.dict(os.environ, environment))
             patched.enter_context(unittest.mock.patch.object(os, "getuid", lambda: user))
             patched.enter_context(unittest.mock.patch.object(setup, "install", lambda names: installed.extend(names)))
-            setup.setup(TABLE)
+            self.assertTrue(setup.setup(TABLE))
         return out.getvalue(), installed
 
     def test_each_part_that_is_left_out_is_named(self):
@@ -39,13 +45,17 @@ class SetUp(unittest.TestCase):
 
     def test_nothing_is_said_where_nothing_is_missing(self):
         with contextlib.redirect_stdout(io.StringIO()) as out:
-            setup.setup("sh-package | sh | test | to begin with\n")
+            self.assertTrue(setup.setup("shell | sh | gate | to begin with\n"))
         self.assertEqual(out.getvalue(), "")
+
+    def test_nothing_begins_without_what_the_gate_needs(self):
+        with contextlib.redirect_stdout(io.StringIO()), unittest.mock.patch.dict(os.environ, {"SETUP": "no"}):
+            self.assertFalse(setup.setup("none | no-such-command | gate | to begin with\n"))
 
     def test_the_table_says_what_for(self):
         every = setup.packages(Path(setup.ROOT, "packages.txt").read_text())
         self.assertEqual(len({it.name for it in every}), len(every))
-        self.assertTrue(all(it.name and it.mark and it.use and it.user in ("test", "bench", "snapshots") for it in every))
+        self.assertTrue(all(it.name and it.mark and it.use and it.user in ("gate", "test", "bench", "snapshots") for it in every))
 
 
 if __name__ == "__main__":
