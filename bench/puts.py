@@ -193,4 +193,5 @@ def main():
                   f"used set {took['used']:.3f}, pages copied, spelled and written {rest:.2f}")
 
 
-main()
+if __name__ == "__main__":
+    main()

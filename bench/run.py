@@ -93,4 +93,5 @@ def main():
         {"skip": skip, "lists": lists}[name]()
 
 
-main()
+if __name__ == "__main__":
+    main()

@@ -113,4 +113,5 @@ def main():
         print(f"used: {held} held: {spent / 1_000:.2f} microseconds for the set, a put")
 
 
-main()
+if __name__ == "__main__":
+    main()

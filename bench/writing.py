@@ -125,4 +125,5 @@ def main():
             print(done.stdout[-3000:] + done.stderr[-3000:])
 
 
-main()
+if __name__ == "__main__":
+    main()

@@ -1,7 +1,6 @@
 """Tests of what stands where: what is run as a check or a measure is imported by nothing, and each check is told of in tests/README.md."""
 
 import ast
-import re
 import sys
 import unittest
 from pathlib import Path
@@ -30,7 +29,7 @@ def imported(file):
 
 def is_run(file):
     """Whether a file of tests/ or bench/ is run by itself."""
-    return file.name == "__main__.py" or "\nif __name__ ==" in file.read_text() or bool(re.search(r"(?m)^main\(\)", file.read_text()))
+    return file.name == "__main__.py" or "\nif __name__ ==" in file.read_text()
 
 
 class Folders(unittest.TestCase):
