@@ -1,4 +1,3 @@
-#!/usr/bin/env python3
 """Groups beside single puts, and a copy beside reading, hashing and writing the same bytes.
 
   groups   16 puts of 4 KiB one by one, and a group of 16 such, in turn, on one file, by lines of a script and over HTTP: medians.
@@ -6,7 +5,7 @@
   copy     `copy` of 10,000 resources of 4 KiB to a new file, and the floor: the same bodies, pages and directory read from the old
            file and written to a new one, body by body, with three syncs, and to it the time of their SHA-256 at the kit's rate.
 
-usage: copying.py [PROGRAM]     the built program, where none is given. ROOM in the environment is the folder for the files.
+usage: python3 -m bench.copying [PROGRAM]     the built program, where none is given. ROOM in the environment is the folder for the files.
 """
 import os
 import pathlib
@@ -18,12 +17,11 @@ import sys
 import tempfile
 import time
 
-import hashing
-from many import MIB, PROGRAM, Asked, timed
-
-# many.py has put the folder of these on the path.
-from disk_formats import BLOCK
-from disk_reader import source_of
+from bench import hashing
+from bench.asked import MIB, Asked, timed
+from tests.program import PROGRAM
+from tests.reading.disk_formats import BLOCK
+from tests.reading.disk_reader import source_of
 
 IN_A_GROUP, ROUNDS, COPIED, TIMES = 16, 60, 10_000, 5
 

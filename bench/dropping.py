@@ -1,11 +1,10 @@
-#!/usr/bin/env python3
 """What it costs a publication to drop the whole Change List.
 
 A disk of 50,000 changes at an item limit of 2, never published: the first publication drops nothing, as there is none before it,
 and the second drops 25,000 parts. Both are asked of one open source on a file in the folder ROOM, five times over, and so is the
 memory that the source has before them and after.
 
-usage: dropping.py [PROGRAM]     the built program, where none is given
+usage: python3 -m bench.dropping [PROGRAM]     the built program, where none is given
 """
 import os
 import pathlib
@@ -14,10 +13,9 @@ import sys
 import tempfile
 import time
 
-from many import PROGRAM, Asked
-import paged_disk  # (puts the folder of made_disks on the path)
-
-import made_disks
+from bench.asked import Asked
+from tests.disks import made_disks
+from tests.program import PROGRAM
 
 TIMES = 5
 

@@ -1,4 +1,3 @@
-#!/usr/bin/env python3
 """A group of 16 puts of 4 KiB beside 16 such puts, as calls of an open source on a file: no line is read, and no hexadecimal text.
 
 A small program in a folder of its own, which `rt run` proves and builds, makes a source on a new file, and times both in turn, with
@@ -10,7 +9,7 @@ import statistics
 import subprocess
 import tempfile
 
-import small
+from bench import small
 
 PROGRAM = """//! Times single puts, and groups of as many, on a source on a new file.
 #![tactic(auto)]

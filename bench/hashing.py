@@ -1,15 +1,12 @@
-#!/usr/bin/env python3
-"""Hashing in pieces of 4,096 bytes (rs_fixity's Hashing) beside the kit's md5 and sha2 over one slice, and sha2 alone.
-
-Writes a small program in a folder of its own, proves and builds it with `rt run`, and times each way on 16 MiB.
-"""
+"""A small program that hashes 16 MiB each way that is compared, which is proved and built by `rt run`, and the time of each."""
 import pathlib
 import shutil
 import subprocess
 import tempfile
 import time
 
-ROOT = pathlib.Path(__file__).resolve().parent.parent
+from tests.program import ROOT
+
 PROGRAM = """//! Hashes 16 MiB of zeros eight times: both digests in pieces, both of the whole, or SHA-256 of the whole alone.
 #![tactic(auto)]
 
@@ -86,12 +83,3 @@ def seconds():
     with tempfile.TemporaryDirectory() as folder:
         program = built(folder)
         return [min(once(program, *words) for _ in range(5)) for words in (["pieces"], [], ["sha256", "alone"])]
-
-
-def main():
-    pieces, whole, sha256 = seconds()
-    print(f"hashing: pieces {16 / pieces:.0f} MiB/s, whole {16 / whole:.0f} MiB/s, ratio {pieces / whole:.2f}; SHA-256 alone {16 / sha256:.0f} MiB/s")
-
-
-if __name__ == "__main__":
-    main()

@@ -1,4 +1,3 @@
-#!/usr/bin/env python3
 """A Resource List of 1,000 and of 10,000 resources of 4 KiB: its time, and what a kill amid its writing leaves.
 
   the program    publishes what it holds, and shows each part of the list. Lengths and digests were recorded when the
@@ -12,7 +11,7 @@ Each of them is then killed (kill -9) KILLS times while it makes a new list in t
 there then is looked at: a whole list, old or new, or something else. The program is killed at moments drawn by lot;
 the stand-in, which reads and hashes for most of its time, once its file is seen to have another length.
 
-usage: lists.py [PROGRAM] [--seed N]     the built program, where none is given
+usage: python3 -m bench.lists [PROGRAM] [--seed N]     the built program, where none is given
 ROOM in the environment is the folder for the files.
 """
 import argparse
@@ -26,9 +25,9 @@ import tempfile
 import time
 import xml.etree.ElementTree as ElementTree
 
-from paged_disk import ROOT, spelled
+from tests.disks.paged_disk import spelled
+from tests.program import PROGRAM
 
-PROGRAM = ROOT / "crates/rs_source/out/rs_source"
 COUNTS, LIMIT, SIZE, KILLS, TIMES = (1_000, 10_000), 4_000, 4_096, 20, 5
 SITEMAP, RS = "http://www.sitemaps.org/schemas/sitemap/0.9", "http://www.openarchives.org/rs/terms/"
 SECONDS = 120
@@ -124,7 +123,7 @@ def killed_at_its_write(words, target):
 
 def kills_of_the_stand_in(folder, target, count, is_renamed):
     """What the file is after each kill."""
-    words, whole = [sys.executable, __file__, "--stand-in", folder, target, str(int(is_renamed))], 0
+    words, whole = [sys.executable, "-m", "bench.lists", "--stand-in", folder, target, str(int(is_renamed))], 0
     stand_in(folder, target, True)
     old = pathlib.Path(target).read_bytes()
     for _ in range(KILLS):
@@ -153,7 +152,7 @@ def measure(program, room, count, rng):
 def main():
     if sys.argv[1:2] == ["--stand-in"]:
         return stand_in(sys.argv[2], sys.argv[3], sys.argv[4] == "1")
-    words = argparse.ArgumentParser(usage="lists.py [PROGRAM] [--seed N]")
+    words = argparse.ArgumentParser(usage="python3 -m bench.lists [PROGRAM] [--seed N]")
     words.add_argument("program", nargs="?", default=PROGRAM)
     words.add_argument("--seed", type=int, default=20261125)
     given = words.parse_args()

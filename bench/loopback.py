@@ -1,4 +1,3 @@
-#!/usr/bin/env python3
 """GETs on loopback, one connection each, beside lighttpd (one thread) on the same machine; and PUTs and GETs of 16 MiB to a client on
 a bare socket, each ten times in turn with the kit's own hashing, of which the medians are told. Beside a PUT stand the calls that it
 cannot do without: the same bytes written to a file in pieces of 4 KiB, and three syncs.
@@ -16,17 +15,13 @@ import sys
 import tempfile
 import time
 
-import hashing
+from bench import hashing
+from bench.asked import serve
+from tests.program import PROGRAM
 
-PROGRAM = pathlib.Path(__file__).resolve().parent.parent / "crates/rs_source/out/rs_source"
 LENGTHS = (100, 4096, 65_536)
 SECONDS = 5
 LARGE, PIECE, TIMES = 16 << 20, 4_096, 10
-
-
-def serve(file, count):
-    server = subprocess.Popen([str(PROGRAM), "serve", file, "0", str(count)], stdout=subprocess.PIPE, text=True)
-    return server, int(server.stdout.readline().rsplit(":", 1)[1])
 
 
 def ask(port, method, path, body=None):

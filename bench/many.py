@@ -1,4 +1,3 @@
-#!/usr/bin/env python3
 """Many resources on a file: puts of 4 KiB, an opening, and the memory of an open source, each against the least that the format asks for.
 
   puts     with 100, 1,000, 10,000 and 50,000 resources held, as many changes kept and as many published, one resource is replaced
@@ -10,61 +9,33 @@
            device, and has the SHA-256 of all at the kit's rate.
   memory   what the open source has resident, without that of an empty one, against the bytes of its pages.
 
-usage: many.py [PROGRAM]     the built program, where none is given. ROOM in the environment is the folder for the files.
+usage: python3 -m bench.many [PROGRAM]     the built program, where none is given. ROOM in the environment is the folder for the files.
 """
 import bisect
 import hashlib
 import os
 import pathlib
 import random
-import re
 import statistics
 import subprocess
 import sys
 import tempfile
 import time
 
-import hashing
-from paged_disk import BODY, ROOT, name, spelled
+from bench import hashing
+from bench.asked import MIB, Asked, timed
+from tests.disks.paged_disk import BODY, name, spelled
+from tests.program import PROGRAM
+from tests.reading import disk_parts as parts_of
+from tests.reading import page_rule
+from tests.reading.disk_formats import BLOCK
+from tests.reading.disk_reader import source_of
 
-# paged_disk.py has put the folder of these on the path.
-import disk_parts as parts_of
-import page_rule
-from disk_formats import BLOCK
-from disk_reader import source_of
-
-PROGRAM = ROOT / "crates/rs_source/out/rs_source"
 PUTS = 100
 COUNTS = (100, 1_000, 10_000, 50_000)
 # A source keeps 50,000 changes at most.
 MOST = 50_000
 CHANGE = len(parts_of.change(2, name(0), 1, BODY))
-MIB = 1 << 20
-
-
-class Asked:
-    """A program on a file, which is asked line by line."""
-
-    def __init__(self, program, file):
-        began = time.perf_counter()
-        self.ran = subprocess.Popen([program, "run", file], stdin=subprocess.PIPE, stdout=subprocess.PIPE)
-        self.first = self.ask("status")
-        self.opened = time.perf_counter() - began
-
-    def ask(self, line):
-        self.ran.stdin.write(line.encode() + b"\n")
-        self.ran.stdin.flush()
-        return self.ran.stdout.readline().decode()
-
-    def resident(self):
-        """The bytes of memory that are its own now."""
-        status = pathlib.Path(f"/proc/{self.ran.pid}/status").read_text()
-        return int(re.search(r"VmRSS:\s+(\d+)", status)[1]) * 1024
-
-    def end(self):
-        self.ran.stdin.close()
-        if self.ran.wait():
-            raise SystemExit(f"the program ended with status {self.ran.returncode}")
 
 
 def sizes(source, name, before):
@@ -126,14 +97,6 @@ def puts(program, room, count, rates):
     if (left := lengths_on(file, chosen)) != sizes(floor.source, chosen, PUTS - 1):
         raise SystemExit(f"the last put wrote {left} bytes, and the floor {sizes(floor.source, chosen, PUTS - 1)}")
     tell_puts(count, statistics.median(took) - statistics.median(lines), statistics.median(least), floor.hashed / PUTS, rates)
-
-
-def timed(ours, line, wanted):
-    began = time.perf_counter()
-    answer = ours.ask(line)
-    if not answer.startswith(wanted):
-        raise SystemExit(f"{line[:40]}: {answer}")
-    return time.perf_counter() - began
 
 
 def tell_puts(count, put, calls, hashed, rates):

@@ -1,7 +1,6 @@
-#!/usr/bin/env python3
 """What each part of a function's proof took, in seconds on the clock, by the moments at which the prover kept its modules.
 
-usage: bench/proofs.py CRATE..     at the top of the repository, once a crate's library was built from nothing (make edits)
+usage: python3 -m bench.proofs CRATE..     at the top of the repository, once a crate's library was built from nothing (make edits)
 
 The prover keeps each module of a proof in a file of its own, one after the other. The borrow checker's part is what an edit of
 the function pays as well, whatever goals are left out of its trial; the goals are what the search and the answers by hand take.

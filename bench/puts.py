@@ -1,4 +1,3 @@
-#!/usr/bin/env python3
 """Puts of 4 KiB on a disk in memory, with 100, 1,000 and 10,000 resources held and as many changes kept.
 
 The disk is made here from the tables of docs/DISK.md, and opened: no command is run to fill it. A small program in a
@@ -12,7 +11,7 @@ import struct
 import subprocess
 import tempfile
 
-import small
+from bench import small
 
 BASE = b"http://127.0.0.1:8080"
 KIND = b"text/plain"
@@ -194,4 +193,5 @@ def main():
                   f"used set {took['used']:.3f}, pages copied, spelled and written {rest:.2f}")
 
 
-main()
+if __name__ == "__main__":
+    main()

@@ -1,21 +1,17 @@
-#!/usr/bin/env python3
-"""Measures the proved program: `make bench` builds it first. Prints one line a figure; docs/BENCH.md keeps them.
+"""Measures the proved program: `make bench` builds it first. Prints one line a figure; docs/keepers/BENCH.md keeps them.
 
   skip    a line of 40,000,000 bytes without an end, beside `wc -c` on the same pipe
   lists   a Resource List and a Change List of 1,000 entries, beside Python's xml.etree making the same text
 """
-import pathlib
 import resource
 import subprocess
 import sys
 import time
 import xml.etree.ElementTree as ElementTree
 
-ROOT = pathlib.Path(__file__).resolve().parent.parent
-PROGRAM = ROOT / "crates" / "rs_source" / "out" / "rs_source"
+from tests.program import PROGRAM
+
 BASE = "http://127.0.0.1:8080"
-
-
 # The bytes of the disk: room for the resources below, and for their pages twice.
 SIZE = 2_097_152
 
@@ -97,4 +93,5 @@ def main():
         {"skip": skip, "lists": lists}[name]()
 
 
-main()
+if __name__ == "__main__":
+    main()

@@ -1,4 +1,3 @@
-#!/usr/bin/env python3
 """A sitemap generator in use, beside the program: jekyll-sitemap, and what a kill amid its run leaves.
 
 A site of COUNTS pages of 4 KiB is built by jekyll with the plugin jekyll-sitemap (Debian: jekyll, ruby-jekyll-sitemap),
@@ -12,7 +11,7 @@ moments drawn by lot, each after half of the files went and as many others came:
 
 Digests are not in it, so that what a file holds is not looked at.
 
-usage: sitemaps.py [--seed N]
+usage: python3 -m bench.sitemaps [--seed N]
 ROOM in the environment is the folder for the files.
 """
 import argparse
@@ -86,7 +85,7 @@ def measure(room, count, rng):
 
 
 def main():
-    given = argparse.ArgumentParser(usage="sitemaps.py [--seed N]")
+    given = argparse.ArgumentParser(usage="python3 -m bench.sitemaps [--seed N]")
     given.add_argument("--seed", type=int, default=20261125)
     seed = given.parse_args().seed
     print(subprocess.run(["jekyll", "--version"], capture_output=True, text=True, check=True).stdout.strip())

@@ -1,9 +1,9 @@
 """Crates of a small program of its own, beside copies of the repository's crates that it stands on."""
-import pathlib
 import re
 import shutil
 
-ROOT = pathlib.Path(__file__).resolve().parent.parent
+from tests.program import ROOT
+
 
 
 def standing_on(root, *names):

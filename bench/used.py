@@ -1,4 +1,3 @@
-#!/usr/bin/env python3
 """What the set of used blocks costs a command, on a disk of 8,388,608 blocks.
 
 A small program in a folder of its own, which `rt run` proves and builds, fills the front of the set with bodies of 4 KiB and
@@ -11,7 +10,8 @@ import shutil
 import subprocess
 import tempfile
 
-ROOT = pathlib.Path(__file__).resolve().parent.parent
+from tests.program import ROOT
+
 PROGRAM = """//! What a put does with the set of used blocks, timed.
 #![tactic(auto)]
 
@@ -113,4 +113,5 @@ def main():
         print(f"used: {held} held: {spent / 1_000:.2f} microseconds for the set, a put")
 
 
-main()
+if __name__ == "__main__":
+    main()

@@ -1,4 +1,3 @@
-#!/usr/bin/env python3
 """`verify` beside the kit's SHA-256 over the same bytes: four bodies of 16 MiB, and 2,000 of 4 KiB, each on a file of its own.
 
 The time of `verify` is that of a script with it, less that of a script with `status` alone; the least of five.
@@ -10,8 +9,9 @@ import sys
 import tempfile
 import time
 
-import hashing
-from loopback import PROGRAM, serve
+from bench import hashing
+from bench.asked import serve
+from tests.program import PROGRAM
 
 
 def filled(file, size, count, length):

@@ -1,4 +1,3 @@
-#!/usr/bin/env python3
 """The writing of lists alone, from one view of a state: a list of 4,000 resources in one document, and all parts of
 50,000 resources one after another at an item limit of 4,000; each measured too (`document_length`).
 
@@ -8,7 +7,7 @@ import pathlib
 import subprocess
 import tempfile
 
-import small
+from bench import small
 
 PROGRAM = """//! Writes lists to a counting writer, and says how long it took.
 #![tactic(auto)]
@@ -126,4 +125,5 @@ def main():
             print(done.stdout[-3000:] + done.stderr[-3000:])
 
 
-main()
+if __name__ == "__main__":
+    main()

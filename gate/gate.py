@@ -10,7 +10,7 @@
     memory at an opening, what is large, the documents read by tools that are not ours, the pages that it leaves on a file, the blocks that it takes, the tour, mirrors of
     sources that are killed meanwhile, folders that are published, the sizes of disks, the pictures of docs/, what is installed
     beside it, the images of crashes at its calls on a file, hostile disks, lines and requests, ends that fail;
-  - the tests of the gate itself, the layout of the files, the texts of edits, the list of proofs by hand, and the statement: what
+  - the tests of the gate and of its set-up, the layout of the files, the texts of edits, the list of proofs by hand, and the statement: what
     has to be read for each promise (docs/RECOVERY.md counts it), and where the evidence is.
 
 N counts crates, edits and the other parts. The minutes of a processor of each part are told before.
@@ -30,13 +30,15 @@ import edit
 import edits
 import kit
 import record
+import setup
 from meter import Meter
 
 ROOT = Path(__file__).resolve().parent.parent
-# What is looked at on the proved program: examples/check_NAME.py for each.
-CHECKS = ["rows", "calls", "edges", "growths", "large", "documents", "pages", "kept", "tour", "mirror", "folder", "sizes", "pictures", "install"]
-# And those that have a short form: examples/NAME.py for each.
-SHORT = ["crash", "hostile", "hostile_lines", "hostile_requests", "check_ends"]
+# What is looked at on the proved program: the module tests.NAME of each.
+CHECKS = ["rows", "system.calls", "system.edges", "system.growths", "system.large", "system.documents", "system.pages", "system.kept", "system.tour",
+          "mirror", "system.folder", "system.sizes", "pictures", "system.install"]
+# And those that have a short form.
+SHORT = ["crash", "hostile.disks", "hostile.lines", "hostile.requests", "ends"]
 
 
 def copied(room):
@@ -125,12 +127,12 @@ def lanes():
     return max(1, min(len(os.sched_getaffinity(0)), free // 4_000_000))
 
 
-def script(*words):
-    """A part that is a program of its own, and passes with status 0."""
+def script(*words, folder=None):
+    """A part that is a program of its own, run in a folder, and passes with status 0."""
 
     def run():
-        status = subprocess.run([sys.executable, *map(str, words)]).returncode
-        return (0, [f"{words[0]} ended with status {status}"]) if status else (1, [])
+        status = subprocess.run([sys.executable, *map(str, words)], cwd=folder).returncode
+        return (0, [f"{' '.join(map(str, words))} ended with status {status}"]) if status else (1, [])
 
     return run
 
@@ -147,6 +149,7 @@ def tell(parts, meter, started):
 
 
 def main():
+    setup.main()
     parts, started = Parts(), time.time()
     with tempfile.TemporaryDirectory(prefix="gate-") as room, Meter(room) as meter:
         # The toolchain runs programs as nobody, on copies below this folder.
@@ -154,18 +157,19 @@ def main():
         os.environ["TMPDIR"] = tempfile.tempdir = room
         copy = copied(room)
         parts.run("the gate's own tests", script(ROOT / "gate" / "test_gate.py"))
+        parts.run("the folders and the set-up", script("-m", "unittest", "discover", "-s", ROOT / "gate" / "tests"))
         parts.run("the layout", layout)
         parts.run("the texts of edits", fitting)
         parts.run("the record of edits", dates)
-        parts.run("proofs by hand", script(copy / "examples" / "check_hand_proofs.py"))
+        parts.run("proofs by hand", script(copy / "gate" / "check_hand_proofs.py"))
         parts.run("the statement", script(copy / "statement" / "statement.py", "--check"))
         parts.run("the statement's own tests", script(copy / "statement" / "test_statement.py"))
         if parts.run("proofs, tests and builds", lambda: toolchain(copy)):
             parts.run("must-fail edits", lambda: some_edits(copy))
             for name in CHECKS:
-                parts.run(name, script(copy / "examples" / f"check_{name}.py"))
+                parts.run(name, script("-m", f"tests.{name}", folder=copy))
             for name in SHORT:
-                parts.run(name, script(copy / "examples" / f"{name}.py", "--short"))
+                parts.run(name, script("-m", f"tests.{name}", "--short", folder=copy))
         tell(parts, meter, started)
     for it in parts.failed:
         print(f"FAILED: {it}")

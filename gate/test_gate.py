@@ -384,16 +384,17 @@ class Parts(unittest.TestCase):
         self.assertEqual((parts.passed, parts.failed, len(parts.rows)), (3, ["it"], 3))
 
     def test_each_part_has_a_program_and_a_row_of_the_page(self):
-        page = Path(gate.ROOT, "docs", "GATE.md").read_text()
-        for name in gate.CHECKS:
-            self.assertTrue(Path(gate.ROOT, "examples", f"check_{name}.py").is_file(), name)
-            self.assertIn(f"| {name} (`examples/check_{name}.py`) |" if name != "rows" else "| worked rows (`examples/check_rows.py`) |", page)
+        page = Path(gate.ROOT, "docs", "keepers", "GATE.md").read_text()
+        for name in [*gate.CHECKS, *gate.SHORT]:
+            place = Path(gate.ROOT, "tests", *name.split("."))
+            self.assertTrue(place.with_suffix(".py").is_file() or (place / "__main__.py").is_file(), name)
+            self.assertRegex(page, rf"(?m)^\| \w[\w ]* \(`tests\.{name}{' --short' * (name in gate.SHORT)}`\) \|")
 
     def test_what_has_no_tool_is_told_by_name(self):
         """The look at install/ with no tool but the shell: what needs one is told, and fails nothing."""
         with tempfile.TemporaryDirectory() as room:
-            words = [sys.executable, Path(gate.ROOT, "examples", "check_install.py"), "/bin/true", "the_page_is_clean", "the_page_has_every_word"]
-            ran = subprocess.run(words, cwd=room, env={"PATH": room}, capture_output=True, text=True)
+            words = [sys.executable, "-m", "tests.system.install", "/bin/true", "the_page_is_clean", "the_page_has_every_word"]
+            ran = subprocess.run(words, cwd=gate.ROOT, env={"PATH": room}, capture_output=True, text=True)
         self.assertIn("the_page_is_clean: NOT TRIED, as there is no mandoc here\n", ran.stdout)
         self.assertIn("not tried, 1\n", ran.stdout)
 

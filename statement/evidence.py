@@ -1,6 +1,6 @@
 """What each definition was held against: the table evidence.txt, and whether what it points at is there.
 
-A line has the definitions of one file of specs, a kind, and where it is: `rs_model.Step: fold_of step | python | examples/x.py: f`.
+A line has the definitions of one file of specs, a kind, and where it is: `rs_model.Step: fold_of step | python | tests/reading/x.py: f`.
 """
 
 import ast
@@ -15,8 +15,8 @@ from world import Unknown
 KINDS = {
     "example": ("computed from the definition alone, and proved", r"crates/\w+/(proofs|specs|src/laws).*\.(antt|rt)$"),
     "law": ("a proved law: the definition in other words, what it is for, or that it leaves no other value", r"crates/\w+/src/.*\.rt$"),
-    "python": ("the same, said apart in Python, and compared with what the proved program answers or writes", r"(examples|bench)/\w+\.py$"),
-    "row": ("a worked row, which the proved program answers byte for byte", r"examples/rows/\w+$"),
+    "python": ("the same, said apart in Python, and compared with what the proved program answers or writes", r"(tests|tools|bench)/(\w+/)*\w+\.py$"),
+    "row": ("a worked row, which the proved program answers byte for byte", r"tests/rows/\w+$"),
     "test": ("values from outside, in a test of the code that is proved equal to the definition", r"crates/\w+_tests/src/\w+\.rt$"),
 }
 

@@ -213,20 +213,20 @@ class Reached(unittest.TestCase):
         self.assertEqual(len(counts.faults([], text)), 1)
 
     def test_pointers_that_lead_nowhere_are_told(self):
-        world = made(self.room, **{"examples/one.py": "def next_of():\n    pass\n", "examples/rows/a.in": ""})
+        world = made(self.room, **{"tests/one.py": "def next_of():\n    pass\n", "tests/rows/a.in": ""})
         every = promises.promises(world, PROMISES)
         for line, faults in (
-            ("low.Numbers: next IsPair | python | examples/one.py: next_of", 0),
-            ("low.Numbers: next | row | examples/rows/a", 0),
-            ("low.Numbers: next | python | examples/one.py: other", 1),
-            ("low.Numbers: next | python | examples/two.py: next_of", 1),
-            ("low.Numbers: next | row | examples/rows/b", 1),
-            ("low.Numbers: next | test | examples/one.py: next_of", 1),
-            ("low.Numbers: alone | python | examples/one.py: next_of", 1),
+            ("low.Numbers: next IsPair | python | tests/one.py: next_of", 0),
+            ("low.Numbers: next | row | tests/rows/a", 0),
+            ("low.Numbers: next | python | tests/one.py: other", 1),
+            ("low.Numbers: next | python | tests/two.py: next_of", 1),
+            ("low.Numbers: next | row | tests/rows/b", 1),
+            ("low.Numbers: next | test | tests/one.py: next_of", 1),
+            ("low.Numbers: alone | python | tests/one.py: next_of", 1),
         ):
             self.assertEqual(len(evidence.faults(world, every, evidence.evidence(line))), faults, line)
         with self.assertRaises(evidence.Wrong):
-            evidence.evidence("low.Numbers: next | rumour | examples/one.py: next_of")
+            evidence.evidence("low.Numbers: next | rumour | tests/one.py: next_of")
 
     def test_words_of_the_kit_need_a_line(self):
         every = promises.promises(made(self.room), PROMISES)

@@ -1,0 +1,62 @@
+"""Tests of the set-up: what is missed by whom, and what is said where nothing may be installed."""
+
+import contextlib
+import io
+import os
+import sys
+import unittest
+import unittest.mock
+from pathlib import Path
+
+sys.path.insert(0, str(Path(__file__).resolve().parent.parent))
+
+import setup
+
+TABLE = """# a remark
+
+shell | sh | gate | to begin with
+none | no-such-command | test | the tour
+later | no-such-either | bench | speed
+file | /no/such/file | test | pages
+"""
+
+
+class SetUp(unittest.TestCase):
+    def test_what_is_missing(self):
+        self.assertEqual([it.name for it in setup.packages(TABLE)], ["shell", "none", "later", "file"])
+        self.assertEqual([it.name for it in setup.missing(TABLE)], ["none", "file"])
+
+    def said(self, user, **environment):
+        """What is told for a user, and what was installed."""
+        installed = []
+        with contextlib.ExitStack() as patched, contextlib.redirect_stdout(io.StringIO()) as out:
+            patched.enter_context(unittest.mock.patch.dict(os.environ, environment))
+            patched.enter_context(unittest.mock.patch.object(os, "getuid", lambda: user))
+            patched.enter_context(unittest.mock.patch.object(setup, "install", lambda names: installed.extend(names)))
+            self.assertTrue(setup.setup(TABLE))
+        return out.getvalue(), installed
+
+    def test_each_part_that_is_left_out_is_named(self):
+        for user, environment, wanted in ((0, {}, ["none", "file"]), (0, {"SETUP": "no"}, []), (1000, {}, [])):
+            told, installed = self.said(user, **{"SETUP": "", **environment})
+            self.assertEqual(installed, wanted)
+            self.assertTrue(told.startswith("== this machine lacks of Debian: none, file (packages.txt)\n"))
+            self.assertTrue(told.endswith("NOT TRIED, as there is no no-such-command here: the tour\nNOT TRIED, as there is no /no/such/file here: pages\n"))
+
+    def test_nothing_is_said_where_nothing_is_missing(self):
+        with contextlib.redirect_stdout(io.StringIO()) as out:
+            self.assertTrue(setup.setup("shell | sh | gate | to begin with\n"))
+        self.assertEqual(out.getvalue(), "")
+
+    def test_nothing_begins_without_what_the_gate_needs(self):
+        with contextlib.redirect_stdout(io.StringIO()), unittest.mock.patch.dict(os.environ, {"SETUP": "no"}):
+            self.assertFalse(setup.setup("none | no-such-command | gate | to begin with\n"))
+
+    def test_the_table_says_what_for(self):
+        every = setup.packages(Path(setup.ROOT, "packages.txt").read_text())
+        self.assertEqual(len({it.name for it in every}), len(every))
+        self.assertTrue(all(it.name and it.mark and it.use and it.user in ("gate", "test", "bench", "snapshots") for it in every))
+
+
+if __name__ == "__main__":
+    unittest.main()

@@ -1,0 +1,1 @@
+"""Crashes at each call of the program on a file."""

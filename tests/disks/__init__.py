@@ -1,0 +1,1 @@
+"""Disks that are spelled from the tables of docs/DISK.md, apart from the program."""

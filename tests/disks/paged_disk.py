@@ -1,0 +1,46 @@
+"""A disk of a source with many resources, spelled in pages by the rule that commands follow (tests/reading/page_rule.py)."""
+import itertools
+
+from tests.reading import disk_parts as parts_of
+from tests.reading import page_rule
+from tests.reading.disk_formats import BLOCK, laid_out
+
+BODY = b"abc"
+# The blocks that are left for commands.
+ROOM = 8192
+
+
+def blocks(data):
+    return (len(data) + BLOCK - 1) // BLOCK
+
+
+def behind(first, parts):
+    """The first block of each part, one behind the other, and the block behind the last."""
+    return list(itertools.accumulate(map(blocks, parts), initial=first))
+
+
+def name(i):
+    return b"name%05d" % i
+
+
+def spelled(held, changes, shared=True):
+    """The bytes of a disk after so many resources of three bytes were put in the order of their names, and published.
+
+    So many of the last changes are kept, as if none was dropped. The published pages are those of the catalogue, or the same again in
+    other blocks.
+    """
+    records = [parts_of.record(name(i), BODY, i + 1, 2 + i) for i in range(held)]
+    created = [parts_of.change(1, name(i), i + 1, BODY) for i in range(held - changes, held)]
+    catalogue = [parts_of.page(1, it) for it in page_rule.cut(records)]
+    history = [parts_of.page(2, created[at : at + page_rule.MOST]) for at in range(0, changes, page_rule.MOST)]
+    pages = [*catalogue, *history, *([] if shared else catalogue)]
+    starts = behind(2 + held, pages)
+    entries = [parts_of.entry(*it) for it in zip(starts, pages)]
+    ours, rest = entries[: len(catalogue)], entries[len(catalogue) :]
+    theirs, listed = rest[: len(history)], rest[len(history) :]
+    last = held + 1
+    directory = parts_of.directory(last, number=1, at=last, lists=(ours, theirs, listed or ours), limit=4000)
+    slot = parts_of.slot(1, last, starts[-1], directory)
+    bodies = BODY.ljust(BLOCK, b"\0") * held
+    end = starts[-1] + blocks(directory) + ROOM
+    return laid_out(end, [(0, slot), (1, b"\0\2"), (2, bodies), *zip(starts, pages), (starts[-1], directory)])

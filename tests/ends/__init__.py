@@ -1,0 +1,1 @@
+"""Reads and writes of scripts and requests that fail in turn."""

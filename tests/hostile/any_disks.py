@@ -1,0 +1,310 @@
+"""The disks of the hunt (tests/hostile/disks.py), each made anew from its number and the seed.
+
+Each kind has a share of a hundred numbers. Four kinds go through all that they have, in an order that is spread out, and then on at
+random: each bit of a small disk, each edge of each field, each bit of each field, each cut of a part. The shares are such that
+100,000 disks have them all. Where a field is changed or a part cut, what points to it is spelled behind it, so lengths and SHA-256
+agree, and one rule stands alone.
+"""
+import math
+import random
+
+from tests.disks import made_disks
+from tests.disks.damaged_disks import directory_fields
+from tests.hostile import any_sources
+from tests.hostile.any_sources import BASES, NAMES, SPELLED, TYPES, any_source
+from tests.reading.disk_formats import BLOCK, CHANGES, OLD_VERSION, RECORDS, VERSION, change_fields
+from tests.reading.disk_formats import entry_fields, header_fields, laid_out, number, record_fields
+from tests.reading.disk_formats import slot_fields, spelled
+
+SMALL = made_disks.DISKS["two_puts_3584"]()
+# Steps through what a kind has, of which one has no factor in common with its number.
+STEPS = (7_919, 7_927)
+# 9999-12-31T23:59:59.999Z, and around the moments of the spelled sources.
+MOMENTS = (1, 999, 1000, 1001, 1003, 1004, 1007, 1008, 2**63, 253_402_300_799_999, 253_402_300_800_000, 2**64 - 2)
+# Blocks of the spelled sources, lengths of bodies and of pages, and the bounds of items, blocks and bodies.
+NUMBERS = (*range(1, 17), 511, 512, 513, 1024, 49_999, 50_000, 50_001, 8_388_607, 8_388_608, 16_777_216, 16_777_217, 2**31)
+MARKS = {1: (1, 2, 3, 4, 47, 127, 128, 240, 241), 2: (1, 2, 3_999, 4_000, 4_001), 4: NUMBERS, 8: MOMENTS}
+# How many parts may have been dropped where some were, and one more.
+FIRSTS = (2, 3, 7, 8)
+# The fields of moments.
+WHENS = ("moment", "last", "at", "start", "begin")
+SIZES = (0, 1, 512, 513, 1_024, 7_168, 65_536, 16_777_216, 16_777_217, 2**32 - 1)
+BAD_NAMES = [b"", b"a//b", b"a/", b"/a", b"/", b".", b"..", b"a/..", b"./a", b"a/./b", b"%", b"%4", b"%4g"]
+BAD_NAMES += [b"a b", b"a\0", b"\xff", b"n" * 241, b"n" * 255]
+BAD_TYPES = [b"", b"a", b"a/", b"/b", b"a/b ", b"a b/c", b"a/b\x7f", b"a/b\n", b"a/\xff", b"x/" + b"y" * 99, b"a" * 255]
+BAD_BASES = [b"", b"http://", b"https://", b"http://a/", b"ftp://abc", b"HTTP://a", b"http://a?", b"http://a b", b"https://" + b"a" * 121]
+TEXTS = {"name": NAMES + BAD_NAMES, "type": TYPES + BAD_TYPES, "base": BASES + BAD_BASES}
+
+
+def numbers(width, value, more=()):
+    """The edges of a number of so many bytes that has this value."""
+    every = {0, *more, *MARKS[width], value - 1, value + 1, 2 ** (8 * width) - 1}
+    return [number(it, width) for it in sorted(every - {value}) if 0 <= it < 2 ** (8 * width)]
+
+
+def set_to(field, value):
+    return f"{field}=x{value.hex()}"
+
+
+def edges(part, field, value):
+    """The changes that set a field to each of its edges. A text has its length set right; a page that it makes longer lies behind all others."""
+    where, name = f"{part}.{field}", field.rsplit(".")[-1]
+    if name in TEXTS:
+        texts = [it for it in TEXTS[name] if it != value]
+        moved = [f"{part}.block=12"] if part not in ("slot", "spare") else []
+        return [[set_to(f"{where}_length", number(len(it), 1)), set_to(where, it), *moved] for it in texts]
+    if name == "end":
+        return [[set_to(where, it)] for it in (b"\0", b"\1" * 44, b"\xff" * 600)]
+    if name in ("md5", "sha256"):
+        return [[set_to(where, it)] for it in (bytes(len(value)), b"\xff" * len(value), bytes([value[0] ^ 1]) + value[1:])]
+    more = FIRSTS if where == "directory.first" else ()
+    return [[set_to(where, it)] for it in numbers(len(value), int.from_bytes(value, "big"), more)]
+
+
+def lengths(part, of):
+    """The changes that set a length that has blocks beside it to each of its edges, and the blocks with it."""
+    pairs = [(f"{part}.{it}", f"{part}.{it.removesuffix('length')}blocks") for it in of if f"{it.removesuffix('length')}blocks" in of]
+    return [[f"{length}={size}", f"{blocks}={(size + BLOCK - 1) // BLOCK}"] for length, blocks in pairs if length != blocks for size in SIZES]
+
+
+def an_edge_of(fields, rng):
+    """The changes that set one of the fields to one of its edges."""
+    part = rng.choice(list(fields))
+    field, value = rng.choice(list(fields[part].items()))
+    return rng.choice([*edges(part, field, value), *lengths(part, {it: 0 for it in fields[part] if it.startswith(field.removesuffix("length"))})])
+
+
+def all_edges(fields):
+    single = [it for part, of in fields.items() for field, value in of.items() for it in edges(part, field, value)]
+    return single + [it for part, of in fields.items() for it in lengths(part, of)]
+
+
+def with_bit(part, field, value, bit):
+    return [set_to(f"{part}.{field}", (int.from_bytes(value, "big") ^ (1 << bit)).to_bytes(len(value), "big"))]
+
+
+def a_bit_of(fields, rng):
+    """The change that turns one bit of one of the fields that have any."""
+    part = rng.choice(list(fields))
+    field, value = rng.choice([it for it in fields[part].items() if it[1]])
+    return with_bit(part, field, value, rng.randrange(8 * len(value)))
+
+
+def all_bits(fields):
+    """Each field with each of its bits turned."""
+    every = [(part, field, value) for part, of in fields.items() for field, value in of.items()]
+    return [with_bit(*it, bit) for it in every for bit in range(8 * len(it[2]))]
+
+
+def cuts(part, of):
+    """A part that ends after each number of bytes, and, where it is a page, one that has no items and says so."""
+    each = [[f"{part}.front={size}"] for size in range(sum(map(len, of.values())))]
+    return each + ([[f"{part}.count=0", f"{part}.front=5"]] if "count" in of else [])
+
+
+def a_cut_of(fields, rng):
+    return rng.choice(cuts(*rng.choice(list(fields.items()))))
+
+
+CUTS = [(name, it) for name in ("sound", "two_change_pages") for part in SPELLED[name].fields().items() for it in cuts(*part)]
+EDGES = [(name, it) for name in any_sources.FIELDS for it in all_edges(SPELLED[name].fields())]
+BITS = [("sound", it) for it in all_bits(SPELLED["sound"].fields())]
+
+
+def spread(index, size):
+    """A place below the size, each once in so many indices."""
+    return index * next(it for it in STEPS if math.gcd(it, size) == 1) % size
+
+
+def turned(disk, bit):
+    return disk[: bit // 8] + bytes([disk[bit // 8] ^ (1 << bit % 8)]) + disk[bit // 8 + 1 :]
+
+
+def a_bit_turned(index, rng):
+    """One bit of the small disk, then some of any."""
+    if index < 8 * len(SMALL):
+        bit = spread(index, 8 * len(SMALL))
+        return f"bit {bit} of the small disk", turned(SMALL, bit)
+    disk = any_source(rng)()
+    bits = [rng.randrange(8 * len(disk)) for _ in range(rng.randrange(1, 4))]
+    for bit in bits:
+        disk = turned(disk, bit)
+    return f"bits {bits} of a source", disk
+
+
+def of_all(every, otherwise, index, rng):
+    """The changes at an index of those that there are, or, behind them, of a random source."""
+    if index < len(every):
+        name, changes = every[spread(index, len(every))]
+        return f"{name} {' '.join(changes)}", SPELLED[name](*changes)
+    disk = any_sources.at_random(rng)
+    changes = otherwise(disk.fields(), rng)
+    return f"a random source, {' '.join(changes)}", disk(*[it for it in changes if ".block=" not in it])
+
+
+def a_bit_turned_and_righted(index, rng):
+    return of_all(BITS, a_bit_of, index, rng)
+
+
+def an_edge(index, rng):
+    return of_all(EDGES, an_edge_of, index, rng)
+
+
+def a_part_cut(index, rng):
+    return of_all(CUTS, a_cut_of, index, rng)
+
+
+def some_edges(index, rng):
+    """Two to four fields at once, and some at equal values."""
+    name = rng.choice(list(SPELLED))
+    fields = SPELLED[name].fields()
+    chosen = {}
+    for _ in range(rng.randrange(2, 5)):
+        chosen |= {it.split("=")[0]: it for it in an_edge_of(fields, rng)}
+    if rng.random() < 0.4:
+        moment = rng.choice(MOMENTS)
+        wide = [f"{part}.{it}" for part, of in fields.items() for it in of if it.rsplit(".")[-1] in WHENS]
+        chosen |= {it: f"{it}={moment}" for it in rng.sample(wide, min(len(wide), rng.randrange(1, 4)))}
+    return f"{name} {' '.join(chosen.values())}", SPELLED[name](*chosen.values())
+
+
+def truncated(index, rng):
+    """Cut at any byte or next to the end of a block, and perhaps as long as it was, of zeros or ones."""
+    disk = any_source(rng)()
+    ends = [rng.randrange(len(disk) + 1), max(0, rng.randrange(len(disk) // BLOCK + 1) * BLOCK + rng.choice((-1, 0, 1)))]
+    size, fill = rng.choice(ends), rng.choice((None, None, b"\0", b"\xff"))
+    cut = disk[:size]
+    return f"a source cut at {size}, filled with {fill}", cut if fill is None else cut.ljust(len(disk), fill)
+
+
+def doubled(index, rng):
+    """Twice the whole, each block twice, its front twice, or one run of blocks in the place of another, too."""
+    disk = any_source(rng)()
+    blocks = [disk[at : at + BLOCK] for at in range(0, len(disk), BLOCK)]
+    way, at, to = rng.randrange(5), rng.randrange(len(blocks)), rng.randrange(len(blocks))
+    run = rng.randrange(1, 5)
+    ways = [
+        lambda: disk + disk,
+        lambda: b"".join(it + it for it in blocks),
+        lambda: disk[: at * BLOCK] + disk,
+        lambda: b"".join(blocks[:to] + blocks[at : at + run] + blocks[to + run :]),
+        lambda: disk[:BLOCK] + disk[:BLOCK] + disk[2 * BLOCK :],
+    ]
+    return f"a source doubled in way {way}, blocks {at} and {to}", ways[way]()
+
+
+def with_slot(disk, at, source, generation):
+    """A disk with the open root of another one in one of its slots."""
+    opened = next(it for it in (source[:BLOCK], source[BLOCK : 2 * BLOCK]) if it[0] == 1)
+    return disk[: at * BLOCK] + opened[:2] + number(generation, 8) + opened[10:] + disk[(at + 1) * BLOCK :]
+
+
+def spliced(index, rng):
+    """The front of one and the rest of another, blocks of both, or the root of one in a slot of the other."""
+    one, other = any_source(rng)(), any_source(rng)()
+    way, cut, slot = rng.randrange(4), rng.randrange(len(one) + 1), rng.randrange(2)
+    picked = [rng.choice((one, other))[at : at + BLOCK] for at in range(0, max(len(one), len(other)), BLOCK)]
+    ways = [
+        lambda: one[:cut] + other[cut:],
+        lambda: one[: cut // BLOCK * BLOCK] + other[cut // BLOCK * BLOCK :],
+        lambda: b"".join(picked),
+        lambda: with_slot(one, slot, other, rng.choice((0, 1, 2, 2**64 - 1))),
+    ]
+    return f"two sources spliced in way {way}, at {cut}", ways[way]()
+
+
+def any_number(rng, width):
+    return rng.choice((*numbers(width, 0), rng.randbytes(width)))
+
+
+def any_extent(rng):
+    """Blocks, or whatever 8 bytes say."""
+    return number(rng.randrange(20)) + number(rng.randrange(4)) if rng.random() < 0.8 else any_number(rng, 4) + any_number(rng, 4)
+
+
+def any_page(rng, kind):
+    """A page of right items, some of them with wrong facts, or of random bytes."""
+    way, names = rng.randrange(4), sorted(rng.sample(NAMES, rng.randrange(1, 5)))
+    if way == 0:
+        return rng.randbytes(rng.randrange(600))
+    count = any_number(rng, 4) if way == 1 else number(len(names))
+    if way < 3:
+        return number(kind, 1) + count + rng.randbytes(rng.randrange(400))
+    body = rng.randbytes(rng.choice((0, 5, 513)))
+    if kind == RECORDS:
+        items = [record_fields(it, body, 1001 + i, 9 + 2 * i) for i, it in enumerate(names)]
+    else:
+        items = [change_fields(rng.choice((1, 2, 3)), it, 1001 + i, body) for i, it in enumerate(names)]
+    for it in items:
+        if rng.random() < 0.2:
+            field = rng.choice(list(it))
+            it[field] = rng.choice((rng.randbytes(len(it[field])), any_number(rng, 1), b""))
+    return number(kind, 1) + count + b"".join(map(spelled, items))
+
+
+def random_directory(rng):
+    """Random bytes, behind a right header or not."""
+    header = spelled(header_fields(last=1004, start=1000, at=1004)) if rng.random() < 0.7 else b""
+    counts = b"".join(rng.choice((number(rng.randrange(3)), any_number(rng, 4))) for _ in range(3)) if header else b""
+    entries = [any_extent(rng) + any_number(rng, 4) + rng.randbytes(32) for _ in range(rng.randrange(5))]
+    return header + counts + rng.choice((b"".join(entries), rng.randbytes(rng.randrange(300))))
+
+
+def behind_a_right_root(index, rng):
+    """A slot, and often a directory, that are right; what they point to is random."""
+    pages = []
+    if rng.random() < 0.3:
+        directory = random_directory(rng)
+    else:
+        kinds = {name: kind for name, kind in (("held", RECORDS), ("changes", CHANGES), ("listed", RECORDS)) if rng.random() < 0.7}
+        pages = [(3 + 2 * i, any_page(rng, kind)) for i, kind in enumerate(kinds.values())]
+        entries = {name: entry_fields(*it) for name, it in zip(kinds, pages)}
+        directory = spelled(directory_fields(header_fields(last=rng.choice((1004, 1004, 1004, 1005)), start=1000, at=1004), entries))
+    slot = spelled(slot_fields(1, 1, 2, directory, rng.choice((OLD_VERSION, *7 * (VERSION,)))))
+    return "random bytes behind a right root", laid_out(16, [(9, rng.randbytes(6 * BLOCK)), (0, slot), (2, directory), *pages])
+
+
+def random_source(index, rng):
+    """What random commands lead to, as it is or with some edges."""
+    disk = any_sources.at_random(rng)
+    fields, chosen = disk.fields(), {}
+    for _ in range(rng.choice((0, 0, 1, 1, 2))):
+        chosen |= {it.split("=")[0]: it for it in an_edge_of(fields, rng) if ".block=" not in it}
+    return f"a random source, {' '.join(chosen.values()) or 'as it is'}", disk(*chosen.values())
+
+
+def scribbled(index, rng):
+    """Some places of a source with other bytes, behind its slots."""
+    disk = bytearray(any_source(rng)())
+    for _ in range(rng.randrange(1, 5)):
+        at, size = rng.randrange(3 * BLOCK, len(disk)), rng.choice((1, 1, 8, 100, 600))
+        data = rng.choice((rng.randbytes(size), bytes(size), b"\xff" * size))[: len(disk) - at]
+        disk[at : at + len(data)] = data
+    return "a source that was scribbled on", bytes(disk)
+
+
+# So many of a hundred disks are of each kind.
+SHARES = {
+    a_bit_turned: 29,
+    an_edge: 33,
+    a_bit_turned_and_righted: 8,
+    random_source: 5,
+    some_edges: 5,
+    spliced: 4,
+    behind_a_right_root: 4,
+    scribbled: 4,
+    a_part_cut: 3,
+    truncated: 3,
+    doubled: 2,
+}
+# The kinds of a hundred numbers, spread out.
+TURNS = [it for _, it in sorted((((i + 0.5) / share, k), kind) for k, (kind, share) in enumerate(SHARES.items()) for i in range(share))]
+
+
+def disk_of(seed, at):
+    """What was done, and the bytes, of the disk of this number."""
+    hundred, turn = divmod(at, len(TURNS))
+    kind = TURNS[turn]
+    index = hundred * SHARES[kind] + TURNS[:turn].count(kind)
+    what, disk = kind(index, random.Random(f"{seed} {at}"))
+    return f"{kind.__name__}: {what}", disk

@@ -1,0 +1,268 @@
+"""The requests of the hunt (tests/hostile/requests.py), a round of them made anew from its number and the seed.
+
+A round has some of the requests that have one part at an edge, some lawful requests with a byte changed, and random
+ones, most of which have a part or two that they should not have. All edges, and each change of each byte of some
+requests, come up in turn.
+"""
+import collections
+import itertools
+import random
+
+from tests.hostile import made_scripts
+from tests.hostile.made_fields import BAD_NAMES, BAD_TYPES, HEADS, NAMES, PATHS, TYPES, all_changes, changed
+from tests.hostile.made_fields import pieces_of, scribbled
+from tests.hostile.made_scripts import in_turn
+
+# What the request is, its bytes, how they are given, and how the client ends: its sending alone, all at once, or by a
+# reset.
+Made = collections.namedtuple("Made", "what data way pieces ending")
+EDGES_IN, CHANGES_IN, MORE = 110, 100, 190
+REQUESTS_IN = EDGES_IN + CHANGES_IN + MORE
+# No body is longer than this, but those that are longer than any disk here.
+LONG = 60_000
+HOST = (b"Host", b"a")
+METHODS = [
+    b"GET", b"HEAD", b"PUT", b"DELETE", b"POST", b"OPTIONS", b"PATCH", b"TRACE", b"CONNECT", b"get", b"Put",
+    b"GETS", b"GE", b"G",
+]
+BAD_METHODS = [b"", b"G(T", b"GET,", b"G\xc3T", b"GET\t", b"\0", b"P:UT", b"!#$%&'*+-.^_`|~", b"M" * 300]
+VERSIONS = [
+    b"HTTP/1.1", b"HTTP/1.0", b"HTTP/1.2", b"HTTP/1.9", b"HTTP/2", b"HTTP/2.0", b"HTTP/0.9", b"http/1.1",
+    b"HTTP/1.", b"HTTP/1.11", b"HTTP/1.1x", b"HTTP/01.1", b"HTTP/1,1", b"HTTP", b"", b"HTTP/1.1 ", b" HTTP/1.1",
+    b"HTTP/1.1\t", b"HTTPS/1.1", b"1.1",
+]
+LENGTHS = [
+    b"0", b"00", b"3", b"003", b"000000000000000003", b"0000000000000000003", b"1", b"4", b"999999999999999999",
+    b"1000000000000000000", b"16777216", b"16777217", b"", b"+3", b"-1", b"-3", b"0x3", b"3.0", b"3 3", b"3, 3",
+    b"3,", b"3;", b"a", b"3/", b"3:", b"\xd9\xa3", b"1e0", b"3_", b"'3'", b"18446744073709551619", b"4294967299",
+]
+ENCODINGS = [b"chunked", b"identity", b"", b"gzip, chunked", b"Chunked", b"\xff", b"0"]
+EXPECTATIONS = [
+    b"100-continue", b"100-Continue", b"100-CONTINUE", b"100-continue ", b"100-continue, x", b"x, 100-continue",
+    b"101-continue", b"", b"100", b"100-continue;a=b", b'"100-continue"', b"100-continu", b"100-continuee",
+]
+SCHEMES = [
+    b"http://", b"HTTP://", b"hTTps://", b"https://", b"httpx://", b"ftp://", b"http:/", b"http:", b"://",
+    b"https:///",
+]
+AUTHORITIES = [
+    b"", b"a", b"127.0.0.1:8080", b"user@a?x", b"a#b", b"[::1]:80", b"a:b@c", b"%2F", b"\xc3\xa9", b"http:",
+]
+LINES = [
+    b"A:", b"A:b", b"A :b", b"A\t:b", b": b", b"A", b" A: b", b"\tA: b", b"A: b\0", b"A: b\x7f", b"A: b\x01",
+    b"A: b\tc", b"A: \xff", b"A: b\r", b"A:\rb", b"A;: b", b"A(: b", b"\xc3: b", b"A\0: b", b"A: b\r\n c",
+    b"A: b\r\n\tc", b"A::", b"A: :", b"A:" + b" " * 50, b"!#$%&'*+-.^_`|~: b", b'"A": b', b"[A]: b", b"A=b",
+    b"A@: b", b"A: " + b"y" * 500, b"Host", b"Host:", b"Host;", b"Content-Length",
+]
+FRONTS = [
+    b"\r\n", b"\n", b"\r", b"\r\n\r\n", b"\n\n", b"\n\r\n", b"\r\n\n", b" ", b"\t", b"\0", b"\xef\xbb\xbf",
+    b"\x16\x03\x01\x02\x00\x01\x00",
+]
+TEMPLATES = [
+    b"GET /resourcelist.xml HTTP/1.1\r\nHost: a\r\n\r\n",
+    b"PUT /resource/a/b HTTP/1.1\r\nHost: a\r\nContent-Length: 3\r\nContent-Type: a/b\r\n"
+    b"Expect: 100-continue\r\n\r\nabc",
+    b"HEAD http://a/resource/a/b HTTP/1.0\r\nA:b\r\n\r\n", b"POST /publish HTTP/1.1\nHost:a\n\n",
+    b"DELETE /resource/a/b HTTP/1.1\r\nHost: a\r\n\r\n", b"GET /changelist/1.xml HTTP/1.0\n\n",
+    b"POST /group HTTP/1.1\nHost:a\nContent-Length: 23\n\nput c - a/b\r\ndelete a/b",
+]
+
+
+OTHERS = [
+    (b"Accept", b"*/*"), (b"X-A", b"b"), (b"User-Agent", b"a (b) c/1"), (b"Connection", b"keep-alive"),
+    (b"If-None-Match", b'"a"'),
+]
+SPACES = [b"", b" ", b"\t ", b" \t"]
+VALUES = {
+    b"Host": [b"a", b""],
+    b"Content-Length": LENGTHS,
+    b"Transfer-Encoding": ENCODINGS,
+    b"Expect": EXPECTATIONS,
+    b"Content-Type": TYPES + BAD_TYPES,
+}
+
+
+def request(method=b"GET", target=b"/resource/a", version=b"HTTP/1.1", fields=(HOST,), body=b"", end=b"\r\n"):
+    """The bytes of a request."""
+    lines = [b"%s %s %s" % (method, target, version), *(b"%s: %s" % it for it in fields), b""]
+    return b"".join(it + end for it in lines) + body
+
+
+def put(*fields, target=b"/resource/a", version=b"HTTP/1.1", body=b"abc", length=b"3"):
+    return request(b"PUT", target, version, [HOST, (b"Content-Length", length), *fields], body)
+
+
+def with_line(line, method=b"GET"):
+    """A request that has this among its lines."""
+    return b"%s /resource/a HTTP/1.0\r\nB: c\r\n%s\r\nD: e\r\n\r\n" % (method, line)
+
+
+def of_length(length, method, end, ends):
+    """A head of so many bytes, or its front, which has no end, of so many."""
+    front = b"%s /resource/a HTTP/1.0%sX: " % (method, end)
+    filling = b"y" * (length - len(front) - (2 * len(end) if ends else 0))
+    return front + filling + (2 * end if ends else b"")
+
+
+def of_fields(count, method, field=b"A: b\r\n"):
+    return b"%s /resource/a HTTP/1.0\r\n%sHost: a\r\n\r\n" % (method, field * (count - 1))
+
+
+def edges_of_fields():
+    """One field, or two of a name, at each edge."""
+    methods, versions = (b"GET", b"HEAD", b"PUT", b"POST", b"DELETE"), VERSIONS[:2]
+    counts = [[HOST] * count for count in range(4)]
+    counts += [[it] for it in itertools.product((b"hOST", b"Hosts", b"Hos", b"HOST"), (b"", b"a b"))]
+    found = [request(method, version=it, fields=fields) for method in methods for it in versions for fields in counts]
+    lengths = [(b"cONTENT-lENGTH", it) for it in LENGTHS]
+    found += [request(method, fields=[HOST, it], body=b"abc") for method in methods[1:3] for it in lengths]
+    found += [put((b"Content-Length", it)) for it in LENGTHS[:4]]
+    encodings = [*itertools.product((b"TE", b"transfer-ENCODING"), ENCODINGS)]
+    found += [request(method, fields=[HOST, it]) for method in methods[:3] for it in encodings]
+    found += [put((b"Content-Type", it)) for it in TYPES + BAD_TYPES]
+    found += [put((b"Content-Type", b"a/b"), (b"content-type", it)) for it in (b"a/b", b"c/d", b"")]
+    every = itertools.product(EXPECTATIONS, versions, (b"0", b"3", b"16777216", b"16777217"))
+    found += [put((b"Expect", it), version=version, length=length) for it, version, length in every]
+    found += [put((b"Expect", b"x"), (b"EXPECT", b"100-continue"))]
+    return found + [put((b"Expect", b"100-continue"), (b"Expect", b"x"))]
+
+
+def edges_of_groups():
+    """Posted groups, each with one part at its edge."""
+    lines = (b"", b"\n", b"\r\n", b"put a - a/b", b"put a - a/b\n", b"put a - a/b\r\n", b"put a - a/b\r", b"put a - a/b\n\n")
+    lines += (b"delete none", b"put a 6 a/b\nput", b"put a - a\nput a 6 a/b", b"at 5", b"publish", b"group 1\nput a - a/b")
+    lines += tuple(b"put a - a/b\n" * count for count in (16, 17, 40))
+    found = [request(b"POST", b"/group", fields=[HOST, (b"Content-Length", b"%d" % len(it))], body=it) for it in lines]
+    lengths = [(b"Content-Length", it) for it in LENGTHS]
+    found += [request(b"POST", b"/group", fields=[HOST, it], body=b"put a - a/b") for it in lengths]
+    found += [request(it, b"/group", fields=[HOST, (b"Content-Length", b"0")]) for it in METHODS]
+    kinds = [(b"Content-Type", it) for it in BAD_TYPES]
+    return found + [request(b"POST", b"/group", fields=[HOST, (b"Content-Length", b"11"), it], body=b"put a - a/b") for it in kinds]
+
+
+def edges_of_heads():
+    """Heads that are too long, or that have too many fields, or a line that is none, each at its edge."""
+    styles = list(itertools.product((b"GET", b"HEAD", b"PUT"), (b"\r\n", b"\n"), (True, False)))
+    found = [of_length(length, *it) for length in range(8_189, 8_196) for it in styles]
+    counts = itertools.product((1, 31, 32, 33, 34, 300), (b"GET", b"HEAD", b"PUT", b"OPTIONS"))
+    found += [of_fields(*it) for it in counts]
+    found += [b"GET / HTTP/1.0\n" + b"A:\n" * count + b"\n" for count in (2_724, 2_725, 2_726)]
+    found += [with_line(it, method) for it in LINES for method in (b"GET", b"HEAD")]
+    found += [it + request(method) for it in FRONTS for method in (b"GET", b"HEAD")]
+    found += [request(end=end) for end in (b"\n", b"\r", b"\r\r\n", b"\n\r", b"", b" \r\n")]
+    spaces = itertools.product((b" ", b"  ", b"\t", b"", b" \t"), repeat=2)
+    return found + [b"GET%s/resource/a%sHTTP/1.0\r\n\r\n" % it for it in spaces]
+
+
+def edges_of_first_lines():
+    """Each method, target and version."""
+    targets = [b"/resource/a", b"/resource/", b"/resourcelist.xml", b"/changelist/7.xml", b"/publish", b"/"]
+    found = [request(method, target) for method in METHODS + BAD_METHODS for target in targets]
+    found += [request(method, version=version) for method in (b"GET", b"HEAD", b"PUT") for version in VERSIONS]
+    found += [request(method, it) for method in (b"GET", b"DELETE") for it in PATHS]
+    found += [request(method, b"/resource/" + it) for method in (b"GET", b"DELETE") for it in BAD_NAMES]
+    found += [put(target=b"/resource/" + it) for it in NAMES + BAD_NAMES]
+    found += [request(target=scheme + it + b"/resource/a") for scheme in SCHEMES for it in AUTHORITIES]
+    paths = (b"", b"/", b"//", b"/changelist.xml", b"?/publish")
+    return found + [request(target=scheme + b"a" + it) for scheme in SCHEMES for it in paths]
+
+
+EDGES = [*edges_of_fields(), *edges_of_groups(), *edges_of_heads(), *edges_of_first_lines()]
+CHANGES = all_changes(len(TEMPLATES), [len(it) for it in TEMPLATES])
+random.Random(3).shuffle(EDGES)
+random.Random(4).shuffle(CHANGES)
+
+
+class Maker:
+    """Makes random requests, and knows about how far they have moved the source on."""
+
+    def __init__(self, rng, limit):
+        self.rng, self.lines = rng, made_scripts.Maker(rng, limit)
+
+    def put(self):
+        self.lines.changes += 1
+        body = self.rng.randbytes(self.rng.choice((0, 0, 1, 3, 40, 511, 512, 513, 4_095, 4_096, 4_097, 9_000)))
+        if self.rng.random() < 0.003:
+            body = self.rng.randbytes(self.rng.randrange(LONG))
+        fields = [(b"Content-Length", b"%d" % len(body))]
+        fields += [(b"Content-Type", self.rng.choice(TYPES))] if self.rng.random() < 0.7 else []
+        fields += [(b"Expect", b"100-continue")] if self.rng.random() < 0.3 else []
+        return b"PUT", self.lines.resource(), fields, body
+
+    def delete(self):
+        self.lines.changes += 1
+        return b"DELETE", self.lines.resource(), [], b""
+
+    def publish(self):
+        self.lines.number += 1
+        return b"POST", b"/publish", [], b""
+
+    def group(self):
+        """The items of a group of a script, and rarely more of them than there may be."""
+        body = self.lines.group().split(b"\n", 1)[1]
+        body = b"\n".join([body] * 9) if self.rng.random() < 0.05 else body
+        body += self.rng.choice((b"\n", b"\r\n", b"", b"\n\n"))
+        fields = [(b"Content-Length", b"%d" % len(body))]
+        fields += [(b"Expect", b"100-continue")] if self.rng.random() < 0.3 else []
+        return b"POST", b"/group", fields, body
+
+    def get(self):
+        return self.rng.choice((b"GET", b"GET", b"GET", b"HEAD")), self.lines.show()[len(b"show ") :], [], b""
+
+    def lawful(self):
+        """The parts of a request that is mostly accepted."""
+        kinds = ((self.put, 35), (self.delete, 9), (self.group, 6), (self.publish, 8), (self.get, 42))
+        method, target, fields, body = self.rng.choices([it for it, _ in kinds], [it for _, it in kinds])[0]()
+        target = self.rng.choice(SCHEMES[:4]) + b"a:1" + target if self.rng.random() < 0.05 else target
+        fields = [HOST, *fields, *self.rng.sample(OTHERS, self.rng.choice((0, 0, 1, 3)))]
+        self.rng.shuffle(fields)
+        version = b"HTTP/1.1" if self.rng.random() < 0.85 else b"HTTP/1.0"
+        return {"method": method, "target": target, "version": version, "fields": fields, "body": body}
+
+    def spoil(self, parts):
+        """One part as it should not be, or as it need not be."""
+        rng, fields, name = self.rng, parts["fields"], self.rng.choice(list(VALUES))
+        value, bad_name = rng.choice(VALUES[name]), b"/resource/" + rng.choice(BAD_NAMES)
+        ways = [
+            lambda: {"method": rng.choice(METHODS + BAD_METHODS)},
+            lambda: {"target": rng.choice((bad_name, rng.choice(PATHS), rng.choice(HEADS)))},
+            lambda: {"version": rng.choice(VERSIONS)},
+            lambda: {"fields": [it for it in fields if it != rng.choice(fields)] if fields else []},
+            lambda: {"fields": [*fields, (name, value)]},
+            lambda: {"fields": [(name, value), *fields]},
+            lambda: {"fields": [(name, value) if it[0] == name else it for it in fields]},
+            lambda: {"fields": [*fields, *[(b"A", b"b")] * rng.choice((28, 29, 30, 31, 32, 33))]},
+            lambda: {"fields": [(it.swapcase(), rng.choice(SPACES) + text) for it, text in fields]},
+            lambda: {"fields": [(it, text + rng.choice(SPACES)) for it, text in fields]},
+            lambda: {"body": parts["body"][: rng.randrange(len(parts["body"]) + 1)]},
+            lambda: {"body": parts["body"] + rng.choice((b"x", b"\r\n", TEMPLATES[0], rng.randbytes(500)))},
+            lambda: {"end": b"\n"},
+        ]
+        return {**parts, **rng.choice(ways)()}
+
+    def any(self):
+        """The bytes of a request with some parts that it should not have, or some bytes."""
+        parts = self.lawful()
+        for _ in range(self.rng.choice((0, 0, 0, 1, 1, 2, 3))):
+            parts = self.spoil(parts)
+        data = request(**parts)
+        data = scribbled(self.rng, data) if self.rng.random() < 0.1 else data
+        return data[: self.rng.randrange(len(data) + 1)] if self.rng.random() < 0.05 else data
+
+
+def given(rng, what, data):
+    """A request, how it is given, and how its client ends."""
+    last = "bytes" if len(data) < 1_000 or rng.random() < 0.03 else "random"
+    way = rng.choice(("whole", "whole", "whole", "random", last))
+    ending = rng.choices(("half", "leave", "reset"), (94, 4, 2))[0]
+    return Made(f"{what}, given {way}, ended by {ending}", data, way, pieces_of(rng, data, way), ending)
+
+
+def requests_of(rng, number, limit):
+    """The requests of the round of this number."""
+    maker = Maker(rng, limit)
+    turns = [("an edge", it) for it in in_turn(EDGES, number, EDGES_IN)]
+    turns += [("a change", changed(TEMPLATES[it], at, way)) for it, at, way in in_turn(CHANGES, number, CHANGES_IN)]
+    rng.shuffle(turns)
+    every = made_scripts.mixed(rng, turns, [("at random", maker.any()) for _ in range(MORE)])
+    return [given(rng, *it) for it in every]

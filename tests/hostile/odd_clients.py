@@ -1,0 +1,187 @@
+"""Clients that leave, stay silent or reset their connection at a server, and plain requests to it between them.
+
+The server has the system's own clock: the date of each response has the form of HTTP and lies within the run, and so
+do the moments of its changes, which rise strictly. tests/system/edges.py has the faults of a connection at which
+the system has to be held up.
+"""
+import contextlib
+import datetime
+import email.utils
+import os
+import pathlib
+import random
+import re
+import socket
+import subprocess
+import time
+
+from tests.reading.request_judge import date_of, response
+from tests.served_source import Ended, connected, exchanged, read_to_end, reset, served
+
+SIZE, LARGE = 20_000_000, 8_000_000
+HOST = b"HTTP/1.1\r\nHost: a\r\n"
+GET_LARGE = b"GET /resource/large " + HOST + b"\r\n"
+CUT_PUT = b"PUT /resource/cut " + HOST + b"Content-Length: 1000\r\n\r\nabc"
+DATE = re.compile(rb"\r\nDate: ([^\r\n]*)\r\n")
+
+
+def connects_and_leaves(port):
+    connected(port).close()
+
+
+def connects_and_resets(port):
+    reset(connected(port))
+
+
+def sends_nothing_and_waits(port):
+    with connected(port) as it:
+        it.shutdown(socket.SHUT_WR)
+        if (found := read_to_end(it)) != (b"", False):
+            raise Ended(f"no byte was sent, and {found!r} came back")
+
+
+def leaves_within_a_head(port):
+    with connected(port) as it:
+        it.sendall(GET_LARGE[:20])
+
+
+def leaves_within_a_body(port):
+    with connected(port) as it:
+        it.sendall(CUT_PUT)
+
+
+def resets_within_a_body(port):
+    with connected(port) as it:
+        it.sendall(CUT_PUT)
+        reset(it)
+
+
+def leaves_before_the_answer(port):
+    with connected(port) as it:
+        it.sendall(GET_LARGE)
+
+
+def leaves_while_it_is_answered(port):
+    with connected(port) as it:
+        it.sendall(GET_LARGE)
+        it.recv(1_000)
+
+
+def resets_while_it_is_answered(port):
+    with connected(port) as it:
+        it.sendall(GET_LARGE)
+        it.recv(100_000)
+        reset(it)
+
+
+def ends_both_sides_while_it_is_answered(port):
+    with connected(port) as it:
+        it.sendall(GET_LARGE)
+        it.recv(1)
+        it.shutdown(socket.SHUT_RDWR)
+
+
+def leaves_with_the_word_to_go_on(port):
+    with connected(port) as it:
+        it.sendall(CUT_PUT.replace(b"\r\n\r\nabc", b"\r\nExpect: 100-continue\r\n\r\n"))
+        it.recv(1_000)
+
+
+def sends_on_and_never_reads(port):
+    with connected(port) as it, contextlib.suppress(ConnectionError):
+        it.sendall(b"POST /resource/large " + HOST + b"\r\n" + b"x" * 1_000_000)
+
+
+def sends_on_behind_an_answer(port):
+    with connected(port) as it, contextlib.suppress(ConnectionError):
+        it.sendall(b"GET /changelist.xml " + HOST + b"\r\n" + b"x" * 1_000_000)
+
+
+CLIENTS = [
+    connects_and_leaves, connects_and_resets, sends_nothing_and_waits, leaves_within_a_head, leaves_within_a_body,
+    resets_within_a_body, leaves_before_the_answer, leaves_while_it_is_answered, resets_while_it_is_answered,
+    ends_both_sides_while_it_is_answered, leaves_with_the_word_to_go_on, sends_on_and_never_reads,
+    sends_on_behind_an_answer,
+]
+
+
+class Plain:
+    """Plain requests, each of which has to be answered well at any time."""
+
+    def __init__(self, port):
+        self.port, self.started, self.asked, self.puts = port, int(time.time()), 0, 0
+
+    def dated(self, found):
+        """The date of a response, which has the form of HTTP and lies within the run."""
+        date = DATE.search(found)
+        date = date[1].decode() if date else ""
+        with contextlib.suppress(ValueError, TypeError):
+            second = int(email.utils.parsedate_to_datetime(date).timestamp())
+            if date == date_of(second * 1_000) and self.started <= second <= time.time():
+                return date
+        raise Ended(f"the date {date!r} is none of HTTP within the run, in {found[:200]!r}")
+
+    def ask(self, sent, status, kind, body):
+        """One request, and what has to come back, but for its date."""
+        self.asked += 1
+        found, _ = exchanged(self.port, [sent])
+        wanted = response(status, self.dated(found), kind, body)
+        if found != wanted:
+            raise Ended(f"{sent[:60]!r}: wanted {wanted[:300]!r}, found {found[:300]!r}")
+
+    def put(self, name, body):
+        self.puts += 1
+        head = b"PUT /resource/%s %sContent-Type: a/b\r\nContent-Length: %d\r\n\r\n" % (name, HOST, len(body))
+        self.ask(head + body, 201, "", b"")
+
+    def get(self, name, body):
+        self.ask(b"GET /resource/%s %s\r\n" % (name, HOST), 200, "a/b", body)
+
+
+def shuffled(times):
+    """Each client so many times, in a random order."""
+    every = CLIENTS * times
+    random.Random(5).shuffle(every)
+    return every
+
+
+def moments_of(program, file):
+    """The moments of the changes on a file, in seconds since 1970."""
+    ran = subprocess.run([program, "run", file], input=b"show /changelist.xml", capture_output=True, check=True)
+    texts = re.findall(rb' datetime="([^"]*)Z"', ran.stdout)
+    return [datetime.datetime.fromisoformat(f"{it.decode()}+00:00").timestamp() for it in texts]
+
+
+def visit(port, plain, body, times):
+    """All clients, and a plain request behind each."""
+    for number, client in enumerate(shuffled(times)):
+        client(port)
+        try:
+            plain.put(b"p%d" % number, b"x") if number % 4 == 0 else plain.get(b"small", body)
+        except (Ended, OSError) as fault:
+            raise Ended(f"behind a client that {client.__name__}: {fault!r}") from None
+
+
+def look(program, folder, times):
+    """Tells what is wrong where each client comes so many times. Gives 1 where anything is, and else 0."""
+    file, clients = os.path.join(folder, "clients.disk"), len(CLIENTS) * times
+    body, started = b"small", time.time()
+    pathlib.Path(file).unlink(missing_ok=True)
+    subprocess.run([program, "format", file, str(SIZE), "http://a", "4000"], check=True, capture_output=True)
+    try:
+        with served(program, file, 2 * clients + 3) as port:
+            plain = Plain(port)
+            plain.put(b"large", os.urandom(LARGE))
+            plain.put(b"small", body)
+            visit(port, plain, body, times)
+            plain.get(b"small", body)
+        moments = moments_of(program, file)
+        if len(moments) != plain.puts or moments != sorted(set(moments)):
+            raise Ended(f"{plain.puts} puts, and {len(moments)} moments, which have to rise: {moments[:5]}")
+        if not int(started) <= moments[0] <= moments[-1] <= time.time() + 1:
+            raise Ended(f"the moments {moments[0]} to {moments[-1]} are not those of the run")
+    except (Ended, OSError) as fault:
+        print(f"clients: {fault}")
+        return 1
+    print(f"{clients} clients left, stayed silent or reset; {plain.asked} plain requests were answered well")
+    return 0

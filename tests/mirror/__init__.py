@@ -1,0 +1,1 @@
+"""Mirrors of sources that change and are killed meanwhile."""

@@ -1,0 +1,107 @@
+"""Folders of mirrors that are stopped at each of their calls, and opened again.
+
+A stop by `kill -9` seldom meets the calls that move files and folders. So here the calls of
+destination_folder.py that change a folder are counted, and each in turn is the one at which a run ends.
+"""
+import contextlib
+import hashlib
+import itertools
+import math
+import os
+import shutil
+
+from ropepeach import destination_folder
+from tests.program import Differs
+
+CALLS = {"replace", "mkdir", "rmdir", "remove"}
+NAMES = ["a", "a/b", "a/b/c", "a/d", "b", "b/b"]
+
+
+class Stop(BaseException):
+    """The end of a run at a call."""
+
+
+class Stopping:
+    """The system's calls, of which a chosen number succeed."""
+
+    def __init__(self, count):
+        self.left = count
+
+    def __getattr__(self, name):
+        return self.call(name) if name in CALLS else getattr(os, name)
+
+    def call(self, name):
+        def counted(*words):
+            if self.left == 0:
+                raise Stop
+            self.left -= 1
+            return getattr(os, name)(*words)
+
+        return counted
+
+
+@contextlib.contextmanager
+def opened(path, calls):
+    """A folder that is opened as it is, and then may make so many calls."""
+    folder = destination_folder.Folder(path, "source")
+    destination_folder.os = Stopping(calls)
+    try:
+        yield folder
+    finally:
+        destination_folder.os = os
+        os.close(folder.lock)
+
+
+def bring(folder, wanted):
+    """Removes and writes, as a run does."""
+    for name in [name for name, body in wanted.items() if body is None]:
+        folder.remove(name)
+    for name, body in wanted.items():
+        if body is not None:
+            if not folder.has(name, len(body), f"sha-256:{hashlib.sha256(body).hexdigest()}"):
+                folder.write(name, body)
+    folder.remember("", "")
+
+
+def at_random(rng, number):
+    """Some names in some order, each with bytes of its own, or None."""
+    names = rng.sample(NAMES, rng.randrange(len(NAMES) + 1))
+    return {name: None if rng.random() < 0.5 else f"{number} {name}".encode() for name in names}
+
+
+def is_stopped(path, calls, wanted):
+    """Whether a run that may make so many calls is stopped."""
+    with contextlib.suppress(Stop), opened(path, calls) as folder:
+        bring(folder, wanted)
+        return False
+    return True
+
+
+def go_on(path, later, held, is_baseline):
+    """A whole run: an increment, which knows what has changed, or a baseline, which knows what is held."""
+    with opened(path, math.inf) as folder:
+        bring(folder, dict.fromkeys(folder.names()) | held if is_baseline else later)
+
+
+def look(rng, room, rounds, files_of, laid_out):
+    """Stops changes of folders at each call, goes on with more changes, and gives how many stops that were."""
+    stops, first, path = 0, room / "first", room / "stopped"
+    for _ in range(rounds):
+        before = {name: name.encode() for name in at_random(rng, 1)}
+        changes, more = at_random(rng, 2), at_random(rng, 3)
+        held = {name: body for name, body in (before | changes | more).items() if body is not None}
+        with opened(first, math.inf) as folder:
+            bring(folder, before)
+        for calls in itertools.count():
+            shutil.copytree(first, path)
+            was_stopped = is_stopped(path, calls, changes)
+            go_on(path, changes | more, held, rng.random() < 0.5)
+            if files_of(path) != laid_out(held):
+                then = f"{changes} up to call {calls}, then {more}"
+                raise Differs(f"{before}, then {then}: {sorted(files_of(path))}")
+            shutil.rmtree(path)
+            if not was_stopped:
+                break
+            stops += 1
+        shutil.rmtree(first)
+    return stops

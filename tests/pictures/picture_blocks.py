@@ -1,0 +1,191 @@
+"""The picture of the blocks of a disk through ten commands: what each command writes, what lies where then, and
+what is free.
+
+The built program does the commands on a real file, and its calls on the file are recorded (recorded_calls.py). What
+lies in a block is read off the file by disk_reader.py. A command that writes into a used block, or leaves a used
+block without what it had, is a fault here, and not a picture.
+"""
+import collections
+
+from tests.crash.recorded_calls import ANSWER, WRITE, Recorder, Unrecorded, replayed
+from tests.pictures.svg import EDGE, FILLS, INK, SOFT, Picture
+from tests.reading import crash_model, disk_reader
+from tests.reading.disk_formats import BLOCK
+
+BASE, BLOCKS, LIMIT = "http://127.0.0.1:8080", 20, 2
+CLOCK = 951_782_400_000
+
+
+def put(name, size):
+    body = (name.encode() * size).hex() or "-"
+    return f"put {name} {body} text/plain", f"put {name}, {size:,} bytes"
+
+
+# Each line of the script, and how the picture tells it.
+LINES = [put("a", 600), put("b", 1500), ("publish", "publish"), put("c", 512), put("a", 100), ("delete b", "delete b")]
+LINES += [("publish", "publish"), put("d", 2000), put("a", 0), ("publish", "publish")]
+# What lies in some blocks in a row: its kind, the word that is drawn in it, and whether it is a published page beside
+# that.
+Part = collections.namedtuple("Part", "kind word first blocks is_published", defaults=[False])
+# What a strip shows: what is told of it, its parts, the blocks that were written, those that were used before it and
+# no more, and the block of the slot with the root.
+Strip = collections.namedtuple("Strip", "told parts written left root")
+
+
+def slots(disk):
+    """The two slots, each with its generation, or `-` where it is closed; `*` stands with the root."""
+    found, root = [], disk_reader.root(disk).directory
+    for first in (0, 1):
+        slot = disk[first * BLOCK : (first + 1) * BLOCK]
+        generation = str(int.from_bytes(slot[2:10], "big")) if slot[0] == 1 else "-"
+        fields = disk_reader.Fields(slot[10:54])
+        is_root = slot[0] == 1 and fields.entry() == root
+        found.append(Part("slot", generation + "*" * is_root, first, 1))
+    return found
+
+
+def parts_of(disk):
+    """All that lies on a disk, in the order of its blocks."""
+    source = disk_reader.source_of(disk)
+    if why := disk_reader.fault(disk, source):
+        raise Unrecorded(why)
+    catalogue, published = ([it.entry for it in pages] for pages in (source.catalogue, source.published))
+    found = slots(disk) + [Part("dir", "dir", *source.directory[:2])]
+    found += [Part("rec", "rec", *it[:2], it in published) for it in catalogue]
+    found += [Part("chg", "chg", *it.entry[:2]) for it in source.changes]
+    found += [Part("pub", "pub", *it[:2]) for it in published if it not in catalogue]
+    bodies = [record for page in source.catalogue for record in page.items if record.blocks]
+    found += [Part("body", it.name.decode(), it.first, it.blocks) for it in bodies]
+    return sorted(found, key=lambda it: it.first)
+
+
+def blocks_of(parts):
+    return {block for it in parts for block in range(it.first, it.first + it.blocks)}
+
+
+def commands_of(calls):
+    """The calls of each answered line."""
+    found, begun = [], 0
+    for end, it in enumerate(calls):
+        if it.kind == ANSWER:
+            found.append(calls[begun:end])
+            begun = end + 1
+    return found
+
+
+def written_by(calls):
+    """The blocks that some calls write into."""
+    writes = [it for it in calls if it.kind == WRITE]
+    return {block for it in writes for block in range(it.at // BLOCK, (it.at + len(it.data) - 1) // BLOCK + 1)}
+
+
+def strip_of(told, before, disk, calls):
+    """The strip of a disk that some calls left, where these parts lay before."""
+    parts = parts_of(disk)
+    root = next(it.first for it in parts if it.word.endswith("*"))
+    return Strip(told, parts, written_by(calls), blocks_of(before) - blocks_of(parts), root)
+
+
+def strips(program, room, changed):
+    """What each strip shows, of a run of the program."""
+    recorder, state = Recorder(program, room), crash_model.State(BASE, LIMIT)
+    formatting = recorder.format(BLOCKS * BLOCK, BASE, LIMIT)
+    disk = replayed(b"", formatting)
+    lines = [f"at {CLOCK}", *(line for line, _ in LINES)]
+    answers, _, _ = crash_model.run(state, lines)
+    found = [strip_of("format", [], disk, formatting)]
+    for (_, told), calls in zip(LINES, commands_of(recorder.run(disk, lines, answers))[1:], strict=True):
+        before, calls = found[-1].parts, changed(disk, calls)
+        disk = replayed(disk, calls)
+        kept = {it for it in blocks_of(before) if it > 1 or found[-1].root == it}
+        found.append(strip_of(told, before, disk, calls))
+        if wrong := kept & found[-1].written:
+            raise Unrecorded(f"{told}: it writes into used blocks {sorted(wrong)}")
+    return found
+
+
+# Where things stand in the picture.
+LEFT, TOP, CELL, TALL, STEP = 196, 96, 31, 28, 42
+
+
+def draw_part(picture, part, x, y):
+    """One part as a box with its word; a page of two lists has both colours and both words."""
+    width, middle = part.blocks * CELL, x + part.blocks * CELL / 2
+    picture.box(x, y, width, TALL, FILLS[part.kind], INK)
+    if part.is_published:
+        picture.box(x + 0.5, y + TALL / 2, width - 1, TALL / 2 - 0.5, FILLS["pub"])
+        picture.text(middle, y + 11, "rec", 10, "middle", True)
+        picture.text(middle, y + 24, "pub", 10, "middle", True)
+    else:
+        picture.text(middle, y + 18, part.word, 11, "middle", True)
+    for end in range(1, part.blocks):
+        picture.line(x + end * CELL, y + TALL - 4, x + end * CELL, y + TALL, INK)
+
+
+def draw_cross(picture, x, y):
+    """The mark of a block that was given back."""
+    picture.line(x + 9, y + 8, x + CELL - 9, y + TALL - 7)
+    picture.line(x + 9, y + TALL - 7, x + CELL - 9, y + 8)
+
+
+def draw_strip(picture, strip, number, y):
+    """One strip, with what is told of it on its left, and how many blocks are free on its right."""
+    picture.text(30, y + 18, str(number), 12, "end", fill=SOFT)
+    picture.text(40, y + 18, strip.told, 13)
+    used = blocks_of(strip.parts)
+    for block in range(BLOCKS):
+        if block not in used:
+            picture.box(LEFT + block * CELL, y, CELL, TALL, FILLS["free"], EDGE)
+        if block in strip.left:
+            draw_cross(picture, LEFT + block * CELL, y)
+    for part in strip.parts:
+        draw_part(picture, part, LEFT + part.first * CELL, y)
+    for block in sorted(strip.written):
+        picture.box(LEFT + block * CELL + 2, y + TALL + 2, CELL - 4, 4, INK)
+    picture.text(LEFT + BLOCKS * CELL + 10, y + 18, f"{BLOCKS - len(used)} free", 12, fill=SOFT)
+
+
+# What the colours and the marks mean: a column and a row, what is drawn, and what is said.
+LEGEND = [(0, 0, Part("slot", "3*", 0, 1), "a slot: generation, * root, - closed")]
+LEGEND += [(0, 1, Part("dir", "dir", 0, 1), "directory"), (0, 2, Part("body", "a", 0, 1), "a body, by its name")]
+LEGEND += [(1, 0, Part("rec", "rec", 0, 1), "page of records"), (1, 1, Part("chg", "chg", 0, 1), "page of changes")]
+LEGEND += [(2, 0, Part("pub", "pub", 0, 1), "published page"), (2, 1, Part("rec", "rec", 0, 1, True), "both at once")]
+LEGEND += [(1, 2, None, "free")]
+COLUMNS = (40, 320, 500, 690)
+
+
+def draw_legend(picture, y):
+    for column, row, part, meaning in LEGEND:
+        x, below = COLUMNS[column], y + row * 34
+        picture.box(x, below, CELL, TALL, FILLS["free"], EDGE)
+        if part:
+            draw_part(picture, part, x, below)
+        picture.text(x + CELL + 8, below + 18, meaning, 12)
+    picture.box(COLUMNS[3] + 2, y + 12, CELL - 4, 4, INK)
+    picture.text(COLUMNS[3] + CELL + 8, y + 18, "written by the command", 12)
+    draw_cross(picture, COLUMNS[3], y + 34)
+    picture.text(COLUMNS[3] + CELL + 8, y + 52, "given back by it", 12)
+
+
+def as_recorded(disk, calls):
+    return calls
+
+
+def draw(program, room, changed=as_recorded):
+    """The picture, of the recorded calls or of what they are changed into, command by command."""
+    found = strips(program, room, changed)
+    height = TOP + len(found) * STEP + 122
+    told = "; ".join(f"{it.told}: writes blocks {', '.join(map(str, sorted(it.written)))}" for it in found[1:])
+    told = (f"One strip of {BLOCKS} blocks for a new disk and for the disk after each of ten commands. {told}. "
+            "But for the slots, each block that a command writes was free before it.")
+    picture = Picture(900, height, "The blocks of a disk through ten commands", told)
+    picture.text(40, 34, "The blocks of a disk through ten commands", 17, font_weight="bold")
+    picture.text(40, 56, f"{BLOCKS} blocks of 512 bytes, as the program left them. But for the slots 0 and 1, "
+                         "a command writes into free blocks alone,", 12, fill=SOFT)
+    picture.text(40, 72, "and what the old root reaches is given back only when the new root stands.", 12, fill=SOFT)
+    for block in range(BLOCKS):
+        picture.text(LEFT + block * CELL + CELL / 2, TOP - 4, str(block), 10, "middle", True, SOFT)
+    for number, strip in enumerate(found):
+        draw_strip(picture, strip, number or "", TOP + number * STEP)
+    draw_legend(picture, TOP + len(found) * STEP + 8)
+    return picture

@@ -1,0 +1,156 @@
+"""What any bytes are as a disk, by the rules of docs/DISK.md, written apart from the program.
+
+`told` says of some bytes that they are no source, that they are damaged, or that they open, and then what the source on them
+is. `damaged_names` are the held names whose body does not have its recorded SHA-256. `state_of` is the source as a state of
+crash_model.py, which has the text of each of its documents.
+"""
+import itertools
+import re
+
+from tests.reading import crash_model, disk_reader
+from tests.reading.disk_formats import BLOCK, CREATED, DELETED, UPDATED, sha256
+
+NO_SOURCE, DAMAGED, OPENS = "NotASource", "Damaged", "opens"
+WHAT = {CREATED: "created", UPDATED: "updated", DELETED: "deleted"}
+# 9999-12-31T23:59:59.999Z
+LAST_MOMENT = 253_402_300_799_999
+MOST_ITEMS, LONGEST_BODY = 50_000, 16_777_216
+LIMITS = range(2, 4_001)
+# Segments of RFC 3986, none of which is empty, `.` or `..`.
+SEGMENT = rb"(?!\.{1,2}(?:/|\Z))(?:[A-Za-z0-9\-._~!$&'()*+,;=:@]|%[0-9A-Fa-f]{2})+"
+NAME = re.compile(SEGMENT + rb"(?:/" + SEGMENT + rb")*")
+TOKEN = rb"[A-Za-z0-9!#$%&'*+\-.^_`|~]+"
+TYPE = re.compile(TOKEN + rb"/" + TOKEN + rb"(?:[\x20-\x7e]*[\x21-\x7e])?")
+BASE = re.compile(rb"https?://[A-Za-z0-9.:/_~\-]*[A-Za-z0-9.:_~\-]")
+
+
+class Broken(Exception):
+    """A rule that the source on a disk breaks."""
+
+
+def hold(rule, holds):
+    """Every rule is said with the words that name it."""
+    if not holds:
+        raise Broken(rule)
+
+
+def is_lawful(pattern, shortest, longest, text):
+    return shortest <= len(text) <= longest and pattern.fullmatch(text) is not None
+
+
+def items_of(pages):
+    return [it for page in pages for it in page.items]
+
+
+def strictly_rise(values):
+    return all(a < b for a, b in itertools.pairwise(values))
+
+
+def blocks_of(length):
+    return (length + BLOCK - 1) // BLOCK
+
+
+def look_at_facts(item):
+    """The rules of what is known of a body."""
+    hold("a media type is lawful", is_lawful(TYPE, 3, 100, item.kind))
+    hold("a body has 16,777,216 bytes at most", item.length <= LONGEST_BODY)
+
+
+def look_at_records(source, pages, latest):
+    """The rules of a list of records, whose moments are at most the latest."""
+    records = items_of(pages)
+    hold("a list has 50,000 records at most", len(records) <= MOST_ITEMS)
+    hold("the names of records strictly ascend", strictly_rise([it.name for it in records]))
+    for it in records:
+        hold("the name of a record is lawful", is_lawful(NAME, 1, 240, it.name))
+        look_at_facts(it)
+        hold("the moment of a record is in its bounds", source.start < it.moment <= latest)
+        hold("a body has exactly the blocks of its length", it.blocks == blocks_of(it.length))
+        hold("no bytes begin in block 0", it.length > 0 or it.first == 0)
+
+
+def look_at_changes(source):
+    """The rules of the changes, and of the last moment, which the last of them may be."""
+    changes = items_of(source.changes)
+    hold("there are 50,000 changes at most", len(changes) <= MOST_ITEMS)
+    hold("the moments of changes strictly rise", strictly_rise([it.moment for it in changes]))
+    for it in changes:
+        hold("a change creates, updates or deletes", it.what in WHAT)
+        hold("the name of a change is lawful", is_lawful(NAME, 1, 240, it.name))
+        hold("the moment of a change is in its bounds", source.begin < it.moment <= source.last)
+        if it.what != DELETED:
+            look_at_facts(it)
+    newest = max([source.at, *(it.moment for it in changes)])
+    hold("last is the greater of at and the last change's moment", source.last == newest)
+
+
+def look_at_begin(source):
+    """The rules of the first part that is kept, and of the moment at which the kept changes begin."""
+    hold("the kept changes begin at the start or later, and no later than the publication", source.start <= source.begin <= source.at)
+    hold("no more parts were dropped than there are moments from start to begin", source.first <= source.begin - source.start)
+    hold("where no part was dropped begin is the start", source.first > 0 or source.begin == source.start)
+
+
+def look(disk, source):
+    """Every rule but those of the formats, which the reader has."""
+    hold("the item limit is 2 to 4,000", source.limit in LIMITS)
+    hold("the base is lawful", is_lawful(BASE, 8, 128, source.base))
+    hold("start <= at <= last, and last is a moment", source.start <= source.at <= source.last <= LAST_MOMENT)
+    look_at_begin(source)
+    pages = [*source.catalogue, *source.changes, *source.published]
+    hold("a page has an item", all(it.items for it in pages))
+    look_at_records(source, source.catalogue, source.last)
+    look_at_records(source, source.published, source.at)
+    look_at_changes(source)
+    why = disk_reader.fault(disk, source)
+    hold(why, not why)
+
+
+def told(disk):
+    """`NotASource` or `Damaged` and why, or `opens` and the source."""
+    try:
+        source = disk_reader.source_of(disk)
+        look(disk, source)
+    except disk_reader.NoRoot as why:
+        return NO_SOURCE, why
+    except (disk_reader.Unread, Broken) as why:
+        return DAMAGED, why
+    return OPENS, source
+
+
+def body_of(disk, record):
+    """The bytes of a body, or nothing where they do not have the recorded SHA-256."""
+    body = disk[record.first * BLOCK : record.first * BLOCK + record.length]
+    return body if sha256(body) == record.sha256 else None
+
+
+def damaged_names(disk, source):
+    """The held names whose body does not have its recorded SHA-256, in their order."""
+    return [it.name.decode() for it in items_of(source.catalogue) if body_of(disk, it) is None]
+
+
+def entry_of(item):
+    """What a document says of a body."""
+    digests = f"md5:{item.md5.hex()} sha-256:{item.sha256.hex()}"
+    return crash_model.Entry(item.kind.decode(), item.length, digests, item.moment)
+
+
+def change_of(item):
+    entry = None if item.what == DELETED else entry_of(item)
+    return crash_model.Change(WHAT[item.what], item.name.decode(), item.moment, entry)
+
+
+def state_of(disk, source):
+    """The state that a source which opens stands for. A damaged body is None."""
+    return crash_model.State(
+        base=source.base.decode(),
+        limit=source.limit,
+        last=source.last,
+        held={it.name.decode(): (body_of(disk, it), entry_of(it)) for it in items_of(source.catalogue)},
+        changes=tuple(change_of(it) for it in items_of(source.changes)),
+        number=source.number,
+        at=source.at,
+        listed={it.name.decode(): entry_of(it) for it in items_of(source.published)},
+        first=source.first,
+        begin=source.begin,
+    )

@@ -1,0 +1,39 @@
+"""The parts of a disk as bytes, spelled from the tables of docs/DISK.md, apart from the program."""
+import struct
+
+from tests.reading.disk_formats import BASE, OLD_VERSION, VERSION, change_fields, entry_fields, record_fields
+from tests.reading.disk_formats import slot_fields, spelled
+
+
+def record(*given, **named):
+    """A record of a resource whose body lies from the block `first` on."""
+    return spelled(record_fields(*given, **named))
+
+
+def change(*given, **named):
+    """A change: 1 created, 2 updated, 3 deleted."""
+    return spelled(change_fields(*given, **named))
+
+
+def page(kind, items):
+    """A page: 1 of records, 2 of changes."""
+    return struct.pack(">BI", kind, len(items)) + b"".join(items)
+
+
+def entry(first, data):
+    """A page's entry in the directory."""
+    return spelled(entry_fields(first, data))
+
+
+def directory(last, number=0, at=0, lists=((), (), ()), limit=2, base=BASE, start=0, first=0, begin=None, version=VERSION):
+    """A directory. `lists` has the entries of the catalogue's, the changes' and the published pages."""
+    head = struct.pack(">HB", limit, len(base)) + base + struct.pack(">QQQQ", start, last, number, at)
+    if version != OLD_VERSION:
+        head += struct.pack(">QQ", first, start if begin is None else begin)
+    counts = struct.pack(">III", *map(len, lists))
+    return head + counts + b"".join(b"".join(it) for it in lists)
+
+
+def slot(*given, **named):
+    """A slot that points to a directory."""
+    return spelled(slot_fields(*given, **named))

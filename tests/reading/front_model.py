@@ -1,0 +1,126 @@
+"""A source as a front asks it: what each command, and each path that is shown, is answered, by docs/SCRIPT.md and
+docs/HTTP.md.
+
+The state and the texts of its documents are those of crash_model.py, and what a name and a media type are is what
+disk_judge.py says. All three are written from the pages, apart from the program.
+"""
+import re
+
+from tests.reading import crash_model
+from tests.reading.disk_formats import BLOCK
+from tests.reading.disk_judge import LAST_MOMENT, LONGEST_BODY, MOST_ITEMS, NAME, TYPE, is_lawful
+
+# The last number of a publication, and the last one that the first kept part of the changes may have.
+LAST_NUMBER, LAST_PART = 2**64 - 1, LAST_MOMENT
+MOST_GROUPED = 16
+RESOURCE = b"/resource/"
+NUMBER = rb"(0|[1-9][0-9]*)"
+HEADS = rb"/(?:\.well-known/resourcesync|capabilitylist\.xml|resourcelist\.xml|changelist\.xml)"
+PARTS = rb"/resourcelist/" + NUMBER + rb"/" + NUMBER + rb"\.xml|/changelist/" + NUMBER + rb"\.xml"
+DOCUMENT = re.compile(HEADS + rb"|" + PARTS)
+
+
+class Refused(Exception):
+    """The word of a refusal."""
+
+    @property
+    def word(self):
+        return self.args[0]
+
+
+def is_document(path):
+    """Whether this is a document's path, of one that there is or not: its numbers are those of 64 bits."""
+    found = DOCUMENT.fullmatch(path)
+    return found is not None and all(int(it) < 2**64 for it in found.groups() if it)
+
+
+def name_of(text):
+    if not is_lawful(NAME, 1, 240, text):
+        raise Refused("BadName")
+    return text.decode()
+
+
+def type_of(text):
+    if not is_lawful(TYPE, 3, 100, text):
+        raise Refused("BadType")
+    return text.decode()
+
+
+class Source:
+    """A source that commands change."""
+
+    def __init__(self, state, size):
+        """`size` is its disk's, which is taken to have room for all but a body that is larger than it."""
+        self.state, self.size, self.texts = state, size, None
+
+    def become(self, state):
+        self.state, self.texts = state, None
+
+    def moment(self, now):
+        """The moment of the next command that is accepted."""
+        if self.state.last >= LAST_MOMENT:
+            raise Refused("Exhausted")
+        return max(now, self.state.last + 1)
+
+    def put(self, name, kind, length, body, now):
+        """What happened, and when. `body` is None where fewer bytes came than were announced."""
+        if length > LONGEST_BODY:
+            raise Refused("TooLong")
+        if name not in self.state.held and len(self.state.held) >= MOST_ITEMS:
+            raise Refused("TooManyResources")
+        if len(self.state.changes) >= MOST_ITEMS:
+            raise Refused("TooManyChanges")
+        moment = self.moment(now)
+        if length > self.size // BLOCK * BLOCK:
+            raise Refused("Full")
+        if body is None:
+            raise Refused("ShortBody")
+        answer, state = self.state.after_put(name, body, kind, moment)
+        self.become(state)
+        return answer
+
+    def delete(self, name, now):
+        if name not in self.state.held:
+            raise Refused("NotHeld")
+        if len(self.state.changes) >= MOST_ITEMS:
+            raise Refused("TooManyChanges")
+        answer, state = self.state.after_delete(name, self.moment(now))
+        self.become(state)
+        return answer
+
+    def group(self, items, now):
+        """What is answered to a group of items, each a put's or a delete's name, and of a put its type and its body."""
+        if not 1 <= len(items) <= MOST_GROUPED:
+            raise Refused("BadGroup")
+        then, answers = Source(self.state, 2 * LONGEST_BODY), []
+        for name, *put in items:
+            answers.append(then.put(name, put[0], len(put[1]), put[1], now) if put else then.delete(name, now))
+        written = [it for at, it in enumerate(items) if it[1:] and it[0] not in {name for name, *_ in items[at + 1 :]}]
+        if any(len(body) > self.size // BLOCK * BLOCK for _, _, body in written):
+            raise Refused("Full")
+        self.become(then.state)
+        return f"grouped {len(items)} {answers[0].split()[1]}"
+
+    def publish(self, now):
+        moment = self.moment(now)
+        if self.state.number >= LAST_NUMBER or self.state.first + self.state.dropped_parts() > LAST_PART:
+            raise Refused("Exhausted")
+        answer, state = self.state.after("publish", moment)
+        self.become(state)
+        return answer
+
+    def resource(self, name):
+        """The bytes of a resource, and its type."""
+        if name not in self.state.held:
+            raise Refused("NotHeld")
+        body, entry = self.state.held[name]
+        return body, entry.kind
+
+    def document(self, path):
+        """The text of the document at a path."""
+        if self.texts is None:
+            self.texts = crash_model.documents(self.state)
+        text = self.texts.get(path.decode("latin-1"))
+        if text is None:
+            raise Refused("NoSuchDocument")
+        return text.encode()

@@ -1,0 +1,131 @@
+"""What the lines of a script are answered, by the tables of docs/SCRIPT.md, written apart from the program."""
+import re
+
+from tests.reading.disk_judge import LAST_MOMENT
+from tests.reading.front_model import MOST_GROUPED, RESOURCE, Refused, name_of, type_of
+
+LONGEST_LINE = 33_600_000
+DIGITS = re.compile(rb"[0-9]{1,15}")
+COUNT = re.compile(rb"[0-9]{1,2}")
+HEXADECIMAL = re.compile(rb"[0-9A-Fa-f]+")
+# How many fields a line has that begins with this word; the last field of a `put` is the rest of its line.
+FIELDS = {b"at": 2, b"put": 4, b"delete": 2, b"publish": 1, b"show": 2, b"status": 1, b"verify": 1, b"group": 2}
+
+
+def lines_of(script):
+    """The lines of a script: each ends with LF, of which one CR before it is a part, or at the end."""
+    *ended, rest = script.split(b"\n")
+    lines = [it[:-1] if it.endswith(b"\r") else it for it in ended]
+    return [*lines, rest] if rest else lines
+
+
+def fields_of(line):
+    """The fields of a line, cut at single spaces, as many as its word has."""
+    word = line.split(b" ", 1)[0]
+    count = FIELDS.get(word, 0)
+    fields = line.split(b" ", count - 1) if word == b"put" else line.split(b" ", count)
+    if len(fields) != count:
+        raise Refused("BadLine")
+    return fields
+
+
+def body_of(text):
+    if text == b"-":
+        return b""
+    if len(text) % 2 or not HEXADECIMAL.fullmatch(text):
+        raise Refused("BadHex")
+    return bytes.fromhex(text.decode())
+
+
+def item_of(line):
+    """What a line of a group asks for: a name, and of a put its type and its body."""
+    if len(line) > LONGEST_LINE:
+        raise Refused("LongLine")
+    word, *fields = fields_of(line)
+    if word == b"delete":
+        return (name_of(*fields),)
+    if word != b"put":
+        raise Refused("BadLine")
+    name, body, kind = name_of(fields[0]), body_of(fields[1]), type_of(fields[2])
+    return name, kind, body
+
+
+class Judge:
+    """Answers lines, one after another."""
+
+    def __init__(self, source):
+        self.source, self.now = source, 0
+        # How many lines a group still takes, the items so far, and the first fault of its lines.
+        self.left, self.items, self.fault = 0, [], None
+
+    def answer(self, line):
+        """The answer to a line, with the line feed at its end. A group is answered with its last line."""
+        if self.left:
+            return self.taken(line)
+        try:
+            answer = self.accepted(line)
+            return b"" if answer is None else answer + b"\n"
+        except Refused as it:
+            return f"refused {it.word}\n".encode()
+
+    def end(self):
+        """The answer to a group that the end of the input cuts."""
+        is_cut, self.left = self.left > 0, 0
+        return b"refused BadGroup\n" if is_cut else b""
+
+    def group(self, text):
+        if not COUNT.fullmatch(text) or not 1 <= int(text) <= MOST_GROUPED:
+            raise Refused("BadGroup")
+        self.left, self.items, self.fault = int(text), [], None
+
+    def taken(self, line):
+        """The answer to a line of a group."""
+        self.left -= 1
+        try:
+            self.items.append(item_of(line))
+        except Refused as it:
+            self.fault = self.fault or it
+        return b"" if self.left else self.grouped()
+
+    def grouped(self):
+        try:
+            if self.fault:
+                raise self.fault
+            return self.source.group(self.items, self.now).encode() + b"\n"
+        except Refused as it:
+            return f"refused {it.word}\n".encode()
+
+    def accepted(self, line):
+        if len(line) > LONGEST_LINE:
+            raise Refused("LongLine")
+        word, *fields = fields_of(line)
+        return getattr(self, word.decode())(*fields)
+
+    def at(self, text):
+        if not DIGITS.fullmatch(text) or int(text) > LAST_MOMENT:
+            raise Refused("BadMoment")
+        self.now = int(text)
+        return b"ok"
+
+    def put(self, name, text, kind):
+        name, body, kind = name_of(name), body_of(text), type_of(kind)
+        return self.source.put(name, kind, len(body), body, self.now).encode()
+
+    def delete(self, name):
+        return self.source.delete(name_of(name), self.now).encode()
+
+    def publish(self):
+        return self.source.publish(self.now).encode()
+
+    def show(self, path):
+        if path.startswith(RESOURCE):
+            data, _ = self.source.resource(name_of(path[len(RESOURCE) :]))
+        else:
+            data = self.source.document(path)
+        return b"bytes %d\n%s" % (len(data), data)
+
+    def status(self):
+        return self.source.state.status().rstrip(b"\n")
+
+    def verify(self):
+        return b"verified %d" % len(self.source.state.held)

@@ -1,0 +1,1 @@
+"""The worked rows, and what runs them."""

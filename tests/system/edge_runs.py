@@ -1,0 +1,149 @@
+"""Runs of the proved program whose system can be chosen: what its calls answer, by variables of the environment, and clients of it.
+
+A C library that `cc` builds into a temporary folder stands before the system's.
+"""
+import contextlib
+import pathlib
+import socket
+import subprocess
+import time
+
+from tests.program import MEMORY, compare, interposed
+
+# No step waits longer than this for an answer.
+SECONDS = 30
+# What of the system can be chosen, by variables of the environment.
+SYSTEM = r"""
+#define _GNU_SOURCE
+#include <dlfcn.h>
+#include <errno.h>
+#include <stdio.h>
+#include <stdlib.h>
+#include <sys/socket.h>
+#include <sys/time.h>
+#include <time.h>
+#include <unistd.h>
+static long accepts = 0, attempts = 0, calls = 0, reads = 0, nones = 0;
+static long number(const char *name, long absent) { char *it = getenv(name); return it ? atol(it) : absent; }
+static int fails(void) { if (++calls != number("FILE_FAILS_AT", 0)) return 0; errno = EIO; return 1; }
+#define NEXT(f) ((__typeof__(&f))dlsym(RTLD_NEXT, #f))
+/* A read of what a client sends, or of standard input, is interrupted. */
+static int interrupted(void) { if (++reads != number("INTERRUPTED_AT", 0)) return 0; errno = EINTR; return 1; }
+/* A write of so many bytes or more takes none of them; each is counted. */
+static int takes_none(size_t n) { long from = number("NONE_TAKEN_FROM", 0); if (!from || n < (size_t)from) return 0; nones += number("TRIES", 1); return 1; }
+
+/* The time of day is SECONDS and NANOSECONDS, and DAYS later with each connection that was taken. No time passes. */
+int clock_gettime(clockid_t id, struct timespec *t) {
+    if (getenv("UNREAD_CLOCK")) { errno = EINVAL; return -1; }
+    t->tv_sec = id == CLOCK_REALTIME ? number("SECONDS", 951782400) + 86400 * number("DAYS", 0) * accepts : 0;
+    t->tv_nsec = id == CLOCK_REALTIME ? number("NANOSECONDS", 0) : 0;
+    return 0;
+}
+/* One connection can't be taken: it waits on. */
+int accept4(int fd, struct sockaddr *a, socklen_t *n, int flags) {
+    if (++attempts == number("ACCEPT_FAILS_AT", 0)) { errno = ECONNABORTED; return -1; }
+    int it = NEXT(accept4)(fd, a, n, flags);
+    accepts += it >= 0;
+    return it;
+}
+/* Two seconds for the rest of a request become a minute, so that nothing here depends on speed. */
+int setsockopt(int fd, int level, int name, const void *value, socklen_t n) {
+    struct timeval minute = {60, 0};
+    return level == SOL_SOCKET && name == SO_RCVTIMEO ? NEXT(setsockopt)(fd, level, name, &minute, sizeof minute) : NEXT(setsockopt)(fd, level, name, value, n);
+}
+ssize_t send(int fd, const void *bytes, size_t n, int flags) {
+    if (getenv("SENDS_FAIL")) { errno = EIO; return -1; }
+    return takes_none(n) ? 0 : NEXT(send)(fd, bytes, n, flags);
+}
+ssize_t recv(int fd, void *bytes, size_t n, int flags) { return interrupted() ? -1 : NEXT(recv)(fd, bytes, n, flags); }
+ssize_t read(int fd, void *bytes, size_t n) { return fd == 0 && interrupted() ? -1 : NEXT(read)(fd, bytes, n); }
+ssize_t write(int fd, const void *bytes, size_t n) { return fd == 1 && takes_none(n) ? 0 : NEXT(write)(fd, bytes, n); }
+/* The calls on files are counted, from 1. */
+ssize_t pread(int fd, void *bytes, size_t n, off_t at) { return fails() ? -1 : NEXT(pread)(fd, bytes, n, at); }
+ssize_t pwrite(int fd, const void *bytes, size_t n, off_t at) { return fails() ? -1 : takes_none(n) ? 0 : NEXT(pwrite)(fd, bytes, n, at); }
+int fsync(int fd) { return fails() ? -1 : NEXT(fsync)(fd); }
+int fdatasync(int fd) { return fails() ? -1 : NEXT(fdatasync)(fd); }
+/* So are the growths of memory, from the first connection on. */
+extern void *__libc_malloc(size_t), *__libc_realloc(void *, size_t);
+static long growths = 0;
+static int refused(void) { return accepts && ++growths == number("GROWTH_REFUSED_AT", 0); }
+/* How many there were is told at the end, and how many writes took no byte. */
+__attribute__((destructor)) static void told(void) {
+    if (getenv("GROWTHS_TOLD")) dprintf(2, "%ld growths\n", growths);
+    if (getenv("NONES_TOLD")) dprintf(2, "%ld took none\n", nones);
+}
+void *malloc(size_t n) { return refused() ? 0 : __libc_malloc(n); }
+void *realloc(void *p, size_t n) { return refused() ? 0 : __libc_realloc(p, n); }
+"""
+HOST = b"HTTP/1.1\r\nHost: a\r\n"
+PUT = b"PUT /resource/c " + HOST + b"Content-Length: 3\r\n"
+# A request that is refused before its body is read.
+TOO_LONG = b"PUT /resource/c " + HOST + b"Content-Length: 16777217\r\n\r\n"
+
+
+def formatted(program, room, name="a.disk", size="65536"):
+    subprocess.run([program, "format", name, size, *MEMORY[2:]], cwd=room, check=True, capture_output=True)
+    return name
+
+
+def ran(program, room, *words, given=b"", env=None, **ends):
+    """The status of a run, and what it wrote to standard error and, where that is not given, to standard output."""
+    ends = {"stdout": subprocess.PIPE} | ({} if "stdin" in ends else {"input": given}) | ends
+    it = subprocess.run([program, *words], cwd=room, env=env, stderr=subprocess.PIPE, timeout=SECONDS, **ends)
+    return it.returncode, it.stderr, it.stdout
+
+
+@contextlib.contextmanager
+def served(program, room, count, port="0", stderr=None, **settings):
+    """The port of a server, and the server, of so many connections to a.disk, with these settings of the system."""
+    env = interposed(room, "system", SYSTEM) | settings
+    words = [program, "serve", "a.disk", port, str(count)]
+    with subprocess.Popen(words, cwd=room, stdout=subprocess.PIPE, stderr=stderr, env=env) as server:
+        try:
+            yield int(server.stdout.readline().removeprefix(b"listening 127.0.0.1:")), server
+            compare("the server's status", b"0", b"%d" % server.wait(SECONDS))
+        finally:
+            server.kill()
+
+
+def connected(port):
+    return socket.create_connection(("127.0.0.1", port), timeout=SECONDS)
+
+
+def read_to_end(connection):
+    found = b""
+    with contextlib.suppress(ConnectionError):
+        while piece := connection.recv(65536):
+            found += piece
+    return found
+
+
+def asked(port, request):
+    with connected(port) as connection:
+        connection.sendall(request)
+        return read_to_end(connection)
+
+
+def ends_with(found, wanted):
+    compare("the end of a response", wanted, found[max(len(found) - len(wanted), 0):])
+
+
+def is_read_from(connection):
+    """Whether the other side of a connection that it has ended still reads what is sent."""
+    try:
+        for _ in range(3):
+            connection.sendall(b"x")
+            time.sleep(0.1)
+        return True
+    except ConnectionError:
+        return False
+
+
+def peak(server):
+    """The most memory that a server had so far, in KiB."""
+    lines = pathlib.Path(f"/proc/{server.pid}/status").read_text().splitlines()
+    return next(int(it.split()[1]) for it in lines if it.startswith("VmHWM:"))
+
+
+def put_of(length):
+    return b"PUT /resource/c " + HOST + b"Content-Length: %d\r\n\r\n" % length + b"x" * length

@@ -1,0 +1,56 @@
+"""Files of install/ that are wrong, made out of the right ones by a change each. A test that lets one pass is blind."""
+import contextlib
+import io
+import pathlib
+import shutil
+import tempfile
+
+from tests.program import ROOT
+from tests.system import install_looks
+
+PAGE, SERVICE, VERIFY, SITE = "rs_source.8", "ropepeach.service", "ropepeach-verify.service", "ropepeach.nginx"
+FILTER = "SystemCallFilter=~@privileged @resources"
+# What has to notice it, the file, and what stands in it in the place of what. A slow client is not here: the source
+# without nginx, which makes others wait, is a part of that check itself.
+WRONG = [
+    ("the_page_has_every_word", PAGE, ".It TooManyChanges No (507)", ".It TooManyResources No (507)"),
+    ("the_page_is_clean", PAGE, ".Sh CAVEATS", ".Qz CAVEATS"),
+    ("the_units_are_whole_and_closed", SERVICE, "ProtectSystem=strict", "ProtectSystem=stricter"),
+    ("the_units_are_whole_and_closed", SERVICE, "CapabilityBoundingSet=\n", "CapabilityBoundingSet=~\n"),
+    ("the_units_are_whole_and_closed", "ropepeach-verify.timer", "Sun 04:00", "Sunday at four"),
+    ("the_filter_lets_the_program_work", SERVICE, FILTER, FILTER + " @file-system"),
+    ("the_verification_tells_damage", VERIFY, "*) exit 1 ;;", "*) ;;"),
+    ("the_verification_tells_damage", VERIFY, "source.disk) &&", "source.disk) ;"),
+    ("the_filter_lets_the_verification_work", VERIFY, FILTER, FILTER + " @process"),
+    ("the_longest_body_passes", SITE, "client_max_body_size      16m", "client_max_body_size      15m"),
+    ("names_pass_as_they_were_sent", SITE, "    location / {\n        proxy_pass            http://ropepeach;",
+     "    location / {\n        proxy_pass            http://ropepeach/;"),
+    ("parts_are_kept_and_heads_for_a_second", SITE, "map $request_uri $is_part", "map $uri $is_part"),
+    ("who_may_change_is_asked", SITE, "        return 403;", "        set $nothing 1;"),
+    ("certificates_let_change", SITE, "ssl_verify_client      optional;", "ssl_verify_client      optional_no_ca;"),
+]
+
+
+def changed(folder, file, old, new):
+    """A copy of install/ in which one file has other words."""
+    shutil.copytree(ROOT / "install", folder)
+    text = pathlib.Path(folder, file).read_text()
+    if text.count(old) != 1:
+        raise ValueError(f"{file} has {old!r} {text.count(old)} times")
+    pathlib.Path(folder, file).write_text(text.replace(old, new))
+    return pathlib.Path(folder)
+
+
+def is_noticed(program, check, *change):
+    with tempfile.TemporaryDirectory() as room, contextlib.redirect_stdout(io.StringIO()):
+        right, install_looks.INSTALL = install_looks.INSTALL, changed(f"{room}/install", *change)
+        try:
+            return bool(install_looks.fault_of(getattr(install_looks, check), program))
+        finally:
+            install_looks.INSTALL = right
+
+
+def look(program, tried):
+    """Which wrong files are not noticed by what was tried, and how many there were for it."""
+    made = [it for it in WRONG if it[0] in tried]
+    return [f"{it[0]}: {it[1]} with {it[3]!r}" for it in made if not is_noticed(program, *it)], len(made)

@@ -1,0 +1,39 @@
+"""Runs examples/tour.sh with the proved program and compares what it prints with examples/tour.expected.
+
+Moments and dates are those of the clock, so each is written T there. With `--write` the file is written anew, to be read before it is kept.
+"""
+import re
+import shutil
+import subprocess
+import sys
+
+from tests.program import PROGRAM, ROOT
+
+TOUR, EXPECTED = (ROOT / "examples" / it for it in ("tour.sh", "tour.expected"))
+
+
+def without_moments(text):
+    text = re.sub(r"\d{4}-\d\d-\d\dT\d\d:\d\d:\d\d\.\d{3}Z", "T", text)
+    return re.sub(r"(?m)^Date: .*?\r?$", "Date: T", text.replace("\r\n", "\n"))
+
+
+def main():
+    if not shutil.which("curl"):
+        print("tour: not run, since there is no curl")
+        return 0
+    if not PROGRAM.is_file():
+        print(f"tour: not run, since there is no {PROGRAM}: make build")
+        return 0
+    ran = subprocess.run(["bash", str(TOUR), str(PROGRAM)], capture_output=True, text=True, timeout=120)
+    found = without_moments(ran.stdout)
+    if "--write" in sys.argv[1:]:
+        EXPECTED.write_text(found)
+    if ran.returncode or found != EXPECTED.read_text():
+        print(f"tour: status {ran.returncode}; it printed\n{found}{ran.stderr}")
+        return 1
+    print(f"tour: {found.count('$ curl')} requests were answered as examples/tour.expected has it")
+    return 0
+
+
+if __name__ == "__main__":
+    sys.exit(main())
