@@ -30,8 +30,8 @@ REQUESTS ?= 100000
 PREFIX ?= /usr/local
 DESTDIR ?=
 AT = $(DESTDIR)$(PREFIX)
-# How many checks go side by side: one a processor, with 4 GB of free memory for each.
-LANES ?= $(shell awk -v processors=$$(nproc) '/^MemAvailable:/ { fit = int($$2 / 4000000); print fit < 1 ? 1 : fit < processors ? fit : processors }' /proc/meminfo)
+# How many checks of edits go side by side, if not as many as there are processors and memory for.
+LANES ?=
 
 .PHONY: demo test edits build rows statement bench memory ends crash hostile mirror operate pictures install uninstall
 
@@ -45,12 +45,11 @@ test:
 
 # What they stand on is proved and built first, over what earlier checks kept.
 edits:
-	@python3 gate/edits.py --record --jobs $(LANES) $(CRATES)
+	@python3 gate/edits/edits.py --record $(if $(LANES),--jobs $(LANES)) $(CRATES)
 
-# The proved program; its path is printed.
+# The proved program, its crates side by side; its path is printed last.
 build:
-	cd crates/rs_source && $(RT) run -- mem 65536 $(BASE) 2 < ../../examples/first.script > /dev/null
-	@echo "crates/rs_source/out/rs_source"
+	@python3 gate/build.py $(BASE)
 
 rows: build
 	@python3 examples/check_rows.py

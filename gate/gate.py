@@ -3,7 +3,7 @@
 
   - the toolchain's own run (`rt ci`) in a copy of the repository without must-fail edits: every proof from nothing, the
     tests, and the program as two compilers build it;
-  - the must-fail edits of the crates that gate/record.txt does not cover as they stand, and of two more that the
+  - the must-fail edits of the crates that gate/edits/record.txt does not cover as they stand, and of two more that the
     commit's own hash picks (`make edits` tries all of them, and writes the record); a line of the record that is
     older than its crate fails the gate;
   - on the program that the copy proved and built: the worked rows, its calls of the system, its edges, its growths of
@@ -13,7 +13,8 @@
   - the tests of the gate itself, the layout of the files, the texts of edits, the list of proofs by hand, and the statement: what
     has to be read for each promise (docs/RECOVERY.md counts it), and where the evidence is.
 
-N counts crates, edits and the other parts. The minutes of a processor of each part are told before.
+N counts crates, edits and the other parts. The minutes of a processor of each part are told before. It begins with what it is
+about to do and how long that takes; what the toolchain itself says goes to out/test.log.
 """
 
 import os
@@ -26,13 +27,18 @@ import tempfile
 import time
 from pathlib import Path
 
+ROOT = Path(__file__).resolve().parent.parent
+sys.path.insert(0, str(ROOT / "gate" / "edits"))
+
 import edit
 import edits
 import kit
+import progress
 import record
+import toolchain
 from meter import Meter
 
-ROOT = Path(__file__).resolve().parent.parent
+LOG = ROOT / "out" / "test.log"
 # What is looked at on the proved program: examples/check_NAME.py for each.
 CHECKS = ["rows", "calls", "edges", "growths", "large", "documents", "pages", "kept", "tour", "mirror", "folder", "sizes", "pictures", "install"]
 # And those that have a short form: examples/NAME.py for each.
@@ -72,19 +78,6 @@ class Parts:
         return not failed
 
 
-def toolchain(copy):
-    """The toolchain's own run in the copy."""
-    ran = subprocess.Popen(["rt", "ci"], cwd=copy, stdout=subprocess.PIPE, stderr=subprocess.STDOUT, text=True, errors="replace")
-    last = ""
-    for line in ran.stdout:
-        print(line, end="", flush=True)
-        last = line if line.strip() else last
-    ended = re.fullmatch(r"(\d+) passed, (\d+) failed\n", last)
-    if ran.wait() or not ended or int(ended[2]):
-        return 0, [f"rt ci ended with status {ran.returncode}: {last.strip()}"]
-    return int(ended[1]), []
-
-
 def layout():
     """Whether each file of code, specs and proofs is in the toolchain's layout."""
     files = [it for kind in ("*.rt", "*.antt") for it in sorted(Path(ROOT, "crates").rglob(kind)) if "out" not in it.parts]
@@ -96,7 +89,7 @@ def layout():
 def dates():
     """Whether each line of the record is as old as its crate."""
     old = record.outdated(ROOT)
-    return (0 if old else 1), [f"gate/record.txt is older than {it}: make edits CRATES={it}" for it in old]
+    return (0 if old else 1), [f"gate/edits/record.txt is older than {it}: make edits CRATES={it}" for it in old]
 
 
 def fitting():
@@ -106,23 +99,18 @@ def fitting():
     return (0 if left else 1), [f"{it} fits its code no more" for it in left]
 
 
-def some_edits(copy):
-    """The edits that the record does not cover, and those of the crates that the commit picks."""
-    names = record.uncovered(ROOT)
-    print(f"not covered by gate/record.txt as they stand: {' '.join(names) or 'none'}")
-    names += [it for it in record.picked(ROOT, commit()) if it not in names]
-    print(f"trying the edits of: {' '.join(names)}", flush=True)
+def due():
+    """The crates whose edits are tried: those that the record does not cover as they stand, and those that the commit picks."""
+    return list(dict.fromkeys([*record.uncovered(ROOT), *record.picked(ROOT, commit())]))
+
+
+def some_edits(copy, names):
+    """The edits of these crates."""
     for name in names:
         shutil.copytree(ROOT / "crates" / name / "must-fail", copy / "crates" / name / "must-fail")
-    tried = edits.try_crates(str(copy), names, lanes())
+    tried = edits.try_crates(str(copy), names, kit.lanes())
     every = [it for found in tried.values() for it in found]
     return sum(it.is_refused for it in every), [it.label for it in every if not it.is_refused]
-
-
-def lanes():
-    """How many checks go side by side: one a processor, with 4 GB of free memory for each. None was seen to take more than 3.1 GB."""
-    free = int(re.search(r"MemAvailable:\s+(\d+)", Path("/proc/meminfo").read_text())[1])
-    return max(1, min(len(os.sched_getaffinity(0)), free // 4_000_000))
 
 
 def script(*words):
@@ -146,22 +134,33 @@ def tell(parts, meter, started):
         print(f"{crate}: {', '.join(f'{seconds[it]:.0f}' for it in ('proofs', 'tests', 'compiling', 'edits'))}")
 
 
+def announce(uses, names):
+    """What is about to be done, and about how long it takes."""
+    processors, known = kit.lanes(), progress.table()
+    number = sum(len(record.edits_of(ROOT, it)) for it in names)
+    seconds = progress.proving(uses, [*uses], processors, with_tests=True) + number * known["an_edit"][0] / processors + known["all_else"][0]
+    what = f"make test: proves {len(uses)} crates and their tests, tries the {number} must-fail edits of {' '.join(names)}, and looks at the program that it proved."
+    progress.announce(what, seconds, processors, LOG)
+
+
 def main():
-    parts, started = Parts(), time.time()
+    parts, started, uses, names = Parts(), time.time(), kit.crates_of(ROOT), due()
+    LOG.parent.mkdir(exist_ok=True)
+    announce(uses, names)
     with tempfile.TemporaryDirectory(prefix="gate-") as room, Meter(room) as meter:
         # The toolchain runs programs as nobody, on copies below this folder.
         os.chmod(room, 0o711)
         os.environ["TMPDIR"] = tempfile.tempdir = room
         copy = copied(room)
-        parts.run("the gate's own tests", script(ROOT / "gate" / "test_gate.py"))
+        parts.run("the gate's own tests", script(ROOT / "gate" / "tests"))
         parts.run("the layout", layout)
         parts.run("the texts of edits", fitting)
         parts.run("the record of edits", dates)
         parts.run("proofs by hand", script(copy / "examples" / "check_hand_proofs.py"))
         parts.run("the statement", script(copy / "statement" / "statement.py", "--check"))
         parts.run("the statement's own tests", script(copy / "statement" / "test_statement.py"))
-        if parts.run("proofs, tests and builds", lambda: toolchain(copy)):
-            parts.run("must-fail edits", lambda: some_edits(copy))
+        if parts.run("proofs, tests and builds", lambda: toolchain.run(copy, uses, LOG, meter.table)):
+            parts.run("must-fail edits", lambda: some_edits(copy, names))
             for name in CHECKS:
                 parts.run(name, script(copy / "examples" / f"check_{name}.py"))
             for name in SHORT:

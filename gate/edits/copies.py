@@ -28,13 +28,14 @@ def proof_module(symbol):
 
 
 def can_be_copied(edit, folder):
-    """Whether an edit changes one function alone, for a copy of which there is a place, which calls not itself, has no proof by hand, and is named in no text but its own proof files."""
+    """Whether an edit changes one function alone, which is no method of a trait, calls not itself, has no proof by hand, and is named in no text but its own proof files."""
     if len(edit.symbols) != 1 or len({path for path, _, _ in edit.pairs}) != 1:
         return False
     symbol = next(iter(edit.symbols))
     place = Path(folder, proof_folder(symbol))
     by_hand = [place / "Proof.antt", place.parent / f"+{place.name}", place.parent / "fn" / place.name]
-    return edit.function.name != "main" and bool(edit.home) and not any(it.exists() for it in by_hand) and not is_named_elsewhere(symbol, folder)
+    is_plain = edit.function.name != "main" and not re.search(r"\bfor\b|\Atrait\b", edit.function.block)
+    return is_plain and not any(it.exists() for it in by_hand) and not is_named_elsewhere(symbol, folder)
 
 
 def is_named_elsewhere(symbol, folder):
@@ -52,7 +53,7 @@ def texts_of(folder):
 
 
 def with_copy(texts, folder, edit, edited, number):
-    """These texts with a copy of the function that the edit changes, as the text `edited` of its file has it, and with the copy's proof files; and the copy's symbol."""
+    """These texts with a copy of the function that the edit changes, as the text `edited` of its file has it, and with the copy's proof files; and the copy's symbol, in a set."""
     symbol, path = next(iter(edit.symbols)), edit.pairs[0][0]
     text = texts.get(path) or Path(folder, path).read_text()
     is_it = lambda it: (it.name, it.block) == (edit.function.name, edit.function.block)
@@ -60,13 +61,9 @@ def with_copy(texts, folder, edit, edited, number):
     changed = next(filter(is_it, source.functions_of(edited)))
     start, name = source.item_of(edited, changed), named(changed.name, number)
     copy = f"{edited[start:changed.at]}{name}{edited[changed.at + len(changed.name) : changed.end]}"
-    end = function.end
-    if head := source.plain_head(function.block):
-        begin, end = source.block_around(text, function)
-        brought = re.findall(r"(?m)^[ \t]*ghost use [^;]*;\n", text[begin : source.item_of(text, function)])
-        copy = f"{head} {{\n{''.join(brought)}\n{copy}\n}}"
-    texts, copied = {**texts, path: f"{text[:end]}\n\n{copy}{text[end:]}"}, f"{edit.home}::{name}"
+    texts = {**texts, path: f"{text[:function.end]}\n\n{copy}{text[function.end:]}"}
+    copied = f"{symbol.rpartition('::')[0]}::{name}"
     place, of_it, of_copy = proof_folder(symbol), f"{proof_module(symbol)}.", f"{proof_module(copied)}."
     for file in sorted(Path(folder, place).glob("*.antt")):
         texts[str(proof_folder(copied) / file.name)] = file.read_text().replace(of_it, of_copy)
-    return texts, copied
+    return texts, {copied}

@@ -1,11 +1,16 @@
-"""The Rattle kit's prover, called on one crate as `rt check` calls it."""
+"""The Rattle kit's prover, called on one crate as `rt` calls it, and what `rt` itself knows of a crate."""
 
 import os
 import re
+import runpy
 import shutil
 import subprocess
 from dataclasses import dataclass
+from functools import cache
 from pathlib import Path
+
+# The command of the kit, as the Makefile's RT names it.
+RT = os.environ.get("RT", "rt")
 
 
 @dataclass(frozen=True)
@@ -21,17 +26,24 @@ class Told:
         return self.status == 0
 
 
+@cache
 def folder():
     """The kit's folder: that of the page that `rt doc` names."""
-    told = subprocess.run(["rt", "doc"], capture_output=True, text=True, check=True)
+    told = subprocess.run([RT, "doc"], capture_output=True, text=True, check=True)
     return Path(told.stdout.strip()).parent
 
 
 def identity():
     """The kit's name, and the sum of the program logic that it proves in: several kits can have one logic."""
-    told = subprocess.run(["rt", "version"], capture_output=True, text=True, check=True).stdout
+    told = subprocess.run([RT, "version"], capture_output=True, text=True, check=True).stdout
     found = re.fullmatch(r"(\S+) logic (\w+)\s*", told)
     return found[1], found[2]
+
+
+def lanes():
+    """How many checks go side by side: one a processor, with 4 GB of free memory for each. None was seen to take more than 3.1 GB."""
+    free = int(re.search(r"MemAvailable:\s+(\d+)", Path("/proc/meminfo").read_text())[1])
+    return max(1, min(len(os.sched_getaffinity(0)), free // 4_000_000))
 
 
 def crates_of(root):
@@ -49,21 +61,15 @@ def below(uses, name):
     return found
 
 
-def command(kit, root, uses, name, kept):
-    """The words that check a crate over the libraries that are built in `root`, with its work kept in the folder `kept`."""
-    own = [it for it in uses[name] if it in uses]
-    built = {it: f"{root}/crates/{it}/out/rlib/{it}.rlib" for it in below(uses, name)}
-    top = "src/main.rt" if os.path.isfile(f"{root}/crates/{name}/src/main.rt") else "src/lib.rt"
-    words = [f"{kit}/bin/rattle", "check", "--crate-name", name, top]
-    for it in ["std", *(it for it in uses[name] if it not in uses)]:
-        words += ["--extern", f"{it}={kit}/rlibs/{it}.rlib"]
-    words += ["-L", f"dependency={kit}/rlibs"]
-    for it in own:
-        words += ["--extern", f"{it}={built[it]}"]
-    for it in built.values():
-        words += ["-L", f"dependency={os.path.dirname(it)}"]
-    words += ["--antt-project", f"{kit}/rattle/logic/antt-project.json", "--logic-built", f"{kit}/logic_built"]
-    return [*words, "--jobs", "1", "--links", f"{name}=", "--incremental", str(kept)]
+def crates_by_rt(root):
+    """By its name each crate as the module of `rt` reads it, which gives the words of a check, and a sum of all that the crate is made from."""
+    made = runpy.run_path(f"{folder()}/bin/rtlib.py")["Crate"]
+    made.stamp, known = cache(made.stamp), {}
+    for name in crates_of(root):
+        at = f"{root}/crates/{name}"
+        if at not in known:
+            known[at] = made(at, str(root), known)
+    return {it.name: it for it in known.values()}
 
 
 def check(words, crate_folder):

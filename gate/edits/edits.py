@@ -6,12 +6,12 @@ usage: edits.py [--root FOLDER] [--jobs N] [--record] [CRATE..]     at the top o
 An edit is a file crates/CRATE/must-fail/*.edit. Each function is proved against its own contract and those of what it
 calls, and never against another body. So many edits of bodies are tried in one check, each on a copy of its function where
 that can be copied, and each is refused by an error or an open goal that the check reports of that very copy. One that has
-none there is tried again with others, and then alone in its function's place, as is one that changes more than bodies;
-where no function has a goal of its own left open then, it shows nothing of a contract, and counts as an error, like an
-edit that can't be applied or read, or that is proved.
+none there is tried once more alone in its function's place, as is one that changes more than bodies; where no function has
+a goal of its own left open then, it shows nothing of a contract, and counts as an error, like an edit that can't be applied
+or read, or that is proved.
 
 Prints a line for each edit. The last line is 'N refused, M not refused', and the status is 1 where M is not 0.
-With --record the file gate/goals.txt is written, and gate/record.txt for the crates of which every edit was refused.
+With --record the file goals.txt is written, and record.txt for the crates of which every edit was refused.
 """
 
 import argparse
@@ -39,7 +39,7 @@ class Trial:
 
     name: str
     built: Libraries
-    # The goals of each edit that had a line of them when the trials began.
+    # The goal of each edit that had a line when the trials began.
     known: dict
     checks: int = 0
     seconds: float = 0.0
@@ -66,14 +66,12 @@ class Trial:
         return told
 
     def check_each(self, kept, every):
-        """Checks each of these, texts with the functions that are looked at, in a copy of its own, side by side as turns come free, and gives what was told of each, with the goals that each of the functions has."""
+        """Checks each of these, texts with the functions that are looked at, over kept work of its own, side by side as turns come free."""
 
         def check(it):
-            texts, only = it
             with tempfile.TemporaryDirectory(prefix="work-", dir=os.path.dirname(kept)) as room:
                 kit.linked_copy(kept, f"{room}/work")
-                told = self.check(f"{room}/work", texts, only)
-                return told, {symbol: goals.of_function(f"{room}/work", symbol) for symbol in only}
+                return self.check(f"{room}/work", *it)
 
         with ThreadPoolExecutor(max(1, len(every))) as pool:
             return list(pool.map(check, every))
@@ -85,6 +83,19 @@ class Trial:
             symbols = verdict.proved(told)
         return symbols
 
+    def can_be_tried(self, it, kept, symbols):
+        """Whether an edit fits a crate that is proved; finds what it changes, and which goal of it is known."""
+        if symbols is None:
+            it.judged(Outcome.NOT_TRIED, "the crate itself is not proved")
+        elif edits_of_a_crate.applied(it, self.folder) is None:
+            it.judged(Outcome.NOT_APPLIED, "it has no pair of texts, or an 'old:' text is not in its file once")
+        else:
+            edits_of_a_crate.look(it, self.folder, symbols)
+            if len(it.symbols) == 1:
+                it.goal, it.others = self.known.get(it.label, ""), goals.of_function(kept, next(iter(it.symbols)))
+            return True
+        return False
+
     def run(self):
         """Tries the crate's edits, and returns them."""
         edits = [edits_of_a_crate.read(self.name, it) for it in self.files()]
@@ -92,49 +103,34 @@ class Trial:
             kept = f"{room}/kept"
             kit.linked_copy(f"{self.folder}/out/incremental", kept)
             symbols = self.functions(kept)
-            for it in edits:
-                if symbols is None:
-                    it.judged(Outcome.NOT_TRIED, "the crate itself is not proved")
-                elif edits_of_a_crate.applied(it, self.folder) is None:
-                    it.judged(Outcome.NOT_APPLIED, "it has no pair of texts, or an 'old:' text is not in its file once")
-                else:
-                    edits_of_a_crate.look(it, self.folder, symbols)
-                    if len(it.symbols) == 1:
-                        it.goals, it.others = self.known.get(it.label), goals.of_function(kept, next(iter(it.symbols)))
-                    else:
-                        it.goals = []
-            left = [it for it in edits if it.outcome is Outcome.NOT_TRIED and symbols is not None]
+            left = [it for it in edits if self.can_be_tried(it, kept, symbols)]
             self.try_together(kept, [it for it in left if it.symbols])
-            for it in left:
-                # Once more with nothing left out.
-                it.missed, it.goals = ([], it.goals) if it.is_refused else ((it.goals or [])[:1], [])
-            self.try_together(kept, [it for it in left if it.symbols and not it.is_refused])
             alone = [it for it in left if not it.is_refused]
-            for it, (told, _) in zip(alone, self.check_each(kept, [(edits_of_a_crate.applied(it, self.folder), ()) for it in alone])):
+            for it, told in zip(alone, self.check_each(kept, [(edits_of_a_crate.applied(it, self.folder),) for it in alone])):
                 self.judge_alone(it, told)
         return edits
 
     def try_together(self, kept, edits):
         """Tries edits of bodies, many in one check."""
         groups = edits_of_a_crate.grouped(edits, self.folder)
-        for group, (told, had) in zip(groups, self.check_each(kept, [(self.one_goal_each(it), [*it.tried]) for it in groups])):
-            self.judge(group, told, had)
+        for group, told in zip(groups, self.check_each(kept, [(self.one_goal_each(it), [*it.tried]) for it in groups])):
+            self.judge(group, told)
 
     def one_goal_each(self, group):
-        """The texts of a group with the answers that leave all but the first known goal of each edit out."""
+        """The texts of a group with the answers that leave all but the known goal of each edit out."""
         texts = group.texts
         for symbol, it in group.tried.items():
             texts = goals.left_out(texts, self.folder, symbol, it)
         return texts
 
-    def judge(self, group, told, had={}):
-        """Takes those edits of a group as refused of whose own functions, or copies of them, the check has an error or an open goal: the first of their line, where they have one. Each of these has the goals `had`."""
+    def judge(self, group, told):
+        """Takes those edits of a group as refused of whose own functions, or copies of them, the check has an error or an open goal: the known one, where one is."""
         found = verdict.read(self.name, told, {symbol: goals.beside(it, self.folder) for symbol, it in group.tried.items()})
         # An error of a function that none of them changes could come from any: then each is tried alone.
         if found.is_read and {*found.own} <= {*group.tried}:
             for symbol, it in group.tried.items():
-                if symbol in found.own and (not it.goals or it.goals[0] in found.refused(symbol)):
-                    self.refused(it, symbol, found, had=had.get(symbol, []))
+                if symbol in found.own and (not it.goal or it.goal in found.refused(symbol)):
+                    self.refused(it, symbol, found)
 
     def judge_alone(self, it, told):
         """Judges an edit by a check of it alone."""
@@ -149,16 +145,11 @@ class Trial:
         else:
             self.refused(it, next(iter(own)), found, "(alone) ")
 
-    def refused(self, it, symbol, found, how="", had=()):
-        """Notes that an edit is refused, and by which goals, and which others it brings of those that it had: a trial of the first of them says nothing of the others."""
+    def refused(self, it, symbol, found, how=""):
+        """Notes that an edit is refused, and by which goal: another one than its line has only where that one is not left open."""
         it.judged(Outcome.REFUSED, f"{how}{symbol}: {found.own[symbol]}")
-        opened = sorted(found.refused(symbol), key=it.missed.__contains__)
-        if it.goals is None or it.goals[:1] != opened[:1]:
-            it.goals = opened
-        else:
-            it.goals = [*it.goals, *(goal for goal in opened if goal not in it.goals)]
-        known = [*it.others, *map(goals.plain, it.goals)]
-        it.goals = [*it.goals, *(goals.brought(goal) for goal in had if goal not in known)]
+        opened = found.refused(symbol)
+        it.goal = it.goal if it.goal in opened else next(iter(opened), "")
 
 
 def try_crates(root, names, jobs, when_done=lambda name, edits: None):
@@ -181,7 +172,7 @@ def try_crates(root, names, jobs, when_done=lambda name, edits: None):
 
 
 def note(root, name, edits):
-    """Writes by which goals a crate's edits were refused, and the record's line of a crate of which every edit was."""
+    """Writes by which goal each of a crate's edits was refused, and the record's line of a crate of which every edit was."""
     goals.write(root, name, edits)
     if all(it.is_refused for it in edits):
         record.write(root, [name])
@@ -196,7 +187,7 @@ def seconds():
 def main():
     words = argparse.ArgumentParser(description=__doc__, formatter_class=argparse.RawDescriptionHelpFormatter)
     words.add_argument("--root", default=os.getcwd())
-    words.add_argument("--jobs", type=int, default=1)
+    words.add_argument("--jobs", type=int, default=kit.lanes())
     words.add_argument("--record", action="store_true")
     words.add_argument("crates", nargs="*")
     given = words.parse_args()

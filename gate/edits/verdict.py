@@ -33,8 +33,8 @@ class Verdict:
     first: str
 
     def refused(self, symbol):
-        """The goals by which a function is refused, as a line of gate/goals.txt has them: those that are left open, then in parentheses those whose answers by hand are refused."""
-        return [*self.goals.get(symbol, []), *(f"({it})" for it in self.by_hand.get(symbol, []))]
+        """The goals by which a function is refused: those that are left open, then those whose answers by hand are refused."""
+        return [*self.goals.get(symbol, []), *self.by_hand.get(symbol, [])]
 
 
 def owner(symbol):

@@ -1,21 +1,23 @@
-"""The record of the crates all of whose must-fail edits were seen refused (gate/record.txt).
+"""The record of the crates all of whose must-fail edits were seen refused (gate/edits/record.txt).
 
 A crate's line names the kit with which they were seen, and holds a hash of the crate's code, specs, proofs and edits, of
-what the crates below say to it (says.py), and of the program logic. `make edits` alone writes it.
+what the crates below say to it (their source without bodies, comments and tests, and their specs), and of the program
+logic. `make edits` alone writes it.
 """
 
 import datetime
 import hashlib
+from functools import lru_cache
 from pathlib import Path
 
 import kit
-import says
+import source
 
 HEAD = "# Crates all of whose must-fail edits were seen refused: name, number of edits, day, kit, hash. Written by `make edits`.\n"
 
 
 def path(root):
-    return Path(root, "gate", "record.txt")
+    return Path(root, "gate", "edits", "record.txt")
 
 
 def files(folder, *parts):
@@ -26,6 +28,18 @@ def files(folder, *parts):
 
 def edits_of(root, name):
     return files(Path(root, "crates", name), "must-fail")
+
+
+# What a text says is read once, however many crates stand above it.
+outline = lru_cache(None)(source.outline)
+
+
+def said_by(folder):
+    """What a crate says to those above it: the path of each text, and what of it is said."""
+    for it in files(folder, "src", "specs"):
+        path = it.relative_to(folder)
+        if "tests" not in path.parts and path.name != "tests.rt":
+            yield path.as_posix(), outline(it.read_text()) if it.suffix == ".rt" else it.read_text()
 
 
 def hash_of(root, uses, name, logic):
@@ -40,8 +54,9 @@ def hash_of(root, uses, name, logic):
     add(name, " ".join(uses[name]).encode())
     for it in files(own, "src", "specs", "proofs", "must-fail"):
         add(it.relative_to(own).as_posix(), it.read_bytes())
-    for it in says.said_to(root, uses, name):
-        add(it.label, it.text.encode())
+    for lower in kit.below(uses, name):
+        for path, text in said_by(Path(root, "crates", lower)):
+            add(f"{lower}/{path}", text.encode())
     return total.hexdigest()
 
 

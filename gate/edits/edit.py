@@ -34,13 +34,9 @@ class Edit:
     why: str = ""
     symbols: set = field(default_factory=set)
     function: source.Function | None = None
-    # Where a copy of it is, or '' for nowhere.
-    home: str = ""
-    # The goals by which it was last seen refused, as its line has them, or None where it has no line.
-    goals: list | None = None
-    # The goals of its function as it is, as far as they are known, and that of its line which was tried and did not refuse it.
+    # The goal by which it was last seen refused, or '' where none is known, and those of its function as it is.
+    goal: str = ""
     others: list = field(default_factory=list)
-    missed: list = field(default_factory=list)
 
     def judged(self, outcome, why):
         self.outcome, self.why = outcome, why
@@ -63,7 +59,7 @@ def read(crate, file):
         elif word == "new" and old is not None:
             pairs.append((path, old, rest))
             old = None
-    return Edit(f"{crate}/{os.path.basename(file)}", pairs)
+    return Edit(f"{crate}/{Path(file).stem}", pairs)
 
 
 def applied(edit, folder, texts=None):
@@ -95,8 +91,7 @@ def look(edit, folder, symbols):
             edit.symbols = set()
             return
         edit.symbols.add(symbol)
-        if not edit.function:
-            edit.function, edit.home = inside[0], source.home_of_copy(text, inside[0], symbol, symbols)
+        edit.function = edit.function or inside[0]
 
 
 @dataclass
@@ -112,8 +107,7 @@ class Group:
             return False
         if copies.can_be_copied(edit, folder):
             edited = applied(edit, folder)[edit.pairs[0][0]]
-            texts, symbol = copies.with_copy(self.texts, folder, edit, edited, len(self.tried))
-            symbols = {symbol}
+            texts, symbols = copies.with_copy(self.texts, folder, edit, edited, len(self.tried))
         else:
             symbols = edit.symbols
             texts = None if symbols & {*self.tried} else applied(edit, folder, self.texts)

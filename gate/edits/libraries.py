@@ -1,0 +1,62 @@
+"""Builds crates, and the libraries that they stand on, where they are not built from what stands there now."""
+
+import os
+import shutil
+from concurrent.futures import ThreadPoolExecutor
+from pathlib import Path
+from threading import Semaphore
+
+import kit
+import verdict
+
+
+class Libraries:
+    """The crates of a repository, each of which is built once the libraries below it are. Of a program the proofs alone are kept."""
+
+    def __init__(self, root, jobs):
+        self.root, self.uses, self.turns = root, kit.crates_of(root), Semaphore(jobs)
+        # As they stand at first: a crate that changes meanwhile is left due.
+        self.crates = kit.crates_by_rt(root)
+        self.stamps = {name: it.stamp() for name, it in self.crates.items()}
+
+    def command(self, name, kept, how="check", *more):
+        """The words that check a crate of the repository, or build it, with its work kept in the folder `kept`."""
+        return [f"{kit.folder()}/bin/rattle", how, *self.crates[name].words(["--jobs", "1", "--incremental", str(kept), *more])]
+
+    def is_built(self, name):
+        """Whether a crate is built from what stands there now, here or by `rt`, which leaves the same stamp."""
+        stamp = Path(self.root, "crates", name, "out", "rlib", "stamp")
+        return stamp.is_file() and stamp.read_text() == self.stamps[name]
+
+    def proved(self, name):
+        """The symbols of the functions that were proved as a crate was built here, or None where it was not, or from something else."""
+        listed = Path(self.root, "crates", name, "out", "rlib", "proved")
+        return listed.read_text().split() if self.is_built(name) and listed.is_file() else None
+
+    def build(self, name, lower, when_done):
+        """Builds a crate once those below it are, over the work that its last check kept, tells what was told, and gives what was wrong, or nothing."""
+        wrong = next(filter(None, (it.result() for it in lower)), "")
+        if wrong or self.is_built(name):
+            return wrong
+        folder = Path(self.root, "crates", name)
+        kept, built = folder / "out" / "incremental", folder / "out" / "rlib"
+        with self.turns:
+            shutil.rmtree(built, ignore_errors=True)
+            os.makedirs(built)
+            how = ["check"] if self.crates[name].is_program else ["build", "-o", str(built / f"{name}.rlib")]
+            told = kit.check(self.command(name, kept, *how), folder)
+        when_done(name, told)
+        if not told.is_proved:
+            return f"{name} is not proved: {told.text[-600:]}"
+        (built / "proved").write_text("\n".join(verdict.proved(told)))
+        (built / "stamp").write_text(self.stamps[name])
+        return ""
+
+    def build_each(self, names, when_done=lambda name, told: None):
+        """Builds these crates and each library that one of them stands on, side by side, and gives what was wrong, or nothing."""
+        wanted = {needed for it in names for needed in (*kit.below(self.uses, it), it)}
+        with ThreadPoolExecutor(max(1, len(wanted))) as pool:
+            running = {}
+            for name in filter(wanted.__contains__, self.uses):
+                running[name] = pool.submit(self.build, name, [running[it] for it in self.uses[name] if it in running], when_done)
+            return next(filter(None, (it.result() for it in running.values())), "")
