@@ -1,24 +1,13 @@
 #!/usr/bin/env python3
 """The gate of `make test`. Its last line is 'N passed, M failed', and its status is 1 where M is not 0.
 
-  - the toolchain's own run (`rt ci`) in a copy of the repository without must-fail edits: every proof from nothing, the
-    tests, and the program as two compilers build it;
-  - the must-fail edits of the crates that gate/edits/record.txt does not cover as they stand, and of two more that the
-    commit's own hash picks (`make edits` tries all of them, and writes the record); a line of the record that is
-    older than its crate fails the gate;
-  - on the program that the copy proved and built: the worked rows, its calls of the system, its edges, its growths of
-    memory at an opening, what is large, the documents read by tools that are not ours, the pages that it leaves on a file, the blocks that it takes, the tour, mirrors of
-    sources that are killed meanwhile, folders that are published, the sizes of disks, the pictures of docs/, what is installed
-    beside it, the images of crashes at its calls on a file, hostile disks, lines and requests, ends that fail;
-  - the tests of the gate itself, the layout of the files, the texts of edits, the list of proofs by hand, and the statement: what
-    has to be read for each promise (docs/RECOVERY.md counts it), and where the evidence is.
-
-N counts crates, edits and the other parts. The minutes of a processor of each part are told before. It begins with what it is
-about to do and how long that takes; what the toolchain itself says goes to out/test.log.
+It proves and builds a copy of the repository by the toolchain's own run (`rt ci`), tries the must-fail edits of what changed
+and of two crates more, looks at the program that it proved, and reads texts: docs/GATE.md has each part, and what fails it.
+N counts crates, edits and the other parts. It begins with what it is about to do and how long that takes, and tells the
+minutes of a processor of each part at its end; what the toolchain says goes to out/test.log.
 """
 
 import os
-import re
 import resource
 import shutil
 import subprocess
@@ -33,10 +22,8 @@ sys.path.insert(0, str(ROOT / "gate" / "edits"))
 import edit
 import edits
 import kit
-import progress
 import record
-import toolchain
-from meter import Meter
+import runs
 
 LOG = ROOT / "out" / "test.log"
 # What is looked at on the proved program: examples/check_NAME.py for each.
@@ -56,11 +43,6 @@ def copied(room):
     return copy
 
 
-def commit():
-    """The commit that stands, or nothing where there is none."""
-    return subprocess.run(["git", "rev-parse", "HEAD"], cwd=ROOT, capture_output=True, text=True).stdout.strip()
-
-
 class Parts:
     """The parts of the gate: how many passed and failed, and what each took."""
 
@@ -70,11 +52,11 @@ class Parts:
     def run(self, name, call):
         """Runs a part, which gives how many passed and what failed."""
         print(f"== {name}", flush=True)
-        before, started = resource.getrusage(resource.RUSAGE_CHILDREN), time.time()
+        used = lambda: sum(resource.getrusage(resource.RUSAGE_CHILDREN)[:2])
+        before, started = used(), time.time()
         passed, failed = call()
-        after = resource.getrusage(resource.RUSAGE_CHILDREN)
         self.passed, self.failed = self.passed + passed, self.failed + failed
-        self.rows.append((name, after.ru_utime + after.ru_stime - before.ru_utime - before.ru_stime, time.time() - started))
+        self.rows.append((name, used() - before, time.time() - started))
         return not failed
 
 
@@ -94,14 +76,15 @@ def dates():
 
 def fitting():
     """Whether each edit still fits the code that it changes."""
-    every = [edit.read(it.parts[-3], it) for it in sorted(Path(ROOT, "crates").glob("*/must-fail/*.edit"))]
-    left = [it.label for it in every if edit.applied(it, Path(ROOT, "crates", it.label.split("/")[0])) is None]
+    crates = sorted(it for it in Path(ROOT, "crates").iterdir() if it.is_dir())
+    left = [it.label for crate in crates for it in edit.of_crate(ROOT, crate.name, {}) if edit.applied(it, crate) is None]
     return (0 if left else 1), [f"{it} fits its code no more" for it in left]
 
 
 def due():
     """The crates whose edits are tried: those that the record does not cover as they stand, and those that the commit picks."""
-    return list(dict.fromkeys([*record.uncovered(ROOT), *record.picked(ROOT, commit())]))
+    commit = subprocess.run(["git", "rev-parse", "HEAD"], cwd=ROOT, capture_output=True, text=True).stdout.strip()
+    return list(dict.fromkeys([*record.uncovered(ROOT), *record.picked(ROOT, commit)]))
 
 
 def some_edits(copy, names):
@@ -130,24 +113,24 @@ def tell(parts, meter, started):
         print(f"{name}: {seconds / 60:.1f}, {clock / 60:.1f}")
     print(f"in all: {sum(it[1] for it in parts.rows) / 60:.1f}, {(time.time() - started) / 60:.1f}")
     print("== seconds of a processor by crate: proofs, tests, compiling, edits")
-    for crate, seconds in sorted(meter.table().items()):
-        print(f"{crate}: {', '.join(f'{seconds[it]:.0f}' for it in ('proofs', 'tests', 'compiling', 'edits'))}")
+    for crate in kit.crates_of(ROOT):
+        print(f"{crate}: {', '.join(f'{meter.seconds(crate, it):.0f}' for it in ('proofs', 'tests', 'compiling', 'edits'))}")
 
 
 def announce(uses, names):
     """What is about to be done, and about how long it takes."""
-    processors, known = kit.lanes(), progress.table()
+    processors, known = kit.lanes(), runs.table()
     number = sum(len(record.edits_of(ROOT, it)) for it in names)
-    seconds = progress.proving(uses, [*uses], processors, with_tests=True) + number * known["an_edit"][0] / processors + known["all_else"][0]
+    seconds = runs.proving(uses, [*uses], processors, with_tests=True) + number * known["an_edit"][0] / processors + known["all_else"][0]
     what = f"make test: proves {len(uses)} crates and their tests, tries the {number} must-fail edits of {' '.join(names)}, and looks at the program that it proved."
-    progress.announce(what, seconds, processors, LOG)
+    runs.announce(what, seconds, processors, LOG)
 
 
 def main():
     parts, started, uses, names = Parts(), time.time(), kit.crates_of(ROOT), due()
     LOG.parent.mkdir(exist_ok=True)
     announce(uses, names)
-    with tempfile.TemporaryDirectory(prefix="gate-") as room, Meter(room) as meter:
+    with tempfile.TemporaryDirectory(prefix="gate-") as room, runs.Meter(room) as meter:
         # The toolchain runs programs as nobody, on copies below this folder.
         os.chmod(room, 0o711)
         os.environ["TMPDIR"] = tempfile.tempdir = room
@@ -159,7 +142,7 @@ def main():
         parts.run("proofs by hand", script(copy / "examples" / "check_hand_proofs.py"))
         parts.run("the statement", script(copy / "statement" / "statement.py", "--check"))
         parts.run("the statement's own tests", script(copy / "statement" / "test_statement.py"))
-        if parts.run("proofs, tests and builds", lambda: toolchain.run(copy, uses, LOG, meter.table)):
+        if parts.run("proofs, tests and builds", lambda: runs.rt_ci(copy, uses, LOG, meter.seconds)):
             parts.run("must-fail edits", lambda: some_edits(copy, names))
             for name in CHECKS:
                 parts.run(name, script(copy / "examples" / f"check_{name}.py"))

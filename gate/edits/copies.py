@@ -6,14 +6,10 @@ specs or proofs names is not copied.
 """
 
 import re
-from functools import lru_cache
+from functools import cache
 from pathlib import Path
 
 import source
-
-
-def named(name, number):
-    return f"{name}_tried_{number}"
 
 
 def proof_folder(symbol):
@@ -27,43 +23,37 @@ def proof_module(symbol):
     return ".".join(["Rattle", crate, "proofs", *names])
 
 
-def can_be_copied(edit, folder):
-    """Whether an edit changes one function alone, which is no method of a trait, calls not itself, has no proof by hand, and is named in no text but its own proof files."""
-    if len(edit.symbols) != 1 or len({path for path, _, _ in edit.pairs}) != 1:
-        return False
-    symbol = next(iter(edit.symbols))
-    place = Path(folder, proof_folder(symbol))
-    by_hand = [place / "Proof.antt", place.parent / f"+{place.name}", place.parent / "fn" / place.name]
-    is_plain = edit.function.name != "main" and not re.search(r"\bfor\b|\Atrait\b", edit.function.block)
-    return is_plain and not any(it.exists() for it in by_hand) and not is_named_elsewhere(symbol, folder)
-
-
-def is_named_elsewhere(symbol, folder):
-    """Whether a text of the crate beside the function's own proof files names the function's proof or contract."""
-    place = Path(folder, proof_folder(symbol))
-    named = re.compile(rf"\b(?:proofs|contracts)\.{re.escape('.'.join(symbol.split('::')[1:]))}\b")
-    return any(named.search(text) for file, text in texts_of(folder) if file.parent != place)
-
-
-@lru_cache
+@cache
 def texts_of(folder):
     """The texts of a crate's code, specs and proofs, by their files."""
     files = [it for part in ("src", "specs", "proofs") for it in Path(folder, part).rglob("*") if it.is_file()]
     return [(it, it.read_text()) for it in files]
 
 
+def can_be_copied(edit, folder):
+    """Whether an edit changes one function alone, which is no method of a trait, calls not itself, has no proof by hand, and is named in no text but its own proof files."""
+    if len(edit.symbols) != 1 or len({path for path, _, _ in edit.pairs}) != 1:
+        return False
+    symbol = next(iter(edit.symbols))
+    place, name = Path(folder, proof_folder(symbol)), re.escape(".".join(symbol.split("::")[1:]))
+    by_hand = [place / "Proof.antt", place.parent / f"+{place.name}", place.parent / "fn" / place.name]
+    if edit.function.name == "main" or re.search(r"\bfor\b|\Atrait\b", edit.function.block) or any(it.exists() for it in by_hand):
+        return False
+    return not any(re.search(rf"\b(?:proofs|contracts)\.{name}\b", text) for file, text in texts_of(folder) if file.parent != place)
+
+
 def with_copy(texts, folder, edit, edited, number):
-    """These texts with a copy of the function that the edit changes, as the text `edited` of its file has it, and with the copy's proof files; and the copy's symbol, in a set."""
+    """These texts with a copy of the function that the edit changes, as the text of its file in `edited` has it, and with the copy's proof files; and the copy's symbol, in a set."""
     symbol, path = next(iter(edit.symbols)), edit.pairs[0][0]
-    text = texts.get(path) or Path(folder, path).read_text()
+    text, edited = texts.get(path) or Path(folder, path).read_text(), edited[path]
     is_it = lambda it: (it.name, it.block) == (edit.function.name, edit.function.block)
     function = next(filter(is_it, source.functions_of(text)))
     changed = next(filter(is_it, source.functions_of(edited)))
-    start, name = source.item_of(edited, changed), named(changed.name, number)
-    copy = f"{edited[start:changed.at]}{name}{edited[changed.at + len(changed.name) : changed.end]}"
+    name = f"{changed.name}_tried_{number}"
+    copy = f"{edited[source.item_of(edited, changed) : changed.at]}{name}{edited[changed.at + len(changed.name) : changed.end]}"
     texts = {**texts, path: f"{text[:function.end]}\n\n{copy}{text[function.end:]}"}
     copied = f"{symbol.rpartition('::')[0]}::{name}"
-    place, of_it, of_copy = proof_folder(symbol), f"{proof_module(symbol)}.", f"{proof_module(copied)}."
-    for file in sorted(Path(folder, place).glob("*.antt")):
-        texts[str(proof_folder(copied) / file.name)] = file.read_text().replace(of_it, of_copy)
+    for file in sorted(Path(folder, proof_folder(symbol)).glob("*.antt")):
+        spoken = file.read_text().replace(f"{proof_module(symbol)}.", f"{proof_module(copied)}.")
+        texts[str(proof_folder(copied) / file.name)] = spoken
     return texts, {copied}

@@ -9,9 +9,6 @@ from pathlib import Path
 import copies
 import source
 
-# At most so many edits in one check.
-MOST = 96
-
 
 class Outcome(Enum):
     """What came of an edit. All but the first are errors of the gate."""
@@ -38,28 +35,26 @@ class Edit:
     goal: str = ""
     others: list = field(default_factory=list)
 
-    def judged(self, outcome, why):
-        self.outcome, self.why = outcome, why
-
     @property
     def is_refused(self):
         return self.outcome is Outcome.REFUSED
 
 
-def read(crate, file):
-    """Reads the edit of a file: a line 'file: PATH', then pairs of lines 'old: TEXT' and 'new: TEXT'."""
-    pairs, path, old = [], "", None
-    for line in Path(file).read_text().split("\n"):
-        word, _, rest = line.partition(":")
-        rest = rest.removeprefix(" ")
-        if word == "file":
-            path = rest.strip()
-        elif word == "old":
-            old = rest
-        elif word == "new" and old is not None:
-            pairs.append((path, old, rest))
-            old = None
-    return Edit(f"{crate}/{Path(file).stem}", pairs)
+def of_crate(root, name, known):
+    """The edits of a crate, with the goals that are known. A file has lines 'file: PATH', each before pairs of lines 'old: TEXT' and 'new: TEXT'."""
+    found = []
+    for file in sorted(Path(root, "crates", name, "must-fail").glob("*.edit")):
+        pairs, path, old, label = [], "", None, f"{name}/{file.stem}"
+        for word, text in re.findall(r"(?m)^(file|old|new): ?(.*)$", file.read_text()):
+            if word == "file":
+                path = text.strip()
+            elif word == "old":
+                old = text
+            elif old is not None:
+                pairs.append((path, old, text))
+                old = None
+        found.append(Edit(label, pairs, goal=known.get(label, "")))
+    return found
 
 
 def applied(edit, folder, texts=None):
@@ -103,17 +98,13 @@ class Group:
 
     def takes(self, edit, folder):
         """Takes an edit, on a copy of its function or, where that can't be copied, in its place. False where it can't."""
-        if len(self.tried) >= MOST:
-            return False
         if copies.can_be_copied(edit, folder):
-            edited = applied(edit, folder)[edit.pairs[0][0]]
-            texts, symbols = copies.with_copy(self.texts, folder, edit, edited, len(self.tried))
+            texts, symbols = copies.with_copy(self.texts, folder, edit, applied(edit, folder), len(self.tried))
         else:
             symbols = edit.symbols
             texts = None if symbols & {*self.tried} else applied(edit, folder, self.texts)
         if texts:
-            self.texts = texts
-            self.tried.update(dict.fromkeys(symbols, edit))
+            self.texts, self.tried = texts, {**self.tried, **dict.fromkeys(symbols, edit)}
         return bool(texts)
 
 

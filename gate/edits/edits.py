@@ -3,12 +3,9 @@
 
 usage: edits.py [--root FOLDER] [--jobs N] [--record] [CRATE..]     at the top of the repository
 
-An edit is a file crates/CRATE/must-fail/*.edit. Each function is proved against its own contract and those of what it
-calls, and never against another body. So many edits of bodies are tried in one check, each on a copy of its function where
-that can be copied, and each is refused by an error or an open goal that the check reports of that very copy. One that has
-none there is tried once more alone in its function's place, as is one that changes more than bodies; where no function has
-a goal of its own left open then, it shows nothing of a contract, and counts as an error, like an edit that can't be applied
-or read, or that is proved.
+Each function is proved against its own contract and those of what it calls, and never against another body. So many edits of
+bodies are tried in one check, each on a copy of its function where that can be copied, and each is refused by an error or an
+open goal of that very copy. One that has none there is tried once more alone, as is one that changes more than bodies.
 
 Prints a line for each edit. The last line is 'N refused, M not refused', and the status is 1 where M is not 0.
 With --record the file goals.txt is written, and record.txt for the crates of which every edit was refused.
@@ -24,7 +21,7 @@ from concurrent.futures import ThreadPoolExecutor, as_completed
 from dataclasses import dataclass
 from pathlib import Path
 
-import edit as edits_of_a_crate
+import edit
 import goals
 import kit
 import record
@@ -38,18 +35,13 @@ class Trial:
     """The edits of one crate, tried in copies of it over the work that its last check kept."""
 
     name: str
+    edits: list
     built: Libraries
-    # The goal of each edit that had a line when the trials began.
-    known: dict
     checks: int = 0
     seconds: float = 0.0
 
-    @property
-    def folder(self):
-        return f"{self.built.root}/crates/{self.name}"
-
-    def files(self):
-        return sorted(map(str, Path(self.folder, "must-fail").glob("*.edit")))
+    def __post_init__(self):
+        self.folder = f"{self.built.root}/crates/{self.name}"
 
     def check(self, kept, texts, only=()):
         """Checks a copy of the crate with these texts in place of its own, or these functions of it alone, with its work kept in the folder `kept`."""
@@ -76,52 +68,39 @@ class Trial:
         with ThreadPoolExecutor(max(1, len(every))) as pool:
             return list(pool.map(check, every))
 
-    def functions(self, kept):
-        """The symbols of the crate's functions, all of which are proved as they are, by the building of its library or by a check. None where one is not."""
-        symbols = self.built.proved(self.name)
-        if symbols is None and (told := self.check(kept, {})).is_proved:
-            symbols = verdict.proved(told)
-        return symbols
-
     def can_be_tried(self, it, kept, symbols):
-        """Whether an edit fits a crate that is proved; finds what it changes, and which goal of it is known."""
+        """Whether an edit fits a crate that is proved, with these symbols of its functions; finds what it changes."""
         if symbols is None:
-            it.judged(Outcome.NOT_TRIED, "the crate itself is not proved")
-        elif edits_of_a_crate.applied(it, self.folder) is None:
-            it.judged(Outcome.NOT_APPLIED, "it has no pair of texts, or an 'old:' text is not in its file once")
+            it.why = "the crate itself is not proved"
+        elif edit.applied(it, self.folder) is None:
+            it.outcome, it.why = Outcome.NOT_APPLIED, "it has no pair of texts, or an 'old:' text is not in its file once"
         else:
-            edits_of_a_crate.look(it, self.folder, symbols)
-            if len(it.symbols) == 1:
-                it.goal, it.others = self.known.get(it.label, ""), goals.of_function(kept, next(iter(it.symbols)))
-            return True
-        return False
+            edit.look(it, self.folder, symbols)
+            it.goal, it.others = (it.goal, goals.of_function(kept, *it.symbols)) if len(it.symbols) == 1 else ("", [])
+        return not it.why
 
     def run(self):
-        """Tries the crate's edits, and returns them."""
-        edits = [edits_of_a_crate.read(self.name, it) for it in self.files()]
+        """Tries the crate's edits, once all its functions are proved as they are, by the building of its library or by a check."""
         with tempfile.TemporaryDirectory(prefix="edits-") as room:
             kept = f"{room}/kept"
             kit.linked_copy(f"{self.folder}/out/incremental", kept)
-            symbols = self.functions(kept)
-            left = [it for it in edits if self.can_be_tried(it, kept, symbols)]
+            symbols = self.built.proved(self.name)
+            if symbols is None and (told := self.check(kept, {})).is_proved:
+                symbols = verdict.proved(told)
+            left = [it for it in self.edits if self.can_be_tried(it, kept, symbols)]
             self.try_together(kept, [it for it in left if it.symbols])
             alone = [it for it in left if not it.is_refused]
-            for it, told in zip(alone, self.check_each(kept, [(edits_of_a_crate.applied(it, self.folder),) for it in alone])):
+            for it, told in zip(alone, self.check_each(kept, [(edit.applied(it, self.folder),) for it in alone])):
                 self.judge_alone(it, told)
-        return edits
 
     def try_together(self, kept, edits):
-        """Tries edits of bodies, many in one check."""
-        groups = edits_of_a_crate.grouped(edits, self.folder)
-        for group, told in zip(groups, self.check_each(kept, [(self.one_goal_each(it), [*it.tried]) for it in groups])):
+        """Tries edits of bodies, many in one check, with all but the known goal of each left out."""
+        groups = edit.grouped(edits, self.folder)
+        for group in groups:
+            for symbol, it in group.tried.items():
+                group.texts = goals.left_out(group.texts, self.folder, symbol, it)
+        for group, told in zip(groups, self.check_each(kept, [(it.texts, [*it.tried]) for it in groups])):
             self.judge(group, told)
-
-    def one_goal_each(self, group):
-        """The texts of a group with the answers that leave all but the known goal of each edit out."""
-        texts = group.texts
-        for symbol, it in group.tried.items():
-            texts = goals.left_out(texts, self.folder, symbol, it)
-        return texts
 
     def judge(self, group, told):
         """Takes those edits of a group as refused of whose own functions, or copies of them, the check has an error or an open goal: the known one, where one is."""
@@ -136,39 +115,36 @@ class Trial:
         """Judges an edit by a check of it alone."""
         found = verdict.read(self.name, told)
         own = {symbol: text for symbol, text in found.own.items() if not it.symbols or symbol in it.symbols}
-        if found.is_proved:
-            it.judged(Outcome.PROVED, "the crate is still proved with it")
+        if told.is_proved:
+            it.outcome, it.why = Outcome.PROVED, "the crate is still proved with it"
         elif not found.is_read:
-            it.judged(Outcome.NOT_READ, f"it did not reach the prover: {found.first}")
+            it.outcome, it.why = Outcome.NOT_READ, f"it did not reach the prover: {found.first}"
         elif not own:
-            it.judged(Outcome.NO_GOAL, f"no goal of what it changes is left open, so it shows nothing: {found.first}")
+            it.outcome, it.why = Outcome.NO_GOAL, f"no goal of what it changes is left open, so it shows nothing: {found.first}"
         else:
             self.refused(it, next(iter(own)), found, "(alone) ")
 
     def refused(self, it, symbol, found, how=""):
         """Notes that an edit is refused, and by which goal: another one than its line has only where that one is not left open."""
-        it.judged(Outcome.REFUSED, f"{how}{symbol}: {found.own[symbol]}")
+        it.outcome, it.why = Outcome.REFUSED, f"{how}{symbol}: {found.own[symbol]}"
         opened = found.refused(symbol)
-        it.goal = it.goal if it.goal in opened else next(iter(opened), "")
+        it.goal = it.goal if it.goal in opened else [*opened, ""][0]
 
 
 def try_crates(root, names, jobs, when_done=lambda name, edits: None):
     """Tries the edits of these crates, so many checks side by side, prints what came of each, and returns the edits by crate. Each crate is told of when it is done."""
     built, known = Libraries(root, jobs), goals.known(root)
-    # The crates with the most edits begin, since their checks are the longest.
-    trials = sorted((it for it in (Trial(name, built, known) for name in names) if it.files()), key=lambda it: -len(it.files()))
-    tried = {}
-    # A crate's own checks go side by side too, so that the last one leaves no processor idle.
+    trials = [Trial(name, found, built) for name in names if (found := edit.of_crate(root, name, known))]
+    # A crate's own checks go side by side too, so that the last one leaves no processor idle. Those with the most edits begin.
     with ThreadPoolExecutor(jobs) as pool:
-        running = {pool.submit(it.run): it for it in trials}
+        running = {pool.submit(it.run): it for it in sorted(trials, key=lambda it: -len(it.edits))}
         for done in as_completed(running):
-            trial, edits = running[done], done.result()
-            tried[trial.name] = edits
-            for it in edits:
+            trial, _ = running[done], done.result()
+            for it in trial.edits:
                 print(f"{it.outcome.value}: {it.label}: {it.why[:200]}")
-            print(f"-- {trial.name}: {len(edits)} edits by {trial.checks} checks, {trial.seconds:.0f} seconds of a processor", flush=True)
-            when_done(trial.name, edits)
-    return tried
+            print(f"-- {trial.name}: {len(trial.edits)} edits by {trial.checks} checks, {trial.seconds:.0f} seconds of a processor", flush=True)
+            when_done(trial.name, trial.edits)
+    return {it.name: it.edits for it in trials}
 
 
 def note(root, name, edits):
@@ -178,12 +154,6 @@ def note(root, name, edits):
         record.write(root, [name])
 
 
-def seconds():
-    """What the checks that have ended took of a processor."""
-    used = resource.getrusage(resource.RUSAGE_CHILDREN)
-    return used.ru_utime + used.ru_stime
-
-
 def main():
     words = argparse.ArgumentParser(description=__doc__, formatter_class=argparse.RawDescriptionHelpFormatter)
     words.add_argument("--root", default=os.getcwd())
@@ -191,18 +161,17 @@ def main():
     words.add_argument("--record", action="store_true")
     words.add_argument("crates", nargs="*")
     given = words.parse_args()
-
+    # What the checks that have ended took of a processor.
+    minutes = lambda: sum(resource.getrusage(resource.RUSAGE_CHILDREN)[:2]) / 60
     names = [it for it in given.crates or kit.crates_of(given.root) if record.edits_of(given.root, it)]
     if wrong := Libraries(given.root, given.jobs).build_each(names):
         sys.exit(wrong)
-    built = seconds()
-    when_done = (lambda name, edits: note(given.root, name, edits)) if given.record else (lambda name, edits: None)
-    tried = try_crates(given.root, names, given.jobs, when_done)
-    every = [it for edits in tried.values() for it in edits]
-    refused = sum(it.is_refused for it in every)
-    print(f"minutes of a processor: {built / 60:.1f} for crates that were not built, {(seconds() - built) / 60:.1f} for the edits")
-    print(f"{refused} refused, {len(every) - refused} not refused")
-    return 1 if refused < len(every) else 0
+    built = minutes()
+    tried = try_crates(given.root, names, given.jobs, lambda name, edits: given.record and note(given.root, name, edits))
+    came = [it.is_refused for edits in tried.values() for it in edits]
+    print(f"minutes of a processor: {built:.1f} for crates that were not built, {minutes() - built:.1f} for the edits")
+    print(f"{sum(came)} refused, {len(came) - sum(came)} not refused")
+    return 0 if all(came) else 1
 
 
 if __name__ == "__main__":

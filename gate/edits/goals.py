@@ -1,9 +1,8 @@
 """The goal by which each must-fail edit was last seen refused (gate/edits/goals.txt), and how the others are left out of a trial.
 
-One goal that stays open refuses an edit, and the prover searches long for each that does not hold, and for those of a large
-function that do. So the goal of an edit's line alone is tried, and it alone refuses the edit: the others that its function has
-as it is get an answer that no check takes. Where the goal has an answer by hand, all answers by hand stay, since one may cite
-another. An edit that is not refused so is tried alone with nothing left out: a line can be old, and still refuses nothing.
+One open goal refuses an edit, and the prover searches long for all others. So the goal of an edit's line alone is tried, and it
+alone refuses the edit: the others get an answer that no check takes. Where the goal has an answer by hand, all answers by hand
+stay, since one may cite another. An edit that is not refused so is tried alone with nothing left out: a line can be old.
 """
 
 import json
@@ -12,6 +11,7 @@ from pathlib import Path
 
 import copies
 
+FILE = "gate/edits/goals.txt"
 HEAD = "# The goal by which each must-fail edit was last seen refused. Written by `make edits`.\n"
 # An answer by hand: what a file of them makes public.
 ANSWERED = re.compile(r"(?m)^pub (\S+) :")
@@ -22,13 +22,9 @@ NO_ANSWER = "left_out_of_this_trial"
 NO_GOAL = "no_goal_of_any_function"
 
 
-def path(root):
-    return Path(root, "gate", "edits", "goals.txt")
-
-
 def known(root):
     """The goal of each edit that has a line, by its label."""
-    text = path(root).read_text() if path(root).is_file() else ""
+    text = Path(root, FILE).read_text() if Path(root, FILE).is_file() else ""
     return dict(it.split(": ") for it in text.splitlines() if not it.startswith("#"))
 
 
@@ -36,7 +32,7 @@ def write(root, crate, edits):
     """Writes the lines of a crate's edits anew."""
     lines = {label: goal for label, goal in known(root).items() if not label.startswith(f"{crate}/")}
     lines.update({it.label: it.goal for it in edits if it.is_refused and it.goal})
-    path(root).write_text(HEAD + "".join(f"{label}: {lines[label]}\n" for label in sorted(lines)))
+    Path(root, FILE).write_text(HEAD + "".join(f"{label}: {lines[label]}\n" for label in sorted(lines)))
 
 
 def of_function(kept, symbol):
@@ -45,45 +41,31 @@ def of_function(kept, symbol):
     file = next(Path(kept).glob(f"*/Rattle-{crate}-proofs.{'.'.join(names)}.Proof.oantt"), None)
     declared = DECLARED.search(file.read_bytes()) if file else None
     found = [it["spelling"] for it in json.loads(declared[1])["exports"] if not it["pub"]] if declared else []
-    return [it for it in found if not any(is_clause(other, it) for other in found)]
-
-
-def is_clause(goal, whole):
-    """Whether a goal is one clause of another one."""
-    return goal.startswith(f"{whole}-clause-")
-
-
-def answers(folder, symbol):
-    """Where the answers by hand of a function stand in its crate, and their text."""
-    file = copies.proof_folder(symbol) / "Answers.antt"
-    return str(file), Path(folder, file).read_text() if Path(folder, file).is_file() else ""
+    return [it for it in found if not any(other.startswith(f"{it}-clause-") for other in found)]
 
 
 def beside(edit, folder):
     """The goals that get an answer in a trial of an edit that is none: that of no function alone, where no goal of it is known."""
     if not edit.goal:
         return [NO_GOAL]
-    by_hand = ANSWERED.findall(answers(folder, next(iter(edit.symbols)))[1])
-    left = [] if edit.goal in by_hand else by_hand
-    is_part = lambda it: is_clause(it, edit.goal) or is_clause(edit.goal, it)
-    return [*left, *(it for it in edit.others if it not in [*by_hand, edit.goal] and not is_part(it)), NO_GOAL]
+    answers = Path(folder, copies.proof_folder(next(iter(edit.symbols))), "Answers.antt")
+    by_hand = ANSWERED.findall(answers.read_text()) if answers.is_file() else []
+    # A goal stands for its clauses, and one of them for it.
+    is_part = lambda it: it.startswith(f"{edit.goal}-clause-") or edit.goal.startswith(f"{it}-clause-")
+    stays = lambda it: it in [*by_hand, edit.goal] or is_part(it)
+    return [*(by_hand if edit.goal not in by_hand else []), *(it for it in edit.others if not stays(it)), NO_GOAL]
 
 
 def left_out(texts, folder, symbol, edit):
     """These texts, with the answers of a function or its copy in which all but the known goal of an edit are left out of its trial.
-
-    An answer to a goal that it has not comes last: over answers that it refuses, the prover does not run once more to print
-    what it would offer for the open ones.
-    """
+    Over an answer to no goal, the prover does not run once more to print what it would offer for the open ones."""
     place, left = copies.proof_folder(symbol), beside(edit, folder)
     if Path(folder, place.parent, f"+{place.name}").is_dir() or Path(folder, place, "Proof.antt").is_file():
         return texts
-    path, text = answers(folder, symbol)
-    text = texts.get(path, text)
+    path, module = place / "Answers.antt", f"{copies.proof_module(symbol)}.Goals"
+    text = texts.get(str(path)) or (Path(folder, path).read_text() if Path(folder, path).is_file() else "")
     text = "" if {*ANSWERED.findall(text)} & {*left} else text
-    module = f"{copies.proof_module(symbol)}.Goals"
-    if brought := re.search(rf"(?m)^use {re.escape(module)} as (\w+)", text):
-        name = brought[1]
-    else:
-        name, text = "goals_of_this_trial", f"use {module} as goals_of_this_trial\n{text}"
-    return {**texts, path: text + "".join(f"\npub {it} : {name}.{it}\n{it} = {NO_ANSWER}\n" for it in left)}
+    if not (brought := re.search(rf"(?m)^use {re.escape(module)} as (\w+)", text)):
+        text = f"use {module} as goals_of_this_trial\n{text}"
+    name = brought[1] if brought else "goals_of_this_trial"
+    return {**texts, str(path): text + "".join(f"\npub {it} : {name}.{it}\n{it} = {NO_ANSWER}\n" for it in left)}

@@ -1,8 +1,7 @@
-"""The Rattle kit's prover, called on one crate as `rt` calls it, and what `rt` itself knows of a crate."""
+"""The Rattle kit's prover, and the crates of a repository."""
 
 import os
 import re
-import runpy
 import shutil
 import subprocess
 from dataclasses import dataclass
@@ -53,23 +52,11 @@ def crates_of(root):
 
 
 def below(uses, name):
-    """The repository's crates that this one stands on, near or far."""
-    found = []
-    for it in uses[name]:
-        if it in uses:
-            found += [lower for lower in [*below(uses, it), it] if lower not in found]
-    return found
-
-
-def crates_by_rt(root):
-    """By its name each crate as the module of `rt` reads it, which gives the words of a check, and a sum of all that the crate is made from."""
-    made = runpy.run_path(f"{folder()}/bin/rtlib.py")["Crate"]
-    made.stamp, known = cache(made.stamp), {}
-    for name in crates_of(root):
-        at = f"{root}/crates/{name}"
-        if at not in known:
-            known[at] = made(at, str(root), known)
-    return {it.name: it for it in known.values()}
+    """The repository's crates that this one stands on, near or far, the lowest first."""
+    lower = {*uses[name]}
+    for it in reversed([*uses]):
+        lower |= {*uses[it]} if it in lower else set()
+    return [it for it in uses if it in lower]
 
 
 def check(words, crate_folder):
@@ -84,7 +71,6 @@ def check(words, crate_folder):
 
 def linked_copy(kept, to):
     """A copy of kept work by links, which serve since the prover replaces files and never writes into one."""
-    shutil.rmtree(to, ignore_errors=True)
     if os.path.isdir(kept):
         shutil.copytree(kept, to, copy_function=os.link)
     else:

@@ -1,8 +1,10 @@
 """Builds crates, and the libraries that they stand on, where they are not built from what stands there now."""
 
 import os
+import runpy
 import shutil
 from concurrent.futures import ThreadPoolExecutor
+from functools import cache
 from pathlib import Path
 from threading import Semaphore
 
@@ -15,8 +17,13 @@ class Libraries:
 
     def __init__(self, root, jobs):
         self.root, self.uses, self.turns = root, kit.crates_of(root), Semaphore(jobs)
-        # As they stand at first: a crate that changes meanwhile is left due.
-        self.crates = kit.crates_by_rt(root)
+        # Each crate as the module of `rt` reads it, which gives the words of a check, and a sum of all that the crate is made from.
+        made, known = runpy.run_path(f"{kit.folder()}/bin/rtlib.py")["Crate"], {}
+        made.stamp = cache(made.stamp)
+        for at in (f"{root}/crates/{name}" for name in self.uses):
+            known[at] = known[at] if at in known else made(at, str(root), known)
+        # The sums as they are at first: a crate that changes meanwhile is left due.
+        self.crates = {it.name: it for it in known.values()}
         self.stamps = {name: it.stamp() for name, it in self.crates.items()}
 
     def command(self, name, kept, how="check", *more):

@@ -25,7 +25,6 @@ class Verdict:
     """Whether the prover read all and refused some of it; of each function the first error or open goal of its own, the names of
     its open goals, and of those whose answers by hand are refused; and the first error of all."""
 
-    is_proved: bool
     is_read: bool
     own: dict
     goals: dict
@@ -71,7 +70,7 @@ def read(crate, told, left_out={}):
             if errors and not found[2]:
                 own.setdefault(symbol, errors[0])
     first = re.search(r"(?m)^.*: (error|not proved|no proof)\b.*$", told.text)
-    return Verdict(told.is_proved, is_read, own, opened, by_hand, first[0] if first else told.text[:200])
+    return Verdict(is_read, own, opened, by_hand, first[0] if first else told.text[:200])
 
 
 def proved(told):

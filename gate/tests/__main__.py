@@ -4,6 +4,5 @@ import sys
 import unittest
 from pathlib import Path
 
-suite = unittest.defaultTestLoader.discover(str(Path(__file__).resolve().parent))
-ran = unittest.TextTestRunner(verbosity=2).run(suite)
+ran = unittest.TextTestRunner(verbosity=2).run(unittest.defaultTestLoader.discover(str(Path(__file__).resolve().parent)))
 sys.exit(not (ran.testsRun and ran.wasSuccessful()))

@@ -1,4 +1,4 @@
-"""What the tests of the gate have in common: a sample crate, repositories of such crates, and edits of them."""
+"""What the tests of the gate have in common: a sample crate, repositories of such crates, and the tables in texts/."""
 
 import contextlib
 import sys
@@ -8,10 +8,18 @@ from pathlib import Path
 HERE = Path(__file__).resolve().parent
 sys.path[:0] = [str(HERE.parent), str(HERE.parent / "edits")]
 
-import edit
 
-# A crate, one above it, what a check tells of a crate, and of copies of which one answer each is left out of the trial.
-CODE, ABOVE, TOLD, LEFT_OUT = ((HERE / "texts" / f"{it}.txt").read_text() for it in ("sample", "above", "told", "left_out"))
+def text(name):
+    return (HERE / "texts" / f"{name}.txt").read_text()
+
+
+def rows(name):
+    """The rows of a table, behind the line that says what its columns are."""
+    return [[it.strip() for it in row.split(" |")] for row in text(name).splitlines()[1:]]
+
+
+# A crate, and one above it.
+CODE, ABOVE = text("sample"), text("above")
 
 
 @contextlib.contextmanager
@@ -20,26 +28,17 @@ def repository(**crates):
     names = [*crates]
     with tempfile.TemporaryDirectory() as room:
         Path(room, "crates.txt").write_text("".join(f"{it}: {' '.join(names[:i])}\n" for i, it in enumerate(names)))
-        Path(room, "gate", "edits").mkdir(parents=True)
-        for name, text in crates.items():
-            for part in ("src", "must-fail"):
-                Path(room, "crates", name, part).mkdir(parents=True)
-            Path(room, "crates", name, "src", "lib.rt").write_text(text)
-            write_edits(room, name, one=("a", "b"))
+        for name, code in crates.items():
+            write(code, room, "crates", name, "src/lib.rt")
+            write_edit(room, name, "one", "a", "b")
+        write("", room, "gate/edits/goals.txt")
         yield room
 
 
-def write_edits(room, name, **edits):
-    """Writes the edits of a crate anew: by its name the text that each replaces, and the new one."""
-    folder = Path(room, "crates", name, "must-fail")
-    for it in folder.iterdir():
-        it.unlink()
-    for it, (old, new, *_) in edits.items():
-        (folder / f"{it}.edit").write_text(f"file: src/lib.rt\nold: {old}\nnew: {new}\n")
+def write(text, *path):
+    Path(*path).parent.mkdir(parents=True, exist_ok=True)
+    Path(*path).write_text(text)
 
 
-def looked_at(folder, label, old, new, symbols, **given):
-    """An edit of a crate's text, with the functions that it changes."""
-    found = edit.Edit(label, [("src/lib.rt", old, new)], **given)
-    edit.look(found, folder, symbols)
-    return found
+def write_edit(room, crate, name, old, new):
+    write(f"file: src/lib.rt\nold: {old}\nnew: {new}\n", room, "crates", crate, "must-fail", f"{name}.edit")
