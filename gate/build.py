@@ -21,17 +21,12 @@ LOG = ROOT / "out" / "build.log"
 PROGRAM = "rs_source"
 
 
-def due_in(built):
-    """The crates that are not built from what stands there now, the program last."""
-    below, made = kit.below(built.uses, PROGRAM), ROOT / "crates" / PROGRAM / "out" / f"{PROGRAM}.stamp"
-    is_made = made.is_file() and made.read_text().startswith(built.stamps[PROGRAM])
-    return [it for it in below if not built.is_built(it)] + [PROGRAM] * (not is_made)
-
-
 def main():
     built, jobs, number = Libraries(ROOT, kit.lanes()), kit.lanes(), count(1)
-    due = due_in(built)
-    what = f"make build: proves {len(due)} of {len(kit.below(built.uses, PROGRAM)) + 1} crates, and builds the program."
+    below, made = kit.below(built.uses, PROGRAM), ROOT / "crates" / PROGRAM / "out" / f"{PROGRAM}.stamp"
+    is_made = made.is_file() and made.read_text().startswith(built.stamps[PROGRAM])
+    due = [it for it in below if not built.is_built(it)] + [PROGRAM] * (not is_made)
+    what = f"make build: proves {len(due)} of {len(below) + 1} crates, and builds the program."
     runs.announce(what, runs.proving(built.uses, due, jobs), jobs, LOG)
     LOG.parent.mkdir(exist_ok=True)
     with open(LOG, "w", buffering=1) as log, open(ROOT / "examples" / "first.script") as script:

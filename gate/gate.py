@@ -98,12 +98,8 @@ def some_edits(copy, names):
 
 def script(*words):
     """A part that is a program of its own, and passes with status 0."""
-
-    def run():
-        status = subprocess.run([sys.executable, *map(str, words)]).returncode
-        return (0, [f"{words[0]} ended with status {status}"]) if status else (1, [])
-
-    return run
+    run = lambda: subprocess.run([sys.executable, *map(str, words)]).returncode
+    return lambda: (0, [f"{words[0]} ended with status {status}"]) if (status := run()) else (1, [])
 
 
 def tell(parts, meter, started):

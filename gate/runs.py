@@ -15,8 +15,6 @@ import kit
 DONE = re.compile(r"rt: (\w+)(: its tests are)? (proved|NOT PROVED|is kept)")
 # What the proofs of each crate take, what those of its tests do, and what else does: all figures stand here.
 SECONDS = Path(__file__).with_name("seconds.txt")
-# A crate that has no line yet.
-UNKNOWN = [60, 0]
 
 
 def table():
@@ -29,7 +27,8 @@ def proving(uses, names, processors, with_tests=False):
     """About how many seconds it takes to prove these crates from nothing: those of the longest chain of them, or those of all on so many processors."""
     known, chain, ends, total = table(), {}, [0], 0
     for name in uses:
-        own, tests = known.get(name, UNKNOWN) if name in names else (0, 0)
+        # (a crate that has no line yet: a minute)
+        own, tests = known.get(name, (60, 0)) if name in names else (0, 0)
         chain[name] = own + max((chain[it] for it in uses[name] if it in chain), default=0)
         ends.append(chain[name] + tests * with_tests)
         total += own + tests * with_tests

@@ -101,8 +101,7 @@ class Group:
         if copies.can_be_copied(edit, folder):
             texts, symbols = copies.with_copy(self.texts, folder, edit, applied(edit, folder), len(self.tried))
         else:
-            symbols = edit.symbols
-            texts = None if symbols & {*self.tried} else applied(edit, folder, self.texts)
+            texts, symbols = applied(edit, folder, self.texts) if not edit.symbols & {*self.tried} else None, edit.symbols
         if texts:
             self.texts, self.tried = texts, {**self.tried, **dict.fromkeys(symbols, edit)}
         return bool(texts)

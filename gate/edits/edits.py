@@ -3,9 +3,8 @@
 
 usage: edits.py [--root FOLDER] [--jobs N] [--record] [CRATE..]     at the top of the repository
 
-Each function is proved against its own contract and those of what it calls, and never against another body. So many edits of
-bodies are tried in one check, each on a copy of its function where that can be copied, and each is refused by an error or an
-open goal of that very copy. One that has none there is tried once more alone, as is one that changes more than bodies.
+Many edits of bodies are tried in one check, each on a copy of its function where that can be copied, and each is refused by an
+error or an open goal of that very copy. One that has none there is tried once more alone, as is one that changes more.
 
 Prints a line for each edit. The last line is 'N refused, M not refused', and the status is 1 where M is not 0.
 With --record the file goals.txt is written, and record.txt for the crates of which every edit was refused.
@@ -26,7 +25,6 @@ import goals
 import kit
 import record
 import verdict
-from edit import Outcome
 from libraries import Libraries
 
 
@@ -43,63 +41,58 @@ class Trial:
     def __post_init__(self):
         self.folder = f"{self.built.root}/crates/{self.name}"
 
-    def check(self, kept, texts, only=()):
-        """Checks a copy of the crate with these texts in place of its own, or these functions of it alone, with its work kept in the folder `kept`."""
-        self.checks += 1
-        with self.built.turns, tempfile.TemporaryDirectory(prefix="copy-", dir=os.path.dirname(kept)) as crate:
+    def check(self, room, texts, only=(), kept="its own"):
+        """Checks a copy of the crate with these texts in place of its own, or these functions of it alone, over a copy of the work in the folder `room`, or over that work itself."""
+        with self.built.turns, tempfile.TemporaryDirectory(prefix="copy-", dir=room) as crate:
             for part in ("src", "specs", "proofs"):
                 if os.path.isdir(f"{self.folder}/{part}"):
                     shutil.copytree(f"{self.folder}/{part}", f"{crate}/{part}")
             for path, text in texts.items():
                 Path(crate, path).parent.mkdir(parents=True, exist_ok=True)
                 Path(crate, path).write_text(text)
+            if kept == "its own":
+                kept = f"{crate}/work"
+                kit.linked_copy(f"{room}/kept", kept)
             told = kit.check([*self.built.command(self.name, kept), *(word for it in only for word in ("--only", it))], crate)
-        self.seconds += told.seconds
+        self.checks, self.seconds = self.checks + 1, self.seconds + told.seconds
         return told
 
-    def check_each(self, kept, every):
-        """Checks each of these, texts with the functions that are looked at, over kept work of its own, side by side as turns come free."""
-
-        def check(it):
-            with tempfile.TemporaryDirectory(prefix="work-", dir=os.path.dirname(kept)) as room:
-                kit.linked_copy(kept, f"{room}/work")
-                return self.check(f"{room}/work", *it)
-
+    def check_each(self, room, every):
+        """Checks each of these, texts with the functions that are looked at, side by side as turns come free."""
         with ThreadPoolExecutor(max(1, len(every))) as pool:
-            return list(pool.map(check, every))
+            return list(pool.map(lambda it: self.check(room, *it), every))
 
-    def can_be_tried(self, it, kept, symbols):
+    def can_be_tried(self, it, room, symbols):
         """Whether an edit fits a crate that is proved, with these symbols of its functions; finds what it changes."""
         if symbols is None:
             it.why = "the crate itself is not proved"
         elif edit.applied(it, self.folder) is None:
-            it.outcome, it.why = Outcome.NOT_APPLIED, "it has no pair of texts, or an 'old:' text is not in its file once"
+            it.outcome, it.why = edit.Outcome.NOT_APPLIED, "it has no pair of texts, or an 'old:' text is not in its file once"
         else:
             edit.look(it, self.folder, symbols)
-            it.goal, it.others = (it.goal, goals.of_function(kept, *it.symbols)) if len(it.symbols) == 1 else ("", [])
+            it.goal, it.others = (it.goal, goals.of_function(f"{room}/kept", *it.symbols)) if len(it.symbols) == 1 else ("", [])
         return not it.why
 
     def run(self):
         """Tries the crate's edits, once all its functions are proved as they are, by the building of its library or by a check."""
         with tempfile.TemporaryDirectory(prefix="edits-") as room:
-            kept = f"{room}/kept"
-            kit.linked_copy(f"{self.folder}/out/incremental", kept)
+            kit.linked_copy(f"{self.folder}/out/incremental", f"{room}/kept")
             symbols = self.built.proved(self.name)
-            if symbols is None and (told := self.check(kept, {})).is_proved:
+            if symbols is None and (told := self.check(room, {}, kept=f"{room}/kept")).is_proved:
                 symbols = verdict.proved(told)
-            left = [it for it in self.edits if self.can_be_tried(it, kept, symbols)]
-            self.try_together(kept, [it for it in left if it.symbols])
+            left = [it for it in self.edits if self.can_be_tried(it, room, symbols)]
+            self.try_together(room, [it for it in left if it.symbols])
             alone = [it for it in left if not it.is_refused]
-            for it, told in zip(alone, self.check_each(kept, [(edit.applied(it, self.folder),) for it in alone])):
+            for it, told in zip(alone, self.check_each(room, [(edit.applied(it, self.folder),) for it in alone])):
                 self.judge_alone(it, told)
 
-    def try_together(self, kept, edits):
+    def try_together(self, room, edits):
         """Tries edits of bodies, many in one check, with all but the known goal of each left out."""
         groups = edit.grouped(edits, self.folder)
         for group in groups:
             for symbol, it in group.tried.items():
                 group.texts = goals.left_out(group.texts, self.folder, symbol, it)
-        for group, told in zip(groups, self.check_each(kept, [(it.texts, [*it.tried]) for it in groups])):
+        for group, told in zip(groups, self.check_each(room, [(it.texts, [*it.tried]) for it in groups])):
             self.judge(group, told)
 
     def judge(self, group, told):
@@ -116,17 +109,17 @@ class Trial:
         found = verdict.read(self.name, told)
         own = {symbol: text for symbol, text in found.own.items() if not it.symbols or symbol in it.symbols}
         if told.is_proved:
-            it.outcome, it.why = Outcome.PROVED, "the crate is still proved with it"
+            it.outcome, it.why = edit.Outcome.PROVED, "the crate is still proved with it"
         elif not found.is_read:
-            it.outcome, it.why = Outcome.NOT_READ, f"it did not reach the prover: {found.first}"
+            it.outcome, it.why = edit.Outcome.NOT_READ, f"it did not reach the prover: {found.first}"
         elif not own:
-            it.outcome, it.why = Outcome.NO_GOAL, f"no goal of what it changes is left open, so it shows nothing: {found.first}"
+            it.outcome, it.why = edit.Outcome.NO_GOAL, f"no goal of what it changes is left open, so it shows nothing: {found.first}"
         else:
             self.refused(it, next(iter(own)), found, "(alone) ")
 
     def refused(self, it, symbol, found, how=""):
         """Notes that an edit is refused, and by which goal: another one than its line has only where that one is not left open."""
-        it.outcome, it.why = Outcome.REFUSED, f"{how}{symbol}: {found.own[symbol]}"
+        it.outcome, it.why = edit.Outcome.REFUSED, f"{how}{symbol}: {found.own[symbol]}"
         opened = found.refused(symbol)
         it.goal = it.goal if it.goal in opened else [*opened, ""][0]
 

@@ -35,8 +35,7 @@ def folder():
 def identity():
     """The kit's name, and the sum of the program logic that it proves in: several kits can have one logic."""
     told = subprocess.run([RT, "version"], capture_output=True, text=True, check=True).stdout
-    found = re.fullmatch(r"(\S+) logic (\w+)\s*", told)
-    return found[1], found[2]
+    return re.fullmatch(r"(\S+) logic (\w+)\s*", told).groups()
 
 
 def lanes():
@@ -71,7 +70,4 @@ def check(words, crate_folder):
 
 def linked_copy(kept, to):
     """A copy of kept work by links, which serve since the prover replaces files and never writes into one."""
-    if os.path.isdir(kept):
-        shutil.copytree(kept, to, copy_function=os.link)
-    else:
-        os.makedirs(to)
+    return shutil.copytree(kept, to, copy_function=os.link) if os.path.isdir(kept) else os.makedirs(to)

@@ -1,7 +1,7 @@
 """The record of the crates all of whose must-fail edits were seen refused (gate/edits/record.txt).
 
 A crate's line names the kit, and holds a hash of the crate's code, specs, proofs and edits, of what the crates below say to
-it (their source without bodies, comments and tests, and their specs), and of the program logic. `make edits` alone writes it.
+it (their source without bodies and comments, and their specs), and of the program logic. `make edits` alone writes it.
 """
 
 import datetime
@@ -27,20 +27,13 @@ def edits_of(root, name):
     return files(Path(root, "crates", name), "must-fail")
 
 
-def said_by(folder, it):
-    """What a file says to the crates above its own: nothing where it is of tests."""
-    if "tests" in Path(it).parts or Path(it).name == "tests.rt":
-        return b""
-    data = Path(folder, it).read_bytes()
-    return outline(data.decode()).encode() if it.endswith(".rt") else data
-
-
 def hash_of(root, uses, name, logic):
     """The hash that a crate's line of the record must have now."""
     total, folder = hashlib.sha256(logic.encode()), lambda crate: Path(root, "crates", crate)
     texts = [(it, Path(folder(name), it).read_bytes()) for it in files(folder(name), "src", "specs", "proofs", "must-fail")]
     for lower in kit.below(uses, name):
-        texts += [(f"{lower}/{it}", said_by(folder(lower), it)) for it in files(folder(lower), "src", "specs")]
+        said = [(it, Path(folder(lower), it).read_text()) for it in files(folder(lower), "src", "specs")]
+        texts += [(f"{lower}/{it}", (outline(text) if it.endswith(".rt") else text).encode()) for it, text in said]
     for label, data in [(name, " ".join(uses[name]).encode()), *texts]:
         total.update(f"{label} {len(data)}\n".encode() + data)
     return total.hexdigest()

@@ -9,8 +9,6 @@ COMMENT = re.compile(r"""//[^\n]*|/\*.*?\*/""", re.S)
 BLOCK = re.compile(r"(?m)^[ \t]*(?:unsafe\s+)?((?:impl|trait|mod)\b[^{;]*)\{")
 # What stands before the brace of a clause: another brace after a signature opens the body.
 CLAUSE = re.compile(r"(\b(requires|ensures)\s*\*?(\s*\w+)?|\bghost\s+\w+\s*:)\s*\Z")
-# A module of tests, in a file of its own or not.
-TESTS = re.compile(r"#\[cfg\(test\)\]\s*mod \w+\s*[;{]")
 
 
 @dataclass(frozen=True)
@@ -84,12 +82,8 @@ def item_of(text, function):
 
 
 def outline(text):
-    """What a source text says to the crates above: all of it but comments, tests and the bodies of functions."""
+    """What a source text says to the crates above, which no test does, since they stand on no crate that has tests: all of it but comments and the bodies of functions."""
     for function in reversed(functions_of(text)):
         if function.end <= len(text):
             text = text[: function.start] + ";" + text[function.end :]
-    code = blanked(text)
-    for it in reversed([*TESTS.finditer(code)]):
-        end = closed(code, it.end() - 1) if it[0].endswith("{") else it.end()
-        text = text[: it.start()] + text[end:]
     return re.sub(r"\s+", " ", COMMENT.sub(" ", text)).strip()

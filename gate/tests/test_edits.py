@@ -14,7 +14,6 @@ import edits
 import goals
 import kit
 import verdict
-from edit import Outcome
 from libraries import Libraries
 
 # What a check told of functions, and of a function and its copy of which one answer each is left out.
@@ -54,7 +53,7 @@ class Trying(unittest.TestCase):
 
     def test_how_a_run_ends(self):
         """Its last line counts what is refused and what is not, by which its status goes; nothing is tried over a library that is not built."""
-        refused, proved = (edit.Edit("low/one", [], it) for it in (Outcome.REFUSED, Outcome.PROVED))
+        refused, proved = (edit.Edit("low/one", [], it) for it in (edit.Outcome.REFUSED, edit.Outcome.PROVED))
         for every, wrong, ends in (([refused], "", (0, "1 refused, 0 not refused")), ([refused, proved], "", (1, "1 refused, 1 not refused")), ([refused], "no", "no")):
             with repository(low=CODE) as room, contextlib.redirect_stdout(io.StringIO()) as out, mock.patch.object(sys, "argv", ["edits.py", "--root", room]):
                 with mock.patch.object(Libraries, "build_each", lambda self, names: wrong), mock.patch.object(edits, "try_crates", lambda *given: {"low": every}):

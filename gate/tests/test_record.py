@@ -11,15 +11,14 @@ import edits
 import goals
 import kit
 import record
-from edit import Outcome
 from libraries import Libraries
 
 
 class Recording(unittest.TestCase):
     def test_what_a_change_leaves_covered(self):
-        """A body, a comment, a test, a proof and an edit are their own crates'; what a crate says is of all that stand on it."""
+        """A body, a comment, a proof and an edit are their own crates'; what a crate says is of all that stand on it."""
         for crate, part, old, new, covered in rows("covered"):
-            with repository(low=CODE + "#[cfg(test)]\nmod tests {\n    fn seen() {}\n}\n", high=ABOVE) as room, self.subTest(part=part, old=old):
+            with repository(low=CODE, high=ABOVE) as room, self.subTest(part=part, old=old):
                 for it in ("specs", "proofs"):
                     write("one = 1\n", room, "crates/low", it, "One.antt")
                 record.write(room, ["low", "high"])
@@ -41,9 +40,10 @@ class Recording(unittest.TestCase):
 
     def test_what_is_noted_of_a_crate(self):
         """The goal of each refused edit beside those of other crates, and a line of the record only where each edit is refused."""
-        refused, proved = (edit.Edit(f"low/{name}", [], came, goal="returns") for name, came in (("one", Outcome.REFUSED), ("two", Outcome.PROVED)))
+        seen = lambda label, goal, came=edit.Outcome.REFUSED: edit.Edit(label, [], came, goal=goal)
+        refused, proved = seen("low/one", "returns"), seen("low/two", "returns", edit.Outcome.PROVED)
         with repository(low=CODE, high=ABOVE) as room:
-            edits.note(room, "high", [edit.Edit("high/one", [], Outcome.REFUSED, goal="sum-fits"), edit.Edit("high/two", [], Outcome.REFUSED)])
+            edits.note(room, "high", [seen("high/one", "sum-fits"), seen("high/two", "")])
             for every, left in (([refused, proved], ["low"]), ([refused], [])):
                 edits.note(room, "low", every)
                 self.assertEqual((goals.known(room), record.uncovered(room)), ({"high/one": "sum-fits", "low/one": "returns"}, left))
