@@ -1,8 +1,6 @@
 #!/usr/bin/env python3
 """Proves and builds the program: the crates below it side by side, then itself over them by `rt run`, on examples/first.script.
-
-usage: build.py [BASE]     the base of its addresses, http://127.0.0.1:8080 if left out
-"""
+The one word is the base of its addresses, http://127.0.0.1:8080 if left out."""
 
 import subprocess
 import sys

@@ -3,8 +3,7 @@
 
 It proves and builds a copy of the repository by the toolchain's own run (`rt ci`), tries the must-fail edits of what changed
 and of two crates more, looks at the program that it proved, and reads texts: docs/GATE.md has each part, and what fails it.
-N counts crates, edits and the other parts. It begins with what it is about to do and how long that takes, and tells the
-minutes of a processor of each part at its end; what the toolchain says goes to out/test.log.
+N counts crates, edits and the other parts. The minutes of a processor of each part are told before.
 """
 
 import os
@@ -89,6 +88,7 @@ def due():
 
 def some_edits(copy, names):
     """The edits of these crates."""
+    print(f"trying the edits of: {' '.join(names)}", flush=True)
     for name in names:
         shutil.copytree(ROOT / "crates" / name / "must-fail", copy / "crates" / name / "must-fail")
     tried = edits.try_crates(str(copy), names, kit.lanes())
@@ -118,7 +118,7 @@ def announce(uses, names):
     processors, known = kit.lanes(), runs.table()
     number = sum(len(record.edits_of(ROOT, it)) for it in names)
     seconds = runs.proving(uses, [*uses], processors, with_tests=True) + number * known["an_edit"][0] / processors + known["all_else"][0]
-    what = f"make test: proves {len(uses)} crates and their tests, tries the {number} must-fail edits of {' '.join(names)}, and looks at the program that it proved."
+    what = f"make test: proves {len(uses)} crates and their tests, tries {number} must-fail edits of {len(names)} crates, and looks at the program that it proved."
     runs.announce(what, seconds, processors, LOG)
 
 

@@ -1,8 +1,7 @@
 """Copies of a function, beside it and each under a name of its own: on them edits of the function are tried, many in one check.
 
-A copy has the function's contract and proof files, and an edit's body. What the prover leaves open of it, or refuses of its
-answers by hand, it would of the function, since names alone differ: a function that any other text of the crate's contracts,
-specs or proofs names is not copied.
+A copy has the function's contract and proof files, and an edit's body. What the prover refuses of it, it would of the function,
+since names alone differ: a function that any other text of the crate's contracts, specs or proofs names is not copied.
 """
 
 import re
@@ -26,8 +25,7 @@ def proof_module(symbol):
 @cache
 def texts_of(folder):
     """The texts of a crate's code, specs and proofs, by their files."""
-    files = [it for part in ("src", "specs", "proofs") for it in Path(folder, part).rglob("*") if it.is_file()]
-    return [(it, it.read_text()) for it in files]
+    return [(it, it.read_text()) for part in ("src", "specs", "proofs") for it in Path(folder, part).rglob("*") if it.is_file()]
 
 
 def can_be_copied(edit, folder):
@@ -54,6 +52,5 @@ def with_copy(texts, folder, edit, edited, number):
     texts = {**texts, path: f"{text[:function.end]}\n\n{copy}{text[function.end:]}"}
     copied = f"{symbol.rpartition('::')[0]}::{name}"
     for file in sorted(Path(folder, proof_folder(symbol)).glob("*.antt")):
-        spoken = file.read_text().replace(f"{proof_module(symbol)}.", f"{proof_module(copied)}.")
-        texts[str(proof_folder(copied) / file.name)] = spoken
+        texts[str(proof_folder(copied) / file.name)] = file.read_text().replace(f"{proof_module(symbol)}.", f"{proof_module(copied)}.")
     return texts, {copied}

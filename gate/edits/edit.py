@@ -34,10 +34,7 @@ class Edit:
     # The goal by which it was last seen refused, or '' where none is known, and those of its function as it is.
     goal: str = ""
     others: list = field(default_factory=list)
-
-    @property
-    def is_refused(self):
-        return self.outcome is Outcome.REFUSED
+    is_refused = property(lambda self: self.outcome is Outcome.REFUSED)
 
 
 def of_crate(root, name, known):

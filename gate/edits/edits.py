@@ -17,7 +17,6 @@ import shutil
 import sys
 import tempfile
 from concurrent.futures import ThreadPoolExecutor, as_completed
-from dataclasses import dataclass
 from pathlib import Path
 
 import edit
@@ -28,18 +27,12 @@ import verdict
 from libraries import Libraries
 
 
-@dataclass
 class Trial:
     """The edits of one crate, tried in copies of it over the work that its last check kept."""
 
-    name: str
-    edits: list
-    built: Libraries
-    checks: int = 0
-    seconds: float = 0.0
-
-    def __post_init__(self):
-        self.folder = f"{self.built.root}/crates/{self.name}"
+    def __init__(self, name, edits, built):
+        self.name, self.edits, self.built, self.folder = name, edits, built, f"{built.root}/crates/{name}"
+        self.checks, self.seconds = 0, 0.0
 
     def check(self, room, texts, only=(), kept="its own"):
         """Checks a copy of the crate with these texts in place of its own, or these functions of it alone, over a copy of the work in the folder `room`, or over that work itself."""

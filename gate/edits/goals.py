@@ -1,8 +1,7 @@
 """The goal by which each must-fail edit was last seen refused (gate/edits/goals.txt), and how the others are left out of a trial.
 
-One open goal refuses an edit, and the prover searches long for all others. So the goal of an edit's line alone is tried, and it
-alone refuses the edit: the others get an answer that no check takes. Where the goal has an answer by hand, all answers by hand
-stay, since one may cite another. An edit that is not refused so is tried alone with nothing left out: a line can be old.
+One open goal refuses an edit, and the prover searches long for all others. So that of an edit's line alone is tried, and refuses
+it: the others get an answer that no check takes. Where it has an answer by hand, all these stay, since one may cite another.
 """
 
 import json

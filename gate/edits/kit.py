@@ -19,10 +19,7 @@ class Told:
     status: int
     text: str
     seconds: float = 0.0
-
-    @property
-    def is_proved(self):
-        return self.status == 0
+    is_proved = property(lambda self: self.status == 0)
 
 
 @cache

@@ -15,7 +15,6 @@ ITEM = re.compile(r"(?:fn|impl|struct|enum|trait) (\S+): (?:(proved)|not proved|
 ENDED = re.compile(r"(?m)^(?:logic=not-proved|only=\d+ proved=)")
 # Errors of a proof that names what is gone or rests on what was refused: they say nothing of its function's own goals.
 SECOND_HAND = re.compile(r"has no field|is not in scope|has no `|was not admitted|that depends? on|\(nearest:")
-
 # Where the line of such an error is cut in two.
 CUT = re.compile(rf"\n +(?={SECOND_HAND.pattern})")
 

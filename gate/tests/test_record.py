@@ -51,8 +51,7 @@ class Recording(unittest.TestCase):
     def test_two_crates_are_picked(self):
         with repository(**dict.fromkeys("abcdefgh", CODE)) as room:
             picks = {tuple(record.picked(room, str(commit))) for commit in range(200)}
-            self.assertTrue(all(len({*it}) == 2 for it in picks))
-            self.assertEqual({name for it in picks for name in it}, {*"abcdefgh"})
+            self.assertEqual(({len({*it}) for it in picks}, {name for it in picks for name in it}), ({2}, {*"abcdefgh"}))
 
     def test_libraries_are_built_once_and_anew_where_they_or_those_below_changed(self):
         with repository(low=CODE, middle=ABOVE, high=ABOVE) as room:
