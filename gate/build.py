@@ -31,16 +31,17 @@ def main():
 
         def when_done(name, told):
             log.write(f"== {name}\n{told.text}")
+            print("" if told.is_proved else told.text, end="")
             if name in due:
                 print(f"{next(number)} of {len(due)} {name} {f'{told.seconds:.0f} s' if told.is_proved else 'NOT PROVED'}", flush=True)
 
         if wrong := built.build_each({*due} - {PROGRAM}, when_done):
-            sys.exit(f"{wrong}\n({LOG} has all that was said)")
+            sys.exit(wrong.partition(":")[0])
         started, words = time.time(), [kit.RT, "run", "--", "mem", "65536", (sys.argv[1:] or ["http://127.0.0.1:8080"])[0], "2"]
         ran = subprocess.run(words, cwd=ROOT / "crates" / PROGRAM, stdin=script, stdout=subprocess.DEVNULL, stderr=subprocess.PIPE, text=True, errors="replace")
         when_done(PROGRAM, kit.Told(ran.returncode, ran.stderr, time.time() - started))
     if ran.returncode:
-        sys.exit(f"{ran.stderr}{PROGRAM}: rt run ended with status {ran.returncode}")
+        sys.exit(f"{PROGRAM}: rt run ended with status {ran.returncode}")
     print(f"crates/{PROGRAM}/out/{PROGRAM}")
 
 

@@ -69,7 +69,7 @@ def applied(edit, folder, texts=None):
 
 def look(edit, folder, symbols):
     """Finds the functions in whose bodies all that the edit changes lies: none where it changes anything else."""
-    edit.symbols, texts = set(), {}
+    found, texts = {}, {}
     for path, old, new in edit.pairs:
         text = texts.get(path) or Path(folder, path).read_text()
         texts[path] = text.replace(old, new)
@@ -79,11 +79,8 @@ def look(edit, folder, symbols):
         inside = [it for it in functions if it.start < start and end < it.end]
         # Of a function inside another one it could not be told which of them fails.
         symbol = source.symbol_of(path, inside[0], symbols) if len(inside) == 1 else None
-        if not symbol:
-            edit.symbols = set()
-            return
-        edit.symbols.add(symbol)
-        edit.function = edit.function or inside[0]
+        found.setdefault(symbol, inside[0] if inside else None)
+    edit.symbols, edit.function = {*found} if all(found) else set(), next(iter(found.values()))
 
 
 @dataclass
@@ -98,7 +95,8 @@ class Group:
         if copies.can_be_copied(edit, folder):
             texts, symbols = copies.with_copy(self.texts, folder, edit, applied(edit, folder), len(self.tried))
         else:
-            texts, symbols = applied(edit, folder, self.texts) if not edit.symbols & {*self.tried} else None, edit.symbols
+            symbols = edit.symbols
+            texts = None if symbols & {*self.tried} else applied(edit, folder, self.texts)
         if texts:
             self.texts, self.tried = texts, {**self.tried, **dict.fromkeys(symbols, edit)}
         return bool(texts)

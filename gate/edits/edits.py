@@ -1,8 +1,6 @@
 #!/usr/bin/env python3
 """Tries must-fail edits: wrong bodies, each of which the prover has to refuse by a goal of the function that it changes.
 
-usage: edits.py [--root FOLDER] [--jobs N] [--record] [CRATE..]     at the top of the repository
-
 Many edits of bodies are tried in one check, each on a copy of its function where that can be copied, and each is refused by an
 error or an open goal of that very copy. One that has none there is tried once more alone, as is one that changes more.
 
@@ -34,7 +32,7 @@ class Trial:
         self.name, self.edits, self.built, self.folder = name, edits, built, f"{built.root}/crates/{name}"
         self.checks, self.seconds = 0, 0.0
 
-    def check(self, room, texts, only=(), kept="its own"):
+    def check(self, room, texts, only=(), kept=None):
         """Checks a copy of the crate with these texts in place of its own, or these functions of it alone, over a copy of the work in the folder `room`, or over that work itself."""
         with self.built.turns, tempfile.TemporaryDirectory(prefix="copy-", dir=room) as crate:
             for part in ("src", "specs", "proofs"):
@@ -43,7 +41,7 @@ class Trial:
             for path, text in texts.items():
                 Path(crate, path).parent.mkdir(parents=True, exist_ok=True)
                 Path(crate, path).write_text(text)
-            if kept == "its own":
+            if kept is None:
                 kept = f"{crate}/work"
                 kit.linked_copy(f"{room}/kept", kept)
             told = kit.check([*self.built.command(self.name, kept), *(word for it in only for word in ("--only", it))], crate)

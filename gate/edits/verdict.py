@@ -21,8 +21,7 @@ CUT = re.compile(rf"\n +(?={SECOND_HAND.pattern})")
 
 @dataclass(frozen=True)
 class Verdict:
-    """Whether the prover read all and refused some of it; of each function the first error or open goal of its own, the names of
-    its open goals, and of those whose answers by hand are refused; and the first error of all."""
+    """Whether all was read and some of it refused; of each function the first error of its own, its open goals and those of which an answer by hand is refused; the first error of all."""
 
     is_read: bool
     own: dict
