@@ -27,7 +27,6 @@ def proving(uses, names, processors, with_tests=False):
     """About how many seconds it takes to prove these crates from nothing: those of the longest chain of them, or those of all on so many processors."""
     known, chain, ends, total = table(), {}, [0], 0
     for name in uses:
-        # (a crate that has no line yet: a minute)
         own, tests = known.get(name, (60, 0)) if name in names else (0, 0)
         chain[name] = own + max((chain[it] for it in uses[name] if it in chain), default=0)
         ends.append(chain[name] + tests * with_tests)

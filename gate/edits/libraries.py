@@ -3,7 +3,7 @@
 import os
 import runpy
 import shutil
-from concurrent.futures import ThreadPoolExecutor
+from concurrent.futures import FIRST_COMPLETED, ThreadPoolExecutor, wait
 from functools import cache
 from pathlib import Path
 from threading import Semaphore
@@ -16,7 +16,7 @@ class Libraries:
     """The crates of a repository, each of which is built once the libraries below it are. Of a program the proofs alone are kept."""
 
     def __init__(self, root, jobs):
-        self.root, self.uses, self.turns = root, kit.crates_of(root), Semaphore(jobs)
+        self.root, self.uses, self.jobs, self.turns = root, kit.crates_of(root), jobs, Semaphore(jobs)
         # Each crate as the module of `rt` reads it, which gives the words of a check, and a sum of all that the crate is made from.
         made, known = runpy.run_path(f"{kit.folder()}/bin/rtlib.py")["Crate"], {}
         made.stamp = cache(made.stamp)
@@ -26,9 +26,9 @@ class Libraries:
         self.crates = {it.name: it for it in known.values()}
         self.stamps = {name: it.stamp() for name, it in self.crates.items()}
 
-    def command(self, name, kept, how="check", *more):
+    def command(self, name, kept, how="check", *more, jobs=1):
         """The words that check a crate of the repository, or build it, with its work kept in the folder `kept`."""
-        return [f"{kit.folder()}/bin/rattle", how, *self.crates[name].words(["--jobs", "1", "--incremental", str(kept), *more])]
+        return [f"{kit.folder()}/bin/rattle", how, *self.crates[name].words(["--jobs", str(jobs), "--incremental", str(kept), *more])]
 
     def is_built(self, name):
         """Whether a crate is built from what stands there now, here or by `rt`, which leaves the same stamp."""
@@ -40,18 +40,14 @@ class Libraries:
         listed = Path(self.root, "crates", name, "out", "rlib", "proved")
         return listed.read_text().split() if self.is_built(name) and listed.is_file() else None
 
-    def build(self, name, lower, when_done):
-        """Builds a crate once those below it are, over the work that its last check kept, tells what was told, and gives what was wrong, or nothing."""
-        wrong = next(filter(None, (it.result() for it in lower)), "")
-        if wrong or self.is_built(name):
-            return wrong
+    def build(self, name, jobs, when_done):
+        """Builds a crate over the work that its last check kept, tells what was told, and gives what was wrong, or nothing."""
         folder = Path(self.root, "crates", name)
         kept, built = folder / "out" / "incremental", folder / "out" / "rlib"
-        with self.turns:
-            shutil.rmtree(built, ignore_errors=True)
-            os.makedirs(built)
-            how = ["check"] if self.crates[name].is_program else ["build", "-o", str(built / f"{name}.rlib")]
-            told = kit.check(self.command(name, kept, *how), folder)
+        shutil.rmtree(built, ignore_errors=True)
+        os.makedirs(built)
+        how = ["check"] if self.crates[name].is_program else ["build", "-o", str(built / f"{name}.rlib")]
+        told = kit.check(self.command(name, kept, *how, jobs=jobs), folder)
         when_done(name, told)
         if not told.is_proved:
             return f"{name} is not proved: {told.text[-600:]}"
@@ -60,10 +56,18 @@ class Libraries:
         return ""
 
     def build_each(self, names, when_done=lambda name, told: None):
-        """Builds these crates and each library that one of them stands on, side by side, and gives what was wrong, or nothing."""
+        """Builds these crates and all that they stand on, side by side, each with the jobs that no other one waits for, and gives what was wrong, or nothing."""
         wanted = {needed for it in names for needed in (*kit.below(self.uses, it), it)}
-        with ThreadPoolExecutor(max(1, len(wanted))) as pool:
-            running = {}
-            for name in filter(wanted.__contains__, self.uses):
-                running[name] = pool.submit(self.build, name, [running[it] for it in self.uses[name] if it in running], when_done)
-            return next(filter(None, (it.result() for it in running.values())), "")
+        left, running, wrong = [it for it in self.uses if it in wanted and not self.is_built(it)], {}, ""
+        with ThreadPoolExecutor(self.jobs) as pool:
+            while running or left and not wrong:
+                undone = {*left, *(name for name, _ in running.values())}
+                ready = [it for it in left if not wrong and not undone & {*kit.below(self.uses, it)}]
+                for at, name in enumerate(ready):
+                    if idle := self.jobs - sum(jobs for _, jobs in running.values()):
+                        jobs = min(4, max(1, idle // (len(ready) - at)))
+                        running[pool.submit(self.build, name, jobs, when_done)] = name, jobs
+                        left.remove(name)
+                for it in wait(running, return_when=FIRST_COMPLETED).done:
+                    wrong, _ = wrong or it.result(), running.pop(it)
+        return wrong

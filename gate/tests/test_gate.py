@@ -50,8 +50,7 @@ class Parts(unittest.TestCase):
         with tempfile.TemporaryDirectory() as room:
             words = [sys.executable, Path(gate.ROOT, "examples", "check_install.py"), "/bin/true", "the_page_is_clean", "the_page_has_every_word"]
             ran = subprocess.run(words, cwd=room, env={"PATH": room}, capture_output=True, text=True)
-        self.assertIn("the_page_is_clean: NOT TRIED, as there is no mandoc here\n", ran.stdout)
-        self.assertIn("not tried, 1\n", ran.stdout)
+        self.assertRegex(ran.stdout, r"the_page_is_clean: NOT TRIED, as there is no mandoc here\n(?s:.*)not tried, 1\n")
 
 
 class Telling(unittest.TestCase):

@@ -74,8 +74,9 @@ class Recording(unittest.TestCase):
                 self.assertEqual(((came, built), known(), told_of), (wanted, proved, built))
 
     def test_of_a_program_the_proofs_alone_are_kept(self):
+        """And a crate that no other one waits beside has all jobs."""
         asked = []
         with repository(low=CODE, top=ABOVE) as room, mock.patch.object(kit, "check", lambda words, folder: asked.append(words) or kit.Told(0, "fn top::main: proved\n")):
             Path(room, "crates/top/src/lib.rt").rename(Path(room, "crates/top/src/main.rt"))
-            self.assertEqual((Libraries(room, 1).build_each(["top"]), Libraries(room, 1).proved("top")), ("", ["top::main"]))
-            self.assertEqual([(words[1], "-o" in words) for words in asked], [("build", True), ("check", False)])
+            self.assertEqual((Libraries(room, 3).build_each(["top"]), Libraries(room, 1).proved("top")), ("", ["top::main"]))
+            self.assertEqual([(words[1], "-o" in words, words[words.index("--jobs") + 1]) for words in asked], [("build", True, "3"), ("check", False, "3")])
