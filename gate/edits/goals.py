@@ -24,7 +24,7 @@ NO_GOAL = "no_goal_of_any_function"
 def known(root):
     """The goal of each edit that has a line, by its label."""
     text = Path(root, FILE).read_text() if Path(root, FILE).is_file() else ""
-    return dict(it.split(": ") for it in text.splitlines() if not it.startswith("#"))
+    return dict(it.split(": ") for it in text.splitlines() if it and not it.startswith("#"))
 
 
 def write(root, crate, edits):
