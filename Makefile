@@ -41,8 +41,8 @@ AT = $(DESTDIR)$(PREFIX)
 SYSTEM = calls edges growths large documents pages kept tour folder sizes
 # The commands of the package in tools/ropepeach.
 TOOLS = destination publish_folder
-# How many checks go side by side: one a processor, with 4 GB of free memory for each.
-LANES ?= $(shell awk -v processors=$$(nproc) '/^MemAvailable:/ { fit = int($$2 / 4000000); print fit < 1 ? 1 : fit < processors ? fit : processors }' /proc/meminfo)
+# How many checks of edits go side by side, if not as many as there are processors and memory for.
+LANES ?=
 
 .PHONY: demo test edits build rows statement bench bench-more proof-times memory ends crash hostile mirror system operate snapshots pictures install uninstall
 
@@ -55,12 +55,11 @@ test:
 
 # What they stand on is proved and built first, over what earlier checks kept.
 edits:
-	@python3 gate/edits.py --record --jobs $(LANES) $(CRATES)
+	@python3 gate/edits/edits.py --record $(if $(LANES),--jobs $(LANES)) $(CRATES)
 
-# The proved program; its path is printed.
+# The proved program, its crates side by side; its path is printed last.
 build:
-	cd crates/rs_source && $(RT) run -- mem 65536 $(BASE) 2 < ../../examples/first.script > /dev/null
-	@echo "crates/rs_source/out/rs_source"
+	@python3 gate/build.py $(BASE)
 
 rows: build
 	@python3 -m tests.rows

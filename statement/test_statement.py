@@ -257,7 +257,7 @@ class Repository(unittest.TestCase):
         world.specs[module] = specs
         found = counts.faults(promises.promises(world), said)
         self.assertGreater(len(found), before)
-        self.assertTrue(any(it.startswith("The headline: docs/RECOVERY.md says ") and "definitions" in it for it in found), found)
+        self.assertTrue(any(it.startswith("What was served: docs/RECOVERY.md says ") and "definitions" in it for it in found), found)
 
     def test_laws_and_examples_speak_of_what_they_are_held_against(self):
         world, law = World(ROOT), "crates/rs_time/src/laws.rt: moment_texts_read_back"

@@ -9,8 +9,6 @@ COMMENT = re.compile(r"""//[^\n]*|/\*.*?\*/""", re.S)
 BLOCK = re.compile(r"(?m)^[ \t]*(?:unsafe\s+)?((?:impl|trait|mod)\b[^{;]*)\{")
 # What stands before the brace of a clause: another brace after a signature opens the body.
 CLAUSE = re.compile(r"(\b(requires|ensures)\s*\*?(\s*\w+)?|\bghost\s+\w+\s*:)\s*\Z")
-# A module of tests, in a file of its own or not.
-TESTS = re.compile(r"#\[cfg\(test\)\]\s*mod \w+\s*[;{]")
 
 
 @dataclass(frozen=True)
@@ -75,33 +73,6 @@ def symbol_of(path, function, symbols):
     return found[0] if len(found) == 1 and (owner or not function.block) else None
 
 
-def plain_head(head):
-    """The head of a plain impl for the type of a trait's impl, or '' where this is none."""
-    found = re.fullmatch(r"(impl\s*(?:<(?:[^<>]|<[^<>]*>)*>)?)((?:(?!\bfor\b).)+)\bfor\s+((?:(?!\bfor\b).)+)", head, re.S)
-    return f"{found[1].strip()} {found[3].strip()}" if found else ""
-
-
-def home_of_copy(text, function, symbol, symbols):
-    """Where a copy of a function is: beside it, or of a trait's method, which can have no other one beside it, among the plain methods of its type. '' where there is no such place.
-
-    A method that has no clause of its own, or names a type by way of its impl, has no meaning outside of it.
-    """
-    if not re.search(r"\bfor\b|\Atrait\b", function.block):
-        return symbol.rpartition("::")[0]
-    head, said = plain_head(function.block), text[function.at : function.end]
-    if not head or not re.search(r"\bensures\b", said[: function.start - function.at]) or "Self::" in said:
-        return ""
-    owner = re.match(r"(?:\w+::)*(\w+)", re.sub(r"\Aimpl\s*(<([^<>]|<[^<>]*>)*>)?\s*&?", "", head))
-    homes = {it.rpartition("::")[0] for it in symbols if owner and it.split("::")[-2] == owner[1]}
-    return homes.pop() if len(homes) == 1 else ""
-
-
-def block_around(text, function):
-    """Where the block around a function begins and ends: after its brace and behind its last one."""
-    code = blanked(text)
-    return [(it.end(), end) for it in BLOCK.finditer(code) if it.end() <= function.at < (end := closed(code, it.end() - 1))][-1]
-
-
 def item_of(text, function):
     """Where a function begins, with its attributes, its words before `fn` and the comments above them."""
     at = text.rfind("\n", 0, function.at) + 1
@@ -111,12 +82,8 @@ def item_of(text, function):
 
 
 def outline(text):
-    """What a source text says to the crates above: all of it but comments, tests and the bodies of functions."""
+    """What a source text says to the crates above, which no test does, since they stand on no crate that has tests: all of it but comments and the bodies of functions."""
     for function in reversed(functions_of(text)):
         if function.end <= len(text):
             text = text[: function.start] + ";" + text[function.end :]
-    code = blanked(text)
-    for it in reversed([*TESTS.finditer(code)]):
-        end = closed(code, it.end() - 1) if it[0].endswith("{") else it.end()
-        text = text[: it.start()] + text[end:]
     return re.sub(r"\s+", " ", COMMENT.sub(" ", text)).strip()

@@ -9,9 +9,6 @@ from pathlib import Path
 import copies
 import source
 
-# At most so many edits in one check.
-MOST = 96
-
 
 class Outcome(Enum):
     """What came of an edit. All but the first are errors of the gate."""
@@ -34,36 +31,27 @@ class Edit:
     why: str = ""
     symbols: set = field(default_factory=set)
     function: source.Function | None = None
-    # Where a copy of it is, or '' for nowhere.
-    home: str = ""
-    # The goals by which it was last seen refused, as its line has them, or None where it has no line.
-    goals: list | None = None
-    # The goals of its function as it is, as far as they are known, and that of its line which was tried and did not refuse it.
+    # The goal by which it was last seen refused, or '' where none is known, and those of its function as it is.
+    goal: str = ""
     others: list = field(default_factory=list)
-    missed: list = field(default_factory=list)
-
-    def judged(self, outcome, why):
-        self.outcome, self.why = outcome, why
-
-    @property
-    def is_refused(self):
-        return self.outcome is Outcome.REFUSED
+    is_refused = property(lambda self: self.outcome is Outcome.REFUSED)
 
 
-def read(crate, file):
-    """Reads the edit of a file: a line 'file: PATH', then pairs of lines 'old: TEXT' and 'new: TEXT'."""
-    pairs, path, old = [], "", None
-    for line in Path(file).read_text().split("\n"):
-        word, _, rest = line.partition(":")
-        rest = rest.removeprefix(" ")
-        if word == "file":
-            path = rest.strip()
-        elif word == "old":
-            old = rest
-        elif word == "new" and old is not None:
-            pairs.append((path, old, rest))
-            old = None
-    return Edit(f"{crate}/{os.path.basename(file)}", pairs)
+def of_crate(root, name, known):
+    """The edits of a crate, with the goals that are known. A file has lines 'file: PATH', each before pairs of lines 'old: TEXT' and 'new: TEXT'."""
+    found = []
+    for file in sorted(Path(root, "crates", name, "must-fail").glob("*.edit")):
+        pairs, path, old, label = [], "", None, f"{name}/{file.stem}"
+        for word, text in re.findall(r"(?m)^(file|old|new): ?(.*)$", file.read_text()):
+            if word == "file":
+                path = text.strip()
+            elif word == "old":
+                old = text
+            elif old is not None:
+                pairs.append((path, old, text))
+                old = None
+        found.append(Edit(label, pairs, goal=known.get(label, "")))
+    return found
 
 
 def applied(edit, folder, texts=None):
@@ -81,7 +69,7 @@ def applied(edit, folder, texts=None):
 
 def look(edit, folder, symbols):
     """Finds the functions in whose bodies all that the edit changes lies: none where it changes anything else."""
-    edit.symbols, texts = set(), {}
+    found, texts = {}, {}
     for path, old, new in edit.pairs:
         text = texts.get(path) or Path(folder, path).read_text()
         texts[path] = text.replace(old, new)
@@ -91,12 +79,8 @@ def look(edit, folder, symbols):
         inside = [it for it in functions if it.start < start and end < it.end]
         # Of a function inside another one it could not be told which of them fails.
         symbol = source.symbol_of(path, inside[0], symbols) if len(inside) == 1 else None
-        if not symbol:
-            edit.symbols = set()
-            return
-        edit.symbols.add(symbol)
-        if not edit.function:
-            edit.function, edit.home = inside[0], source.home_of_copy(text, inside[0], symbol, symbols)
+        found.setdefault(symbol, inside[0] if inside else None)
+    edit.symbols, edit.function = {*found} if all(found) else set(), next(iter(found.values()))
 
 
 @dataclass
@@ -108,18 +92,13 @@ class Group:
 
     def takes(self, edit, folder):
         """Takes an edit, on a copy of its function or, where that can't be copied, in its place. False where it can't."""
-        if len(self.tried) >= MOST:
-            return False
         if copies.can_be_copied(edit, folder):
-            edited = applied(edit, folder)[edit.pairs[0][0]]
-            texts, symbol = copies.with_copy(self.texts, folder, edit, edited, len(self.tried))
-            symbols = {symbol}
+            texts, symbols = copies.with_copy(self.texts, folder, edit, applied(edit, folder), len(self.tried))
         else:
             symbols = edit.symbols
             texts = None if symbols & {*self.tried} else applied(edit, folder, self.texts)
         if texts:
-            self.texts = texts
-            self.tried.update(dict.fromkeys(symbols, edit))
+            self.texts, self.tried = texts, {**self.tried, **dict.fromkeys(symbols, edit)}
         return bool(texts)
 
 

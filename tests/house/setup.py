@@ -1,4 +1,3 @@
-#!/usr/bin/env python3
 """Sees that the machine has what the tests use of Debian (packages.txt): installs what is missing, or names what is left out for it.
 
 It installs where it runs as root, by apt-get, and says so first; SETUP=no in the environment leaves the machine alone. No service is
@@ -13,7 +12,7 @@ import sys
 from dataclasses import dataclass
 from pathlib import Path
 
-ROOT = Path(__file__).resolve().parent.parent
+ROOT = Path(__file__).resolve().parents[2]
 # Where Debian has what is not on every user's path.
 PATH = "/usr/local/sbin:/usr/sbin:/sbin"
 # By this file, where there is one, Debian's packages ask whether a service may be started; 101 forbids it.

@@ -3,14 +3,11 @@
 import contextlib
 import io
 import os
-import sys
 import unittest
 import unittest.mock
 from pathlib import Path
 
-sys.path.insert(0, str(Path(__file__).resolve().parent.parent))
-
-import setup
+from tests.house import setup
 
 TABLE = """# a remark
 

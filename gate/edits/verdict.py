@@ -15,17 +15,14 @@ ITEM = re.compile(r"(?:fn|impl|struct|enum|trait) (\S+): (?:(proved)|not proved|
 ENDED = re.compile(r"(?m)^(?:logic=not-proved|only=\d+ proved=)")
 # Errors of a proof that names what is gone or rests on what was refused: they say nothing of its function's own goals.
 SECOND_HAND = re.compile(r"has no field|is not in scope|has no `|was not admitted|that depends? on|\(nearest:")
-
 # Where the line of such an error is cut in two.
 CUT = re.compile(rf"\n +(?={SECOND_HAND.pattern})")
 
 
 @dataclass(frozen=True)
 class Verdict:
-    """Whether the prover read all and refused some of it; of each function the first error or open goal of its own, the names of
-    its open goals, and of those whose answers by hand are refused; and the first error of all."""
+    """Whether all was read and some of it refused; of each function the first error of its own, its open goals and those of which an answer by hand is refused; the first error of all."""
 
-    is_proved: bool
     is_read: bool
     own: dict
     goals: dict
@@ -33,8 +30,8 @@ class Verdict:
     first: str
 
     def refused(self, symbol):
-        """The goals by which a function is refused, as a line of gate/goals.txt has them: those that are left open, then in parentheses those whose answers by hand are refused."""
-        return [*self.goals.get(symbol, []), *(f"({it})" for it in self.by_hand.get(symbol, []))]
+        """The goals by which a function is refused: those that are left open, then those whose answers by hand are refused."""
+        return [*self.goals.get(symbol, []), *self.by_hand.get(symbol, [])]
 
 
 def owner(symbol):
@@ -71,7 +68,7 @@ def read(crate, told, left_out={}):
             if errors and not found[2]:
                 own.setdefault(symbol, errors[0])
     first = re.search(r"(?m)^.*: (error|not proved|no proof)\b.*$", told.text)
-    return Verdict(told.is_proved, is_read, own, opened, by_hand, first[0] if first else told.text[:200])
+    return Verdict(is_read, own, opened, by_hand, first[0] if first else told.text[:200])
 
 
 def proved(told):

@@ -1,4 +1,3 @@
-#!/usr/bin/env python3
 """Names each proof that is written by hand, and fails where there is another than those that are expected.
 
 A proof by hand lies in a file `Proof.antt`. Two are expected: they make and extend the record of the calls on a file
@@ -11,7 +10,7 @@ import os
 import pathlib
 import sys
 
-ROOT = pathlib.Path(__file__).resolve().parent.parent
+ROOT = pathlib.Path(__file__).resolve().parents[2]
 NAME = "proof.antt"
 EXPECTED = {
     "crates/rs_file/proofs/record/Record/new/Proof.antt",

@@ -1,0 +1,56 @@
+"""Copies of a function, beside it and each under a name of its own: on them edits of the function are tried, many in one check.
+
+A copy has the function's contract and proof files, and an edit's body. What the prover refuses of it, it would of the function,
+since names alone differ: a function that any other text of the crate's contracts, specs or proofs names is not copied.
+"""
+
+import re
+from functools import cache
+from pathlib import Path
+
+import source
+
+
+def proof_folder(symbol):
+    """Where a function's proof files stand in its crate."""
+    return Path("proofs", *symbol.split("::")[1:])
+
+
+def proof_module(symbol):
+    """By what name proof files speak of a function's proof."""
+    crate, *names = symbol.split("::")
+    return ".".join(["Rattle", crate, "proofs", *names])
+
+
+@cache
+def texts_of(folder):
+    """The texts of a crate's code, specs and proofs, by their files."""
+    return [(it, it.read_text()) for part in ("src", "specs", "proofs") for it in Path(folder, part).rglob("*") if it.is_file()]
+
+
+def can_be_copied(edit, folder):
+    """Whether an edit changes one function alone, which is no method of a trait, calls not itself, has no proof by hand, and is named in no text but its own proof files."""
+    if len(edit.symbols) != 1 or len({path for path, _, _ in edit.pairs}) != 1:
+        return False
+    symbol = next(iter(edit.symbols))
+    place, name = Path(folder, proof_folder(symbol)), re.escape(".".join(symbol.split("::")[1:]))
+    by_hand = [place / "Proof.antt", place.parent / f"+{place.name}", place.parent / "fn" / place.name]
+    if edit.function.name == "main" or re.search(r"\bfor\b|\Atrait\b", edit.function.block) or any(it.exists() for it in by_hand):
+        return False
+    return not any(re.search(rf"\b(?:proofs|contracts)\.{name}\b", text) for file, text in texts_of(folder) if file.parent != place)
+
+
+def with_copy(texts, folder, edit, edited, number):
+    """These texts with a copy of the function that the edit changes, as the text of its file in `edited` has it, and with the copy's proof files; and the copy's symbol, in a set."""
+    symbol, path = next(iter(edit.symbols)), edit.pairs[0][0]
+    text, edited = texts.get(path) or Path(folder, path).read_text(), edited[path]
+    is_it = lambda it: (it.name, it.block) == (edit.function.name, edit.function.block)
+    function = next(filter(is_it, source.functions_of(text)))
+    changed = next(filter(is_it, source.functions_of(edited)))
+    name = f"{changed.name}_tried_{number}"
+    copy = f"{edited[source.item_of(edited, changed) : changed.at]}{name}{edited[changed.at + len(changed.name) : changed.end]}"
+    texts = {**texts, path: f"{text[:function.end]}\n\n{copy}{text[function.end:]}"}
+    copied = f"{symbol.rpartition('::')[0]}::{name}"
+    for file in sorted(Path(folder, proof_folder(symbol)).glob("*.antt")):
+        texts[str(proof_folder(copied) / file.name)] = file.read_text().replace(f"{proof_module(symbol)}.", f"{proof_module(copied)}.")
+    return texts, {copied}

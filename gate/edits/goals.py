@@ -1,0 +1,70 @@
+"""The goal by which each must-fail edit was last seen refused (gate/edits/goals.txt), and how the others are left out of a trial.
+
+One open goal refuses an edit, and the prover searches long for all others. So that of an edit's line alone is tried, and refuses
+it: the others get an answer that no check takes. Where it has an answer by hand, all these stay, since one may cite another.
+"""
+
+import json
+import re
+from pathlib import Path
+
+import copies
+
+FILE = "gate/edits/goals.txt"
+HEAD = "# The goal by which each must-fail edit was last seen refused. Written by `make edits`.\n"
+# An answer by hand: what a file of them makes public.
+ANSWERED = re.compile(r"(?m)^pub (\S+) :")
+# Where the prover's kept work names what a module declares.
+DECLARED = re.compile(rb"(?m)^--@ interface (\{.*\})$")
+# No name that is in scope, so an answer that is no answer; and no goal of any function.
+NO_ANSWER = "left_out_of_this_trial"
+NO_GOAL = "no_goal_of_any_function"
+
+
+def known(root):
+    """The goal of each edit that has a line, by its label."""
+    text = Path(root, FILE).read_text() if Path(root, FILE).is_file() else ""
+    return dict(it.split(": ") for it in text.splitlines() if it and not it.startswith("#"))
+
+
+def write(root, crate, edits):
+    """Writes the lines of a crate's edits anew."""
+    lines = {label: goal for label, goal in known(root).items() if not label.startswith(f"{crate}/")}
+    lines.update({it.label: it.goal for it in edits if it.is_refused and it.goal})
+    Path(root, FILE).write_text(HEAD + "".join(f"{label}: {lines[label]}\n" for label in sorted(lines)))
+
+
+def of_function(kept, symbol):
+    """The goals of a function as it is, as kept work names what its proof declares: none where that is kept in another way, which costs time alone."""
+    crate, *names = symbol.split("::")
+    file = next(Path(kept).glob(f"*/Rattle-{crate}-proofs.{'.'.join(names)}.Proof.oantt"), None)
+    declared = DECLARED.search(file.read_bytes()) if file else None
+    found = [it["spelling"] for it in json.loads(declared[1])["exports"] if not it["pub"]] if declared else []
+    return [it for it in found if not any(other.startswith(f"{it}-clause-") for other in found)]
+
+
+def beside(edit, folder):
+    """The goals that get an answer in a trial of an edit that is none: that of no function alone, where no goal of it is known."""
+    if not edit.goal:
+        return [NO_GOAL]
+    answers = Path(folder, copies.proof_folder(next(iter(edit.symbols))), "Answers.antt")
+    by_hand = ANSWERED.findall(answers.read_text()) if answers.is_file() else []
+    # A goal stands for its clauses, and one of them for it.
+    is_part = lambda it: it.startswith(f"{edit.goal}-clause-") or edit.goal.startswith(f"{it}-clause-")
+    stays = lambda it: it in [*by_hand, edit.goal] or is_part(it)
+    return [*(by_hand if edit.goal not in by_hand else []), *(it for it in edit.others if not stays(it)), NO_GOAL]
+
+
+def left_out(texts, folder, symbol, edit):
+    """These texts, with the answers of a function or its copy in which all but the known goal of an edit are left out of its trial.
+    Over an answer to no goal, the prover does not run once more to print what it would offer for the open ones."""
+    place, left = copies.proof_folder(symbol), beside(edit, folder)
+    if Path(folder, place.parent, f"+{place.name}").is_dir() or Path(folder, place, "Proof.antt").is_file():
+        return texts
+    path, module = place / "Answers.antt", f"{copies.proof_module(symbol)}.Goals"
+    text = texts.get(str(path)) or (Path(folder, path).read_text() if Path(folder, path).is_file() else "")
+    text = "" if {*ANSWERED.findall(text)} & {*left} else text
+    if not (brought := re.search(rf"(?m)^use {re.escape(module)} as (\w+)", text)):
+        text = f"use {module} as goals_of_this_trial\n{text}"
+    name = brought[1] if brought else "goals_of_this_trial"
+    return {**texts, str(path): text + "".join(f"\npub {it} : {name}.{it}\n{it} = {NO_ANSWER}\n" for it in left)}

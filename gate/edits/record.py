@@ -1,0 +1,73 @@
+"""The record of the crates all of whose must-fail edits were seen refused (gate/edits/record.txt).
+
+A crate's line names the kit, and holds a hash of the crate's code, specs, proofs and edits, of what the crates below say to
+it (their source without bodies and comments, and their specs), and of the program logic. `make edits` alone writes it.
+"""
+
+import datetime
+import hashlib
+from functools import cache
+from pathlib import Path
+
+import kit
+import source
+
+FILE = "gate/edits/record.txt"
+HEAD = "# Crates all of whose must-fail edits were seen refused: name, number of edits, day, kit, hash. Written by `make edits`.\n"
+# What a text says is read once, however many crates stand above it.
+outline = cache(source.outline)
+
+
+def files(folder, *parts):
+    """The paths of the crate's files below these folders, in a fixed order."""
+    return sorted(it.relative_to(folder).as_posix() for part in parts for it in Path(folder, part).rglob("*") if it.is_file())
+
+
+def edits_of(root, name):
+    return files(Path(root, "crates", name), "must-fail")
+
+
+def hash_of(root, uses, name, logic):
+    """The hash that a crate's line of the record must have now."""
+    total, folder = hashlib.sha256(logic.encode()), lambda crate: Path(root, "crates", crate)
+    texts = [(it, Path(folder(name), it).read_bytes()) for it in files(folder(name), "src", "specs", "proofs", "must-fail")]
+    for lower in kit.below(uses, name):
+        said = [(it, Path(folder(lower), it).read_text()) for it in files(folder(lower), "src", "specs")]
+        texts += [(f"{lower}/{it}", (outline(text) if it.endswith(".rt") else text).encode()) for it, text in said]
+    for label, data in [(name, " ".join(uses[name]).encode()), *texts]:
+        total.update(f"{label} {len(data)}\n".encode() + data)
+    return total.hexdigest()
+
+
+def lines(root):
+    """The record's lines by crate: number of edits, day, kit and hash."""
+    text = Path(root, FILE).read_text() if Path(root, FILE).is_file() else ""
+    rows = [it.split() for it in text.splitlines() if it and not it.startswith("#")]
+    return {it[0]: tuple(it[1:]) for it in rows if len(it) == 5}
+
+
+def uncovered(root):
+    """The crates with edits that the record does not cover as they stand."""
+    uses, known, (_, logic) = kit.crates_of(root), lines(root), kit.identity()
+    return [name for name in uses if edits_of(root, name) and known.get(name, ("",))[-1] != hash_of(root, uses, name, logic)]
+
+
+def outdated(root):
+    """The crates that have a line, which is older than they are, or which no crate has any more."""
+    crates = {name for name in kit.crates_of(root) if edits_of(root, name)} - {*uncovered(root)}
+    return [name for name in lines(root) if name not in crates]
+
+
+def picked(root, commit, number=2):
+    """So many crates with edits that a commit's own hash picks."""
+    with_edits = [name for name in kit.crates_of(root) if edits_of(root, name)]
+    return sorted(with_edits, key=lambda it: hashlib.sha256(f"{commit} {it}".encode()).digest())[:number]
+
+
+def write(root, names):
+    """Writes the lines of these crates anew, and drops those of crates that are gone."""
+    uses, known, (named, logic) = kit.crates_of(root), lines(root), kit.identity()
+    today = datetime.date.today().isoformat()
+    for name in names:
+        known[name] = (str(len(edits_of(root, name))), today, named, hash_of(root, uses, name, logic))
+    Path(root, FILE).write_text(HEAD + "".join(f"{name} {' '.join(known[name])}\n" for name in uses if name in known))

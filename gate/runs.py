@@ -1,0 +1,98 @@
+"""What a long run tells: what is about to be done, about how long it takes, and each crate as it is done: `12 of 33 rs_plan 54 s`."""
+
+import contextlib
+import glob
+import os
+import re
+import subprocess
+import threading
+from itertools import count
+from pathlib import Path
+
+import kit
+
+# What the toolchain says of a crate, or of its tests, behind what it printed of it.
+DONE = re.compile(r"rt: (\w+)(: its tests are)? (proved|NOT PROVED|is kept)")
+# What the proofs of each crate take, what those of its tests do, and what else does: all figures stand here.
+SECONDS = Path(__file__).with_name("seconds.txt")
+
+
+def table():
+    """Seconds of a processor by name."""
+    rows = [it.split() for it in SECONDS.read_text().splitlines() if it and not it.startswith("#")]
+    return {name: [int(it) for it in figures] for name, *figures in rows}
+
+
+def proving(uses, names, processors, with_tests=False):
+    """About how many seconds it takes to prove these crates from nothing: those of the longest chain of them, or those of all on so many processors."""
+    known, chain, ends, total = table(), {}, [0], 0
+    for name in uses:
+        own, tests = known.get(name, (60, 0)) if name in names else (0, 0)
+        chain[name] = own + max((chain[it] for it in uses[name] if it in chain), default=0)
+        ends.append(chain[name] + tests * with_tests)
+        total += own + tests * with_tests
+    return max(*ends, total / processors)
+
+
+def announce(what, seconds, processors, log):
+    """The two lines with which a run begins."""
+    took = f"about {round(seconds / 60)} minutes" if seconds > 60 else "less than a minute"
+    print(f"{what}\nThat takes {took} on {processors} of the processors here, and less over kept work. What the toolchain says goes to {log}.", flush=True)
+
+
+def rt_ci(copy, crates, log, seconds):
+    """The toolchain's own run in a copy of the repository, with a line for each crate: how many passed, and what failed.
+    All that it says goes to a log, and is shown where it fails. `seconds` gives those of a processor."""
+    number, since, last = count(1), [], ""
+    with open(log, "w") as kept, subprocess.Popen([kit.RT, "ci"], cwd=copy, stdout=subprocess.PIPE, stderr=subprocess.STDOUT, text=True, errors="replace") as ran:
+        for line in ran.stdout:
+            kept.write(line)
+            since.append(line)
+            last = line if line.strip() else last
+            if found := DONE.match(line):
+                name, tests, came = found.groups()
+                if came == "NOT PROVED":
+                    print("".join(since), end="")
+                took = f"{seconds(name, 'tests' if tests else 'proofs'):.0f} s" if came == "proved" else came
+                print(f"the tests of {name} {took}" if tests else f"{next(number)} of {len(crates)} {name} {took}", flush=True)
+                since = []
+    ended = re.fullmatch(r"(\d+) passed, (\d+) failed\n", last)
+    if not ran.returncode and ended and not int(ended[2]):
+        print(last, end="")
+        return int(ended[1]), []
+    print("".join(since), end="")
+    return 0, [f"rt ci ended with status {ran.returncode}: {last.strip()} ({log} has all that it said)"]
+
+
+class Meter:
+    """Looks at the prover's processes below a folder once a second while it is entered: what the last second of one took is missed."""
+
+    def __init__(self, folder):
+        self.folder, self.seen, self.stop = os.path.realpath(folder), {}, threading.Event()
+
+    def __enter__(self):
+        threading.Thread(target=self.look_on, daemon=True).start()
+        return self
+
+    def __exit__(self, *_):
+        self.stop.set()
+
+    def look_on(self):
+        while not self.stop.wait(1.0):
+            for it in glob.glob("/proc/[0-9]*"):
+                with contextlib.suppress(OSError):
+                    self.look(it)
+
+    def look(self, process):
+        words = Path(f"{process}/cmdline").read_text(errors="replace").split("\0")
+        folder = os.readlink(f"{process}/cwd") if "--crate-name" in words else ""
+        if folder.startswith(self.folder):
+            fields = Path(f"{process}/stat").read_text().rpartition(")")[2].split()
+            kinds = {"tests": "--test" in words, "edits": "/edits-" in folder, "compiling": "--crate-checked" in words, "proofs": True}
+            # A process is known by its number and its start.
+            key = (process, fields[19], words[words.index("--crate-name") + 1], next(filter(kinds.get, kinds)))
+            self.seen[key] = (int(fields[11]) + int(fields[12])) / os.sysconf("SC_CLK_TCK")
+
+    def seconds(self, crate, kind):
+        """Those of a processor that a crate's proofs, its tests, its edits or its compiling took."""
+        return sum(it for key, it in [*self.seen.items()] if key[2:] == (crate, kind))

@@ -1,0 +1,1 @@
+"""What is held of the repository itself: its folders, its set-up, its proofs by hand."""

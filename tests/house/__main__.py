@@ -1,0 +1,8 @@
+"""The tests of the folders and of the set-up: python3 -m tests.house."""
+
+import sys
+import unittest
+from pathlib import Path
+
+ran = unittest.TextTestRunner(verbosity=2).run(unittest.defaultTestLoader.discover(str(Path(__file__).parent), top_level_dir=str(Path(__file__).parents[2])))
+sys.exit(not (ran.testsRun and ran.wasSuccessful()))
