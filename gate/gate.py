@@ -157,7 +157,8 @@ def main():
         os.environ["TMPDIR"] = tempfile.tempdir = room
         copy = copied(room)
         parts.run("the gate's own tests", script(ROOT / "gate" / "test_gate.py"))
-        parts.run("the folders and the set-up", script("-m", "unittest", "discover", "-s", ROOT / "gate" / "tests"))
+        parts.run("the set-up's own tests", script(ROOT / "gate" / "tests" / "test_setup.py"))
+        parts.run("imports", script("-m", "tests.imports", folder=copy))
         parts.run("the layout", layout)
         parts.run("the texts of edits", fitting)
         parts.run("the record of edits", dates)
