@@ -1,4 +1,4 @@
-"""The tests of the folders and of the set-up: python3 -m tests.house."""
+"""The tests of the set-up: python3 -m tests.house."""
 
 import sys
 import unittest
