@@ -25,10 +25,9 @@ import record
 import runs
 
 LOG = ROOT / "out" / "test.log"
-# What is looked at on the proved program: the module tests.NAME of each.
+# What is looked at on the proved program: the module tests.NAME of each; those of SHORT have a short form.
 CHECKS = ["rows", "system.calls", "system.edges", "system.growths", "system.large", "system.documents", "system.pages", "system.kept", "system.tour",
           "mirror", "system.folder", "system.sizes", "pictures", "system.install"]
-# And those that have a short form.
 SHORT = ["crash", "hostile.disks", "hostile.lines", "hostile.requests", "ends"]
 
 
@@ -124,7 +123,7 @@ def announce(uses, names):
 
 
 def main():
-    # What the tests use of Debian is installed where it is missing, or what is left out is named.
+    # The set-up installs what the tests use of Debian, or names what is left out.
     if subprocess.run([sys.executable, "-m", "tests.house.setup"], cwd=ROOT).returncode:
         return 1
     parts, started, uses, names = Parts(), time.time(), kit.crates_of(ROOT), due()

@@ -53,7 +53,3 @@ class SetUp(unittest.TestCase):
         every = setup.packages(Path(setup.ROOT, "packages.txt").read_text())
         self.assertEqual(len({it.name for it in every}), len(every))
         self.assertTrue(all(it.name and it.mark and it.use and it.user in ("gate", "test", "bench", "snapshots") for it in every))
-
-
-if __name__ == "__main__":
-    unittest.main()

@@ -2,7 +2,7 @@
 //! they make of a device that fails, and worked values that the program doesn't show.
 //!
 //! What a disk stands for, and which disks are damaged, is shown on the built program, by the tables
-//! `examples/rows/*.disks` and the sessions beside them.
+//! `tests/rows/*.disks` and the sessions beside them.
 #![tactic(auto)]
 
 #[cfg(test)]

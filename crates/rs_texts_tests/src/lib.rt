@@ -1,5 +1,5 @@
 //! Tests of the model of a source and of its documents, by their public items alone. What a script can show of
-//! them is in examples/rows.
+//! them is in tests/rows.
 #![tactic(auto)]
 
 #[cfg(test)]

@@ -90,7 +90,7 @@ fn found_without(used: &mut Used, run: Run) -> Option<Found> {
 }
 
 /// A disk of so many blocks, a run that is used, another one that is taken too, and what is found then. Words have 64 blocks;
-/// examples/rows/full_disks.session has disks that end beside the border of a word.
+/// tests/rows/full_disks.session has disks that end beside the border of a word.
 const RUNS: [(u32, Run, Run, Found); 7] = [
     (200, (65, 3), (63, 2), (Some(2), 132, Some(68))),
     (200, (128, 3), (64, 64), (Some(2), 69, Some(131))),

@@ -1,5 +1,5 @@
 //! Messages that come in pieces. The messages of RFC 1321 and FIPS 180-4 that fit on a line are in
-//! examples/rows/digests.in.
+//! tests/rows/digests.in.
 
 use rs_fixity::{Digests, Hashing, Sha256Hashing, digests_of, hash_text, sha256_of};
 

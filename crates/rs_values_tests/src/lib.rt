@@ -1,6 +1,6 @@
 //! Tests of the values that everything above is made of: watched ends, moments, digests, runs of blocks, names, media
 //! types, bases, records and changes. They hold what no clause says, by public items alone. What a script or
-//! a file can show of these values is in examples/rows.
+//! a file can show of these values is in tests/rows.
 #![tactic(auto)]
 
 #[cfg(test)]
