@@ -1,0 +1,25 @@
+"""Tests that VERSION has one number, and that CHANGELOG.md and the manual's page have the same."""
+
+import re
+import sys
+import unittest
+from pathlib import Path
+
+sys.path.insert(0, str(Path(__file__).resolve().parent.parent))
+
+import gate
+
+PLACES = {"CHANGELOG.md": r"(?m)^## \[(.*?)\]", "install/rs_source.8": r"(?m)^This page is that of Ropepeach (\S+)\.$"}
+
+
+class Version(unittest.TestCase):
+    def test_each_place_has_the_number(self):
+        number = Path(gate.ROOT, "VERSION").read_text()
+        self.assertRegex(number, r"\A\d+\.\d+\.\d+\n\Z")
+        for name, place in PLACES.items():
+            found = re.search(place, Path(gate.ROOT, name).read_text())
+            self.assertEqual(found and found[1], number.strip(), name)
+
+
+if __name__ == "__main__":
+    unittest.main()
