@@ -138,7 +138,7 @@ def main():
         parts.run("the layout", layout)
         parts.run("the texts of edits", fitting)
         parts.run("the record of edits", dates)
-        parts.run("the set-up's own tests", script("-m", "tests.house", folder=ROOT))
+        parts.run("the house's own tests", script("-m", "tests.house", folder=ROOT))
         parts.run("imports", script("-m", "tests.house.imports", folder=copy))
         parts.run("proofs by hand", script("-m", "tests.house.hand_proofs", folder=copy))
         parts.run("the statement", script(copy / "statement" / "statement.py", "--check"))

@@ -40,7 +40,3 @@ class Layers(unittest.TestCase):
 
     def test_a_line_is_read(self):
         self.assertEqual(drawn("  2  rs_b  what it is, and more   rs_a\n  1  rs_a  the lowest\n"), [("rs_b", (2, {"rs_a"})), ("rs_a", (1, set()))])
-
-
-if __name__ == "__main__":
-    unittest.main()

@@ -19,7 +19,3 @@ class Version(unittest.TestCase):
         for name, place in PLACES.items():
             found = re.search(place, Path(gate.ROOT, name).read_text())
             self.assertEqual(found and found[1], number.strip(), name)
-
-
-if __name__ == "__main__":
-    unittest.main()
