@@ -1,0 +1,57 @@
+"""What pages are held against: the files of the repository, and the words, flags and targets that its sources have."""
+
+import fnmatch
+import os
+import re
+from pathlib import Path
+
+SOURCES = ["crates/*/src/**/*.rt", "crates/*/specs/**/*.antt", "crates/*/proofs/*.antt", "Makefile", "crates.txt", "packages.txt",
+           "gate/words.txt", "statement/kit_words.txt", "tools/*", "install/*", "examples/*"]
+SOURCES += [f"{folder}/**/*.py" for folder in ("bench", "gate", "statement", "tests", "tools")]
+COMMENT, WORD, FLAG = re.compile(r"(?m)(?<!\S)(?://|--(?=\s)).*"), re.compile(r"[^\W\d]\w*"), re.compile(r"(?<![\w-])--[a-z][a-z-]*")
+FENCE, SPAN = re.compile(r"(?ms)^ *```(\w*)\n(.*?)^ *```"), re.compile(r"(?<!`)`([^`]+)`(?!`)")
+
+
+def found_below(root):
+    """All files and folders, but for what is built."""
+    for top, folders, files in os.walk(root):
+        folders[:] = [it for it in folders if it not in (".git", "out", "__pycache__")]
+        yield from (os.path.relpath(Path(top, it), root) for it in [*folders, *files])
+
+
+def read(file):
+    """The text of a source, code and definitions without their comments."""
+    text = file.read_text(errors="replace")
+    return COMMENT.sub("", text) if file.suffix in (".rt", ".antt") else text
+
+
+def blanked(kind, text):
+    """A text without what is of this kind, with everything else at its place."""
+    return kind.sub(lambda found: re.sub(r"\S", " ", found[0]), text)
+
+
+def prose(text):
+    """A page without its blocks of code."""
+    return blanked(FENCE, text)
+
+
+class Repository:
+    def __init__(self, root):
+        self.root = root
+        # Each path and each end of one, with and without what stands behind its dot.
+        ends = {"/".join(parts[at:]) for parts in (it.split("/") for it in found_below(root)) for at in range(len(parts))}
+        self.ends = ends | {it.rpartition(".")[0] for it in ends if "." in it}
+        self.sources = {it: read(it) for kind in SOURCES for it in sorted(root.glob(kind)) if it.is_file() and "out" not in it.parts}
+        self.words = {word for text in [*self.sources.values(), *self.ends] for word in WORD.findall(text)}
+        self.flags = {flag for text in self.sources.values() for flag in FLAG.findall(text)}
+        self.targets = {it for line in re.findall(r"(?m)^([\w -]+):", (root / "Makefile").read_text()) for it in line.split()}
+
+    def texts(self, *crates):
+        """The texts of code and definitions of these crates, of all where none is named."""
+        own = {self.root / "crates" / it for it in crates} or {self.root / "crates"}
+        return [text for it, text in self.sources.items() if own & set(it.parents) and "proofs" not in it.parts]
+
+    def has(self, path):
+        """Whether a file or folder ends in this path, where a part in capitals stands for any."""
+        wanted = re.sub(r"(?<![\w.])[A-Z][A-Z_]+(?!\w|\.md)", "*", path)
+        return path in self.ends or "*" in wanted and bool(fnmatch.filter(self.ends, wanted))

@@ -1,0 +1,108 @@
+#!/usr/bin/env python3
+"""Whether the pages say what is there. A line for each place where one does not; the status is 1 where there is any.
+
+  - A clause or signature in a block of Rust stands so in the code of the page's crate (for docs/: of any), within the function quoted before
+    it. White space and comments do not count. `..` stands for what is cut, with the brackets that it leaves open; so does `(.. words ..)`.
+  - A word in backticks is a word of the sources: code, definitions and proofs without their comments, Python, Makefile, install/, names of
+    files, crates.txt, packages.txt, statement/kit_words.txt (the kit's), gate/words.txt (the world's). Of a text of letters, digits and
+    `_ : . < > ( )` alone, each name counts, but for digests and what begins with a digit; of any other text, each name with `_` or a capital
+    within, but for paths and options. A word in capitals alone stands for something else. A word at the front of a line of a crate's "Its
+    words" is defined in that crate, or the line names another crate.
+  - A path exists: what begins with a folder of ours, or ends as our files do. `NAME` and `*` stand for anything, and what is below out/ is
+    passed over. So does the target of a link, that of a `make`, the module of a `python3 -m`, and a flag beside a command of ours.
+  - A figure of a limit is the code's, and some page tells it (limits.py).
+"""
+
+import re
+import sys
+from pathlib import Path
+
+import limits
+from repository import COMMENT, FENCE, FLAG, SPAN, WORD, Repository, blanked, prose
+
+PAGES = ["README.md", "CONTRIBUTING.md", "docs/**/*.md", "crates/*/README.md", "tests/**/README.md", "tools/**/README.md", "examples/README.md"]
+CLAUSE, CUT = r"^ *(?:pub |fn |requires\b|ensures\b)", r"(?:(?!\b(?:ensures|requires|fn)\b)[\s\S])*?"
+FILE = re.compile(r"(?<![\w/.:~%-])(?:(?:crates|docs|tests|tools|gate|statement|bench|examples|install|specs|src|proofs|must-fail)/[\w./*-]*"
+                  r"|[\w*-]+(?:/[\w*-]+)*\.(?:md|py|rt|antt|sh|svg|session|disks|edit|txt|http))(?![\w/])")
+OURS = re.compile(r"\brs_source\b|\bmake\b|\b(?:tools|gate|statement)/|\b(?:tests|bench)\.\w|\bdestination\b|\bpublish_folder\b|^--")
+
+
+def crate_of(page):
+    return [page.parent.name] if page.parent.parent.name == "crates" else []
+
+
+def pattern(quoted):
+    """What finds a quoted piece of code, whatever its spaces, line breaks and cuts."""
+    tokens = re.findall(r"\.\.|\w+|[^\w\s]", re.sub(r"\(\.\. [^()]* \.\.\)", "..", quoted).rstrip("; \n"))
+    marks = {"..": CUT, ")": r",?\s*\)", "}": r"[)\s]*\}"}
+    return re.compile(r"\s*".join(marks.get(it) or (rf"\b{it}\b" if it[0].isalnum() else re.escape(it)) for it in tokens))
+
+
+def clauses(repo, page, text):
+    for block in (it for it in FENCE.finditer(text) if it[1] == "rust"):
+        scope = texts = repo.texts(*crate_of(page))
+        for part in re.finditer(rf"(?ms){CLAUSE}.*?(?={CLAUSE}|\Z)", blanked(COMMENT, block[2])):
+            wanted = pattern(part[0])
+            is_head = part[0].split()[0] in ("pub", "fn")
+            # What stands behind each place where it is found, up to the next function.
+            found = [re.split(r"\bfn\b", it[place.end() :], maxsplit=1)[0] for it in (texts if is_head else scope) for place in wanted.finditer(it)]
+            scope = (found or texts) if is_head else scope
+            if not found:
+                yield block.start(2) + part.start(), f"no source has it so: {' '.join(part[0].split())}"
+
+
+def words(repo, page, text):
+    for span in SPAN.finditer(prose(text)):
+        is_name = re.fullmatch(r"(?![0-9a-f]{16})[A-Za-z_][\w:.<>()]*", span[1])
+        for word in WORD.findall(re.sub(r"\S*[*/]\S*|(?<!\S)-\w+", "", span[1])):
+            if word not in repo.words and not word.isupper() and (is_name or re.search(r"_|[a-z][A-Z]", word)):
+                yield span.start(), f"no source has the word {word}"
+
+
+def own_words(repo, page, text):
+    part = re.search(r"(?ms)^## Its words\n(.*?)(?=^## |\Z)", text)
+    code = "\n".join(repo.texts(*crate_of(page)))
+    for line in re.finditer(r"(?m)^- ((?:`[^`]+`(?:, )?)+).*(?:\n  .*)*", part[1] if part else ""):
+        for word in (it[0] for it in (WORD.match(span[1]) for span in SPAN.finditer(line[1])) if it):
+            defined = rf"(?m)^(?:(?:pub|record|data|abbrev) )*{word}\b|^ +(?:pub )?{word} :|\b(?:fn|struct|enum|trait|const|type) {word}\b"
+            if not re.search(defined, code) and not set(re.findall(r"\brs_\w+", line[0])) - set(crate_of(page)):
+                yield part.start(1) + line.start(), f"{page.parent.name} does not define {word}"
+
+
+def paths(repo, page, text):
+    for it in FILE.finditer(text):
+        path, near = it[0].rstrip("./"), re.findall(r"\brs_\w+", text[max(0, it.start() - 30) : it.start()])
+        ends = [f"{crate}/{path}" for crate in crate_of(page) + near if crate_of(page) and path.startswith(("src/", "specs/", "proofs/"))]
+        if "out/" not in path and not any(map(repo.has, ends or [path])):
+            yield it.start(), f"there is no {path}"
+    for it in re.finditer(r"\]\(([^)#:\s]+)(?:#[^)]*)?\)", prose(text)):
+        if not (page.parent / it[1]).exists():
+            yield it.start(), f"a link to nothing: {it[1]}"
+
+
+def commands(repo, page, text):
+    lines = [(block.start(2) + it.start(), it[0]) for block in FENCE.finditer(text) for it in re.finditer(r".+", block[2])]
+    for at, code in lines + [(it.start(), it[1]) for it in SPAN.finditer(prose(text))]:
+        code = re.sub(r"\s#.*", "", code).strip("$ ")
+        targets = [it for it in re.findall(r"(?:^|[(;&] ?|=\S+ )make ([a-z][\w.-]*)", code) if it not in repo.targets]
+        modules = re.findall(r"-m ((?:tests|bench)[\w.]*\w)", code) + [it for it in targets if it.startswith("tests.")]
+        yield from ((at, f"no target of the Makefile: {it}") for it in targets if it not in modules)
+        yield from ((at, f"there is no module {it}") for it in modules if not repo.has(it.replace(".", "/")))
+        yield from ((at, f"no source names the flag {it}") for it in FLAG.findall(code) if OURS.search(code) and it not in repo.flags)
+
+
+LOOKS = clauses, words, own_words, paths, commands
+
+
+def main(root):
+    repo, texts = Repository(root), {it: it.read_text() for kind in PAGES for it in sorted(root.glob(kind))}
+    found = [(page, at, what) for page, text in texts.items() for look in LOOKS for at, what in look(repo, page, text)]
+    found += limits.wrong(root, texts)
+    for page, at, what in found:
+        print(f"{page.relative_to(root)}:{texts[page].count(chr(10), 0, at) + 1}: {what}" if page else what)
+    print(f"{len(texts)} pages, {len(found)} places that say what is not there")
+    return 1 if found else 0
+
+
+if __name__ == "__main__":
+    sys.exit(main(Path(sys.argv[1] if sys.argv[1:] else Path(__file__).parent.parent).resolve()))
