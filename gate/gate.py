@@ -138,8 +138,8 @@ def main():
         parts.run("the layout", layout)
         parts.run("the texts of edits", fitting)
         parts.run("the record of edits", dates)
-        parts.run("the house's own tests", script("-m", "tests.house", folder=ROOT))
-        parts.run("imports", script("-m", "tests.house.imports", folder=copy))
+        for name, module in (("the house's own tests", "house"), ("imports", "house.imports"), ("the pages", "house.words")):
+            parts.run(name, script("-m", f"tests.{module}", folder=ROOT))
         parts.run("proofs by hand", script("-m", "tests.house.hand_proofs", folder=copy))
         parts.run("the statement", script(copy / "statement" / "statement.py", "--check"))
         parts.run("the statement's own tests", script(copy / "statement" / "test_statement.py"))

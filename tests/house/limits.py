@@ -64,4 +64,4 @@ def wrong(root, texts):
                 if figures != right:
                     yield page, at, f"{limit[0]}: `{' '.join(words.split())}`, but {limit[2]} has {right}"
         if not count:
-            yield None, 0, f"{limit[0]}: no page tells it by the words of gate/limits.py"
+            yield None, 0, f"{limit[0]}: no page tells it by the words of tests/house/limits.py"

@@ -1,10 +1,9 @@
-#!/usr/bin/env python3
 """Whether the pages say what is there. A line for each place where one does not; the status is 1 where there is any.
 
   - A clause or signature in a block of Rust stands so in the code of the page's crate (for docs/: of any), within the function quoted before
     it. White space and comments do not count. `..` stands for what is cut, with the brackets that it leaves open; so does `(.. words ..)`.
   - A word in backticks is a word of the sources: code, definitions and proofs without their comments, Python, Makefile, install/, names of
-    files, crates.txt, packages.txt, statement/kit_words.txt (the kit's), gate/words.txt (the world's). Of a text of letters, digits and
+    files, crates.txt, packages.txt, statement/kit_words.txt (the kit's), tests/house/words.txt (the world's). Of a text of letters, digits and
     `_ : . < > ( )` alone, each name counts, but for digests and what begins with a digit; of any other text, each name with `_` or a capital
     within, but for paths and options. A word in capitals alone stands for something else. A word at the front of a line of a crate's "Its
     words" is defined in that crate, or the line names another crate.
@@ -17,8 +16,8 @@ import re
 import sys
 from pathlib import Path
 
-import limits
-from repository import COMMENT, FENCE, FLAG, SPAN, WORD, Repository, blanked, prose
+from tests.house import limits
+from tests.house.repository import COMMENT, FENCE, FLAG, SPAN, WORD, Repository, blanked, prose
 
 PAGES = ["README.md", "CONTRIBUTING.md", "docs/**/*.md", "crates/*/README.md", "tests/**/README.md", "tools/**/README.md", "examples/README.md"]
 CLAUSE, CUT = r"^ *(?:pub |fn |requires\b|ensures\b)", r"(?:(?!\b(?:ensures|requires|fn)\b)[\s\S])*?"
@@ -105,4 +104,4 @@ def main(root):
 
 
 if __name__ == "__main__":
-    sys.exit(main(Path(sys.argv[1] if sys.argv[1:] else Path(__file__).parent.parent).resolve()))
+    sys.exit(main(Path(sys.argv[1] if sys.argv[1:] else Path(__file__).resolve().parents[2]).resolve()))

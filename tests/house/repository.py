@@ -6,7 +6,7 @@ import re
 from pathlib import Path
 
 SOURCES = ["crates/*/src/**/*.rt", "crates/*/specs/**/*.antt", "crates/*/proofs/*.antt", "Makefile", "crates.txt", "packages.txt",
-           "gate/words.txt", "statement/kit_words.txt", "tools/*", "install/*", "examples/*"]
+           "tests/house/words.txt", "statement/kit_words.txt", "tools/*", "install/*", "examples/*"]
 SOURCES += [f"{folder}/**/*.py" for folder in ("bench", "gate", "statement", "tests", "tools")]
 COMMENT, WORD, FLAG = re.compile(r"(?m)(?<!\S)(?://|--(?=\s)).*"), re.compile(r"[^\W\d]\w*"), re.compile(r"(?<![\w-])--[a-z][a-z-]*")
 FENCE, SPAN = re.compile(r"(?ms)^ *```(\w*)\n(.*?)^ *```"), re.compile(r"(?<!`)`([^`]+)`(?!`)")

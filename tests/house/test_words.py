@@ -1,17 +1,14 @@
 """Tests of what the pages are held to: a page that is true passes, and each thing that it may say wrongly is told."""
 
 import re
-import sys
 import tempfile
 import unittest
 from pathlib import Path
 
-ROOT = Path(__file__).resolve().parent.parent.parent
-sys.path.insert(0, str(ROOT / "gate"))
+from tests.house import limits, words
+from tests.house.repository import Repository
 
-import limits
-import words
-from repository import Repository
+ROOT = Path(__file__).resolve().parents[2]
 
 FILES = {
     **{"Makefile": "test build:\n\techo\n", "tools/send": "--short\n", "tests/crash/__main__.py": "", "docs/PLAN.md": ""},
@@ -72,9 +69,5 @@ class Pages(unittest.TestCase):
             self.assertTrue([what for page, _, what in limits.wrong(ROOT, {1: text}) if page], it[0])
 
     def test_the_words_of_the_world_are_sorted(self):
-        listed = (ROOT / "gate" / "words.txt").read_text().split("\n")
+        listed = (ROOT / "tests" / "house" / "words.txt").read_text().split("\n")
         self.assertEqual(listed, [*sorted(set(filter(None, listed))), ""])
-
-
-if __name__ == "__main__":
-    unittest.main()
