@@ -1,5 +1,5 @@
 -- What accepted commands make of a state.
-use Rattle.std.proofs.Common.{◌≡◌, ◌<◌, ℕ, List, [], ◌∷◌, refl, sym, ◌∙◌, ap, subst, arith, Option, Some, None, Result, Ok}
+use Rattle.std.proofs.Common.{◌≡◌, ℕ, [], ◌∷◌, refl, sym, ◌∙◌, ap, arith, Option, Some, None, Ok}
 use Rattle.rs_model.specs.State.{Source}
 use Rattle.rs_model.specs.Regular.{IsRegular}
 use Rattle.rs_model.specs.Step.{step, state_after, fold_of, refusal_of, accepted_unless, next_state, reply_to, moment_at}

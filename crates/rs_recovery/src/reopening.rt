@@ -1,9 +1,9 @@
 //! A source whose disk is opened anew after each stop, as one of another type.
 
-ghost use Rattle.std.specs.Prelude.{IfOk, IfErr, IsTrue, Some};
+ghost use Rattle.std.specs.Prelude.{ℕ, List, IfOk, IfErr, IsTrue, Some};
 ghost use Rattle.rs_image.specs.StateOfImage.{StandsFor};
 ghost use Rattle.rs_model.specs.State.{Source as State, start_of};
-ghost use Rattle.rs_recovery.specs.Surviving.{IsLost};
+ghost use Rattle.rs_recovery.specs.Surviving.{IsLost, MayFormat, HasHalted};
 ghost use Rattle.rs_recovery.specs.Reopened.{HasRunOn, SurvivesTwice, LosesNone};
 
 use crate::recover;
@@ -25,6 +25,8 @@ fn recover_and_run<D: Disk + Drop>(
         (λ x. HasRunOn D.state (D.state disk).now.seen commands.now x.0.items x.1) }
     ensures found { IfErr result (λ e. IsTrue (D.state e.0).honest
         → (s : State) → StandsFor (D.state disk).now.seen s → ¬ IsLost e.1) }
+    ensures halted { IfErr result (λ e. (base : List ℕ) (limit size : ℕ)
+        → MayFormat base limit size → HasHalted base limit size e.1) }
 {
     let mut source = match recover(alloc, disk) {
         Ok(source) => source,
@@ -46,7 +48,8 @@ fn recover_and_run<D: Disk + Drop>(
 ///
 /// # Errors
 ///
-/// Each step's own. No disk is told to hold no source, or a damaged one, that holds what the stop before has left.
+/// Each step's own: a formatting's by its first cause, and where there is none, that the device failed, that memory was refused, or
+/// that no disk was given. No disk is told to hold no source, or a damaged one, that holds what the stop before has left.
 pub fn format_run_recover_twice<A, B, C, F, G>(
     alloc: Global,
     disk: A,
@@ -74,6 +77,7 @@ where
         (λ left given. F.post second left (Some given))
         (λ left given. G.post third left (Some given))
         (start_of base.now limit now) commands.now more.now) }
+    ensures halted { IfErr result (HasHalted base.now limit (A.state disk).size) }
 {
     runs_leave_prefixes::<A>();
     let (acks, left) = format_and_run(alloc, disk, base, limit, now, commands)?;

@@ -21,3 +21,6 @@ returns-in-Err-recover-clause-found g c = λ lost.
     c.in_ok-acks.left c.in_ok-acks.ensures.ran c.in-Some.disk c.in-Some.ensures
     g.C.Disk.state g.met.A.Disk.holds g.met.B.Disk.holds c.args.more.now c.in-Ok.ran.0.items c.in-Ok.ran.1 c.in-Ok.ensures.ran
     c.in-Some-third.disk c.in-Some-third.ensures c.in-Err-recover.field-0-0 c.in-Err-recover.fault c.in-Err-recover.ensures.sessions lost)
+
+pub returns-in-Err-clause-halted : goal.returns-in-Err-clause-halted
+returns-in-Err-clause-halted g c = c.in-Err.ensures.halted c.args.base.now c.args.limit (g.A.Disk.state c.args.disk).size c.in_ok-acks.ensures.may

@@ -14,3 +14,6 @@ returns-in-Ok-run-clause-ran g c = record {
 pub returns-in-Err-clause-found : goal.returns-in-Err-clause-found
 returns-in-Err-clause-found g c = λ honest s stands.
     not_lost (g.D.Disk.state c.args.disk) (g.D.Disk.state c.in-Err.disk) c.in-Err.fault (c.in-Err.ensures.recovers honest s stands)
+
+pub returns-in-Err-run-clause-halted : goal.returns-in-Err-run-clause-halted
+returns-in-Err-run-clause-halted g c = λ base limit size may. (c.in-Err-run.ensures.only, may)
