@@ -1,23 +1,29 @@
 -- Runs of calls that keep what a set of blocks holds.
-use Rattle.std.proofs.Common.{rules, ◌≡◌, ◌⊎◌, inl, inr, ⊎_elim, ℕ, ◌+◌, ◌*◌, ◌-◌, ◌/◌, ◌%◌, ◌<◌, ◌≤◌, Bool, true, false, List, ◌++◌, length, take, drop, get_or, refl, sym, ◌∙◌, ap, subst, arith, Result, Ok, Err, OnOk, OnErr, length-append, length-take, length-drop}
+use Rattle.std.proofs.Common.{rules, ◌≡◌, ◌⊎◌, inl, inr, ℕ, ◌+◌, ◌*◌, ◌-◌, ◌/◌, ◌%◌, ◌<◌, ◌≤◌, ◌==◌, Bool, true, false, List, ◌++◌, length, take, drop, get_or, refl, sym, ◌∙◌, ap, subst, arith, length-append, length-take, length-drop}
+use Rattle.std.proofs.lemmas.Bool.Decides.{nat_tests}
 use Rattle.std.proofs.lemmas.List.{append_assoc, drop-append-le, drop-take, ext_get_or, get_or-take, get_or-drop, length-take-le, places, take_at}
-use Rattle.rs_disk.specs.Medium.{Medium, DiskState, IsImage, IsImageAt, IsMedium, over, marked, written}
-use Rattle.rs_disk.specs.Calls.{CountsCall, Writes, Tears}
-use Rattle.rs_disk.specs.Leaves.{Torn, TornFrom, Rests}
-use Rattle.rs_disk.proofs.Images.{torn_below, torn_above, over_torn}
-use Rattle.rs_disk.proofs.Steps.{started, goes_on, weaker, write_leaves, exit_images}
+use Rattle.rs_disk.specs.Medium.{Medium, DiskState, IsImage, IsImageAt, over, marked}
+use Rattle.rs_disk.specs.Leaves.{Torn, TornFrom}
+use Rattle.rs_disk.specs.Runs.{RunsReading, WritesWithin}
+use Rattle.rs_disk.proofs.Images.{torn_below, torn_above}
+use Rattle.rs_disk.proofs.Steps.{started, goes_on, weaker, exit_images}
 use Rattle.rs_extent.specs.declared.Extent.{Extent}
 use Rattle.rs_extent.specs.Blocks.{block_size}
 use Rattle.rs_extent.specs.Extents.{within, IsOnDisk, IsBeside}
 use Rattle.rs_body.specs.Blocks.{part}
 use Rattle.rs_body.specs.Outside.{Keeps, KeepsMarks, KeptFrom, WritesOutside}
 use Rattle.rs_extent.proofs.Sets.{within_true, outside, turned}
+use Rattle.rs_body.proofs.Torn.{IsHeld}
 
 -- The first bytes of an extent on the disk, if there are any, lie on the disk.
 pub has_room : (e : Extent) (n size : ℕ) → 0 < n → n ≤ block_size * e.blocks → IsOnDisk e size → block_size * e.first + n ≤ size
 has_room e n size some fits inside =
     let last : block_size * (e.first + (e.blocks - 1)) + block_size ≤ size = inside (e.first + (e.blocks - 1)) (within_true e (e.first + (e.blocks - 1)) (omega arith) (omega arith)) in
     omega (arith, last)
+
+-- A piece of some bytes that fits into an extent on the disk lies on the disk.
+pub lies : (e : Extent) (at n size : ℕ) → false ≡ (n == 0) → at + n ≤ block_size * e.blocks → IsOnDisk e size → block_size * e.first + at + n ≤ size
+lies e at n size some fits inside = let room = has_room e (at + n) size (grind (arith, nat_tests, some)) fits inside in omega (arith, room)
 
 -- A block of a set lies below or above each extent that is beside the set.
 pub apart_from : (kept : ℕ → Bool) (e : Extent) → IsBeside kept e → (b : ℕ) → kept b ≡ true → (b < e.first) ⊎ (e.first + e.blocks ≤ b)
@@ -86,54 +92,29 @@ outside_less kept more from old new run = record {
   leaves = weaker old new (λ _. KeptFrom more old.now) (λ _. KeptFrom kept old.now) (λ m image left. (left.0, left.1, keeps_less kept more from left.0 image left.2)) run.leaves;
 }
 
--- what a change to the same keeps
-stayed : (kept : ℕ → Bool) (old : DiskState) (now : Medium) → now ≡ old.now → Keeps kept old.now.seen now.seen × KeepsMarks kept old.now.unsettled now.unsettled
-stayed kept old now are =
-    subst (λ (m : Medium). Keeps kept old.now.seen m.seen × KeepsMarks kept old.now.unsettled m.unsettled) (sym are) (keeps_same kept old.now.seen, record { same = λ b i is lt. refl })
-
 -- a run that changes nothing
-pub outside_rests : (kept : ℕ → Bool) (old new : DiskState) → Rests old new → WritesOutside kept old new
-outside_rests kept old new rests =
-    let same = stayed kept old new.now rests.now in
-    record {
-      seen = same.0;
-      marks = same.1;
-      leaves = weaker old new (λ _. IsImage old.now) (λ _. KeptFrom kept old.now) (λ m image left. (image, left, keeps_same kept image)) rests.leaves;
-    }
+pub outside_rests : {A : Type 0} (kept : ℕ → Bool) (old new : DiskState) → RunsReading A old new → WritesOutside kept old new
+outside_rests kept old new rests = record {
+  seen = subst (λ (m : Medium). Keeps kept old.now.seen m.seen) (sym rests.now) (keeps_same kept old.now.seen);
+  marks = subst (λ (m : Medium). KeepsMarks kept old.now.unsettled m.unsettled) (sym rests.now) (record { same = λ b i is lt. refl });
+  leaves = weaker old new (λ _. IsImage old.now) (λ _. KeptFrom kept old.now) (λ m image left. (image, left, keeps_same kept image)) rests.leaves;
+}
 
--- what one write keeps in what is held
-wrote : (kept : ℕ → Bool) (e : Extent) (at : ℕ) (old : DiskState) (bytes : List ℕ) → IsBeside kept e → at + length bytes ≤ block_size * e.blocks → IsMedium old.size old.now → block_size * e.first + at + length bytes ≤ old.size
-    → (now : Medium) → now ≡ written old.now (block_size * e.first + at) bytes → Keeps kept old.now.seen now.seen × KeepsMarks kept old.now.unsettled now.unsettled
-wrote kept e at old bytes beside fits is room now are =
-    let from : ℕ = block_size * e.first + at in
-    subst (λ (m : Medium). Keeps kept old.now.seen m.seen × KeepsMarks kept old.now.unsettled m.unsettled) (sym are) (
-      keeps_torn kept e at (length bytes) beside fits old.now.seen (over old.now.seen from bytes) (over_torn old.now.seen from bytes (omega (arith, is.image.size, is.settled))),
-      keeps_marked kept e at (length bytes) beside fits old.now.unsettled (omega (arith, is.unsettled)),
-    )
-
-held_on : {E : Type 0} (kept : ℕ → Bool) (e : Extent) (at : ℕ) (old new : DiskState) (bytes : List ℕ) (result : Result (Unit {0}) E) → IsBeside kept e → at + length bytes ≤ block_size * e.blocks → IsMedium old.size old.now
-    → block_size * e.first + at + length bytes ≤ old.size → OnOk result (Writes (block_size * e.first + at) bytes old new) → OnErr result (Tears (block_size * e.first + at) (length bytes) old new)
-    → Keeps kept old.now.seen new.now.seen × KeepsMarks kept old.now.unsettled new.now.unsettled
-held_on kept e at old new bytes (Ok x) beside fits is room ok err = wrote kept e at old bytes beside fits is room new.now ok.now
-held_on kept e at old new bytes (Err x) beside fits is room ok err = ⊎_elim
-    (λ torn. wrote kept e at old torn.0 beside (omega (arith, torn.1)) is (omega (arith, torn.1)) new.now torn.2.now)
-    (λ refused. stayed kept old new.now refused.now)
-    err
+-- the marks that one write sets
+marks_held : (kept : ℕ → Bool) (e : Extent) (at n : ℕ) (old new : Medium) → IsBeside kept e → at + n ≤ block_size * e.blocks → block_size * e.first + at + n ≤ length old.unsettled
+    → IsHeld (block_size * e.first + at) n old new → KeepsMarks kept old.unsettled new.unsettled
+marks_held kept e at n old new beside fits room (inl (any, long, is)) =
+    subst (λ (m : Medium). KeepsMarks kept old.unsettled m.unsettled) (sym is) (keeps_marked kept e at (length any) beside (omega (arith, fits, long)) old.unsettled (omega (arith, room, long)))
+marks_held kept e at n old new beside fits room (inr is) = subst (λ (m : Medium). KeepsMarks kept old.unsettled m.unsettled) (sym is) (record { same = λ b i is lt. refl })
 
 -- one write in an extent, whether it succeeded or not
-pub outside_write : {E : Type 0} (kept : ℕ → Bool) (e : Extent) (at : ℕ) (old new : DiskState) (bytes : List ℕ) (result : Result (Unit {0}) E) → CountsCall old new result → IsMedium old.size old.now → IsBeside kept e
-    → at + length bytes ≤ block_size * e.blocks → block_size * e.first + at + length bytes ≤ old.size
-    → OnOk result (Writes (block_size * e.first + at) bytes old new) → OnErr result (Tears (block_size * e.first + at) (length bytes) old new) → WritesOutside kept old new
-outside_write kept e at old new bytes result counts is beside fits room ok err =
-    let from : ℕ = block_size * e.first + at in
-    let held = held_on kept e at old new bytes result beside fits is room ok err in
-    record {
-      seen = held.0;
-      marks = held.1;
-      leaves = weaker old new (λ _. TornFrom old.now from (length bytes)) (λ _. KeptFrom kept old.now)
-          (λ m image left. (left.0, left.1, keeps_torn kept e at (length bytes) beside fits left.0 image left.2))
-          (write_leaves old new from bytes result counts is room ok err);
-    }
+pub outside_write : {A : Type 0} (kept : ℕ → Bool) (e : Extent) (at n : ℕ) (old new : DiskState) → IsBeside kept e → at + n ≤ block_size * e.blocks → block_size * e.first + at + n ≤ length old.now.unsettled
+    → WritesWithin (block_size * e.first + at) n A old new → IsHeld (block_size * e.first + at) n old.now new.now → WritesOutside kept old new
+outside_write kept e at n old new beside fits room run held = record {
+  seen = keeps_torn kept e at n beside fits old.now.seen new.now.seen run.torn;
+  marks = marks_held kept e at n old.now new.now beside fits room held;
+  leaves = weaker old new (λ _. TornFrom old.now (block_size * e.first + at) n) (λ _. KeptFrom kept old.now) (λ m image left. (left.0, left.1, keeps_torn kept e at n beside fits left.0 image left.2)) run.leaves;
+}
 
 -- A write at a place of an extent leaves what is before it, and its bytes follow.
 pub piece_follows : (e : Extent) (at : ℕ) (old bytes : List ℕ) → block_size * e.first + at ≤ length old → part e (at + length bytes) (over old (block_size * e.first + at) bytes) ≡ part e at old ++ bytes

@@ -1,4 +1,5 @@
 pub mod Sets
+pub mod Torn
 pub mod KeptBlocks
 pub mod Pieces
-pub mod Torn
+pub mod Only

@@ -1,12 +1,12 @@
 -- What follows from the definitions of blocks and of runs that write outside them.
-use Rattle.std.specs.Prelude.{◌≡◌, ◌↔◌, ℕ, ◌*◌, ◌≤◌, Bool, true, List, ◌∷◌}
+use Rattle.std.specs.Prelude.{◌≡◌, ◌↔◌, ◌⊎◌, ℕ, ◌*◌, ◌≤◌, Bool, true, List, [], ◌∷◌}
 use Rattle.rs_disk.specs.Medium.{DiskState, IsImage, IsImageAt}
-use Rattle.rs_disk.specs.Leaves.{Rests}
+use Rattle.rs_disk.specs.Runs.{RunsReading}
 use Rattle.rs_extent.specs.declared.Extent.{Extent}
 use Rattle.rs_extent.specs.Blocks.{block_size}
-use Rattle.rs_extent.specs.Extents.{within, IsBeside, AreBeside}
+use Rattle.rs_extent.specs.Extents.{within, in_some, IsBeside, IsSubset, AreBeside}
 use Rattle.rs_body.specs.Blocks.{part, blocks_of}
-use Rattle.rs_body.specs.Outside.{Keeps, WritesOutside}
+use Rattle.rs_body.specs.Outside.{Keeps, WritesOutside, WritesOnly, WritesPart}
 
 -- Extents are beside a set where each of them is.
 abbrev pub BesideEach : Type 0
@@ -29,8 +29,8 @@ abbrev pub OutsideLess : Type 0
 OutsideLess = (kept more : ℕ → Bool) → ((b : ℕ) → kept b ≡ true → more b ≡ true) → (old new : DiskState) → WritesOutside more old new → WritesOutside kept old new
 
 -- What rests writes outside every set.
-abbrev pub OutsideRests : Type 0
-OutsideRests = (kept : ℕ → Bool) (old new : DiskState) → Rests old new → WritesOutside kept old new
+abbrev pub OutsideRests : Type 0 → Type 0
+OutsideRests A = (kept : ℕ → Bool) (old new : DiskState) → RunsReading A old new → WritesOutside kept old new
 
 -- The first n bytes of an extent whose blocks are all in a set stay where the set's blocks hold what they held.
 abbrev pub PartKept : Type 0
@@ -42,3 +42,13 @@ abbrev pub ImagePartKept : Type 0
 ImagePartKept = (kept : ℕ → Bool) (e : Extent) (n : ℕ) → n ≤ block_size * e.blocks → ((b : ℕ) → within e b ≡ true → kept b ≡ true)
     → (old new : DiskState) → WritesOutside kept old new → (m : ℕ) (image : List ℕ) → old.calls ≤ m → m ≤ new.calls → IsImageAt new m image
     → (entry : List ℕ) × IsImage old.now entry × (part e n image ≡ part e n entry)
+
+-- A run that writes some extents alone, and then another, write alone each list of extents that has all their blocks. The answer of
+-- both tells of the device where one of theirs does.
+abbrev pub OnlyJoins : Type 0 → Type 0 → Type 0 → Type 0
+OnlyJoins A B C = (xs ys zs : List Extent) (old mid new : DiskState) → IsSubset (in_some xs) (in_some zs) → IsSubset (in_some ys) (in_some zs)
+    → (A → C) → (B → C) → (C → A ⊎ B) → WritesOnly xs A old mid → WritesOnly ys B mid new → WritesOnly zs C old new
+
+-- What writes a part of an extent writes that extent alone.
+abbrev pub PartIsOnly : Type 0 → Type 0
+PartIsOnly A = (e : Extent) (at n : ℕ) (old new : DiskState) → WritesPart e at n A old new → WritesOnly (e ∷ []) A old new

@@ -1,3 +1,4 @@
 pub mod Blocks
 pub mod Outside
 pub mod Laws
+pub mod Reading

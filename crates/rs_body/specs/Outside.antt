@@ -1,8 +1,12 @@
--- What a run of device calls keeps of a set of blocks, which it writes outside of.
+-- What a run of device calls keeps of a set of blocks, which it writes outside of; and runs that write some extents alone.
 use Rattle.std.specs.Prelude.{◌≡◌, ℕ, ◌+◌, ◌*◌, ◌<◌, Bool, true, false, List, length, get_or}
 use Rattle.rs_disk.specs.Medium.{Medium, DiskState, IsImage}
 use Rattle.rs_disk.specs.Leaves.{Leaves}
+use Rattle.rs_disk.specs.Runs.{RunsWriting, WritesWithin, CallsAtMost}
+use Rattle.rs_extent.specs.declared.Extent.{Extent}
 use Rattle.rs_extent.specs.Blocks.{block_size}
+use Rattle.rs_extent.specs.Extents.{IsBeside, AreBeside}
+use Rattle.rs_body.specs.Blocks.{place_of}
 
 -- The blocks of the set hold what they held.
 pub record Keeps (kept : ℕ → Bool) (old new : List ℕ) : Type 0 where
@@ -23,3 +27,16 @@ pub record WritesOutside (kept : ℕ → Bool) (old new : DiskState) : Type 0 wh
   pub seen : Keeps kept old.now.seen new.now.seen
   pub marks : KeepsMarks kept old.now.unsettled new.now.unsettled
   pub leaves : Leaves old new (λ _. KeptFrom kept old.now)
+
+-- A run that writes these extents alone, whatever its answer tells of the device: each set of blocks beside them stays.
+pub record WritesOnly (extents : List Extent) (told : Type 0) (old new : DiskState) : Type 0 where
+  pub runs : RunsWriting told old new
+  pub outside : (kept : ℕ → Bool) → AreBeside kept extents → WritesOutside kept old new
+
+-- A run that writes n bytes of an extent, counted from a place in it on, by one call, or by none where there are none. It writes
+-- nothing else, whatever its answer tells of the device: nothing within the extent, and no block beside it.
+pub record WritesPart (e : Extent) (at n : ℕ) (told : Type 0) (old new : DiskState) : Type 0 where
+  pub within : WritesWithin (place_of e at) n told old new
+  pub outside : (kept : ℕ → Bool) → IsBeside kept e → WritesOutside kept old new
+  pub one_call : CallsAtMost 1 old new
+  pub no_call : n ≡ 0 → new ≡ old

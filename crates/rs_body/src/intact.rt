@@ -1,6 +1,6 @@
 //! Looking at a body, in memory that does not grow with it.
-ghost use Rattle.std.specs.Prelude.{◌≡◌, ◌↔◌, ◌+◌, ◌*◌, ◌/◌, ◌≤◌, length, IfOk, IsTrue};
-ghost use Rattle.rs_disk.specs.Leaves.{Rests, Runs};
+ghost use Rattle.std.specs.Prelude.{◌≡◌, ◌↔◌, ◌+◌, ◌*◌, ◌/◌, ◌≤◌, length, IfOk, IsErr, IsTrue};
+ghost use Rattle.rs_disk.specs.Runs.{RunsReading, CallsAtMost};
 ghost use Rattle.rs_fixity.specs.Digests.{digests};
 ghost use Rattle.rs_extent.specs.Blocks.{block_size};
 ghost use Rattle.rs_extent.specs.Extents.{IsOnDisk};
@@ -35,9 +35,8 @@ pub fn is_intact<D: Disk>(
     // It is said of a device that has followed the model.
     ensures tells { IfOk result (λ intact. IsTrue (D.state disk.new).honest → (IsTrue intact
         ↔ ((digests (part extent length (D.state disk.old).now.seen)).sha256 ≡ sha256.now))) }
-    ensures runs { Runs (D.state disk.old) (D.state disk.new) result }
-    ensures rests { Rests (D.state disk.old) (D.state disk.new) }
-    ensures calls { (D.state disk.new).calls ≤ (D.state disk.old).calls + (length + 16383) / 16384 }
+    ensures runs { RunsReading (IsErr result) (D.state disk.old) (D.state disk.new) }
+    ensures calls { CallsAtMost ((length + 16383) / 16384) (D.state disk.old) (D.state disk.new) }
     ensures no_call { length ≡ 0 → D.state disk.new ≡ D.state disk.old }
 {
     let mut buffer = [0; PIECE_SIZE];

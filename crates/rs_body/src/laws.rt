@@ -1,8 +1,11 @@
 //! Laws of blocks and of runs that write outside them, over their definitions alone.
 //!
 //! Each function here does nothing: its contract is the law, which the check proves. Proofs cite
-//! the lemmas behind them, in `proofs/KeptBlocks.antt` and in rs_extent.
-ghost use Rattle.rs_body.specs.Laws.{BesideEach, FewestBlocks, NoCallOutside, OutsideGoesOn, OutsideLess, OutsideRests, PartKept, ImagePartKept};
+//! the lemmas behind them, in `proofs/KeptBlocks.antt` and `proofs/Only.antt`, and
+//! in rs_extent.
+ghost use Rattle.rs_body.specs.Laws.{BesideEach, FewestBlocks, NoCallOutside, OutsideGoesOn, OutsideLess, OutsideRests, OnlyJoins, PartIsOnly, PartKept, ImagePartKept};
+
+use rs_disk::laws::Told;
 
 /// Extents are beside a set of blocks where each of them is.
 pub fn beside_each()
@@ -30,8 +33,14 @@ pub fn outside_less()
 {}
 
 /// What changes nothing writes outside every set of blocks.
-pub fn outside_rests()
-    ensures { OutsideRests }
+pub fn outside_rests<A: Told>()
+    ensures { OutsideRests A.told }
+{}
+
+/// Runs that write some extents alone, one after another, write all of them alone.
+pub fn only_goes_on<A: Told, B: Told, C: Told>()
+    ensures joins { OnlyJoins A.told B.told C.told }
+    ensures part { PartIsOnly A.told }
 {}
 
 /// What stands in blocks of a set stays, where the set's blocks hold what they held; and in each

@@ -18,5 +18,5 @@ mod write;
 pub use blocks::{blocks_for, is_on_disk, is_sized};
 pub use by_pieces::read_in_pieces;
 pub use intact::is_intact;
-pub use read::{BodyFault, read_body, read_piece};
+pub use read::{LoadFault, read_body, read_piece};
 pub use write::{write_body, write_piece};

@@ -1,10 +1,10 @@
 //! Reading a body.
-ghost use Rattle.std.specs.Prelude.{◌≡◌, ◌+◌, ◌*◌, ◌≤◌, ◌<◌, [], ◌++◌, length, vec_len, vec_capacity, OnOk, OnErr, IsErrOf, IsTrue};
-ghost use Rattle.rs_disk.specs.Leaves.{Rests, Runs, TellsFaults};
-ghost use Rattle.rs_fixity.specs.Digests.{digests};
+ghost use Rattle.std.specs.Prelude.{◌≡◌, ◌+◌, ◌-◌, ◌*◌, ◌≤◌, ◌<◌, ◌++◌, length, vec_len, vec_capacity, OnOk, IsErr, IsErrOf, IsTrue};
+ghost use Rattle.rs_disk.specs.Runs.{RunsReading, CallsAtMost};
 ghost use Rattle.rs_extent.specs.Blocks.{block_size};
 ghost use Rattle.rs_extent.specs.Extents.{IsOnDisk};
 ghost use Rattle.rs_body.specs.Blocks.{part};
+ghost use Rattle.rs_body.specs.Reading.{ReadsBody, ReadsOnce, HasNextPiece};
 
 use crate::blocks::offset_of;
 use rs_disk::{Disk, Fault};
@@ -13,27 +13,28 @@ use rs_fixity::sha256_of;
 use std::alloc::AllocError;
 use thiserror::Error;
 
-/// Why no body was read.
+/// Why a body, a page or a directory was not read.
 #[derive(Clone, Copy, Debug, PartialEq, Eq, Error)]
-pub enum BodyFault {
+pub enum LoadFault {
     /// The device failed.
     #[error("the device failed")]
     Device,
-    /// The bytes that were read do not have the SHA-256 of the body.
-    #[error("the body is damaged")]
+    /// What stands there is damaged: its bytes do not have the SHA-256 that names it, or they are
+    /// not in its format.
+    #[error("what stands there is damaged")]
     Damaged,
-    /// The memory for the body was refused.
+    /// The memory for it was refused.
     #[error("out of memory")]
     NoMemory,
 }
 
-impl From<AllocError> for BodyFault {
-    ghost use Rattle.rs_body.specs.declared.read.BodyFault.{BodyFault};
+impl From<AllocError> for LoadFault {
+    ghost use Rattle.rs_body.specs.declared.read.LoadFault.{LoadFault};
 
-    ghost from_gives = { λ _ fault. fault ≡ BodyFault.NoMemory };
+    ghost from_gives = { λ _ fault. fault ≡ LoadFault.NoMemory };
 
-    fn from(_: AllocError) -> BodyFault {
-        BodyFault::NoMemory
+    fn from(_: AllocError) -> LoadFault {
+        LoadFault::NoMemory
     }
 }
 
@@ -45,9 +46,9 @@ impl From<AllocError> for BodyFault {
 /// where the vector has room. The disk stays as it is.
 ///
 /// # Errors
-/// - [`BodyFault::NoMemory`] where that memory is refused; the device is not called then.
-/// - [`BodyFault::Device`] where the device fails.
-/// - [`BodyFault::Damaged`] where the bytes that were read do not have this SHA-256.
+/// - [`LoadFault::NoMemory`] where that memory is refused; the device is not called then.
+/// - [`LoadFault::Device`] where the device fails.
+/// - [`LoadFault::Damaged`] where the bytes that were read do not have this SHA-256.
 ///
 /// After each of them the vector is empty.
 pub fn read_body<D: Disk>(
@@ -56,41 +57,50 @@ pub fn read_body<D: Disk>(
     length: u32,
     sha256: &[u8; 32],
     into: &mut Vec<u8>,
-) -> Result<(), BodyFault>
+) -> Result<(), LoadFault>
     requires room { IsOnDisk extent (D.state disk.old).size }
     requires fits { length ≤ block_size * extent.blocks }
 
-    // What the bytes are, and of a damaged body were, is said of a device that has followed the
-    // model; that they have this length and SHA-256, of every device.
-    ensures reads { OnOk result (IsTrue (D.state disk.new).honest
-        → into.new.items ≡ part extent length (D.state disk.old).now.seen) }
-    ensures long { OnOk result (vec_len into.new ≡ length) }
-    ensures digest { OnOk result ((digests into.new.items).sha256 ≡ sha256.now) }
-    ensures empty { OnErr result (into.new.items ≡ []) }
-    ensures damaged { IsErrOf result BodyFault.Damaged → IsTrue (D.state disk.new).honest
-        → (digests (part extent length (D.state disk.old).now.seen)).sha256 ≡ sha256.now → ⊥ }
-    ensures device { TellsFaults (IsErrOf result BodyFault.Device)
-        (D.state disk.old) (D.state disk.new) }
-    ensures no_memory { IsErrOf result BodyFault.NoMemory → (vec_capacity into.old < length)
+    ensures body { ReadsBody (record { extent = extent; length = length; sha256 = sha256.now })
+        (D.state disk.old) (D.state disk.new) into.new.items result }
+    ensures calls { CallsAtMost 1 (D.state disk.old) (D.state disk.new) }
+    ensures no_memory { IsErrOf result LoadFault.NoMemory → (vec_capacity into.old < length)
         × (D.state disk.new ≡ D.state disk.old) }
-
-    ensures rests { Rests (D.state disk.old) (D.state disk.new) }
-    ensures one_call { (D.state disk.new).calls ≤ (D.state disk.old).calls + 1 }
-    ensures no_call { length ≡ 0 → D.state disk.new ≡ D.state disk.old }
 {
     into.clear();
     into.try_reserve_exact(length as usize)?;
-    into.resize(length as usize, 0).unwrap();
-    if read_piece(disk, extent, 0, into).is_err() {
+    if append_piece(disk, extent, length, into).is_err() {
         into.clear();
-        return Err(BodyFault::Device);
+        return Err(LoadFault::Device);
     }
     if sha256_of(into) == *sha256 {
         Ok(())
     } else {
         into.clear();
-        Err(BodyFault::Damaged)
+        Err(LoadFault::Damaged)
     }
+}
+
+/// Appends the bytes of an extent up to byte `end` to those before them.
+pub(crate) fn append_piece<D: Disk>(
+    disk: &mut D,
+    extent: Extent,
+    end: u32,
+    into: &mut Vec<u8>,
+) -> Result<(), Fault>
+    requires room { IsOnDisk extent (D.state disk.old).size }
+    requires order { vec_len into.old ≤ end }
+    requires fits { end ≤ block_size * extent.blocks }
+    requires space { end ≤ vec_capacity into.old }
+    ensures piece { OnOk result (HasNextPiece extent end
+        (D.state disk.old) (D.state disk.new) into.old.items into.new.items) }
+    ensures space { vec_capacity into.old ≤ vec_capacity into.new }
+    ensures reads { ReadsOnce (end - vec_len into.old) (IsErr result)
+        (D.state disk.old) (D.state disk.new) }
+{
+    let at = into.len();
+    into.resize(end as usize, 0).unwrap();
+    read_piece(disk, extent, at as u32, &mut into[at..])
 }
 
 /// Reads a piece of a body from byte `at` of an extent on, as many bytes as the buffer has room for,
@@ -115,9 +125,8 @@ pub fn read_piece<D: Disk>(
     ensures gives { OnOk result (IsTrue (D.state disk.new).honest
         → part extent (at + length into.old) (D.state disk.old).now.seen
         ≡ part extent at (D.state disk.old).now.seen ++ into.new) }
-    ensures runs { Runs (D.state disk.old) (D.state disk.new) result }
-    ensures rests { Rests (D.state disk.old) (D.state disk.new) }
-    ensures one_call { (D.state disk.new).calls ≤ (D.state disk.old).calls + 1 }
+    ensures runs { RunsReading (IsErr result) (D.state disk.old) (D.state disk.new) }
+    ensures calls { CallsAtMost 1 (D.state disk.old) (D.state disk.new) }
     ensures no_call { length into.old ≡ 0 → D.state disk.new ≡ D.state disk.old }
 {
     if into.is_empty() {

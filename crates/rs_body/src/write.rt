@@ -1,10 +1,9 @@
 //! Writing a body.
-ghost use Rattle.std.specs.Prelude.{◌≡◌, ◌+◌, ◌*◌, ◌≤◌, ℕ, Bool, ◌++◌, length, OnOk};
-ghost use Rattle.rs_disk.specs.Leaves.{Leaves, Runs, Torn, TornFrom};
+ghost use Rattle.std.specs.Prelude.{◌≡◌, ◌+◌, ◌*◌, ◌≤◌, ◌++◌, length, OnOk, IsErr};
 ghost use Rattle.rs_extent.specs.Blocks.{block_size};
-ghost use Rattle.rs_extent.specs.Extents.{IsOnDisk, IsBeside};
-ghost use Rattle.rs_body.specs.Blocks.{part, place_of};
-ghost use Rattle.rs_body.specs.Outside.{WritesOutside};
+ghost use Rattle.rs_extent.specs.Extents.{IsOnDisk};
+ghost use Rattle.rs_body.specs.Blocks.{part};
+ghost use Rattle.rs_body.specs.Outside.{WritesPart};
 
 use crate::blocks::offset_of;
 use rs_disk::{Disk, Fault};
@@ -22,20 +21,10 @@ use rs_extent::Extent;
 pub fn write_body<D: Disk>(disk: &mut D, extent: Extent, bytes: &[u8]) -> Result<(), Fault>
     requires room { IsOnDisk extent (D.state disk.old).size }
     requires fits { length bytes.now ≤ block_size * extent.blocks }
-    ensures runs { Runs (D.state disk.old) (D.state disk.new) result }
-    ensures keeps { (D.state disk.new).honest ≡ (D.state disk.old).honest }
-    ensures one_call { (D.state disk.new).calls ≤ (D.state disk.old).calls + 1 }
-    ensures no_call { length bytes.now ≡ 0 → D.state disk.new ≡ D.state disk.old }
     ensures reads { OnOk result (part extent (length bytes.now) (D.state disk.new).now.seen
         ≡ bytes.now) }
-
-    // Also where the device failed.
-    ensures torn { Torn (place_of extent 0) (length bytes.now)
-        (D.state disk.old).now.seen (D.state disk.new).now.seen }
-    ensures any_moment { Leaves (D.state disk.old) (D.state disk.new)
-        (λ _. TornFrom (D.state disk.old).now (place_of extent 0) (length bytes.now)) }
-    ensures outside { (kept : ℕ → Bool) → IsBeside kept extent
-        → WritesOutside kept (D.state disk.old) (D.state disk.new) }
+    ensures writes { WritesPart extent 0 (length bytes.now) (IsErr result)
+        (D.state disk.old) (D.state disk.new) }
 {
     write_piece(disk, extent, 0, bytes)
 }
@@ -61,20 +50,10 @@ pub fn write_piece<D: Disk>(
 ) -> Result<(), Fault>
     requires room { IsOnDisk extent (D.state disk.old).size }
     requires fits { at + length piece.now ≤ block_size * extent.blocks }
-    ensures runs { Runs (D.state disk.old) (D.state disk.new) result }
-    ensures keeps { (D.state disk.new).honest ≡ (D.state disk.old).honest }
-    ensures one_call { (D.state disk.new).calls ≤ (D.state disk.old).calls + 1 }
-    ensures no_call { length piece.now ≡ 0 → D.state disk.new ≡ D.state disk.old }
     ensures reads { OnOk result (part extent (at + length piece.now) (D.state disk.new).now.seen
         ≡ part extent at (D.state disk.old).now.seen ++ piece.now) }
-
-    // Also where the device failed.
-    ensures torn { Torn (place_of extent at) (length piece.now)
-        (D.state disk.old).now.seen (D.state disk.new).now.seen }
-    ensures any_moment { Leaves (D.state disk.old) (D.state disk.new)
-        (λ _. TornFrom (D.state disk.old).now (place_of extent at) (length piece.now)) }
-    ensures outside { (kept : ℕ → Bool) → IsBeside kept extent
-        → WritesOutside kept (D.state disk.old) (D.state disk.new) }
+    ensures writes { WritesPart extent at (length piece.now) (IsErr result)
+        (D.state disk.old) (D.state disk.new) }
 {
     if piece.is_empty() {
         return Ok(());

@@ -32,3 +32,7 @@ StandsUnstored name pages = NameStandsUnstored (λ (r : Record). r.name) name pa
 pub record HoldsCatalogue (refs : List PageRef) (image : List ℕ) (pages : List (List Record)) : Type 0 where
   pub hold : ArePages record_format refs image pages
   pub held : AreHeld (flat_map (λ items. items) pages)
+
+-- The pages of references hold no catalogue.
+abbrev pub HoldsNoCatalogue : List PageRef → List ℕ → Type 0
+HoldsNoCatalogue refs image = (records : List (List Record)) → ¬ HoldsCatalogue refs image records

@@ -13,4 +13,5 @@ pub mod laws;
 mod storing;
 
 pub use catalogue::Catalogue;
-pub use rs_page::{Full, LoadFault, PageRef, StoreFault};
+pub use rs_body::LoadFault;
+pub use rs_page::{Full, PageRef, StoreFault};

@@ -1,22 +1,20 @@
 //! A catalogue on the disk.
 
-ghost use Rattle.std.specs.Prelude.{◌≡◌, ℕ, List, [], map, All, IfOk, OnOk, OnErr, IsErrOf, IsTrue, ◌≤◌, ◌+◌, ◌++◌, length, vec_len, vec_capacity};
-ghost use Rattle.std.specs.List.{AllZip};
-ghost use Rattle.rs_disk.specs.Leaves.{TellsFaults};
-ghost use Rattle.rs_extent.specs.Extents.{AreApart, AreOnDisk, AreTaken};
-ghost use Rattle.rs_record.specs.declared.record.Record.{Record};
+ghost use Rattle.std.specs.Prelude.{◌≡◌, ℕ, List, All, IfOk, OnOk, OnErr, IsErrOf, IsTrue, ◌≤◌, ◌+◌, ◌++◌, length, vec_len, vec_capacity};
+ghost use Rattle.rs_extent.specs.Extents.{AreApart, AreOnDisk};
 ghost use Rattle.rs_page.specs.Items.{record_format};
-ghost use Rattle.rs_page.specs.Placing.{Places, HasNoPlace};
-ghost use Rattle.rs_page.specs.DiskPages.{IsWritten, Stands};
-ghost use Rattle.rs_page.specs.Pages.{IsTouched, placed_extents, stored, stored_refs};
-ghost use Rattle.rs_pages.specs.Storing.{StaysOrIsStored, AreStoredAt, WritesPages, ReadsPages, unshared};
-ghost use Rattle.rs_catalogue.specs.Catalogue.{records_of, StandsUnstored, HoldsCatalogue};
+ghost use Rattle.rs_page.specs.Placing.{HasNoPlace};
+ghost use Rattle.rs_page.specs.DiskPages.{Stands};
+ghost use Rattle.rs_page.specs.Pages.{IsTouched, placed_extents, stored_refs};
+ghost use Rattle.rs_pages.specs.Storing.{items_by_page, AreStoredAt, PlacesTouched, StoresTouched, StoresSome, WritesPages, ReadsPages, unshared};
+ghost use Rattle.rs_catalogue.specs.Catalogue.{records_of, StandsUnstored, HoldsCatalogue, HoldsNoCatalogue};
 
 use crate::Catalogue;
+use rs_body::LoadFault;
 use rs_disk::Disk;
 use rs_extent::{Extent, Used};
 use rs_page::laws::pages_hold_once;
-use rs_page::{Full, LoadFault, PageRef, StoreFault};
+use rs_page::{Full, PageRef, StoreFault};
 use rs_pages::Pages;
 use rs_record::Record;
 use std::alloc::Global;
@@ -29,13 +27,10 @@ impl Catalogue {
     ///
     /// [`Full`] where a page has no such run; nothing has changed then.
     pub fn place_touched(&mut self, used: &mut Used) -> Result<(), Full>
-        ensures places { OnOk result (Places record_format used.old self.old used.new self.new) }
-        ensures placed { OnOk result (All (λ page. ¬ IsTouched page.place) self.new) }
-        ensures taken { placed_extents self.old ≡ []
-            → OnOk result (AreTaken used.old used.new (placed_extents self.new)) }
+        ensures ok { OnOk result
+            (PlacesTouched record_format used.old self.old used.new self.new) }
         ensures unstored { (name : List ℕ)
-            → StandsUnstored name self.old
-            → StandsUnstored name self.new }
+            → StandsUnstored name self.old → StandsUnstored name self.new }
         ensures full { OnErr result (HasNoPlace record_format used.old self.old) }
         ensures used { OnErr result (used.new ≡ used.old) }
         ensures unchanged { OnErr result (self.new ≡ self.old) }
@@ -75,15 +70,12 @@ impl Catalogue {
         requires placed { All (λ page. ¬ IsTouched page.place) self.old }
         requires room { AreOnDisk (placed_extents self.old) (D.state disk.old).size }
         requires apart { AreApart (placed_extents self.old) }
-        ensures ok { OnOk result (self.new ≡ stored record_format self.old) }
-        ensures reads { OnOk result
-            (All (IsWritten record_format (D.state disk.new).now.seen) self.old) }
-        ensures records { OnErr result (records_of self.new ≡ records_of self.old) }
-        ensures places { OnErr result
-            (AllZip (StaysOrIsStored record_format (D.state disk.new).now.seen) self.old self.new) }
-        ensures device { TellsFaults (IsErrOf result StoreFault.Device)
+        ensures ok { OnOk result
+            (StoresTouched record_format (D.state disk.new).now.seen self.old self.new) }
+        ensures err { OnErr result
+            (StoresSome record_format (D.state disk.new).now.seen self.old self.new) }
+        ensures writes { WritesPages self.old (IsErrOf result StoreFault.Device)
             (D.state disk.old) (D.state disk.new) }
-        ensures writes { WritesPages self.old (D.state disk.old) (D.state disk.new) }
     {
         self.pages.store_touched(alloc, disk)
     }
@@ -109,15 +101,11 @@ impl Catalogue {
 
         // What the disk holds is said of a device that has followed the model.
         ensures found { IfOk result (λ loaded. IsTrue (D.state disk.new).honest
-            → HoldsCatalogue pages.now (D.state disk.new).now.seen
-            (map (λ page. page.items) loaded)) }
-        ensures damaged { IsErrOf result LoadFault.Damaged
-            → IsTrue (D.state disk.new).honest
-            → (records : List (List Record))
-            → ¬ HoldsCatalogue pages.now (D.state disk.new).now.seen records }
-        ensures device { TellsFaults (IsErrOf result LoadFault.Device)
+            → HoldsCatalogue pages.now (D.state disk.new).now.seen (items_by_page loaded)) }
+        ensures damaged { IsErrOf result LoadFault.Damaged → IsTrue (D.state disk.new).honest
+            → HoldsNoCatalogue pages.now (D.state disk.new).now.seen }
+        ensures reads { ReadsPages pages.now (IsErrOf result LoadFault.Device)
             (D.state disk.old) (D.state disk.new) }
-        ensures reads { ReadsPages pages.now (D.state disk.old) (D.state disk.new) }
     {
         pages_hold_once::<Record>();
         let pages = Pages::load(alloc, disk, pages)?;
@@ -150,17 +138,12 @@ impl Catalogue {
         // the catalogue that is held stand.
         ensures found { IfOk result (λ loaded. IsTrue (D.state disk.new).honest
             → All (Stands record_format (D.state disk.new).now.seen) beside.now
-            → HoldsCatalogue pages.now (D.state disk.new).now.seen
-            (map (λ page. page.items) loaded)) }
-        ensures damaged { IsErrOf result LoadFault.Damaged
-            → IsTrue (D.state disk.new).honest
+            → HoldsCatalogue pages.now (D.state disk.new).now.seen (items_by_page loaded)) }
+        ensures damaged { IsErrOf result LoadFault.Damaged → IsTrue (D.state disk.new).honest
             → All (Stands record_format (D.state disk.new).now.seen) beside.now
-            → (records : List (List Record))
-            → ¬ HoldsCatalogue pages.now (D.state disk.new).now.seen records }
-        ensures device { TellsFaults (IsErrOf result LoadFault.Device)
-            (D.state disk.old) (D.state disk.new) }
+            → HoldsNoCatalogue pages.now (D.state disk.new).now.seen }
         ensures reads { ReadsPages (unshared pages.now (stored_refs beside.now))
-            (D.state disk.old) (D.state disk.new) }
+            (IsErrOf result LoadFault.Device) (D.state disk.old) (D.state disk.new) }
     {
         pages_hold_once::<Record>();
         let found = Pages::load_beside(alloc, disk, pages, &beside.pages)?;

@@ -1,17 +1,8 @@
 -- What stays of a history whose pages change their places alone.
-use Rattle.std.proofs.Common.{◌≡◌, List, [], ◌∷◌, map, sym, ap, ◌∙◌, subst}
-use Rattle.std.specs.Prelude.{flat_map}
+use Rattle.std.proofs.Common.{◌≡◌, List, [], ◌∷◌, map, ◌∙◌}
 use Rattle.rs_record.specs.declared.change.Change.{Change}
 use Rattle.rs_page.specs.Pages.{Page, stored_ref}
-use Rattle.rs_changes.specs.History.{AreKept, EndsUnstored, changes_of}
-use Rattle.rs_changes.proofs.Joined.{joined}
-
--- the changes of pages that have the same items are the same
-pub same_changes : (old new : List (Page Change)) → map (λ page. page.items) new ≡ map (λ page. page.items) old → changes_of new ≡ changes_of old
-same_changes old new same = sym (joined new) ∙ (ap (λ (pages : List (List Change)). flat_map (λ items. items) pages) same ∙ joined old)
-
-pub same_kept : (old new : List (Page Change)) → map (λ page. page.items) new ≡ map (λ page. page.items) old → AreKept (changes_of old) → AreKept (changes_of new)
-same_kept old new same kept = subst AreKept (sym (same_changes old new same)) kept
+use Rattle.rs_changes.specs.History.{EndsUnstored}
 
 -- the last change stands where it stood
 pub ends_again : (old new : List (Page Change)) → map (λ page. stored_ref page.place) new ≡ map (λ page. stored_ref page.place) old → EndsUnstored old → EndsUnstored new

@@ -61,6 +61,10 @@ pub record HoldsHistory (refs : List PageRef) (image : List ℕ) (pages : List (
   pub hold : ArePages change_format refs image pages
   pub kept : AreKept (flat_map (λ items. items) pages)
 
+-- The pages of references hold no history.
+abbrev pub HoldsNoHistory : List PageRef → List ℕ → Type 0
+HoldsNoHistory refs image = (changes : List (List Change)) → ¬ HoldsHistory refs image changes
+
 -- The places of n changes are dealt into parts 0, 1, 2, .. of `limit` each, as far as there are any.
 -- The place of part k's first change, which is n where there is no such part.
 abbrev pub part_start : ℕ → ℕ → ℕ → ℕ

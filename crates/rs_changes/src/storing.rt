@@ -1,24 +1,21 @@
 //! A history on the disk.
 
-ghost use Rattle.std.specs.Prelude.{◌≡◌, ◌↔◌, List, [], map, All, IfOk, OnOk, OnErr, IsErrOf, IsTrue, ◌≤◌, ◌+◌, ◌++◌, length, vec_len, vec_capacity};
-ghost use Rattle.std.specs.List.{AllZip};
-ghost use Rattle.rs_disk.specs.Leaves.{TellsFaults};
-ghost use Rattle.rs_extent.specs.Extents.{AreApart, AreOnDisk, AreTaken};
-ghost use Rattle.rs_record.specs.declared.change.Change.{Change};
+ghost use Rattle.std.specs.Prelude.{◌≡◌, ◌↔◌, All, IfOk, OnOk, OnErr, IsErrOf, IsTrue, ◌≤◌, ◌+◌, ◌++◌, length, vec_len, vec_capacity};
+ghost use Rattle.rs_extent.specs.Extents.{AreApart, AreOnDisk};
 ghost use Rattle.rs_page.specs.Items.{change_format};
-ghost use Rattle.rs_page.specs.Placing.{Places, HasNoPlace};
-ghost use Rattle.rs_page.specs.DiskPages.{IsWritten};
-ghost use Rattle.rs_page.specs.Pages.{IsTouched, items_of, placed_extents, stored};
-ghost use Rattle.rs_pages.specs.Storing.{StaysOrIsStored, AreStoredAt, WritesPages, ReadsPages};
+ghost use Rattle.rs_page.specs.Placing.{HasNoPlace};
+ghost use Rattle.rs_page.specs.Pages.{IsTouched, items_of, placed_extents};
+ghost use Rattle.rs_pages.specs.Storing.{items_by_page, AreStoredAt, PlacesTouched, StoresTouched, StoresSome, WritesPages, ReadsPages};
 ghost use Rattle.rs_time.specs.Moment.{greatest};
 ghost use Rattle.rs_model.specs.Regular.{is_rising as rising};
-ghost use Rattle.rs_changes.specs.History.{with_pages, HaveSameChanges, EndsUnstored, HoldsHistory};
+ghost use Rattle.rs_changes.specs.History.{HaveSameChanges, EndsUnstored, HoldsHistory, HoldsNoHistory};
 
 use crate::History;
+use rs_body::LoadFault;
 use rs_disk::Disk;
 use rs_extent::{Extent, Used};
 use rs_page::laws::pages_hold_once;
-use rs_page::{Full, LoadFault, PageRef, StoreFault};
+use rs_page::{Full, PageRef, StoreFault};
 use rs_pages::Pages;
 use rs_record::Change;
 use std::alloc::Global;
@@ -31,11 +28,8 @@ impl History {
     ///
     /// [`Full`] where a page has no such run; nothing has changed then.
     pub fn place_touched(&mut self, used: &mut Used) -> Result<(), Full>
-        ensures places { OnOk result
-            (Places change_format used.old self.old.pages used.new self.new.pages) }
-        ensures placed { OnOk result (All (λ page. ¬ IsTouched page.place) self.new.pages) }
-        ensures taken { placed_extents self.old.pages ≡ []
-            → OnOk result (AreTaken used.old used.new (placed_extents self.new.pages)) }
+        ensures ok { OnOk result
+            (PlacesTouched change_format used.old self.old.pages used.new self.new.pages) }
         ensures unstored { EndsUnstored self.old.pages → EndsUnstored self.new.pages }
         ensures full { OnErr result (HasNoPlace change_format used.old self.old.pages) }
         ensures used { OnErr result (used.new ≡ used.old) }
@@ -77,16 +71,12 @@ impl History {
         requires room { AreOnDisk (placed_extents self.old.pages) (D.state disk.old).size }
         requires apart { AreApart (placed_extents self.old.pages) }
         ensures ok { OnOk result
-            (self.new ≡ with_pages self.old (stored change_format self.old.pages)) }
-        ensures reads { OnOk result
-            (All (IsWritten change_format (D.state disk.new).now.seen) self.old.pages) }
-        ensures changes { OnErr result (HaveSameChanges self.new self.old) }
-        ensures places { OnErr result
-            (AllZip (StaysOrIsStored change_format (D.state disk.new).now.seen)
-            self.old.pages self.new.pages) }
-        ensures device { TellsFaults (IsErrOf result StoreFault.Device)
+            (StoresTouched change_format (D.state disk.new).now.seen self.old.pages self.new.pages) }
+        ensures err { OnErr result
+            (StoresSome change_format (D.state disk.new).now.seen self.old.pages self.new.pages) }
+        ensures changes { HaveSameChanges self.new self.old }
+        ensures writes { WritesPages self.old.pages (IsErrOf result StoreFault.Device)
             (D.state disk.old) (D.state disk.new) }
-        ensures writes { WritesPages self.old.pages (D.state disk.old) (D.state disk.new) }
     {
         self.pages.store_touched(alloc, disk)
     }
@@ -116,15 +106,11 @@ impl History {
 
         // What the disk holds is said of a device that has followed the model.
         ensures found { IfOk result (λ loaded. IsTrue (D.state disk.new).honest
-            → HoldsHistory pages.now (D.state disk.new).now.seen
-            (map (λ page. page.items) loaded.pages)) }
-        ensures damaged { IsErrOf result LoadFault.Damaged
-            → IsTrue (D.state disk.new).honest
-            → (changes : List (List Change))
-            → ¬ HoldsHistory pages.now (D.state disk.new).now.seen changes }
-        ensures device { TellsFaults (IsErrOf result LoadFault.Device)
+            → HoldsHistory pages.now (D.state disk.new).now.seen (items_by_page loaded.pages)) }
+        ensures damaged { IsErrOf result LoadFault.Damaged → IsTrue (D.state disk.new).honest
+            → HoldsNoHistory pages.now (D.state disk.new).now.seen }
+        ensures reads { ReadsPages pages.now (IsErrOf result LoadFault.Device)
             (D.state disk.old) (D.state disk.new) }
-        ensures reads { ReadsPages pages.now (D.state disk.old) (D.state disk.new) }
     {
         pages_hold_once::<Change>();
         let pages = Pages::load(alloc, disk, pages)?;
@@ -135,7 +121,7 @@ impl History {
     }
 }
 
-// Whether the moments strictly rise through all pages.
+/// Whether the moments strictly rise through all pages.
 fn is_rising(changes: &Pages<Change>) -> bool
     ensures { IsTrue result ↔ IsTrue (rising (items_of changes.now)) }
 {

@@ -1,26 +1,22 @@
 -- Slots that are both closed, and the root that is put into the first of them.
-use Rattle.std.proofs.Common.{◌≡◌, inl, inr, ℕ, ◌-◌, ◌≤◌, ◌<◌, false, List, [], ◌∷◌, length, take, drop, replicate, get_or, Some, None, refl, sym, ◌∙◌, ap, subst, arith, length-take}
+use Rattle.std.proofs.Common.{◌≡◌, inl, inr, ℕ, ◌≤◌, ◌<◌, false, List, [], ◌∷◌, length, take, drop, get_or, Some, None, refl, sym, ◌∙◌, ap, subst, arith, length-take}
 use Rattle.std.proofs.lemmas.Bool.{cases_eq}
-use Rattle.std.proofs.lemmas.List.{take_at, take_all}
+use Rattle.std.proofs.lemmas.List.{take_all}
 use Rattle.rs_disk.specs.Medium.{Medium, DiskState, IsImage, IsMedium, over, resting}
 use Rattle.rs_disk.specs.Leaves.{Leaves, Torn, TornFrom}
 use Rattle.rs_disk.proofs.Images.{over_torn, over_part, settled_front, resting_image, resting_off}
 use Rattle.rs_disk.proofs.Steps.{goes_on, weaker}
 use Rattle.rs_commit.specs.declared.root.Root.{Root}
 use Rattle.rs_commit.specs.declared.slot.Slot.TheVariants.{First, Second}
-use Rattle.rs_commit.specs.declared.slot.Content.TheVariants.{Closed, Open}
+use Rattle.rs_commit.specs.declared.slot.SlotContent.TheVariants.{Closed, Open}
 use Rattle.rs_commit.specs.Slots.{offset, block, gate, content, current, pick, payload_of, IsLawfulRoot}
 use Rattle.rs_commit.specs.Commit.{SameBehind, IsReady}
 use Rattle.rs_commit.specs.Format.{slot_bytes, fresh, with_closed_gates, with_first_root, AreShut, NoneOrRoot}
 use Rattle.rs_commit.proofs.Blocks.{length-block, front_blocks, behind_gate as behind_block, Beside, beside, tail_kept, gate_kept, gate_put, over_behind}
-use Rattle.rs_commit.proofs.Contents.{closed, one_open, current_stays}
-use Rattle.rs_commit.proofs.Payloads.{tells, length-payload, length-slot_bytes}
+use Rattle.rs_commit.proofs.Contents.{closed, closed_gate, one_open, current_stays}
+use Rattle.rs_commit.proofs.Payloads.{tells, length-payload, length-slot_bytes, payload_behind}
 use Rattle.rs_commit.proofs.Phases.{behind_on}
 use Rattle.rs_commit.proofs.Ready.{rest_ready}
-
--- a gate of 0 isn't open
-not_open : (byte : ℕ) → byte ≡ 0 → byte ≡ 1 → ⊥
-not_open byte zero one = let no : 0 ≡ 1 = sym zero ∙ one in absurd (omega (arith, no))
 
 -- two slots that say nothing tell no root
 none_open : (image : List ℕ) → content (block image First) ≡ Closed → content (block image Second) ≡ Closed → current image ≡ None
@@ -29,7 +25,7 @@ none_open image one two = λ i. pick (one i) (two i)
 
 -- Where both gates are closed, no root is told,
 pub shut_seen : (m : Medium) → AreShut m → current m.seen ≡ None
-shut_seen m shut = none_open m.seen (closed (block m.seen First) (not_open (gate (block m.seen First)) shut.first)) (closed (block m.seen Second) (not_open (gate (block m.seen Second)) shut.second))
+shut_seen m shut = none_open m.seen (closed_gate (block m.seen First) shut.first) (closed_gate (block m.seen Second) shut.second)
 
 -- by each image,
 pub shut_none : (m : Medium) (size : ℕ) → IsMedium size m → AreShut m → (image : List ℕ) → IsImage m image → current image ≡ None
@@ -90,10 +86,6 @@ length-rest payload fits =
     let same : length (slot_bytes 1 payload) ≡ length (1 ∷ rest_of payload) = ap length (slot_split payload) in
     omega (arith, all, same)
 
-rest_tells : (payload : List ℕ) → length payload ≡ 53 → take 53 (rest_of payload) ≡ payload
-unfolding slot_bytes
-rest_tells payload long = take_at payload (replicate (511 - length payload) 0) 53 long
-
 -- The first slot gets a root, between slots that are closed: first what stands behind its gate,
 module _ (entry : Medium) (size : ℕ) (is : IsMedium size entry) (root : Root) (lawful : IsLawfulRoot root) (room : 1024 ≤ length entry.seen) where
   behind : List ℕ
@@ -120,7 +112,7 @@ module _ (entry : Medium) (size : ℕ) (is : IsMedium size entry) (root : Root) 
   unfolding staged behind
   stage_tells =
       let whole : take 511 (drop 1 (over entry.seen 1 behind)) ≡ behind = subst (λ (k : ℕ). take k (drop 1 (over entry.seen 1 behind)) ≡ behind) length-behind (over_part entry.seen 1 behind (omega (arith, room))) in
-      ap (λ (l : List ℕ). take 53 l) (behind_block (over entry.seen 1 behind) First ∙ whole) ∙ rest_tells (payload_of root) long
+      ap (λ (l : List ℕ). take 53 l) (behind_block (over entry.seen 1 behind) First ∙ whole) ∙ payload_behind 1 (payload_of root) long
 
   -- then its gate
   written : (image : List ℕ) → Torn 0 1 staged image → gate (block image First) ≡ 1 → content (block image First) ≡ Open root
@@ -131,14 +123,14 @@ module _ (entry : Medium) (size : ℕ) (is : IsMedium size entry) (root : Root) 
 
   module _ (shut : AreShut entry) where
     second_shut : (image : List ℕ) → block image Second ≡ block entry.seen Second → content (block image Second) ≡ Closed
-    second_shut image same = closed (block image Second) (not_open (gate (block image Second)) (ap gate same ∙ shut.second))
+    second_shut image same = closed_gate (block image Second) (ap gate same ∙ shut.second)
 
     pub first_staging : (image : List ℕ) → TornFrom entry 1 511 image → NoneOrRoot entry root image
     first_staging image (from, left, torn) =
         let kept : Beside First image from = beside First 1 511 from image (omega arith) (omega arith) torn in
         let front = front_blocks from entry.seen (settled_front entry size 1024 is (omega (arith, room, is.image.size, is.settled)) shut.settled from left) in
         let one : gate (block image First) ≡ 0 = gate_kept First 511 from image torn ∙ ap gate (front First) ∙ shut.first in
-        inl (none_open image (closed (block image First) (not_open (gate (block image First)) one)) (second_shut image (kept.kept ∙ front Second)), (from, left, kept.behind))
+        inl (none_open image (closed_gate (block image First) one) (second_shut image (kept.kept ∙ front Second)), (from, left, kept.behind))
 
     opened : (image : List ℕ) → Torn 0 1 staged image → gate (block image First) ≡ 1 → current image ≡ Some (fresh root)
     opened image torn one =

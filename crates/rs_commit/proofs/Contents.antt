@@ -5,8 +5,8 @@ use Rattle.std.proofs.lemmas.Bool.Decides.{nat_tests}
 use Rattle.rs_commit.specs.declared.root.Root.{Root}
 use Rattle.rs_commit.specs.declared.slot.Slot.{Slot}
 use Rattle.rs_commit.specs.declared.slot.Slot.TheVariants.{First, Second}
-use Rattle.rs_commit.specs.declared.slot.Content.{Content}
-use Rattle.rs_commit.specs.declared.slot.Content.TheVariants.{Closed, Unknown, Open}
+use Rattle.rs_commit.specs.declared.slot.SlotContent.{SlotContent}
+use Rattle.rs_commit.specs.declared.slot.SlotContent.TheVariants.{Closed, Unknown, Open}
 use Rattle.rs_commit.specs.Slots.{other, block, gate, version, root_in, is_known, is_open, content, Standing, pick, current, OpensTo}
 use Rattle.rs_commit.proofs.Blocks.{front_blocks}
 
@@ -29,12 +29,19 @@ never : (a b : Bool) → b ≡ false → (a && b) ≡ false
 never true b off = off
 never false b off = refl
 
+-- a gate of 0 isn't open
+pub not_open : (byte : ℕ) → byte ≡ 0 → byte ≡ 1 → ⊥
+not_open byte zero one = let no : 0 ≡ 1 = sym zero ∙ one in absurd (omega (arith, no))
+
 -- a slot whose gate isn't 1 says nothing
 pub closed : (bytes : List ℕ) → (gate bytes ≡ 1 → ⊥) → content bytes ≡ Closed
 unfolding content
 closed bytes shut =
     let off : is_open bytes ≡ false = never (nat_eq (length bytes) 512) (nat_eq (gate bytes) 1) (is_not (gate bytes) 1 shut) in
     ap (λ (b : Bool). if b then (if is_known (version bytes) then Open (root_in bytes) else Unknown) else Closed) off
+
+pub closed_gate : (bytes : List ℕ) → gate bytes ≡ 0 → content bytes ≡ Closed
+closed_gate bytes shut = closed bytes (not_open (gate bytes) shut)
 
 -- a whole one whose gate is 1 tells the root of a known version
 pub opened : (bytes : List ℕ) (root : Root) → length bytes ≡ 512 → gate bytes ≡ 1 → is_known (version bytes) ≡ true → root_in bytes ≡ root → content bytes ≡ Open root
@@ -88,12 +95,12 @@ two_open image Second root spare here there greater =
     else (if above spare.generation root.generation greater i then Some (record { slot = Second; root = root; spare_open = true }) else None))
 
 -- What the slots say where they stand like this.
-pub record Says (slots : Standing) (says : Slot → Content) : Type 0 where
+pub record Says (slots : Standing) (says : Slot → SlotContent) : Type 0 where
   pub here : says slots.slot ≡ Open slots.root
   pub told : slots.spare_open ≡ true → (root : Root) × (says (other slots.slot) ≡ Open root)
   pub shut : slots.spare_open ≡ false → says (other slots.slot) ≡ Closed
 
-says_alone : (says : Slot → Content) (s : Slot) (root : Root) (slots : Standing) → says s ≡ Open root → says (other s) ≡ Closed
+says_alone : (says : Slot → SlotContent) (s : Slot) (root : Root) (slots : Standing) → says s ≡ Open root → says (other s) ≡ Closed
     → Some (record { slot = s; root = root; spare_open = false }) ≡ Some slots → Says slots says
 says_alone says s root slots here there e =
     let alone : Standing = record { slot = s; root = root; spare_open = false } in
@@ -101,7 +108,7 @@ says_alone says s root slots here there e =
     let is : alone ≡ slots = cc in
     subst (λ (x : Standing). Says x says) is (record { here = here; told = λ on. absurd (true≢false (sym on)); shut = λ _. there })
 
-says_both : (says : Slot → Content) (s : Slot) (root spare : Root) (slots : Standing) → says s ≡ Open root → says (other s) ≡ Open spare
+says_both : (says : Slot → SlotContent) (s : Slot) (root spare : Root) (slots : Standing) → says s ≡ Open root → says (other s) ≡ Open spare
     → Some (record { slot = s; root = root; spare_open = true }) ≡ Some slots → Says slots says
 says_both says s root spare slots here there e =
     let both : Standing = record { slot = s; root = root; spare_open = true } in
@@ -109,14 +116,14 @@ says_both says s root spare slots here there e =
     let is : both ≡ slots = cc in
     subst (λ (x : Standing). Says x says) is (record { here = here; told = λ _. (spare, there); shut = λ off. absurd (true≢false off) })
 
-says_newer : (says : Slot → Content) (a b : Root) (u v : Bool) (slots : Standing) → says First ≡ Open a → says Second ≡ Open b
+says_newer : (says : Slot → SlotContent) (a b : Root) (u v : Bool) (slots : Standing) → says First ≡ Open a → says Second ≡ Open b
     → (if u then Some (record { slot = First; root = a; spare_open = true }) else (if v then Some (record { slot = Second; root = b; spare_open = true }) else None)) ≡ Some slots
     → Says slots says
 says_newer says a b true v slots one two e = says_both says First a b slots one two e
 says_newer says a b false true slots one two e = says_both says Second b a slots two one e
 says_newer says a b false false slots one two e = absurd cc
 
-says_from : (says : Slot → Content) (c d : Content) (slots : Standing) → says First ≡ c → says Second ≡ d → pick c d ≡ Some slots → Says slots says
+says_from : (says : Slot → SlotContent) (c d : SlotContent) (slots : Standing) → says First ≡ c → says Second ≡ d → pick c d ≡ Some slots → Says slots says
 says_from says (Open a) Closed slots one two e = says_alone says First a slots one two e
 says_from says Closed (Open b) slots one two e = says_alone says Second b slots two one e
 says_from says (Open a) (Open b) slots one two e = says_newer says a b (nat_lt b.generation a.generation) (nat_lt a.generation b.generation) slots one two e
@@ -164,6 +171,6 @@ missing bytes short =
     ap (λ (b : Bool). if b && nat_eq (gate bytes) 1 then (if is_known (version bytes) then Open (root_in bytes) else Unknown) else Closed) size
 
 -- the slots of an image stand by what they say
-pub current_by : (image : List ℕ) (first second : Content) → first ≡ content (block image First) → second ≡ content (block image Second) → current image ≡ pick first second
+pub current_by : (image : List ℕ) (first second : SlotContent) → first ≡ content (block image First) → second ≡ content (block image Second) → current image ≡ pick first second
 unfolding current
 current_by image first second one two = λ i. pick (sym one i) (sym two i)

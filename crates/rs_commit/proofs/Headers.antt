@@ -3,7 +3,7 @@ use Rattle.std.proofs.Common.{◌≡◌, ℕ, ◌<◌, true, false, List, length
 use Rattle.std.specs.Int.{from_be_bytes, w32, w64}
 use Rattle.std.proofs.lemmas.List.{get_or-take}
 use Rattle.rs_commit.specs.declared.root.Root.{Root}
-use Rattle.rs_commit.specs.declared.slot.Content.TheVariants.{Closed, Unknown, Open}
+use Rattle.rs_commit.specs.declared.slot.SlotContent.TheVariants.{Closed, Unknown, Open}
 use Rattle.rs_commit.specs.Slots.{field, version, root_in, is_known, content}
 use Rattle.rs_commit.proofs.Contents.{closed, opened, unknown}
 use Rattle.rs_commit.proofs.Payloads.{first_bytes}

@@ -7,11 +7,11 @@ use Rattle.rs_disk.specs.Medium.{over}
 use Rattle.rs_disk.proofs.Images.{over_torn, front_part, back_part}
 use Rattle.rs_commit.specs.declared.root.Root.{Root}
 use Rattle.rs_commit.specs.declared.slot.Slot.TheVariants.{First, Second}
-use Rattle.rs_commit.specs.declared.slot.Content.TheVariants.{Closed, Open}
+use Rattle.rs_commit.specs.declared.slot.SlotContent.TheVariants.{Closed, Open}
 use Rattle.rs_commit.specs.Slots.{block, field, gate, version, is_known, root_in, content, current, payload_of, written_version, IsLawfulRoot}
 use Rattle.rs_commit.specs.Commit.{behind_slots}
 use Rattle.rs_commit.specs.Format.{slot_bytes, formatted, fresh}
-use Rattle.rs_commit.proofs.Contents.{opened, closed, one_open}
+use Rattle.rs_commit.proofs.Contents.{opened, closed_gate, one_open}
 
 -- A field put behind those that stand already.
 grown : (old new front bytes : List ℕ) (at : ℕ) → take at old ≡ front → length front ≡ at → at + length bytes ≤ length old → new ≡ over old at bytes → take (at + length bytes) new ≡ front ++ bytes
@@ -109,7 +109,7 @@ gate_before : (byte : ℕ) (payload : List ℕ) → gate (slot_bytes byte payloa
 unfolding slot_bytes
 gate_before byte payload = refl
 
-payload_behind : (byte : ℕ) (payload : List ℕ) → length payload ≡ 53 → take 53 (drop 1 (slot_bytes byte payload)) ≡ payload
+pub payload_behind : (byte : ℕ) (payload : List ℕ) → length payload ≡ 53 → take 53 (drop 1 (slot_bytes byte payload)) ≡ payload
 unfolding slot_bytes
 payload_behind byte payload long = take_at payload (replicate (511 - length payload) 0) 53 long
 
@@ -144,7 +144,7 @@ formatted_stands root rest lawful = one_open image First root here there
     here = ap content first ∙ tells one root (payload_behind 1 (payload_of root) long) lawful size (gate_before 1 (payload_of root))
 
     there : content (block image Second) ≡ Closed
-    there = ap content second ∙ closed two (λ is. let no : 0 ≡ 1 = sym (gate_before 0 (written_version ∷ [])) ∙ is in absurd (omega (arith, no)))
+    there = ap content second ∙ closed_gate two (gate_before 0 (written_version ∷ []))
 
 -- What formatting writes: one block, the other, and then the gate of the first.
 pub made : (root : Root) (old one two three : List ℕ) → IsLawfulRoot root → 1024 ≤ length old → one ≡ over old 0 (slot_bytes 0 (payload_of root)) → two ≡ over one 512 (slot_bytes 0 (written_version ∷ []))

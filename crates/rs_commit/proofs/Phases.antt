@@ -6,11 +6,11 @@ use Rattle.rs_disk.specs.Leaves.{Torn, TornFrom}
 use Rattle.rs_disk.proofs.Images.{over_torn, settled_front, resting_image, resting_off}
 use Rattle.rs_commit.specs.declared.root.Root.{Root}
 use Rattle.rs_commit.specs.declared.slot.Slot.{Slot}
-use Rattle.rs_commit.specs.declared.slot.Content.TheVariants.{Closed, Open}
+use Rattle.rs_commit.specs.declared.slot.SlotContent.TheVariants.{Closed, Open}
 use Rattle.rs_commit.specs.Slots.{offset, other, block, gate, content, Standing, current, payload_of, IsLawfulRoot}
 use Rattle.rs_commit.specs.Commit.{SameBehind, AreSettled, IsReady, OutsideOf, OldOrNew}
 use Rattle.rs_commit.proofs.Blocks.{fits_slot, others, length-block, front_blocks, Beside, kept_here, beside, tail_kept, gate_kept, gate_put, payload_put, same_block}
-use Rattle.rs_commit.proofs.Contents.{closed, gate_of_open, gate_of_closed, one_open, two_open, Says, says, same_blocks}
+use Rattle.rs_commit.proofs.Contents.{closed, not_open, gate_of_open, gate_of_closed, one_open, two_open, Says, says, same_blocks}
 use Rattle.rs_commit.proofs.Payloads.{tells, length-payload}
 use Rattle.rs_commit.proofs.Ready.{long, image_front, ready_stands}
 
@@ -100,18 +100,12 @@ module _ (slots : Standing) (entry : Medium) (size : ℕ) (is : IsMedium size en
       kept : Beside spare seen entry.seen
       kept = beside spare (offset spare) 1 entry.seen seen (omega arith) (omega arith) torn
 
-      byte : gate (block seen spare) ≡ 0
-      byte = gate_put entry.seen spare 0 ready.room
-
-      shut : gate (block seen spare) ≡ 1 → ⊥
-      shut one = let no : 0 ≡ 1 = sym byte ∙ one in absurd (omega (arith, no))
-
       now : Shut entry here slots.root (resting seen)
       now = record {
         room = omega (arith, kept.behind.size, ready.room);
         settled = λ i lt. resting_off seen i;
         here = ap content (kept_here here seen entry.seen kept) ∙ entry_says.here;
-        shut = shut;
+        shut = not_open (gate (block seen spare)) (gate_put entry.seen spare 0 ready.room);
         outside = λ image left. (entry.seen, is.image, subst (λ (l : List ℕ). SameBehind l entry.seen) (sym (resting_image seen image left)) kept.behind);
         behind = kept.behind;
       }

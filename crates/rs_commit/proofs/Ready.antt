@@ -7,7 +7,7 @@ use Rattle.rs_disk.specs.Leaves.{Torn}
 use Rattle.rs_disk.proofs.Images.{over_torn}
 use Rattle.rs_commit.specs.declared.root.Root.{Root}
 use Rattle.rs_commit.specs.declared.slot.Slot.{Slot}
-use Rattle.rs_commit.specs.declared.slot.Content.TheVariants.{Open}
+use Rattle.rs_commit.specs.declared.slot.SlotContent.TheVariants.{Open}
 use Rattle.rs_commit.specs.Slots.{offset, other, block, content, Standing, current, OpensTo, payload_of, written_version, IsLawfulRoot}
 use Rattle.rs_commit.specs.Commit.{IsReady, with_root}
 use Rattle.rs_commit.specs.Format.{slot_bytes, formatted, fresh}

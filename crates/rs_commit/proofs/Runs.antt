@@ -1,136 +1,150 @@
 -- Commits and formatting as runs of device calls.
-use Rattle.std.proofs.Common.{◌≡◌, inl, inr, ℕ, ◌+◌, ◌<◌, ◌≤◌, Bool, true, false, List, [], ◌∷◌, length, refl, sym, ◌∙◌, ap, subst, arith, Result, Ok, Err, OnOk, OnErr}
+use Rattle.std.proofs.Common.{true≢false, ◌≡◌, inl, inr, ℕ, ◌+◌, ◌<◌, ◌≤◌, Bool, true, false, List, [], ◌∷◌, length, refl, sym, ◌∙◌, ap, subst, arith, Result, Ok, Err, IsErr, OnOk, OnErr}
 use Rattle.std.specs.Bool.{OnTrue, OnFalse}
-use Rattle.rs_disk.specs.Medium.{Medium, DiskState, IsMedium, over, resting}
-use Rattle.rs_disk.specs.Calls.{CountsCall, Writes, Tears, Settles, Stays}
+use Rattle.rs_disk.specs.Medium.{Medium, DiskState, IsImage, IsMedium, over, resting}
+use Rattle.rs_disk.specs.Calls.{CountsCall, Writes, Tears}
 use Rattle.rs_disk.specs.Leaves.{Leaves, Torn, TornFrom}
+use Rattle.rs_disk.specs.Runs.{WritesWithin, WritesNothing}
 use Rattle.rs_disk.proofs.Images.{over_torn, back_part}
 use Rattle.rs_disk.proofs.Steps.{started, goes_on, weaker, exit_images, write_leaves}
+use Rattle.rs_disk.proofs.Runs.{writing_one, writing_then}
 use Rattle.rs_commit.specs.declared.root.Root.{Root}
 use Rattle.rs_commit.specs.declared.slot.Slot.{Slot}
 use Rattle.rs_commit.specs.Slots.{Standing, offset, other, payload_of, IsLawfulRoot}
-use Rattle.rs_commit.specs.Commit.{SameBehind, IsReady, OutsideOf, OldOrNew, with_root}
+use Rattle.rs_commit.specs.Commit.{SameBehind, IsReady, OutsideOf, OldOrNew, WritesSlots, with_root}
 use Rattle.rs_commit.proofs.Blocks.{fits_slot, over_behind, over_thrice}
 use Rattle.rs_commit.proofs.Payloads.{length-payload}
-use Rattle.rs_commit.proofs.Phases.{Shut, Staged, behind_on, at_entry, closing, shut_already, shut_now, staging, staged_now, opening}
+use Rattle.rs_commit.proofs.Phases.{Shut, behind_on, at_entry, closing, shut_already, shut_now, staging, staged_now, opening}
 
--- a list that is torn in no place
-torn_nowhere : (at n : ℕ) (one : List ℕ) → Torn at n one one
-torn_nowhere at n one = record { size = refl; before = refl; after = refl }
+-- an answer that is Ok doesn't tell of the device
+well : ¬ (false ≡ true)
+well told = true≢false (sym told)
 
 -- what a read gives after a write is torn in its range, whatever the write answers
-pub write_tears : {T E : Type 0} (old new : DiskState) (at : ℕ) (bytes : List ℕ) (result : Result T E) → at + length bytes ≤ length old.now.seen
+write_tears : {T E : Type 0} (old new : DiskState) (at : ℕ) (bytes : List ℕ) (result : Result T E) → at + length bytes ≤ length old.now.seen
     → OnOk result (Writes at bytes old new) → OnErr result (Tears at (length bytes) old new) → Torn at (length bytes) old.now.seen new.now.seen
 write_tears old new at bytes (Ok x) fits ok err = subst (λ (m : Medium). Torn at (length bytes) old.now.seen m.seen) (sym ok.now) (over_torn old.now.seen at bytes fits)
 write_tears old new at bytes (Err e) fits ok (inl (any, long, wrote)) =
     subst (λ (m : Medium). Torn at (length bytes) old.now.seen m.seen) (sym wrote.now)
     (subst (λ (k : ℕ). Torn at k old.now.seen (over old.now.seen at any)) long (over_torn old.now.seen at any (omega (arith, long, fits))))
-write_tears old new at bytes (Err e) fits ok (inr refused) = subst (λ (m : Medium). Torn at (length bytes) old.now.seen m.seen) (sym refused.now) (torn_nowhere at (length bytes) old.now.seen)
+write_tears old new at bytes (Err e) fits ok (inr refused) =
+    subst (λ (m : Medium). Torn at (length bytes) old.now.seen m.seen) (sym refused.now) (record { size = refl; before = refl; after = refl })
 
--- and a sync keeps it
-pub sync_keeps : {T E : Type 0} (old new : DiskState) (result : Result T E) → OnOk result (Settles old new) → OnErr result (Stays old new) → new.now.seen ≡ old.now.seen
-sync_keeps old new (Ok x) ok err = ap (λ (m : Medium). m.seen) ok.now
-sync_keeps old new (Err e) ok err = ap (λ (m : Medium). m.seen) err.now
+-- A write is a run that writes its range,
+pub within_one : {E : Type 0} {old new : DiskState} (at : ℕ) (bytes : List ℕ) (result : Result (Unit {0}) E) → IsMedium old.size old.now → at + length bytes ≤ old.size → CountsCall old new result
+    → OnOk result (Writes at bytes old new) → OnErr result (Tears at (length bytes) old new) → new.honest ≡ old.honest → WritesWithin at (length bytes) (IsErr result) old new
+within_one {old = old} {new = new} at bytes result is fits counts ok err keeps = record {
+  writes = writing_one old new result counts keeps;
+  torn = write_tears old new at bytes result (omega (arith, fits, is.image.size, is.settled)) ok err;
+  leaves = write_leaves old new at bytes result counts is fits ok err;
+}
 
--- a change within the slots keeps what lies behind them
-pub torn_behind : (at n : ℕ) (old new : List ℕ) → at + n ≤ 1024 → Torn at n old new → SameBehind new old
-torn_behind at n old new fits torn = record { size = torn.size; bytes = back_part (at + n) 1024 new old fits torn.after }
+-- and so is one that a run follows which writes nothing.
+pub within_then : {A : Type 0} {old mid new : DiskState} {at n : ℕ} → WritesWithin at n (false ≡ true) old mid → WritesNothing A mid new → new.honest ≡ mid.honest → WritesWithin at n A old new
+within_then {old = old} {mid = mid} {new = new} {at = at} {n = n} one two keeps = record {
+  writes = writing_then old mid new well one.writes (record { runs = two.runs; keeps = keeps });
+  torn = subst (λ (l : List ℕ). Torn at n old.now.seen l) (sym two.seen) one.torn;
+  leaves = goes_on old mid new (λ _. TornFrom old.now at n) one.leaves
+      (weaker mid new (λ _. IsImage mid.now) (λ _. TornFrom old.now at n) (λ m image is. exit_images old mid (λ _. TornFrom old.now at n) one.leaves image is) two.leaves);
+}
 
--- So a run that leaves images torn there leaves them as at its entry behind the slots,
-pub outside_torn : (old new : DiskState) (at n : ℕ) → at + n ≤ 1024 → Leaves old new (λ _. TornFrom old.now at n) → Leaves old new (λ _. OutsideOf old.now)
-outside_torn old new at n fits left =
-    weaker old new (λ _. TornFrom old.now at n) (λ _. OutsideOf old.now) (λ m image torn. (torn.0, torn.1, torn_behind at n torn.0 image fits torn.2)) left
+-- A run that writes within a range of the slots writes within the slots,
+pub slots_within : {A : Type 0} {old new : DiskState} {at n : ℕ} → WritesWithin at n A old new → at + n ≤ 1024 → WritesSlots A old new
+slots_within {old = old} {new = new} {at = at} {n = n} run fits = record {
+  writes = run.writes;
+  outside = behind old.now.seen new.now.seen run.torn;
+  leaves = weaker old new (λ _. TornFrom old.now at n) (λ _. OutsideOf old.now) (λ m image torn. (torn.0, torn.1, behind torn.0 image torn.2)) run.leaves;
+}
+  where
+    behind : (one two : List ℕ) → Torn at n one two → SameBehind two one
+    behind one two torn = record { size = torn.size; bytes = back_part (at + n) 1024 two one fits torn.after }
 
--- so a write at the slots, whatever it answers,
-pub outside_write : {E : Type 0} (old new : DiskState) (at : ℕ) (bytes : List ℕ) (result : Result (Unit {0}) E) → CountsCall old new result → IsMedium old.size old.now → 1024 ≤ old.size → at + length bytes ≤ 1024
-    → OnOk result (Writes at bytes old new) → OnErr result (Tears at (length bytes) old new) → SameBehind new.now.seen old.now.seen × Leaves old new (λ _. OutsideOf old.now)
-outside_write old new at bytes result counts is room low ok err =
-    let fits : at + length bytes ≤ length old.now.seen = omega (arith, room, low, is.image.size, is.settled) in
-    let inside : at + length bytes ≤ old.size = omega (arith, room, low) in (
-      torn_behind at (length bytes) old.now.seen new.now.seen low (write_tears old new at bytes result fits ok err),
-      outside_torn old new at (length bytes) low (write_leaves old new at bytes result counts is inside ok err),
-    )
+-- so does one that writes the gate of a slot, or what stands behind it,
+pub gate_slots : {A : Type 0} {old new : DiskState} (s : Slot) → WritesWithin (offset s) 1 A old new → WritesSlots A old new
+gate_slots s run = slots_within run (omega (arith, fits_slot s))
+
+pub payload_slots : {A : Type 0} {old new : DiskState} (s : Slot) → WritesWithin (offset s + 1) 53 A old new → WritesSlots A old new
+payload_slots s run = slots_within run (omega (arith, fits_slot s))
+
+-- so does a single write there, whatever it answers,
+pub slots_written : {E : Type 0} {old new : DiskState} (at : ℕ) (bytes : List ℕ) (result : Result (Unit {0}) E) → IsMedium old.size old.now → 1024 ≤ old.size → at + length bytes ≤ 1024
+    → CountsCall old new result → OnOk result (Writes at bytes old new) → OnErr result (Tears at (length bytes) old new) → new.honest ≡ old.honest → WritesSlots (IsErr result) old new
+slots_written at bytes result is room low counts ok err keeps =
+    slots_within (within_one at bytes result is (omega (arith, room, low)) counts ok err keeps) low
 
 -- and so do two such runs, one after the other.
-pub outside_on : (old mid new : DiskState) → Leaves old mid (λ _. OutsideOf old.now) → Leaves mid new (λ _. OutsideOf mid.now) → Leaves old new (λ _. OutsideOf old.now)
-outside_on old mid new first then =
-    goes_on old mid new (λ _. OutsideOf old.now) first
-    (weaker mid new (λ _. OutsideOf mid.now) (λ _. OutsideOf old.now)
-    (λ m image out. let before = exit_images old mid (λ _. OutsideOf old.now) first out.0 out.1 in (before.0, before.1, behind_on image out.0 before.0 out.2 before.2)) then)
-
--- what follows from a fact of an answer that is Ok
-pub on_ok : {T E : Type 0} {P Q : Type 0} (result : Result T E) → (P → Q) → OnOk result P → OnOk result Q
-on_ok (Ok x) from p = from p
-on_ok (Err e) from p = tt
+pub slots_then : {A : Type 0} {old mid new : DiskState} → WritesSlots (false ≡ true) old mid → WritesSlots A mid new → WritesSlots A old new
+slots_then {old = old} {mid = mid} {new = new} one two = record {
+  writes = writing_then old mid new well one.writes two.writes;
+  outside = behind_on new.now.seen mid.now.seen old.now.seen two.outside one.outside;
+  leaves = goes_on old mid new (λ _. OutsideOf old.now) one.leaves
+      (weaker mid new (λ _. OutsideOf mid.now) (λ _. OutsideOf old.now)
+      (λ m image out. let before = exit_images old mid (λ _. OutsideOf old.now) one.leaves out.0 out.1 in (before.0, before.1, behind_on image out.0 before.0 out.2 before.2)) two.leaves);
+}
 
 -- The steps of a commit.
 module _ (slots : Standing) (old : DiskState) (is : IsMedium old.size old.now) (ready : IsReady slots old.now) (new : Root) where
   abbrev pub Outcome : ℕ → List ℕ → Type 0
   Outcome m = OldOrNew old.now slots.root new
 
-  abbrev spare : Slot
-  spare = other slots.slot
-
   pub none_leaves : Leaves old old Outcome
   none_leaves = started old Outcome (λ image left. at_entry slots old.now old.size is ready new image left)
 
-  -- the spare is closed
-  pub close_leaves : (was_open : Bool) → slots.spare_open ≡ was_open → (mid : DiskState) → OnTrue was_open (Leaves old mid (λ _. TornFrom old.now (offset spare) 1)) → OnFalse was_open (mid ≡ old) → Leaves old mid Outcome
-  close_leaves true was mid opened nothing = weaker old mid (λ _. TornFrom old.now (offset spare) 1) Outcome (λ m image left. closing slots old.now old.size is ready was new image left) opened
-  close_leaves false was mid opened nothing = subst (λ (d : DiskState). Leaves old d Outcome) (sym nothing) none_leaves
+  module _ (spare : Slot) (same : spare ≡ other slots.slot) where
+    -- a write within the spare
+    step : (mid next : DiskState) (at : Slot → ℕ) (n : ℕ) → Leaves old mid Outcome → ((image : List ℕ) → TornFrom mid.now (at (other slots.slot)) n image → OldOrNew old.now slots.root new image)
+        → Leaves mid next (λ _. TornFrom mid.now (at spare) n) → Leaves old next Outcome
+    step mid next at n before from torn =
+        goes_on old mid next Outcome before
+        (weaker mid next (λ _. TornFrom mid.now (at spare) n) Outcome (λ m image left. from image (subst (λ (s : Slot). TornFrom mid.now (at s) n image) same left)) torn)
 
-  pub close_done : (was_open : Bool) → slots.spare_open ≡ was_open → (mid : DiskState) → OnTrue was_open (mid.now ≡ resting (over old.now.seen (offset spare) (0 ∷ []))) → OnFalse was_open (mid ≡ old) → Shut old.now slots.slot slots.root mid.now
-  close_done true was mid opened nothing = shut_now slots old.now old.size is ready mid.now opened
-  close_done false was mid opened nothing = subst (λ (d : DiskState). Shut old.now slots.slot slots.root d.now) (sym nothing) (shut_already slots old.now old.size is ready was)
+    -- the spare is closed
+    module _ (was_open : Bool) (was : slots.spare_open ≡ was_open) (mid : DiskState) (closing_leaves : Leaves old mid (λ _. TornFrom old.now (offset spare) 1)) (nothing : OnFalse was_open (mid ≡ old)) where
+      pub closed_leaves : Leaves old mid Outcome
+      closed_leaves = close was_open was nothing
+        where
+          close : (b : Bool) → slots.spare_open ≡ b → OnFalse b (mid ≡ old) → Leaves old mid Outcome
+          close true was nothing = step old mid offset 1 none_leaves (closing slots old.now old.size is ready was new) closing_leaves
+          close false was nothing = subst (λ (d : DiskState). Leaves old d Outcome) (sym nothing) none_leaves
 
-  -- then the new root is written behind the closed gate
-  pub stage_leaves : (mid next : DiskState) → IsMedium mid.size mid.now → mid.size ≡ old.size → Leaves old mid Outcome → Shut old.now slots.slot slots.root mid.now
-      → Leaves mid next (λ _. TornFrom mid.now (offset spare + 1) 53) → Leaves old next Outcome
-  stage_leaves mid next sound size before shut torn =
-      goes_on old mid next Outcome before
-      (weaker mid next (λ _. TornFrom mid.now (offset spare + 1) 53) Outcome
-      (λ m image left. staging slots old.now old.size is ready mid.now (subst (λ (k : ℕ). IsMedium k mid.now) size sound) shut new image left) torn)
+      module _ (closed : OnTrue was_open (mid.now ≡ resting (over old.now.seen (offset spare) (0 ∷ [])))) (next : DiskState) where
+        shut : Shut old.now slots.slot slots.root mid.now
+        shut = now was_open was closed nothing
+          where
+            now : (b : Bool) → slots.spare_open ≡ b → OnTrue b (mid.now ≡ resting (over old.now.seen (offset spare) (0 ∷ []))) → OnFalse b (mid ≡ old) → Shut old.now slots.slot slots.root mid.now
+            now true was closed nothing = shut_now slots old.now old.size is ready mid.now (subst (λ (s : Slot). mid.now ≡ resting (over old.now.seen (offset s) (0 ∷ []))) same closed)
+            now false was closed nothing = subst (λ (d : DiskState). Shut old.now slots.slot slots.root d.now) (sym nothing) (shut_already slots old.now old.size is ready was)
 
-  -- then the spare is opened
-  pub open_leaves : (mid next : DiskState) → Leaves old mid Outcome → Staged old.now slots.slot slots.root new mid.now → IsLawfulRoot new → slots.root.generation < new.generation
-      → Leaves mid next (λ _. TornFrom mid.now (offset spare) 1) → Leaves old next Outcome
-  open_leaves mid next before staged lawful greater torn =
-      goes_on old mid next Outcome before
-      (weaker mid next (λ _. TornFrom mid.now (offset spare) 1) Outcome (λ m image left. opening slots old.now old.size is ready mid.now new staged lawful greater image left) torn)
+        -- then the new root is written behind the closed gate
+        module _ (sound : IsMedium mid.size mid.now) (size : mid.size ≡ old.size) (staging_leaves : Leaves mid next (λ _. TornFrom mid.now (offset spare + 1) 53)) where
+          pub staged_leaves : Leaves old next Outcome
+          staged_leaves =
+              step mid next (λ s. offset s + 1) 53 closed_leaves (staging slots old.now old.size is ready mid.now (subst (λ (k : ℕ). IsMedium k mid.now) size sound) shut new) staging_leaves
 
-  -- the whole run, up to each of its ends
-  module _ (slot : Slot) (same : slot ≡ spare) (was_open : Bool) (was : slots.spare_open ≡ was_open) (mid : DiskState) (sound : IsMedium mid.size mid.now) (size : mid.size ≡ old.size)
-      (closing : OnTrue was_open (Leaves old mid (λ _. TornFrom old.now (offset slot) 1))) (nothing : OnFalse was_open (mid ≡ old)) where
-    pub closed_leaves : Leaves old mid Outcome
-    closed_leaves = close_leaves was_open was mid (subst (λ (s : Slot). OnTrue was_open (Leaves old mid (λ _. TornFrom old.now (offset s) 1))) same closing) nothing
-
-    module _ (closed : OnTrue was_open (mid.now ≡ resting (over old.now.seen (offset slot) (0 ∷ [])))) (next : DiskState) (staging : Leaves mid next (λ _. TornFrom mid.now (offset slot + 1) 53)) where
-      shut : Shut old.now slots.slot slots.root mid.now
-      shut = close_done was_open was mid (subst (λ (s : Slot). OnTrue was_open (mid.now ≡ resting (over old.now.seen (offset s) (0 ∷ [])))) same closed) nothing
-
-      pub staged_leaves : Leaves old next Outcome
-      staged_leaves = stage_leaves mid next sound size closed_leaves shut (subst (λ (s : Slot). Leaves mid next (λ _. TornFrom mid.now (offset s + 1) 53)) same staging)
-
-      pub opened_leaves : next.now ≡ resting (over mid.now.seen (offset slot + 1) (payload_of new)) → IsLawfulRoot new → slots.root.generation < new.generation
-          → (last : DiskState) → Leaves next last (λ _. TornFrom next.now (offset slot) 1) → Leaves old last Outcome
-      opened_leaves written lawful greater last opening =
-          let staged = staged_now slots old.now old.size is ready mid.now shut new lawful next.now (subst (λ (s : Slot). next.now ≡ resting (over mid.now.seen (offset s + 1) (payload_of new))) same written) in
-          open_leaves next last staged_leaves staged lawful greater (subst (λ (s : Slot). Leaves next last (λ _. TornFrom next.now (offset s) 1)) same opening)
+          -- then the spare is opened
+          pub opened_leaves : next.now ≡ resting (over mid.now.seen (offset spare + 1) (payload_of new)) → IsLawfulRoot new → slots.root.generation < new.generation
+              → (last : DiskState) → Leaves next last (λ _. TornFrom next.now (offset spare) 1) → Leaves old last Outcome
+          opened_leaves written lawful greater last torn =
+              let staged = staged_now slots old.now old.size is ready mid.now shut new lawful next.now (subst (λ (s : Slot). next.now ≡ resting (over mid.now.seen (offset s + 1) (payload_of new))) same written) in
+              step next last offset 1 staged_leaves (opening slots old.now old.size is ready next.now new staged lawful greater) torn
 
 -- what stands at its end: the slot is open and tells the root
 pub all_written : (slot : Slot) (root : Root) → IsLawfulRoot root → (was_open : Bool) (old mid next last : DiskState) → 1024 ≤ length old.now.seen
     → OnTrue was_open (mid.now ≡ resting (over old.now.seen (offset slot) (0 ∷ []))) → OnFalse was_open (mid ≡ old)
     → next.now ≡ resting (over mid.now.seen (offset slot + 1) (payload_of root)) → last.now ≡ resting (over next.now.seen (offset slot) (1 ∷ []))
     → last.now ≡ resting (with_root old.now.seen slot root)
-all_written slot root lawful true old mid next last room closed nothing written opened =
-    let p : List ℕ = payload_of root in
-    let fits : offset slot + 1 + length p ≤ length old.now.seen = omega (arith, fits_slot slot, length-payload root lawful) in
-    let e1 : mid.now.seen ≡ over old.now.seen (offset slot) (0 ∷ []) = ap (λ (m : Medium). m.seen) closed in
-    let e2 : next.now.seen ≡ over mid.now.seen (offset slot + 1) p = ap (λ (m : Medium). m.seen) written in
-    opened ∙ ap (λ (l : List ℕ). resting (over l (offset slot) (1 ∷ []))) (e2 ∙ ap (λ (l : List ℕ). over l (offset slot + 1) p) e1) ∙ ap resting (over_thrice old.now.seen (offset slot) 0 1 p fits)
-all_written slot root lawful false old mid next last room closed nothing written opened =
-    let p : List ℕ = payload_of root in
-    let fits : offset slot + 1 + length p ≤ length old.now.seen = omega (arith, fits_slot slot, length-payload root lawful) in
-    let e1 : mid.now.seen ≡ old.now.seen = ap (λ (d : DiskState). d.now.seen) nothing in
-    let e2 : next.now.seen ≡ over mid.now.seen (offset slot + 1) p = ap (λ (m : Medium). m.seen) written in
-    opened ∙ ap (λ (l : List ℕ). resting (over l (offset slot) (1 ∷ []))) (e2 ∙ ap (λ (l : List ℕ). over l (offset slot + 1) p) e1) ∙ ap resting (over_behind old.now.seen (offset slot) 1 p fits)
+all_written slot root lawful was_open old mid next last room closed nothing written opened =
+    opened ∙ ap (λ (m : Medium). resting (over m.seen (offset slot) (1 ∷ []))) written ∙ ap resting (whole was_open closed nothing)
+  where
+    p : List ℕ
+    p = payload_of root
+
+    ends : List ℕ → List ℕ
+    ends bytes = over (over bytes (offset slot + 1) p) (offset slot) (1 ∷ [])
+
+    fits : offset slot + 1 + length p ≤ length old.now.seen
+    fits = omega (arith, room, fits_slot slot, length-payload root lawful)
+
+    whole : (b : Bool) → OnTrue b (mid.now ≡ resting (over old.now.seen (offset slot) (0 ∷ []))) → OnFalse b (mid ≡ old) → ends mid.now.seen ≡ with_root old.now.seen slot root
+    whole true closed nothing = ap (λ (m : Medium). ends m.seen) closed ∙ over_thrice old.now.seen (offset slot) 0 1 p fits
+    whole false closed nothing = ap (λ (d : DiskState). ends d.now.seen) nothing ∙ over_behind old.now.seen (offset slot) 1 p fits

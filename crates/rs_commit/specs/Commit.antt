@@ -1,14 +1,12 @@
 -- What a commit may leave, and what it leaves at its end.
-use Rattle.std.specs.Prelude.{◌≡◌, ◌⊎◌, ℕ, ◌+◌, ◌<◌, ◌≤◌, false, List, ◌∷◌, length, drop, get_or, Some, Result, Ok, Err}
+use Rattle.std.specs.Prelude.{◌≡◌, ◌⊎◌, ℕ, ◌+◌, ◌<◌, ◌≤◌, false, List, ◌∷◌, length, drop, get_or, Some}
 use Rattle.rs_extent.specs.declared.Extent.{Extent}
-use Rattle.rs_disk.specs.Medium.{Medium, IsImage, over}
+use Rattle.rs_disk.specs.Medium.{Medium, DiskState, IsImage, over, resting}
+use Rattle.rs_disk.specs.Leaves.{Leaves}
+use Rattle.rs_disk.specs.Runs.{RunsWriting}
 use Rattle.rs_commit.specs.declared.root.Root.{Root}
 use Rattle.rs_commit.specs.declared.slot.Slot.{Slot}
-use Rattle.rs_commit.specs.declared.faults.SlotFault.{SlotFault}
-use Rattle.rs_commit.specs.declared.faults.SlotFault.TheVariants.{Device}
-use Rattle.rs_commit.specs.declared.faults.CommitFault.{CommitFault}
-use Rattle.rs_commit.specs.declared.faults.CommitFault.TheVariants.{Device as DeviceFailed}
-use Rattle.rs_commit.specs.Slots.{Standing, offset, current, OpensTo, payload_of, written_version}
+use Rattle.rs_commit.specs.Slots.{Standing, offset, other, current, OpensTo, payload_of, written_version}
 
 -- the bytes behind the slots
 abbrev pub behind_slots : List ℕ → List ℕ
@@ -37,6 +35,13 @@ next old directory length sha256 = record { version = written_version; generatio
 abbrev pub OutsideOf : Medium → List ℕ → Type 0
 OutsideOf entry image = (e : List ℕ) × IsImage entry e × SameBehind image e
 
+-- A run that writes within the slots alone: behind them a read gives what it gave, and at each m each image is as some image at
+-- entry. `told` is that its answer says that the device failed.
+pub record WritesSlots (told : Type 0) (old new : DiskState) : Type 0 where
+  pub writes : RunsWriting told old new
+  pub outside : SameBehind new.now.seen old.now.seen
+  pub leaves : Leaves old new (λ _. OutsideOf old.now)
+
 -- An image opens to the old root, and behind the slots it is as an image at entry; or it opens to the new one, and there it
 -- is what a read gave at entry.
 abbrev pub OldOrNew : Medium → Root → Root → List ℕ → Type 0
@@ -46,11 +51,14 @@ OldOrNew entry old new image = (OpensTo old image × OutsideOf entry image) ⊎ 
 abbrev pub with_root : List ℕ → Slot → Root → List ℕ
 with_root bytes slot root = over bytes (offset slot) (1 ∷ payload_of root)
 
--- what the device had to do with an answer: a refusal of the slots' own is no failed call
-abbrev pub device_in_open : {T : Type 0} → Result T SlotFault → Result (Unit {0}) SlotFault
-device_in_open (Err Device) = Err Device
-device_in_open answer = Ok tt
-
-abbrev pub device_in_commit : {T : Type 0} → Result T CommitFault → Result (Unit {0}) CommitFault
-device_in_commit (Err DeviceFailed) = Err DeviceFailed
-device_in_commit answer = Ok tt
+-- What stands at the exit of a commit that went well: it put the root `new` in the place of that of `slots`, and `after` is how
+-- the slots stand from then on.
+pub record Committed (new : Root) (slots after : Standing) (entry exit : Medium) : Type 0 where
+  -- the slots hold the new root
+  pub root : after.root ≡ new
+  -- what was the spare is open and tells it, and nothing is unsettled
+  pub written : exit ≡ resting (with_root entry.seen (other slots.slot) after.root)
+  -- where the slots were ready, each image opens to it
+  pub opens : IsReady slots entry → (image : List ℕ) → IsImage exit image → OpensTo after.root image
+  -- and the slots can be changed again
+  pub ready : IsReady slots entry → IsReady after exit

@@ -1,10 +1,10 @@
 -- The slots as they are made.
 use Rattle.std.specs.Prelude.{◌≡◌, ◌⊎◌, ℕ, ◌-◌, ◌≤◌, false, List, [], ◌∷◌, ◌++◌, length, replicate, None}
-use Rattle.rs_disk.specs.Medium.{Medium, over}
+use Rattle.rs_disk.specs.Medium.{Medium, over, resting}
 use Rattle.rs_commit.specs.declared.root.Root.{Root}
 use Rattle.rs_commit.specs.declared.slot.Slot.TheVariants.{First, Second}
 use Rattle.rs_commit.specs.Slots.{Standing, OpensTo, offset, block, gate, current, payload_of, written_version}
-use Rattle.rs_commit.specs.Commit.{AreSettled, OutsideOf, SameBehind}
+use Rattle.rs_commit.specs.Commit.{AreSettled, IsReady, OutsideOf, SameBehind, behind_slots}
 
 -- the block of a slot: its gate, its payload, and zeros
 unfoldable pub slot_bytes : ℕ → List ℕ → List ℕ
@@ -38,3 +38,21 @@ pub record AreShut (m : Medium) : Type 0 where
 -- gave at entry.
 abbrev pub NoneOrRoot : Medium → Root → List ℕ → Type 0
 NoneOrRoot entry root image = ((current image ≡ None) × OutsideOf entry image) ⊎ (OpensTo root image × SameBehind image entry.seen)
+
+-- What stands at the exit of a formatting that went well: `made` is how the slots stand.
+pub record AreMade (root : Root) (made : Standing) (entry exit : Medium) : Type 0 where
+  -- the first slot holds the root, and the spare is closed
+  pub slots : made ≡ fresh root
+  -- blocks 0 and 1 are as they are made, behind them is what a read gave, and nothing is unsettled
+  pub written : exit ≡ resting (formatted root ++ behind_slots entry.seen)
+  -- a commit may follow
+  pub ready : IsReady made exit
+
+-- What stands where a root was put into the first slot: `made` is how the slots stand.
+pub record HoldsFirst (root : Root) (made : Standing) (entry exit : Medium) : Type 0 where
+  -- the first slot holds the root, and the spare is closed
+  pub slots : made ≡ fresh root
+  -- the first slot is open and tells it, elsewhere is what a read gave, and nothing is unsettled
+  pub written : exit ≡ resting (with_first_root entry.seen root)
+  -- where both were closed, a commit may follow
+  pub ready : AreShut entry → IsReady made exit

@@ -6,8 +6,8 @@ use Rattle.rs_extent.specs.Blocks.{block_size}
 use Rattle.rs_commit.specs.declared.root.Root.{Root}
 use Rattle.rs_commit.specs.declared.slot.Slot.{Slot}
 use Rattle.rs_commit.specs.declared.slot.Slot.TheVariants.{First, Second}
-use Rattle.rs_commit.specs.declared.slot.Content.{Content}
-use Rattle.rs_commit.specs.declared.slot.Content.TheVariants.{Closed, Unknown, Open}
+use Rattle.rs_commit.specs.declared.slot.SlotContent.{SlotContent}
+use Rattle.rs_commit.specs.declared.slot.SlotContent.TheVariants.{Closed, Unknown, Open}
 
 -- where a slot begins on the disk
 abbrev pub offset : Slot → ℕ
@@ -55,7 +55,7 @@ abbrev pub is_open : List ℕ → Bool
 is_open bytes = nat_eq (length bytes) block_size && nat_eq (gate bytes) 1
 
 -- what a slot says: nothing where it isn't open, and only versions 1 and 2 are known
-unfoldable pub content : List ℕ → Content
+unfoldable pub content : List ℕ → SlotContent
 content bytes = if is_open bytes then (if is_known (version bytes) then Open (root_in bytes) else Unknown) else Closed
 
 -- How the slots stand: which one holds the root, the root, and whether the other one, the spare, is open.
@@ -72,7 +72,7 @@ newer first second =
 
 -- The rule: the open slot holds the root, of two open ones the newer. There is none where no slot is open, where an open
 -- one has an unknown version, and where both are open with equal generations.
-abbrev pub pick : Content → Content → Option Standing
+abbrev pub pick : SlotContent → SlotContent → Option Standing
 pick (Open first) Closed = Some (record { slot = First; root = first; spare_open = false })
 pick Closed (Open second) = Some (record { slot = Second; root = second; spare_open = false })
 pick (Open first) (Open second) = newer first second

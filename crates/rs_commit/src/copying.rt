@@ -1,10 +1,11 @@
 //! The slots of a disk that a source is copied to.
-ghost use Rattle.std.specs.Prelude.{◌≡◌, ◌<◌, ◌+◌, ◌≤◌, drop, IfOk, OnOk, OnErr};
+ghost use Rattle.std.specs.Prelude.{◌≡◌, ◌≤◌, drop, IsErr, IfOk, OnOk};
 ghost use Rattle.rs_disk.specs.Medium.{over, resting};
-ghost use Rattle.rs_disk.specs.Leaves.{Leaves, Runs, Torn, TornFrom};
-ghost use Rattle.rs_commit.specs.Commit.{SameBehind, OutsideOf, IsReady};
+ghost use Rattle.rs_disk.specs.Leaves.{Leaves};
+ghost use Rattle.rs_disk.specs.Runs.{WritesWithin, MakesCalls};
+ghost use Rattle.rs_commit.specs.Commit.{WritesSlots};
 ghost use Rattle.rs_commit.specs.Slots.{payload_of, written_version, IsLawfulRoot};
-ghost use Rattle.rs_commit.specs.Format.{slot_bytes, fresh, with_closed_gates, with_first_root, AreShut, NoneOrRoot};
+ghost use Rattle.rs_commit.specs.Format.{slot_bytes, fresh, with_closed_gates, AreShut, NoneOrRoot, HoldsFirst};
 
 use crate::format::closed_slot;
 use crate::root::payload;
@@ -24,17 +25,10 @@ use rs_disk::{Disk, Fault};
 /// read gives what it gave.
 pub fn close_slots<D: Disk>(disk: &mut D) -> Result<(), Fault>
     requires { 1024 ≤ (D.state disk.old).size }
-    ensures runs { Runs (D.state disk.old) (D.state disk.new) result }
-    ensures calls { (D.state disk.new).calls ≤ (D.state disk.old).calls + 3 }
-    ensures all_calls { OnOk result ((D.state disk.new).calls ≡ (D.state disk.old).calls + 3) }
-    ensures keeps { (D.state disk.new).honest ≡ (D.state disk.old).honest }
-    ensures cut_short { OnErr result ((D.state disk.new).faults ≡ (D.state disk.old).faults
-        → (D.state disk.new).calls < (D.state disk.old).calls + 3) }
 
     // Behind the slots a read gives what it gave, and at each moment each image is one at entry.
-    ensures outside { SameBehind (D.state disk.new).now.seen (D.state disk.old).now.seen }
-    ensures any_moment { Leaves (D.state disk.old) (D.state disk.new)
-        (λ _. OutsideOf (D.state disk.old).now) }
+    ensures runs { WritesSlots (IsErr result) (D.state disk.old) (D.state disk.new) }
+    ensures calls { MakesCalls 3 (IsErr result) (D.state disk.old) (D.state disk.new) }
 
     // After it both are closed, and nothing is unsettled.
     ensures shut { OnOk result (AreShut (D.state disk.new).now) }
@@ -58,12 +52,8 @@ pub fn close_slots<D: Disk>(disk: &mut D) -> Result<(), Fault>
 pub fn open_first<D: Disk>(disk: &mut D, root: &Root) -> Result<Slots, Fault>
     requires size { 1024 ≤ (D.state disk.old).size }
     requires version { root.now.version ≡ written_version }
-    ensures runs { Runs (D.state disk.old) (D.state disk.new) result }
-    ensures calls { (D.state disk.new).calls ≤ (D.state disk.old).calls + 4 }
-    ensures all_calls { OnOk result ((D.state disk.new).calls ≡ (D.state disk.old).calls + 4) }
-    ensures keeps { (D.state disk.new).honest ≡ (D.state disk.old).honest }
-    ensures slots { IfOk result (λ slots. slots ≡ fresh root.now) }
-    ensures outside { SameBehind (D.state disk.new).now.seen (D.state disk.old).now.seen }
+    ensures runs { WritesSlots (IsErr result) (D.state disk.old) (D.state disk.new) }
+    ensures calls { MakesCalls 4 (IsErr result) (D.state disk.old) (D.state disk.new) }
 
     // Stopped at any moment, the disk tells no root, or opens to this one.
     ensures any_moment { AreShut (D.state disk.old).now
@@ -71,47 +61,35 @@ pub fn open_first<D: Disk>(disk: &mut D, root: &Root) -> Result<Slots, Fault>
         (λ _. NoneOrRoot (D.state disk.old).now root.now) }
 
     // After it, it opens to this one, and nothing is unsettled.
-    ensures made { OnOk result ((D.state disk.new).now
-        ≡ resting (with_first_root (D.state disk.old).now.seen root.now)) }
-    ensures ready { OnOk result (AreShut (D.state disk.old).now
-        → IsReady (fresh root.now) (D.state disk.new).now) }
+    ensures made { IfOk result
+        (λ slots. HoldsFirst root.now slots (D.state disk.old).now (D.state disk.new).now) }
 {
     write_first(disk, root)?;
     Ok(Slots::fresh(*root))
 }
 
-// Writes a root into the first slot, behind its gate, and then opens it.
+/// Writes a root into the first slot, behind its gate, and then opens it.
 fn write_first<D: Disk>(disk: &mut D, root: &Root) -> Result<(), Fault>
     requires size { 1024 ≤ (D.state disk.old).size }
     requires version { root.now.version ≡ written_version }
-    ensures runs { Runs (D.state disk.old) (D.state disk.new) result }
-    ensures calls { (D.state disk.new).calls ≤ (D.state disk.old).calls + 4 }
-    ensures all_calls { OnOk result ((D.state disk.new).calls ≡ (D.state disk.old).calls + 4) }
-    ensures keeps { (D.state disk.new).honest ≡ (D.state disk.old).honest }
-    ensures outside { SameBehind (D.state disk.new).now.seen (D.state disk.old).now.seen }
+    ensures runs { WritesSlots (IsErr result) (D.state disk.old) (D.state disk.new) }
+    ensures calls { MakesCalls 4 (IsErr result) (D.state disk.old) (D.state disk.new) }
     ensures any_moment { AreShut (D.state disk.old).now
         → Leaves (D.state disk.old) (D.state disk.new)
         (λ _. NoneOrRoot (D.state disk.old).now root.now) }
-    ensures made { OnOk result ((D.state disk.new).now
-        ≡ resting (with_first_root (D.state disk.old).now.seen root.now)) }
-    ensures ready { OnOk result (AreShut (D.state disk.old).now
-        → IsReady (fresh root.now) (D.state disk.new).now) }
+    ensures made { OnOk result (HoldsFirst root.now (fresh root.now) (D.state disk.old).now
+        (D.state disk.new).now) }
 {
     stage_first(disk, root)?;
     write_settled(disk, Slot::First.offset(), &[OPEN])
 }
 
-// Writes a root and its zeros into the first slot, behind its gate.
+/// Writes a root and its zeros into the first slot, behind its gate.
 fn stage_first<D: Disk>(disk: &mut D, root: &Root) -> Result<(), Fault>
     requires size { 1024 ≤ (D.state disk.old).size }
     requires version { root.now.version ≡ written_version }
-    ensures runs { Runs (D.state disk.old) (D.state disk.new) result }
-    ensures keeps { (D.state disk.new).honest ≡ (D.state disk.old).honest }
-    ensures calls { (D.state disk.new).calls ≤ (D.state disk.old).calls + 2 }
-    ensures all_calls { OnOk result ((D.state disk.new).calls ≡ (D.state disk.old).calls + 2) }
-    ensures torn { Torn 1 511 (D.state disk.old).now.seen (D.state disk.new).now.seen }
-    ensures any_moment { Leaves (D.state disk.old) (D.state disk.new)
-        (λ _. TornFrom (D.state disk.old).now 1 511) }
+    ensures writes { WritesWithin 1 511 (IsErr result) (D.state disk.old) (D.state disk.new) }
+    ensures calls { MakesCalls 2 (IsErr result) (D.state disk.old) (D.state disk.new) }
     ensures written { OnOk result ((D.state disk.new).now ≡ resting (over
         (D.state disk.old).now.seen 1 (drop 1 (slot_bytes 1 (payload_of root.now))))) }
     ensures lawful { IsLawfulRoot root.now }

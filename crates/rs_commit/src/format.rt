@@ -1,10 +1,9 @@
 //! How the slots are made.
-ghost use Rattle.std.specs.Prelude.{◌≡◌, ◌+◌, ◌≤◌, ◌++◌, length, IfOk, OnOk};
-ghost use Rattle.rs_disk.specs.Medium.{resting};
-ghost use Rattle.rs_disk.specs.Leaves.{Leaves, Runs};
-ghost use Rattle.rs_commit.specs.Commit.{SameBehind, OutsideOf, IsReady, behind_slots};
+ghost use Rattle.std.specs.Prelude.{◌≡◌, ◌≤◌, length, IsErr, IfOk, OnOk};
+ghost use Rattle.rs_disk.specs.Runs.{CallsAtMost};
+ghost use Rattle.rs_commit.specs.Commit.{WritesSlots};
 ghost use Rattle.rs_commit.specs.Slots.{written_version};
-ghost use Rattle.rs_commit.specs.Format.{slot_bytes, formatted, fresh};
+ghost use Rattle.rs_commit.specs.Format.{slot_bytes, fresh, AreMade};
 
 use crate::root::{VERSION, payload, put};
 use crate::settled::write_settled;
@@ -26,36 +25,27 @@ use rs_extent::BLOCK_SIZE;
 pub fn format_slots<D: Disk>(disk: &mut D, root: &Root) -> Result<Slots, Fault>
     requires size { 1024 ≤ (D.state disk.old).size }
     requires version { root.now.version ≡ written_version }
-    ensures runs { Runs (D.state disk.old) (D.state disk.new) result }
-    ensures calls { (D.state disk.new).calls ≤ (D.state disk.old).calls + 5 }
-    ensures slots { IfOk result (λ slots. slots ≡ fresh root.now) }
 
     // Behind the slots a read gives what it gave, and at each moment each image is one at entry.
-    ensures outside { SameBehind (D.state disk.new).now.seen (D.state disk.old).now.seen }
-    ensures any_moment { Leaves (D.state disk.old) (D.state disk.new)
-        (λ _. OutsideOf (D.state disk.old).now) }
+    ensures runs { WritesSlots (IsErr result) (D.state disk.old) (D.state disk.new) }
+    ensures calls { CallsAtMost 5 (D.state disk.old) (D.state disk.new) }
 
     // After it the first slot holds the root, and nothing is unsettled.
-    ensures made { OnOk result ((D.state disk.new).now
-        ≡ resting (formatted root.now ++ behind_slots (D.state disk.old).now.seen)) }
-    ensures ready { OnOk result (IsReady (fresh root.now) (D.state disk.new).now) }
+    ensures made { IfOk result
+        (λ slots. AreMade root.now slots (D.state disk.old).now (D.state disk.new).now) }
 {
     write_slots(disk, root)?;
     Ok(Slots::fresh(*root))
 }
 
-// Writes both slots, and opens the first one.
+/// Writes both slots, and opens the first one.
 fn write_slots<D: Disk>(disk: &mut D, root: &Root) -> Result<(), Fault>
     requires size { 1024 ≤ (D.state disk.old).size }
     requires version { root.now.version ≡ written_version }
-    ensures runs { Runs (D.state disk.old) (D.state disk.new) result }
-    ensures calls { (D.state disk.new).calls ≤ (D.state disk.old).calls + 5 }
-    ensures outside { SameBehind (D.state disk.new).now.seen (D.state disk.old).now.seen }
-    ensures any_moment { Leaves (D.state disk.old) (D.state disk.new)
-        (λ _. OutsideOf (D.state disk.old).now) }
-    ensures made { OnOk result ((D.state disk.new).now
-        ≡ resting (formatted root.now ++ behind_slots (D.state disk.old).now.seen)) }
-    ensures ready { OnOk result (IsReady (fresh root.now) (D.state disk.new).now) }
+    ensures runs { WritesSlots (IsErr result) (D.state disk.old) (D.state disk.new) }
+    ensures calls { CallsAtMost 5 (D.state disk.old) (D.state disk.new) }
+    ensures made { OnOk result (AreMade root.now (fresh root.now) (D.state disk.old).now
+        (D.state disk.new).now) }
 {
     disk.write(Slot::First.offset(), &closed_slot(&payload(*root)))?;
     write_settled(disk, Slot::Second.offset(), &closed_slot(&[VERSION]))?;

@@ -1,12 +1,12 @@
 //! How the slots are read.
-ghost use Rattle.std.specs.Prelude.{◌≡◌, ◌+◌, ◌≤◌, List, ℕ, length, take, None, Some, IfOk, IsErrOf, IsTrue};
-ghost use Rattle.rs_disk.specs.Leaves.{Runs, Rests};
+ghost use Rattle.std.specs.Prelude.{◌≡◌, ◌≤◌, List, ℕ, length, take, None, Some, IfOk, IsErr, IsErrOf, IsTrue};
+ghost use Rattle.rs_disk.specs.Runs.{RunsReading, CallsAtMost};
 ghost use Rattle.rs_extent.specs.Blocks.{block_size};
 ghost use Rattle.rs_commit.specs.Slots.{block, content as content_of, current, pick, OpensTo};
-ghost use Rattle.rs_commit.specs.Commit.{IsReady, AreSettled, device_in_open};
+ghost use Rattle.rs_commit.specs.Commit.{IsReady, AreSettled};
 
 use crate::root::{is_known, root_in};
-use crate::slot::{Content, OPEN, Slot};
+use crate::slot::{OPEN, Slot, SlotContent};
 use crate::{Root, SlotFault, Slots};
 use rs_disk::{Disk, Fault};
 use rs_extent::BLOCK_SIZE;
@@ -20,9 +20,9 @@ use rs_extent::BLOCK_SIZE;
 /// [`SlotFault::NotASource`] where no slot is open, where an open one has an unknown version, and
 /// where both are open with equal generations; [`SlotFault::Device`] where a device call failed.
 pub fn open_slots<D: Disk>(disk: &mut D) -> Result<(Slots, Root), SlotFault>
-    ensures runs { Runs (D.state disk.old) (D.state disk.new) (device_in_open result) }
-    ensures rests { Rests (D.state disk.old) (D.state disk.new) }
-    ensures calls { (D.state disk.new).calls ≤ (D.state disk.old).calls + 2 }
+    ensures runs { RunsReading (IsErrOf result SlotFault.Device) (D.state disk.old)
+        (D.state disk.new) }
+    ensures calls { CallsAtMost 2 (D.state disk.old) (D.state disk.new) }
     ensures root { IfOk result (λ opened. opened.0.root ≡ opened.1) }
 
     // Of a device that has followed the model so far:
@@ -47,33 +47,32 @@ pub fn open_slots<D: Disk>(disk: &mut D) -> Result<(Slots, Root), SlotFault>
     }
 }
 
-// Reads what a slot says.
-fn read_slot<D: Disk>(disk: &mut D, slot: Slot) -> Result<Content, Fault>
-    ensures runs { Runs (D.state disk.old) (D.state disk.new) result }
-    ensures rests { Rests (D.state disk.old) (D.state disk.new) }
-    ensures one_call { (D.state disk.new).calls ≤ (D.state disk.old).calls + 1 }
+/// Reads what a slot says.
+fn read_slot<D: Disk>(disk: &mut D, slot: Slot) -> Result<SlotContent, Fault>
+    ensures runs { RunsReading (IsErr result) (D.state disk.old) (D.state disk.new) }
+    ensures calls { CallsAtMost 1 (D.state disk.old) (D.state disk.new) }
     ensures content { IfOk result (λ content. IsTrue (D.state disk.new).honest
         → content ≡ content_of (block (D.state disk.old).now.seen slot)) }
 {
     let from = slot.offset();
     if disk.size() < from + BLOCK_SIZE as u64 {
-        return Ok(Content::Closed);
+        return Ok(SlotContent::Closed);
     }
     let mut bytes = [0; 54];
     disk.read(from, &mut bytes)?;
     Ok(content(&bytes))
 }
 
-// What the first 54 bytes of a slot say; the others are never read.
-fn content(bytes: &[u8; 54]) -> Content
+/// What the first 54 bytes of a slot say; the others are never read.
+fn content(bytes: &[u8; 54]) -> SlotContent
     ensures { (block : List ℕ) → length block ≡ block_size → bytes.now ≡ take 54 block
         → result ≡ content_of block }
 {
     if bytes[0] != OPEN {
-        Content::Closed
+        SlotContent::Closed
     } else if is_known(bytes[1]) {
-        Content::Open(root_in(bytes))
+        SlotContent::Open(root_in(bytes))
     } else {
-        Content::Unknown
+        SlotContent::Unknown
     }
 }

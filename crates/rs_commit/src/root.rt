@@ -77,7 +77,7 @@ pub(crate) fn root_in(bytes: &[u8; 54]) -> Root
     }
 }
 
-// The `N` bytes from `at` on.
+/// The `N` bytes from `at` on.
 fn field<const N: usize>(bytes: &[u8], at: usize) -> [u8; N]
     requires { at + N ≤ length bytes.now }
     ensures { result ≡ field_of bytes.now at N }

@@ -42,7 +42,7 @@ impl Slot {
 
 /// What a slot says.
 #[derive(Clone, Copy)]
-pub(crate) enum Content {
+pub(crate) enum SlotContent {
     /// Nothing: its gate is closed, or the disk has no such block.
     Closed,
     /// It is open, and of a version that isn't known.

@@ -1,15 +1,16 @@
 //! The slots of a disk, and the change of the root.
-ghost use Rattle.std.specs.Prelude.{◌≡◌, ◌+◌, ◌<◌, ◌≤◌, ◌^◌, ◌↔◌, List, [], ◌∷◌, ℕ, OnOk, OnErr, IsErrOf};
+ghost use Rattle.std.specs.Prelude.{◌≡◌, ◌+◌, ◌<◌, ◌≤◌, ◌^◌, ◌↔◌, [], ◌∷◌, IsErr, IsErrOf, OnOk, OnErr};
 ghost use Rattle.std.specs.Bool.{OnTrue, OnFalse};
-ghost use Rattle.rs_disk.specs.Medium.{IsImage, over, resting};
-ghost use Rattle.rs_disk.specs.Leaves.{Leaves, Runs, Torn, TornFrom};
-ghost use Rattle.rs_commit.specs.Slots.{OpensTo, offset, other, pick, newer as newer_of, payload_of, written_version, IsLawfulRoot};
+ghost use Rattle.rs_disk.specs.Medium.{over, resting};
+ghost use Rattle.rs_disk.specs.Leaves.{Leaves};
+ghost use Rattle.rs_disk.specs.Runs.{WritesWithin, CallsAtMost};
+ghost use Rattle.rs_commit.specs.Slots.{offset, other, pick, newer as newer_of, payload_of, IsLawfulRoot};
 ghost use Rattle.rs_commit.specs.Format.{fresh};
-ghost use Rattle.rs_commit.specs.Commit.{SameBehind, IsReady, OldOrNew, next, with_root, device_in_commit};
+ghost use Rattle.rs_commit.specs.Commit.{WritesSlots, IsReady, OldOrNew, Committed, next, with_root};
 
 use crate::root::{VERSION, payload};
 use crate::settled::write_settled;
-use crate::slot::{CLOSED, Content, OPEN, Slot};
+use crate::slot::{CLOSED, OPEN, Slot, SlotContent};
 use crate::{CommitFault, Root};
 use rs_disk::{Disk, Fault};
 use rs_extent::Extent;
@@ -55,26 +56,26 @@ impl Slots {
     }
 
     /// The slots by what they say, or `None` where they tell no root.
-    pub(crate) fn of(first: Content, second: Content) -> Option<Slots>
+    pub(crate) fn of(first: SlotContent, second: SlotContent) -> Option<Slots>
         ensures { result ≡ pick first second }
     {
         match (first, second) {
-            (Content::Open(root), Content::Closed) => Some(Slots {
+            (SlotContent::Open(root), SlotContent::Closed) => Some(Slots {
                 slot: Slot::First,
                 root,
                 spare_open: false,
             }),
-            (Content::Closed, Content::Open(root)) => Some(Slots {
+            (SlotContent::Closed, SlotContent::Open(root)) => Some(Slots {
                 slot: Slot::Second,
                 root,
                 spare_open: false,
             }),
-            (Content::Open(first), Content::Open(second)) => Slots::newer(first, second),
+            (SlotContent::Open(first), SlotContent::Open(second)) => Slots::newer(first, second),
             _ => None,
         }
     }
 
-    // The slots where both are open.
+    /// The slots where both are open.
     fn newer(first: Root, second: Root) -> Option<Slots>
         ensures { result ≡ newer_of first second }
     {
@@ -111,11 +112,10 @@ impl Slots {
     ) -> Result<(), CommitFault>
         requires { 1024 ≤ (D.state disk.old).size }
 
-        // What holds of every device, whatever the slots are.
-        ensures runs { Runs (D.state disk.old) (D.state disk.new) (device_in_commit result) }
-        ensures keeps { (D.state disk.new).honest ≡ (D.state disk.old).honest }
-        ensures calls { (D.state disk.new).calls ≤ (D.state disk.old).calls + 6 }
-        ensures outside { SameBehind (D.state disk.new).now.seen (D.state disk.old).now.seen }
+        // What holds of every device, whatever the slots are: nothing is written behind them.
+        ensures runs { WritesSlots (IsErrOf result CommitFault.Device) (D.state disk.old)
+            (D.state disk.new) }
+        ensures calls { CallsAtMost 6 (D.state disk.old) (D.state disk.new) }
 
         // Stopped at any moment, the disk opens to the old root or to the new one.
         ensures any_moment { IsReady self.old (D.state disk.old).now
@@ -123,14 +123,9 @@ impl Slots {
             self.old.root (next self.old.root directory length sha256.now)) }
 
         // After it, to the new one, nothing is unsettled, and the slots can be changed again.
-        ensures root { OnOk result (self.new.root
-            ≡ next self.old.root directory length sha256.now) }
-        ensures opens { OnOk result (IsReady self.old (D.state disk.old).now → (image : List ℕ)
-            → IsImage (D.state disk.new).now image → OpensTo self.new.root image) }
-        ensures ready { OnOk result (IsReady self.old (D.state disk.old).now
-            → IsReady self.new (D.state disk.new).now) }
-        ensures written { OnOk result ((D.state disk.new).now
-            ≡ resting (with_root (D.state disk.old).now.seen (other self.old.slot) self.new.root)) }
+        ensures committed { OnOk result
+            (Committed (next self.old.root directory length sha256.now) self.old self.new
+            (D.state disk.old).now (D.state disk.new).now) }
 
         // Without a generation to give it, nothing changes.
         ensures exhausted { IsErrOf result CommitFault.Exhausted
@@ -158,22 +153,18 @@ impl Slots {
         Ok(())
     }
 
-    // Puts a root into the spare. The spare is closed before its other bytes are written, and
-    // opened after they are settled.
+    /// Puts a root into the spare. The spare is closed before its other bytes are written, and
+    /// opened after they are settled.
     fn put_root<D: Disk>(&self, disk: &mut D, root: Root) -> Result<(), Fault>
         requires size { 1024 ≤ (D.state disk.old).size }
-        requires version { root.version ≡ written_version }
-        ensures runs { Runs (D.state disk.old) (D.state disk.new) result }
-        ensures keeps { (D.state disk.new).honest ≡ (D.state disk.old).honest }
-        ensures calls { (D.state disk.new).calls ≤ (D.state disk.old).calls + 6 }
-        ensures outside { SameBehind (D.state disk.new).now.seen (D.state disk.old).now.seen }
+        requires lawful { IsLawfulRoot root }
+        ensures runs { WritesSlots (IsErr result) (D.state disk.old) (D.state disk.new) }
+        ensures calls { CallsAtMost 6 (D.state disk.old) (D.state disk.new) }
         ensures any_moment { self.now.root.generation < root.generation
-            → IsReady self.now (D.state disk.old).now
-            → Leaves (D.state disk.old) (D.state disk.new)
+            → IsReady self.now (D.state disk.old).now → Leaves (D.state disk.old) (D.state disk.new)
             (λ _. OldOrNew (D.state disk.old).now self.now.root root) }
         ensures written { OnOk result ((D.state disk.new).now
             ≡ resting (with_root (D.state disk.old).now.seen (other self.now.slot) root)) }
-        ensures lawful { IsLawfulRoot root }
     {
         let spare = self.slot.other();
         close_gate(disk, spare, self.spare_open)?;
@@ -182,16 +173,13 @@ impl Slots {
     }
 }
 
-// Closes a slot. One that is closed already is settled so, and is not written: its other bytes may
-// be torn, and within a write its gate may be anything.
+/// Closes a slot. One that is closed already is settled so, and is not written: its other bytes may
+/// be torn, and within a write its gate may be anything.
 fn close_gate<D: Disk>(disk: &mut D, slot: Slot, is_open: bool) -> Result<(), Fault>
     requires { 1024 ≤ (D.state disk.old).size }
-    ensures runs { Runs (D.state disk.old) (D.state disk.new) result }
-    ensures keeps { (D.state disk.new).honest ≡ (D.state disk.old).honest }
-    ensures calls { (D.state disk.new).calls ≤ (D.state disk.old).calls + 2 }
-    ensures torn { Torn (offset slot) 1 (D.state disk.old).now.seen (D.state disk.new).now.seen }
-    ensures any_moment { OnTrue is_open (Leaves (D.state disk.old) (D.state disk.new)
-        (λ _. TornFrom (D.state disk.old).now (offset slot) 1)) }
+    ensures writes { WritesWithin (offset slot) 1 (IsErr result) (D.state disk.old)
+        (D.state disk.new) }
+    ensures calls { CallsAtMost 2 (D.state disk.old) (D.state disk.new) }
     ensures closed { OnTrue is_open (OnOk result ((D.state disk.new).now
         ≡ resting (over (D.state disk.old).now.seen (offset slot) (0 ∷ [])))) }
     ensures nothing { OnFalse is_open (D.state disk.new ≡ D.state disk.old) }
@@ -202,33 +190,25 @@ fn close_gate<D: Disk>(disk: &mut D, slot: Slot, is_open: bool) -> Result<(), Fa
     Ok(())
 }
 
-// Writes a root into a slot, behind its gate.
+/// Writes a root into a slot, behind its gate.
 fn write_behind<D: Disk>(disk: &mut D, slot: Slot, root: Root) -> Result<(), Fault>
     requires size { 1024 ≤ (D.state disk.old).size }
-    requires version { root.version ≡ written_version }
-    ensures runs { Runs (D.state disk.old) (D.state disk.new) result }
-    ensures keeps { (D.state disk.new).honest ≡ (D.state disk.old).honest }
-    ensures calls { (D.state disk.new).calls ≤ (D.state disk.old).calls + 2 }
-    ensures torn { Torn (offset slot + 1) 53 (D.state disk.old).now.seen
-        (D.state disk.new).now.seen }
-    ensures any_moment { Leaves (D.state disk.old) (D.state disk.new)
-        (λ _. TornFrom (D.state disk.old).now (offset slot + 1) 53) }
+    requires lawful { IsLawfulRoot root }
+    ensures writes { WritesWithin (offset slot + 1) 53 (IsErr result) (D.state disk.old)
+        (D.state disk.new) }
+    ensures calls { CallsAtMost 2 (D.state disk.old) (D.state disk.new) }
     ensures written { OnOk result ((D.state disk.new).now
         ≡ resting (over (D.state disk.old).now.seen (offset slot + 1) (payload_of root))) }
-    ensures lawful { IsLawfulRoot root }
 {
     write_settled(disk, slot.offset() + 1, &payload(root))
 }
 
-// Opens a slot.
+/// Opens a slot.
 fn open_gate<D: Disk>(disk: &mut D, slot: Slot) -> Result<(), Fault>
     requires { 1024 ≤ (D.state disk.old).size }
-    ensures runs { Runs (D.state disk.old) (D.state disk.new) result }
-    ensures keeps { (D.state disk.new).honest ≡ (D.state disk.old).honest }
-    ensures calls { (D.state disk.new).calls ≤ (D.state disk.old).calls + 2 }
-    ensures torn { Torn (offset slot) 1 (D.state disk.old).now.seen (D.state disk.new).now.seen }
-    ensures any_moment { Leaves (D.state disk.old) (D.state disk.new)
-        (λ _. TornFrom (D.state disk.old).now (offset slot) 1) }
+    ensures writes { WritesWithin (offset slot) 1 (IsErr result) (D.state disk.old)
+        (D.state disk.new) }
+    ensures calls { CallsAtMost 2 (D.state disk.old) (D.state disk.new) }
     ensures opened { OnOk result ((D.state disk.new).now
         ≡ resting (over (D.state disk.old).now.seen (offset slot) (1 ∷ []))) }
 {

@@ -1,10 +1,11 @@
 -- What a copy answers, by what its writing left.
-use Rattle.std.proofs.Common.{◌≡◌, inl, inr, ◌<◌, Result, Ok, Err, refl, sym, subst}
+use Rattle.std.proofs.Common.{◌≡◌, inl, inr, ◌<◌, ℕ, Result, Ok, Err, refl, sym, subst}
 use Rattle.rs_disk.specs.Medium.{DiskState}
 use Rattle.rs_commit.specs.declared.root.Root.{Root}
 use Rattle.rs_commit.specs.Commit.{IsReady}
 use Rattle.rs_commit.specs.Format.{fresh}
 use Rattle.rs_commit.specs.Slots.{Standing}
+use Rattle.rs_image.specs.declared.contents.Contents.{Contents}
 use Rattle.rs_image.specs.Reach.{blocks_of_disk}
 use Rattle.rs_image.specs.Rooted.{Rooted}
 use Rattle.rs_copy.specs.declared.copying.Copied.{Copied}
@@ -14,26 +15,32 @@ use Rattle.rs_copy.specs.declared.laying_out.Layout.{Layout}
 use Rattle.rs_copy.specs.Laying.{IsLaidOut, all_stored}
 use Rattle.rs_copy.specs.Copies.{Copies}
 use Rattle.rs_copy.specs.Copying.{IsOfWriting, WritesCopy, copied_root}
-use Rattle.rs_copy.proofs.Handed.{same_err, same_fault}
+use Rattle.rs_copy.proofs.Handed.{no_err, same_err}
 use Rattle.rs_copy.proofs.Roomy.{has_room}
 
+-- where a copy was laid out for a disk of the size of this one and lists that are those of the root
+laid_at : {n size : ℕ} {x c : Contents} (l : Layout) → n ≡ size → x ≡ c → IsLaidOut n x l.contents l.directory l.used → IsLaidOut size c l.contents l.directory l.used
+laid_at {size = size} {x = x} l same lists laid =
+    subst (λ (y : Contents). IsLaidOut size y l.contents l.directory l.used) lists (subst (λ (k : ℕ). IsLaidOut k x l.contents l.directory l.used) same laid)
+
 -- a copy that was written
-pub copies_written : (r : Rooted) (before after old new : DiskState) (l l' : Layout) (slots : Standing) → (blocks_of_disk old.size < 16 → ⊥)
-    → IsLaidOut old.size r.contents l.contents l.directory l.used → WritesCopy r.contents l l' before after old new (Ok slots)
+pub copies_written : {n : ℕ} {x : Contents} (r : Rooted) (before after old new : DiskState) (l l' : Layout) (slots : Standing) → (blocks_of_disk old.size < 16 → ⊥)
+    → n ≡ old.size → x ≡ r.contents → IsLaidOut n x l.contents l.directory l.used → WritesCopy x l l' before after old new (Ok slots)
     → Copies r before after old new (Ok (record { slots = slots; contents = l'.contents; used = l'.used }))
-copies_written r before after old new l l' slots large laid w =
+copies_written r before after old new l l' slots large same lists laid found =
+    let w : WritesCopy r.contents l l' before after old new (Ok slots) = subst (λ (c : Contents). WritesCopy c l l' before after old new (Ok slots)) lists found in
     let root : Root = copied_root l.directory (all_stored l.contents) in
     subst (λ (s : Standing). Copies r before after old new (Ok (record { slots = s; contents = l'.contents; used = l'.used }))) (sym w.slots)
     (subst (λ (x : Layout). Copies r before after old new (Ok (record { slots = fresh root; contents = x.contents; used = x.used }))) (sym w.layout)
     (record {
-      rests = w.steps.rests;
-      advances = w.steps.advances;
+      rests = w.runs.rests;
+      advances = w.runs.advances;
       too_small = (λ is. absurd cc, λ small. absurd (large small));
       full = λ is. absurd cc;
       untouched = λ is. elim is [ inl small ↦ absurd cc | inr full ↦ absurd cc ];
       room = λ is. elim is [ inl failed ↦ absurd cc | inr damaged ↦ absurd cc ];
       failed = λ is. absurd cc;
-      sound = λ not. w.steps.sound (λ is. absurd cc);
+      sound = λ not. w.runs.sound (λ is. absurd cc);
       damaged = λ is. absurd cc;
       copied = record {
         slots = refl;
@@ -43,29 +50,29 @@ copies_written r before after old new l l' slots large laid w =
         sound = w.sound;
         intact = w.intact;
       };
-      lies = record { placed = l.contents; laid_out = laid; contents = refl };
+      lies = record { placed = l.contents; laid_out = laid_at l same lists laid; contents = refl };
       holds = λ s honest told image at. w.holds s honest told.state image at;
       any_moment = λ s honest told when. w.any_moment s honest told.state when;
     }))
 
 -- a copy whose writing failed
-pub copies_failed : (r : Rooted) (before after old new : DiskState) (l l' : Layout) (fault : CopyFault) (result : Result Copied CopyFault) → (blocks_of_disk old.size < 16 → ⊥)
-    → IsLaidOut old.size r.contents l.contents l.directory l.used → result ≡ Err fault → WritesCopy r.contents l l' before after old new (Err fault)
+pub copies_failed : {n : ℕ} {x : Contents} (r : Rooted) (before after old new : DiskState) (l l' : Layout) (fault : CopyFault) (result : Result Copied CopyFault) → (blocks_of_disk old.size < 16 → ⊥)
+    → n ≡ old.size → x ≡ r.contents → IsLaidOut n x l.contents l.directory l.used → result ≡ Err fault → WritesCopy x l l' before after old new (Err fault)
     → Copies r before after old new result
-copies_failed r before after old new l l' fault result large laid is w =
+copies_failed r before after old new l l' fault result large same lists laid is found =
+    let w : WritesCopy r.contents l l' before after old new (Err fault) = subst (λ (c : Contents). WritesCopy c l l' before after old new (Err fault)) lists found in
+    let not_small = no_err {T = Standing} IsOfWriting (Err fault) TooSmall w.others (λ none. none) in
+    let not_full = no_err {T = Standing} IsOfWriting (Err fault) Full w.others (λ none. none) in
     subst (λ (x : Result Copied CopyFault). Copies r before after old new x) (sym is)
     (record {
-      rests = w.steps.rests;
-      advances = w.steps.advances;
-      too_small = (λ is. absurd (subst IsOfWriting (same_fault fault TooSmall is) w.steps.others), λ small. absurd (large small));
-      full = λ full. absurd (subst IsOfWriting (same_fault fault Full full) w.steps.others);
-      untouched = λ either. elim either [
-        | inl small ↦ absurd (subst IsOfWriting (same_fault fault TooSmall small) w.steps.others)
-        | inr full ↦ absurd (subst IsOfWriting (same_fault fault Full full) w.steps.others)
-      ];
-      room = λ met lacks. has_room old.size r.contents l.contents l.directory l.used laid lacks;
-      failed = λ failed. w.steps.failed (same_err fault Device failed);
-      sound = λ not. w.steps.sound (λ failed. not (same_err fault Device failed));
+      rests = w.runs.rests;
+      advances = w.runs.advances;
+      too_small = (λ is. absurd (not_small (same_err fault TooSmall is)), λ small. absurd (large small));
+      full = λ full. absurd (not_full (same_err fault Full full));
+      untouched = λ either. elim either [ inl small ↦ absurd (not_small (same_err fault TooSmall small)) | inr full ↦ absurd (not_full (same_err fault Full full)) ];
+      room = λ met lacks. has_room old.size r.contents l.contents l.directory l.used (laid_at l same lists laid) lacks;
+      failed = λ failed. w.runs.failed (same_err fault Device failed);
+      sound = λ not. w.runs.sound (λ failed. not (same_err fault Device failed));
       damaged = λ damaged. w.damaged (same_err fault Damaged damaged);
       copied = tt;
       lies = tt;

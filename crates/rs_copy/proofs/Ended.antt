@@ -1,11 +1,15 @@
 -- How the writing of a copy ends.
-use Rattle.std.proofs.Common.{◌≡◌, ◌⊎◌, ◌≤◌, ◌<◌, ◌+◌, ℕ, true, false, IsTrue, nat_lt, List, length, map, Result, Err, sym, ◌∙◌, ap, subst, arith}
+use Rattle.std.proofs.Common.{◌≡◌, ◌⊎◌, ◌≤◌, ◌<◌, ◌+◌, ℕ, true, false, IsTrue, nat_lt, List, length, map, Result, Ok, Err, sym, ◌∙◌, ap, subst, arith}
 use Rattle.std.specs.Prelude.{All, IsErrOf}
+use Rattle.std.specs.Result.{IsErrAnd}
 use Rattle.std.proofs.lemmas.Bool.Decides.{nat_tests}
-use Rattle.rs_disk.specs.Medium.{Medium, DiskState, IsImage, resting}
+use Rattle.rs_disk.specs.Medium.{Medium, DiskState, IsImage, IsMedium, resting}
 use Rattle.rs_disk.specs.Leaves.{Leaves}
+use Rattle.rs_disk.specs.Runs.{MakesCalls}
 use Rattle.rs_disk.proofs.Images.{resting_image}
-use Rattle.rs_commit.specs.Commit.{SameBehind}
+use Rattle.rs_commit.specs.Commit.{SameBehind, WritesSlots}
+use Rattle.rs_commit.specs.Format.{AreShut}
+use Rattle.rs_commit.specs.Laws.{ShutTellsNone, ShutStays}
 use Rattle.rs_commit.specs.Slots.{Standing}
 use Rattle.rs_model.specs.State.{Source}
 use Rattle.rs_page.specs.Items.{record_format}
@@ -17,14 +21,16 @@ use Rattle.rs_image.specs.Whole.{IsWhole}
 use Rattle.rs_image.proofs.Frame.{is_behind, keeps_behind, tells_behind}
 use Rattle.rs_plan.proofs.Stored.{stored_items}
 use Rattle.rs_copy.specs.declared.faults.CopyFault.{CopyFault}
-use Rattle.rs_copy.specs.declared.faults.CopyFault.TheVariants.{Damaged}
+use Rattle.rs_copy.specs.declared.faults.CopyFault.TheVariants.{Device, Damaged}
 use Rattle.rs_copy.specs.declared.laying_out.Layout.{Layout}
 use Rattle.rs_copy.specs.Laying.{IsLaidOut, all_stored}
 use Rattle.rs_copy.specs.Copies.{HasItsBody}
-use Rattle.rs_copy.specs.Copying.{Steps, CopyStands, IsBehindRoot, NoneOrState, WritesCopy, copied_root}
-use Rattle.rs_copy.proofs.Laid.{room}
-use Rattle.rs_copy.proofs.Meanwhile.{turned}
-use Rattle.rs_copy.proofs.MovedBodies.{intact_stay}
+use Rattle.rs_copy.specs.Copying.{CopiesOnly, CopyStands, IsBehindRoot, IsOfWriting, NoneOrState, RunsCopying, WritesCopy, copied_root, is_slot, written_in}
+use Rattle.rs_copy.proofs.Handed.{handed_err, told_on}
+use Rattle.rs_copy.proofs.Laid.{bodies_among, room}
+use Rattle.rs_copy.proofs.Meanwhile.{none_written, shut_still, turned}
+use Rattle.rs_copy.proofs.MovedBodies.{bodies_stay}
+use Rattle.rs_copy.proofs.Runs.{copying_as, copying_then, copying_write}
 use Rattle.rs_copy.proofs.Told.{tells_copied}
 use Rattle.rs_copy.proofs.Whole.{whole_copied, sound_copied}
 
@@ -35,16 +41,17 @@ not_yet old new P Q left short =
     record { later = left.later; before = left.before; each = λ m image from until at late. absurd (omega (arith, until, late, short)) }
 
 -- What a copy leaves that ends in a fault.
-pub ends_badly : (c : Contents) (l l' : Layout) (before after old new : DiskState) (result : Result Standing CopyFault) (fault : CopyFault) → result ≡ Err fault
-    → Steps {T = Standing} before after old new (Err fault)
-    → (IsErrOf {T = Standing} (Err fault) Damaged → IsTrue after.honest → ¬ All (HasItsBody before.now.seen) (records_of c.catalogue))
+pub ends_badly : {S : Type 0} {c : Contents} {l l' : Layout} {before after old new : DiskState} (result : Result Standing CopyFault) (fault : CopyFault) → IsErrAnd result (λ y. y ≡ fault)
+    → RunsCopying (IsErrOf {T = S} (Err fault) Device) before after old new → IsOfWriting fault
+    → (IsErrOf {T = S} (Err fault) Damaged → IsTrue after.honest → ¬ All (HasItsBody before.now.seen) (records_of c.catalogue))
     → ((s : Source) → IsTrue after.honest → state_in before.now.seen c ≡ s → (old.calls + 3 < new.calls) ⊎ (new.faults ≡ old.faults) → Leaves old new (λ m image. old.calls + 3 ≤ m → NoneOrState s image))
     → WritesCopy c l l' before after old new result
-ends_badly c l l' before after old new result fault is steps damaged any =
-    subst (λ (r : Result Standing CopyFault). WritesCopy c l l' before after old new r) (sym is)
-    (record {
-      steps = steps;
-      damaged = damaged;
+ends_badly (Ok x) fault handed runs of damaged any = absurd handed
+ends_badly {S} (Err y) fault handed runs of damaged any =
+    record {
+      runs = copying_as (told_on {S = S} (Err y) fault Device handed) (handed_err {S = S} (Err y) fault Device handed) runs;
+      others = subst IsOfWriting (sym handed) of;
+      damaged = λ is. damaged (handed_err {S = S} (Err y) fault Damaged handed is);
       slots = tt;
       ready = tt;
       layout = tt;
@@ -52,7 +59,7 @@ ends_badly c l l' before after old new result fault is steps damaged any =
       intact = tt;
       holds = λ s honest state. tt;
       any_moment = any;
-    })
+    }
 
 -- What stands behind the slots of the new disk, which a read gives there.
 module _ (c : Contents) (l : Layout) (size size' : ℕ) (laid : IsLaidOut size c l.contents l.directory l.used) (behind : IsBehindRoot size' c)
@@ -62,12 +69,7 @@ module _ (c : Contents) (l : Layout) (size size' : ℕ) (laid : IsLaidOut size c
       subst (λ (n : ℕ). IsWhole n (copied_root l.directory (all_stored l.contents)) (all_stored l.contents)) (sym long)
       (whole_copied size c l.contents l.directory l.used laid size' behind.root behind.whole stands.listed.long)
 
-  -- it tells the state that was copied,
-  pub told_here : (before : List ℕ) (s : Source) → map (held_in seen) (records_of l.contents.catalogue) ≡ map (held_in before) (records_of c.catalogue) → state_in before c ≡ s
-      → Tells (copied_root l.directory (all_stored l.contents)) (all_stored l.contents) seen s
-  told_here before s held state = tells_copied size c l.contents l.directory l.used laid before seen s whole_here stands held state
-
-  -- and so does each image once the root was put into the first slot
+  -- each image tells the state that was copied once the root was put into the first slot
   pub told_there : (s : Source) (m : Medium) (new image : List ℕ) → Tells (copied_root l.directory (all_stored l.contents)) (all_stored l.contents) seen s
       → m ≡ resting new → SameBehind m.seen seen → IsImage m image → Tells (copied_root l.directory (all_stored l.contents)) (all_stored l.contents) image s
   told_there s m new image tells made same at =
@@ -77,12 +79,12 @@ module _ (c : Contents) (l : Layout) (size size' : ℕ) (laid : IsLaidOut size c
       (tells_behind (copied_root l.directory (all_stored l.contents)) (all_stored l.contents) seen m.seen s (turned m.seen seen same) tells)
 
   -- each body has its SHA-256 there
-  pub intact_there : (new : List ℕ) → SameBehind new seen → All (HasItsBody new) (records_of (all_stored l.contents).catalogue)
-  intact_there new same =
+  pub intact_there : (new : List ℕ) → SameBehind new seen → All (HasItsBody seen) (records_of l.contents.catalogue) → All (HasItsBody new) (records_of (all_stored l.contents).catalogue)
+  intact_there new same intact =
       let has = room size c l.contents l.directory l.used laid in
       subst (All (HasItsBody new)) (sym (stored_items record_format l.contents.catalogue))
-      (intact_stay is_behind size (records_of l.contents.catalogue) seen new has.bodies
-      (λ b is. high b (has.bodies_behind b is)) (keeps_behind seen new (turned new seen same)) stands.intact)
+      ((bodies_stay is_behind size (records_of l.contents.catalogue) seen new has.bodies
+      (λ b is. high b (has.behind b (bodies_among l.contents l.directory b is))) (keeps_behind seen new (turned new seen same))).1 intact)
     where
       high : (b : ℕ) → nat_lt b 2 ≡ false → is_behind b ≡ true
       high b is = grind (arith, nat_tests)
@@ -92,3 +94,27 @@ module _ (c : Contents) (l : Layout) (size size' : ℕ) (laid : IsLaidOut size c
   sound_here room n is =
       subst (λ (k : ℕ). MemoryIsSound (rooted k (copied_root l.directory (all_stored l.contents)) (all_stored l.contents)) l.used) (sym is)
       (sound_copied size c l.contents l.directory l.used laid size' behind.root behind.whole room stands.listed.long stands.listed.listable)
+
+-- What is reached of a copy once all but its root is written.
+pub record Reached (c : Contents) (l : Layout) (before after old new : DiskState) : Type 0 where
+  pub runs : RunsCopying ⊥ before after old new
+  pub long : length new.now.seen ≡ old.size
+  pub shut : AreShut new.now
+  pub none : (s : Source) → Leaves old new (λ m image. old.calls + 3 ≤ m → NoneOrState s image)
+  pub told : (s : Source) → IsTrue after.honest → state_in before.now.seen c ≡ s → Tells (copied_root l.directory (all_stored l.contents)) (all_stored l.contents) new.now.seen s
+
+pub reached : {A B : Type 0} {before after old one two : DiskState} (c : Contents) (l : Layout) → ShutTellsNone → ShutStays → IsMedium one.size one.now → IsMedium two.size two.now
+    → IsLaidOut old.size c l.contents l.directory l.used → IsBehindRoot before.size c → ¬ A → ¬ B → WritesSlots A old one → MakesCalls 3 A old one → AreShut one.now
+    → CopiesOnly (written_in l.contents l.directory) B before after one two → CopyStands l.contents l.directory two.now.seen
+    → (IsTrue after.honest → map (held_in two.now.seen) (records_of l.contents.catalogue) ≡ map (held_in before.now.seen) (records_of c.catalogue)) → Reached c l before after old two
+reached {before = before} {old = old} {one = one} {two = two} c l none stays is_one is_two laid behind well well_too closed calls shut copies stands copied =
+    let outside = copies.outside is_slot (room old.size c l.contents l.directory l.used laid).behind in
+    let long : length two.now.seen ≡ old.size = omega (arith, is_two.image.size, is_two.settled, copies.runs.advances.runs.size, closed.writes.runs.size) in
+    record {
+      runs = copying_as (λ is. absurd (well_too is)) (λ none. absurd none) (copying_then well (copying_write before old one closed.writes) copies.runs);
+      long = long;
+      shut = shut_still none old one two is_one shut closed.leaves (calls.all well) outside stays;
+      none = none_written none old one two is_one shut closed.leaves (calls.all well) outside;
+      told = λ s honest state.
+          tells_copied old.size c l.contents l.directory l.used laid before.now.seen two.now.seen s (whole_here c l old.size before.size laid behind two.now.seen long stands) stands (copied honest) state;
+    }

@@ -47,20 +47,14 @@ pub full_unplaced : {T : Type 0} (items : List T) → placed_extents (full_pages
 full_unplaced items = touched_unplaced (cut_full items)
 
 -- Once they were given blocks, they are where they were placed after they are stored, ..
-extents_one : {T : Type 0} (format : ItemFormat T) (items : List T) (e : Extent) (place : Place) (refs : List PageRef) (placed : List Extent) → place ≡ Placed e
-    → extents_of refs ≡ placed → extents_of (cons_option (stored_ref (place_stored format items place)) refs) ≡ cons_option (placed_extent place) placed
-extents_one format items e place refs placed is rest =
-    subst (λ (p : Place). extents_of (cons_option (stored_ref (place_stored format items p)) refs) ≡ cons_option (placed_extent p) placed) (sym is)
-    (ap (λ (es : List Extent). e ∷ es) rest)
-
 placed_extents_are : {T : Type 0} (format : ItemFormat T) (used used' : List Bool) (pieces : List (List T)) (ys : List (Page T)) → Places format used (map touched pieces) used' ys
     → extents_of (stored_refs (stored format ys)) ≡ placed_extents ys
 placed_extents_are format used used' [] [] places = refl
 placed_extents_are format used used' [] (y ∷ ys) places = absurd places
 placed_extents_are format used used' (piece ∷ pieces) [] places = absurd places
 placed_extents_are format used used' (piece ∷ pieces) (y ∷ ys) places =
-    extents_one format y.items places.1.1.extent y.place (stored_refs (stored format ys)) (placed_extents ys) places.1.1.placed
-    (placed_extents_are format places.0 used' pieces ys places.2)
+    subst (λ (p : Place). extents_of (cons_option (stored_ref (place_stored format y.items p)) (stored_refs (stored format ys))) ≡ cons_option (placed_extent p) (placed_extents ys))
+    (sym places.1.1.placed) (ap (λ (es : List Extent). places.1.1.extent ∷ es) (placed_extents_are format places.0 used' pieces ys places.2))
 
 pub full_extents : {T : Type 0} (format : ItemFormat T) (used used' : List Bool) (items : List T) (ys : List (Page T)) → Places format used (full_pages items) used' ys
     → extents_of (stored_refs (stored format ys)) ≡ placed_extents ys
@@ -70,37 +64,28 @@ full_extents format used used' items ys places = placed_extents_are format used 
 abbrev pub HasBlocks : PageRef → Type 0
 HasBlocks ref = 1 ≤ ref.extent.blocks
 
-blocks_one : {T : Type 0} (format : ItemFormat T) (items : List T) (e : Extent) (place : Place) (refs : List PageRef) → place ≡ Placed e → 1 ≤ e.blocks
-    → All HasBlocks refs → All HasBlocks (cons_option (stored_ref (place_stored format items place)) refs)
-blocks_one format items e place refs is some rest =
-    subst (λ (p : Place). All HasBlocks (cons_option (stored_ref (place_stored format items p)) refs)) (sym is) (All-cons HasBlocks (ref_at format e items) refs some rest)
-
 placed_blocks : {T : Type 0} (format : ItemFormat T) (used used' : List Bool) (pieces : List (List T)) (ys : List (Page T)) → Places format used (map touched pieces) used' ys
     → All HasBlocks (stored_refs (stored format ys))
 placed_blocks format used used' [] [] places = All-nil HasBlocks
 placed_blocks format used used' [] (y ∷ ys) places = absurd places
 placed_blocks format used used' (piece ∷ pieces) [] places = absurd places
 placed_blocks format used used' (piece ∷ pieces) (y ∷ ys) places =
-    blocks_one format y.items places.1.1.extent y.place (stored_refs (stored format ys)) places.1.1.placed
-    (omega (arith, places.1.1.lowest.blocks, needed format piece))
-    (placed_blocks format places.0 used' pieces ys places.2)
+    let refs = stored_refs (stored format ys) in
+    subst (λ (p : Place). All HasBlocks (cons_option (stored_ref (place_stored format y.items p)) refs)) (sym places.1.1.placed)
+    (All-cons HasBlocks (ref_at format places.1.1.extent y.items) refs (omega (arith, places.1.1.lowest.blocks, needed format piece)) (placed_blocks format places.0 used' pieces ys places.2))
 
 pub full_blocks : {T : Type 0} (format : ItemFormat T) (used used' : List Bool) (items : List T) (ys : List (Page T)) → Places format used (full_pages items) used' ys
     → All HasBlocks (stored_refs (stored format ys))
 full_blocks format used used' items ys places = placed_blocks format used used' (cut_full items) ys places
 
 -- .. and none of them is on the disk before.
-stand_one : {T : Type 0} (format : ItemFormat T) (image : List ℕ) (items : List T) (e : Extent) (place : Place) → place ≡ Placed e
-    → IfSome (stored_ref place) (λ ref. IsPage format ref image items)
-stand_one format image items e place is = subst (λ (p : Place). IfSome (stored_ref p) (λ ref. IsPage format ref image items)) (sym is) tt
-
 placed_stand : {T : Type 0} (format : ItemFormat T) (image : List ℕ) (used used' : List Bool) (pieces : List (List T)) (ys : List (Page T))
     → Places format used (map touched pieces) used' ys → All (Stands format image) ys
 placed_stand format image used used' [] [] places = All-nil (Stands format image)
 placed_stand format image used used' [] (y ∷ ys) places = absurd places
 placed_stand format image used used' (piece ∷ pieces) [] places = absurd places
 placed_stand format image used used' (piece ∷ pieces) (y ∷ ys) places =
-    All-cons (Stands format image) y ys (stand_one format image y.items places.1.1.extent y.place places.1.1.placed)
+    All-cons (Stands format image) y ys (subst (λ (p : Place). IfSome (stored_ref p) (λ ref. IsPage format ref image y.items)) (sym places.1.1.placed) tt)
     (placed_stand format image places.0 used' pieces ys places.2)
 
 pub full_stand : {T : Type 0} (format : ItemFormat T) (image : List ℕ) (used used' : List Bool) (items : List T) (ys : List (Page T))

@@ -1,18 +1,19 @@
 -- Faults that are handed on, and facts of what comes well.
-use Rattle.std.proofs.Common.{◌≡◌, Result, Ok, Err, sym, ◌∙◌}
-use Rattle.std.specs.Prelude.{OnOk, OnErr, IfOk, IsErrOf}
+use Rattle.std.proofs.Common.{◌≡◌, Result, Ok, Err, sym, ◌∙◌, subst}
+use Rattle.std.specs.Prelude.{OnOk, OnErr, IfOk, IfErr, IsErrOf}
 use Rattle.std.specs.Result.{IsErrAnd}
 
 -- what was handed on is this fault
-handed_on : {T E : Type 0} (r : Result T E) (e fault : E) → IsErrAnd r (λ y. y ≡ e) → IsErrOf r fault → e ≡ fault
+pub handed_on : {T E : Type 0} (r : Result T E) (e fault : E) → IsErrAnd r (λ y. y ≡ e) → IsErrOf r fault → e ≡ fault
 handed_on (Ok x) e fault handed is = absurd handed
 handed_on (Err y) e fault handed is = let same : y ≡ fault = cc in sym handed ∙ same
 
 pub handed_err : {T S E : Type 0} (r : Result T E) (e fault : E) → IsErrAnd r (λ y. y ≡ e) → IsErrOf r fault → IsErrOf {T = S} (Err e) fault
 handed_err r e fault handed is = (λ i. Err (handed_on r e fault handed is i))
 
-pub same_fault : {T E : Type 0} (e fault : E) → IsErrOf {T = T} (Err e) fault → e ≡ fault
-same_fault e fault is = cc
+pub told_on : {T S E : Type 0} (r : Result T E) (e fault : E) → IsErrAnd r (λ y. y ≡ e) → IsErrOf {T = S} (Err e) fault → IsErrOf r fault
+told_on (Ok x) e fault handed is = absurd handed
+told_on (Err y) e fault handed is = let same : e ≡ fault = cc in λ i. Err ((handed ∙ same) i)
 
 pub same_err : {S T E : Type 0} (e fault : E) → IsErrOf {T = S} (Err e) fault → IsErrOf {T = T} (Err e) fault
 same_err e fault is = let same : e ≡ fault = cc in λ i. Err (same i)
@@ -20,6 +21,10 @@ same_err e fault is = let same : e ≡ fault = cc in λ i. Err (same i)
 pub err_is : {T E : Type 0} (r : Result T E) (e : E) → IsErrAnd r (λ y. y ≡ e) → r ≡ Err e
 err_is (Ok x) e handed = absurd handed
 err_is (Err y) e handed = λ i. Err (handed i)
+
+pub no_err : {T E : Type 0} (P : E → Type 0) (r : Result T E) (fault : E) → IfErr r P → ¬ P fault → ¬ IsErrOf r fault
+no_err P (Ok x) fault others none is = absurd cc
+no_err P (Err e) fault others none is = let same : e ≡ fault = cc in none (subst P same others)
 
 -- where one thing comes well, so does what follows from it
 pub on_ok : {T E : Type 0} {P Q : Type 0} (r : Result T E) → (P → Q) → OnOk r P → OnOk r Q
@@ -30,13 +35,13 @@ pub on_err : {T E : Type 0} (P : Type 0) (r : Result T E) → P → OnErr r P
 on_err P (Ok x) p = tt
 on_err P (Err e) p = p
 
-pub if_ok : {T E : Type 0} {P Q : T → Type 0} (r : Result T E) → ((x : T) → P x → Q x) → IfOk r P → IfOk r Q
-if_ok (Ok x) f p = f x p
-if_ok (Err e) f p = tt
-
 pub mapped_err : {T E : Type 0} {P Q : Type 0} (r : Result T E) → (P → Q) → OnErr r P → OnErr r Q
 mapped_err (Ok x) f p = tt
 mapped_err (Err e) f p = f p
+
+pub both_ok : {T E : Type 0} {P R : T → Type 0} {Q : Type 0} (r : Result T E) → ((x : T) → P x → Q → R x) → IfOk r P → OnOk r Q → IfOk r R
+both_ok (Ok x) f p q = f x p q
+both_ok (Err e) f p q = tt
 
 -- what holds either way
 pub either_way : {T E P : Type 0} (r : Result T E) → P → OnOk r P

@@ -5,8 +5,8 @@ use Rattle.std.specs.List.{AllZip}
 use Rattle.std.proofs.lemmas.Bool.Decides.{nat_tests}
 use Rattle.std.proofs.lemmas.List.Elements.{All-nil, All-cons, All-head, All-tail}
 use Rattle.rs_extent.specs.declared.Extent.{Extent}
-use Rattle.rs_extent.specs.Extents.{in_some, AreTaken}
-use Rattle.rs_extent.proofs.Sets.{some_first, some_rest, some_front, some_behind, none_front, none_behind, apart_front, apart_behind, apart_between}
+use Rattle.rs_extent.specs.Extents.{in_some, AreTaken, IsSubset}
+use Rattle.rs_extent.proofs.Sets.{some_first, some_rest, some_front, some_behind}
 use Rattle.rs_extent.proofs.Taken.{taken_both, taken_before}
 use Rattle.rs_body.proofs.Sets.{fits_sized}
 use Rattle.rs_body.specs.Blocks.{IsSized, blocks_of}
@@ -24,12 +24,31 @@ use Rattle.rs_image.specs.StateOfImage.{directory_bytes_of}
 use Rattle.rs_plan.proofs.Extents.{taken_lowest}
 use Rattle.rs_plan.proofs.Placing.{places_items, places_length}
 use Rattle.rs_copy.specs.Laying.{with_extents, IsMoved, as_published, copied_lists, records_needed, IsLaidOut}
-use Rattle.rs_copy.specs.Copying.{HasPlace, HasRoom, pages_in, is_slot}
+use Rattle.rs_copy.specs.Copying.{HasPlace, HasRoom, pages_in, is_slot, written_in}
 use Rattle.rs_copy.proofs.FullPages.{full_items, full_unplaced}
 use Rattle.rs_copy.proofs.Records.{IsSizedRecord}
-use Rattle.rs_copy.proofs.Taking.{all_taken, bodies_given, given_moved, given_sized}
+use Rattle.rs_copy.proofs.Taking.{all_taken, given, taken_sized}
 
-block_fits : (size b : ℕ) → b < blocks_of_disk size → 512 * b + 512 ≤ size
+-- the pages of each list are among those of all
+pub among_first : (c : Contents) → IsSubset (in_some (placed_extents c.catalogue)) (in_some (pages_in c))
+among_first c b is =
+    some_front (placed_extents c.catalogue ++ placed_extents c.history.pages) (placed_extents c.published) b (some_front (placed_extents c.catalogue) (placed_extents c.history.pages) b is)
+
+pub among_second : (c : Contents) → IsSubset (in_some (placed_extents c.history.pages)) (in_some (pages_in c))
+among_second c b is =
+    some_front (placed_extents c.catalogue ++ placed_extents c.history.pages) (placed_extents c.published) b (some_behind (placed_extents c.catalogue) (placed_extents c.history.pages) b is)
+
+pub among_last : (c : Contents) → IsSubset (in_some (placed_extents c.published)) (in_some (pages_in c))
+among_last c b is = some_behind (placed_extents c.catalogue ++ placed_extents c.history.pages) (placed_extents c.published) b is
+
+-- .. and pages and bodies among all that is written
+pub pages_among : (c : Contents) (directory : Extent) → IsSubset (in_some (pages_in c)) (in_some (written_in c directory))
+pages_among c directory b is = some_rest directory (pages_in c ++ bodies_of (records_of c.catalogue)) b (some_front (pages_in c) (bodies_of (records_of c.catalogue)) b is)
+
+pub bodies_among : (c : Contents) (directory : Extent) → IsSubset (in_some (bodies_of (records_of c.catalogue))) (in_some (written_in c directory))
+bodies_among c directory b is = some_rest directory (pages_in c ++ bodies_of (records_of c.catalogue)) b (some_behind (pages_in c) (bodies_of (records_of c.catalogue)) b is)
+
+pub block_fits : (size b : ℕ) → b < blocks_of_disk size → 512 * b + 512 ≤ size
 block_fits size b less = omega arith
 
 low_not : (b : ℕ) → nat_lt b 2 ≡ false → 2 ≤ b
@@ -43,9 +62,8 @@ places_among size (r ∷ rs) inside sized =
     (places_among size rs (λ b is. inside b (some_rest r.extent (bodies_of rs) b is)) (All-tail IsSizedRecord r rs sized))
 
 module _ (size : ℕ) (c placed : Contents) (directory : Extent) (used : List Bool) (laid : IsLaidOut size c placed directory used) where
-  -- all that is written, in the order in which a root reaches it
-  abbrev pub all_places : List Extent
-  all_places = directory ∷ pages_in placed ++ bodies_of (records_of placed.catalogue)
+  abbrev all_places : List Extent
+  all_places = written_in placed directory
 
   -- the lists hold what those of a copy hold
   records_are : records_of placed.catalogue ≡ with_extents (records_of c.catalogue) laid.bodies
@@ -64,19 +82,21 @@ module _ (size : ℕ) (c placed : Contents) (directory : Extent) (used : List Bo
       ∙ full_items (map (as_published (with_extents (records_of c.catalogue) laid.bodies)) (records_of c.published))
       ∙ ap (λ (held : List Record). map (as_published held) (records_of c.published)) (sym records_are)
 
+  were_given : (bodies_of (with_extents (records_of c.catalogue) laid.bodies) ≡ laid.bodies) × AllZip IsMoved (records_of c.catalogue) (with_extents (records_of c.catalogue) laid.bodies)
+      × All IsSizedRecord (with_extents (records_of c.catalogue) laid.bodies)
+  were_given = given laid.start laid.after_bodies (records_of c.catalogue) laid.bodies laid.held
+
   pub records_moved : AllZip IsMoved (records_of c.catalogue) (records_of placed.catalogue)
-  records_moved =
-      subst (λ (l : List Record). AllZip IsMoved (records_of c.catalogue) l) (sym records_are)
-      (given_moved laid.start laid.after_bodies (records_of c.catalogue) laid.bodies laid.held)
+  records_moved = subst (λ (l : List Record). AllZip IsMoved (records_of c.catalogue) l) (sym records_are) were_given.1
 
   pub records_sized : All IsSizedRecord (records_of placed.catalogue)
-  records_sized = subst (All IsSizedRecord) (sym records_are) (given_sized laid.start laid.after_bodies (records_of c.catalogue) laid.bodies laid.held)
+  records_sized = subst (All IsSizedRecord) (sym records_are) were_given.2
 
   -- each part takes blocks
   bodies_taken : AreTaken laid.start laid.after_bodies (bodies_of (records_of placed.catalogue))
   bodies_taken =
       subst (λ (es : List Extent). AreTaken laid.start laid.after_bodies es)
-      (sym (ap bodies_of records_are ∙ bodies_given laid.start laid.after_bodies (records_of c.catalogue) laid.bodies laid.held))
+      (sym (ap bodies_of records_are ∙ were_given.0))
       (all_taken laid.start laid.after_bodies (records_needed (records_of c.catalogue)) laid.bodies laid.held)
 
   pages_taken : AreTaken laid.after_bodies laid.lists.after_published (pages_in placed)
@@ -123,35 +143,18 @@ module _ (size : ℕ) (c placed : Contents) (directory : Extent) (used : List Bo
       ap₂ (λ (h : Header) (n : ℕ). directory_length h n) t.header pages
 
   directory_sized : IsSized directory (directory_bytes_of placed)
-  directory_sized =
-      subst (λ (n : ℕ). IsSized directory n) (sym long_as)
-      (laid.lists.last.blocks, λ none. laid.lists.last.nowhere (no_blocks (directory_bytes_of (copied_lists c laid.bodies)) none))
-    where
-      no_blocks : (n : ℕ) → n ≡ 0 → blocks_of n ≡ 0
-      no_blocks n none = omega (arith, none)
+  directory_sized = subst (λ (n : ℕ). IsSized directory n) (sym long_as) (taken_sized laid.lists.after_published used (directory_bytes_of (copied_lists c laid.bodies)) directory laid.lists.last)
 
   pub room : HasRoom size placed directory
   room =
-      let pages = pages_in placed in
-      let bodies = bodies_of (records_of placed.catalogue) in
       let lists = copied_lists c laid.bodies in
       let t = laid.lists in
-      let all = taken.apart in
-      let rest = pages ++ bodies in
-      let in_pages : (b : ℕ) → in_some pages b ≡ true → in_some all_places b ≡ true = λ b is. some_rest directory rest b (some_front pages bodies b is) in
-      let in_bodies : (b : ℕ) → in_some bodies b ≡ true → in_some all_places b ≡ true = λ b is. some_rest directory rest b (some_behind pages bodies b is) in
       record {
-        bodies = places_among size (records_of placed.catalogue) (λ b is. on_disk b (in_bodies b is)) records_sized;
-        pages = λ b is. on_disk b (in_pages b is);
-        directory_on_disk = λ b is. on_disk b (some_first directory rest b is);
-        bodies_apart = apart_behind pages bodies all.1;
-        pages_apart = apart_front pages bodies all.1;
-        pages_beside = apart_between pages bodies all.1;
-        directory_beside = λ b is. none_behind pages bodies b (all.0 b is);
-        directory_beside_pages = λ b is. none_front pages bodies b (all.0 b is);
-        bodies_behind = λ b is. not_slots b (in_bodies b is);
-        pages_behind = λ b is. not_slots b (in_pages b is);
-        directory_behind = λ b is. not_slots b (some_first directory rest b is);
+        bodies = places_among size (records_of placed.catalogue)
+            (λ b is. on_disk b (bodies_among placed directory b is)) records_sized;
+        on_disk = on_disk;
+        apart = taken.apart;
+        behind = not_slots;
         untouched = record {
           catalogue = settled_places record_format laid.after_bodies t.after_catalogue lists.catalogue placed.catalogue t.catalogue;
           history = settled_places change_format t.after_catalogue t.after_history lists.history.pages placed.history.pages t.history;

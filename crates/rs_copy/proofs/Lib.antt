@@ -5,7 +5,6 @@ pub mod Handed
 pub mod Laid
 pub mod Meanwhile
 pub mod MovedBodies
-pub mod Places
 pub mod Records
 pub mod Roomy
 pub mod Runs

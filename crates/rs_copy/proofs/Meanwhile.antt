@@ -1,11 +1,11 @@
 -- What each image of the new disk tells while a source is copied to it.
-use Rattle.std.proofs.Common.{◌≡◌, inl, inr, ℕ, ◌+◌, ◌*◌, ◌/◌, ◌%◌, ◌<◌, ◌≤◌, Bool, true, false, nat_lt, List, take, get_or, None, sym, ◌∙◌, subst, arith, length-take}
+use Rattle.std.proofs.Common.{◌≡◌, inl, inr, ℕ, ◌+◌, ◌*◌, ◌/◌, ◌%◌, ◌<◌, ◌≤◌, true, false, nat_lt, List, take, get_or, None, sym, ◌∙◌, subst, arith, length-take}
 use Rattle.std.proofs.lemmas.Bool.Decides.{nat_tests}
 use Rattle.std.proofs.lemmas.List.{ext_get_or, get_or-take}
 use Rattle.rs_disk.specs.Medium.{DiskState, IsMedium}
 use Rattle.rs_disk.specs.Leaves.{Leaves}
 use Rattle.rs_disk.proofs.Steps.{goes_on, goes_further, weaker}
-use Rattle.rs_body.specs.Outside.{Keeps, KeepsMarks, KeptFrom, WritesOutside}
+use Rattle.rs_body.specs.Outside.{Keeps, KeptFrom, WritesOutside}
 use Rattle.rs_commit.specs.declared.root.Root.{Root}
 use Rattle.rs_commit.specs.Slots.{current}
 use Rattle.rs_commit.specs.Commit.{OutsideOf, SameBehind}
@@ -22,22 +22,17 @@ is_low : (b : ℕ) → b < 2 → nat_lt b 2 ≡ true
 is_low b lt = grind (arith, nat_tests)
 
 -- blocks 0 and 1 stay where what is written is behind them
+same_front : {X : Type 0} (old new : List X) (d : X) → ((b i : ℕ) → is_slot b ≡ true → i < 512 → get_or new (512 * b + i) d ≡ get_or old (512 * b + i) d) → (i : ℕ) → i < 1024
+    → get_or new i d ≡ get_or old i d
+same_front old new d same i lt =
+    let place : 512 * (i / 512) + i % 512 ≡ i = omega arith in
+    subst (λ k. get_or new k d ≡ get_or old k d) place (same (i / 512) (i % 512) (is_low (i / 512) (omega arith)) (omega arith))
+
 front_kept : (old new : List ℕ) → Keeps is_slot old new → take 1024 new ≡ take 1024 old
 front_kept old new keeps = ext_get_or 0 (take 1024 new) (take 1024 old)
     (omega (arith, length-take 1024 new, length-take 1024 old, keeps.size))
-    (λ i lt. let below : i < 1024 = omega (arith, lt, length-take 1024 new) in here i below)
-  where
-    here : (i : ℕ) → i < 1024 → get_or (take 1024 new) i 0 ≡ get_or (take 1024 old) i 0
-    here i lt =
-        let place : 512 * (i / 512) + i % 512 ≡ i = omega arith in
-        let one = keeps.same (i / 512) (i % 512) (is_low (i / 512) (omega arith)) (omega arith) in
-        get_or-take 1024 new i 0 lt ∙ subst (λ (k : ℕ). get_or new k 0 ≡ get_or old k 0) place one ∙ sym (get_or-take 1024 old i 0 lt)
-
-marks_front : (old new : List Bool) → KeepsMarks is_slot old new → (i : ℕ) → i < 1024 → get_or new i false ≡ get_or old i false
-marks_front old new keeps i lt =
-    let place : 512 * (i / 512) + i % 512 ≡ i = omega arith in
-    let one = keeps.same (i / 512) (i % 512) (is_low (i / 512) (omega arith)) (omega arith) in
-    subst (λ (k : ℕ). get_or new k false ≡ get_or old k false) place one
+    (λ i lt. let below : i < 1024 = omega (arith, lt, length-take 1024 new) in
+    get_or-take 1024 new i 0 below ∙ same_front old new 0 keeps.same i below ∙ sym (get_or-take 1024 old i 0 below))
 
 pub turned : (one two : List ℕ) → SameBehind one two → SameBehind two one
 turned one two same = record { size = sym same.size; bytes = sym same.bytes }
@@ -57,16 +52,17 @@ module _ (none : ShutTellsNone) (old one two : DiskState) (is : IsMedium one.siz
 
   pub shut_still : ShutStays → AreShut two.now
   shut_still stays =
-      stays one.now two.now (front_kept one.now.seen two.now.seen writing.seen) (marks_front one.now.unsettled two.now.unsettled writing.marks) shut
+      stays one.now two.now (front_kept one.now.seen two.now.seen writing.seen) (same_front one.now.unsettled two.now.unsettled false writing.marks.same) shut
 
-  pub state_opened : (s : Source) (new : DiskState) (root : Root) (c : Contents) → Leaves two new (λ _. NoneOrRoot two.now root) → Tells root c two.now.seen s
-      → Leaves old new (λ m image. old.calls + 3 ≤ m → NoneOrState s image)
-  state_opened s new root c opening tells =
-      goes_on old two new (λ m image. old.calls + 3 ≤ m → NoneOrState s image) (none_written s)
-      (weaker two new (λ _. NoneOrRoot two.now root) (λ m image. old.calls + 3 ≤ m → NoneOrState s image)
-      (λ m image left late. stands image left) opening)
-    where
-      stands : (image : List ℕ) → NoneOrRoot two.now root image → NoneOrState s image
-      stands image (inl untold) = inl untold.0
-      stands image (inr opened) =
-          inr (root, opened.0, (c, tells_behind root c two.now.seen image s (turned image two.now.seen opened.1) tells))
+-- From then on each image tells no root, or stands for the state that the root tells.
+pub state_opened : {old two new : DiskState} (s : Source) (root : Root) (c : Contents) → Leaves old two (λ m image. old.calls + 3 ≤ m → NoneOrState s image)
+    → Leaves two new (λ _. NoneOrRoot two.now root) → Tells root c two.now.seen s → Leaves old new (λ m image. old.calls + 3 ≤ m → NoneOrState s image)
+state_opened {old} {two} {new} s root c so_far opening tells =
+    goes_on old two new (λ m image. old.calls + 3 ≤ m → NoneOrState s image) so_far
+    (weaker two new (λ _. NoneOrRoot two.now root) (λ m image. old.calls + 3 ≤ m → NoneOrState s image)
+    (λ m image left late. stands image left) opening)
+  where
+    stands : (image : List ℕ) → NoneOrRoot two.now root image → NoneOrState s image
+    stands image (inl untold) = inl untold.0
+    stands image (inr opened) =
+        inr (root, opened.0, (c, tells_behind root c two.now.seen image s (turned image two.now.seen opened.1) tells))

@@ -1,5 +1,5 @@
 -- Records that are given other extents.
-use Rattle.std.proofs.Common.{◌≡◌, ℕ, Bool, true, false, ◌&&◌, if◌then◌else◌, nat_eq, List, [], ◌∷◌, length, map, Option, Some, None, refl, sym, ◌∙◌, ap, ap₂, subst, arith}
+use Rattle.std.proofs.Common.{◌≡◌, ℕ, Bool, true, false, ◌&&◌, if◌then◌else◌, nat_eq, List, [], ◌∷◌, map, Option, Some, None, refl, sym, ◌∙◌, ap, ap₂, subst, arith}
 use Rattle.std.specs.Prelude.{All, IsTrue}
 use Rattle.std.specs.List.{AllZip}
 use Rattle.std.specs.Ordering.{is_lt}
@@ -8,6 +8,7 @@ use Rattle.std.specs.declared.cmp.Ordering.TheVariants.{Less, Equal, Greater}
 use Rattle.std.proofs.lemmas.Bool.{and_parts}
 use Rattle.std.proofs.lemmas.Bool.Decides.{nat_tests}
 use Rattle.std.proofs.lemmas.List.Elements.{All-nil, All-cons, All-head, All-tail}
+use Rattle.std.proofs.lemmas.Slice.Zip.{AllZip-long}
 use Rattle.rs_body.specs.Blocks.{IsSized}
 use Rattle.rs_record.specs.declared.record.Record.{Record}
 use Rattle.rs_model.specs.declared.value.Entry.{Entry}
@@ -47,17 +48,11 @@ ordered_moved (r ∷ rs) [] all = absurd all
 ordered_moved (r ∷ rs) (m ∷ moved) all =
     ap (λ (n : List ℕ). is_above n (named moved)) (ap (λ (x : Record). x.name) all.0) ∙ above_moved r.name rs moved all.1
 
-pub length_moved : (rs moved : List Record) → AllZip IsMoved rs moved → length moved ≡ length rs
-length_moved [] [] all = refl
-length_moved [] (m ∷ moved) all = absurd all
-length_moved (r ∷ rs) [] all = absurd all
-length_moved (r ∷ rs) (m ∷ moved) all = omega (arith, length_moved rs moved all.1)
-
 pub held_moved : (rs moved : List Record) → AllZip IsMoved rs moved → AreHeld rs → AreHeld moved
 held_moved rs moved all held =
     record {
       ordered = subst (λ (b : Bool). IsTrue b) (sym (ordered_moved rs moved all)) held.ordered;
-      room = omega (arith, length_moved rs moved all, held.room);
+      room = omega (arith, AllZip-long IsMoved rs moved all, held.room);
     }
 
 -- what is told of them but for their blocks is the same
@@ -90,6 +85,11 @@ sound_moved low high (r ∷ rs) (m ∷ moved) all sized sound =
     All-cons (IsSoundRecord low high) m moved
     (sound_one low high r m all.0 (All-head IsSizedRecord m moved sized) (All-head (IsSoundRecord low high) r rs sound))
     (sound_moved low high rs moved all.1 (All-tail IsSizedRecord m moved sized) (All-tail (IsSoundRecord low high) r rs sound))
+
+pub sized_among : (low high : ℕ) (rs : List Record) → All (IsSoundRecord low high) rs → All IsSizedRecord rs
+sized_among low high [] sound = All-nil IsSizedRecord
+sized_among low high (r ∷ rs) sound =
+    All-cons IsSizedRecord r rs (All-head (IsSoundRecord low high) r rs sound).sized (sized_among low high rs (All-tail (IsSoundRecord low high) r rs sound))
 
 -- the record of a name is one of the records
 by_case : {P : Type 0} (o : Ordering) (x r : Record) (rest : Option Record) → by_order o None (Some x) rest ≡ Some r → (x ≡ r → P) → (rest ≡ Some r → P) → P

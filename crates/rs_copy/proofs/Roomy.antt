@@ -22,6 +22,9 @@ use Rattle.rs_plan.proofs.Extents.{taken_lowest, same_taken}
 use Rattle.rs_plan.proofs.Placing.{needed}
 use Rattle.rs_copy.specs.Laying.{as_published, with_extents, copied_lists, records_needed, copy_needed, HasSlotsAlone, ArePlacedInTurn, IsLaidOut, LacksCopyRoom}
 
+abbrev pub directory_needed : Contents → List ℕ
+directory_needed c = blocks_of (directory_bytes_of c) ∷ []
+
 -- The lowest run of a length is one.
 not_lower : (used : List Bool) (n : ℕ) (e f : Extent) → IsLowest used n e → IsLowest used n f → e.first < f.first → ⊥
 not_lower used n e f a b lower = b.lowest e.first lower (λ i from until. a.is_free i from (omega (arith, until, a.blocks)))
@@ -97,6 +100,12 @@ pages_behind format used used' (piece ∷ pieces) (y ∷ ys) rest places none =
     (room_behind used places.0 (blocks_needed format piece) places.1.1.extent (pages_needed format (map touched pieces) ++ rest)
     (page_takes format used places.0 piece y places.1) none)
 
+-- what is needed, list for list
+pub needed_in_turn : (c : Contents) → copy_needed c ≡ pages_needed record_format c.catalogue ++ (pages_needed change_format c.history.pages ++ (pages_needed record_format c.published ++ directory_needed c))
+needed_in_turn c =
+    append_assoc (pages_needed record_format c.catalogue ++ pages_needed change_format c.history.pages) (pages_needed record_format c.published) (directory_needed c)
+    ∙ append_assoc (pages_needed record_format c.catalogue) (pages_needed change_format c.history.pages) (pages_needed record_format c.published ++ directory_needed c)
+
 -- The lists and their directory took theirs.
 lists_had_room : (used after : List Bool) (c placed : Contents) (bodies : List Extent) (directory : Extent)
     → ArePlacedInTurn used (copied_lists c bodies) placed directory after → HasNoRoom used (copy_needed (copied_lists c bodies)) → ⊥
@@ -107,7 +116,7 @@ lists_had_room used after c placed bodies directory t none =
     let b = pages_needed change_format lists.history.pages in
     let p = pages_needed record_format lists.published in
     let d = blocks_of (directory_bytes_of lists) ∷ [] in
-    let all : HasNoRoom used (a ++ (b ++ (p ++ d))) = subst (HasNoRoom used) (append_assoc (a ++ b) p d ∙ append_assoc a b (p ++ d)) none in
+    let all : HasNoRoom used (a ++ (b ++ (p ++ d))) = subst (HasNoRoom used) (needed_in_turn lists) none in
     let one : HasNoRoom t.after_catalogue (b ++ (p ++ d)) =
     pages_behind record_format used t.after_catalogue (cut_full held) placed.catalogue (b ++ (p ++ d)) t.catalogue all in
     let two : HasNoRoom t.after_history (p ++ d) =

@@ -1,66 +1,76 @@
--- Steps of a copy that follow one another.
-use Rattle.std.proofs.Common.{◌≡◌, inl, inr, Result, Ok, Err, refl, ◌∙◌, arith}
+-- Runs of calls of both disks of a copy: of no call, of one disk alone, one after another, and by another answer.
+use Rattle.std.proofs.Common.{◌≡◌, inl, inr, ◌≤◌, List, Result, Err, refl, ◌∙◌, arith}
+use Rattle.std.specs.Prelude.{IsErrOf}
+use Rattle.std.specs.Result.{IsErrAnd}
 use Rattle.rs_disk.specs.Medium.{DiskState}
-use Rattle.rs_disk.specs.Leaves.{Advances, HasFailed, Rests, Runs}
+use Rattle.rs_disk.specs.Runs.{HasFailed, RunsReading, RunsWriting}
+use Rattle.rs_disk.proofs.Runs.{reading_none, writing_none, rests, rests_on, advances, advances_on}
+use Rattle.rs_extent.specs.declared.Extent.{Extent}
+use Rattle.rs_extent.specs.Extents.{in_some, IsSubset}
+use Rattle.rs_body.specs.Outside.{WritesOnly}
+use Rattle.rs_body.proofs.KeptBlocks.{outside_on}
 use Rattle.rs_copy.specs.declared.faults.CopyFault.{CopyFault}
-use Rattle.rs_copy.specs.declared.faults.CopyFault.TheVariants.{Device}
-use Rattle.rs_copy.specs.Copying.{Steps}
-use Rattle.rs_copy.proofs.Handed.{same_err}
+use Rattle.rs_copy.specs.Copying.{CopiesOnly, RunsCopying}
+use Rattle.rs_copy.proofs.Handed.{handed_err, told_on}
 
--- one run and then another go on as one
-pub advances_on : (old mid new : DiskState) → Advances old mid → Advances mid new → Advances old new
-advances_on old mid new one two =
-    record {
-      size = two.size ∙ one.size;
-      keeps = two.keeps ∙ one.keeps;
-      calls = omega (arith, one.calls, two.calls);
-      faults = omega (arith, one.faults, two.faults);
-    }
+-- what failed in the second of two runs
+failed_then : (old mid new : DiskState) → old.faults ≤ mid.faults → HasFailed mid new → HasFailed old new
+failed_then old mid new up (inl more) = inl (omega (arith, more, up))
+failed_then old mid new up (inr spent) = inr spent
 
-run_advances : {T E : Type 0} (old new : DiskState) (result : Result T E) → Runs old new result → new.honest ≡ old.honest → Advances old new
-run_advances old new result runs keeps = record { size = runs.size; keeps = keeps; calls = runs.calls; faults = runs.faults }
+pub copying_as : {A B : Type 0} {before after old new : DiskState} → (A → B) → (B → A) → RunsCopying A before after old new → RunsCopying B before after old new
+copying_as to from run = record { rests = run.rests; advances = run.advances; failed = λ told. run.failed (from told); sound = λ not. run.sound (λ told. not (to told)) }
 
-pub writes_on : {T E : Type 0} {result : Result T E} (old mid new : DiskState) → Advances old mid → Runs mid new result → new.honest ≡ mid.honest → Advances old new
-writes_on {result = result} old mid new one runs keeps = advances_on old mid new one (run_advances mid new result runs keeps)
+pub copying_then : {A B : Type 0} {before mid after old now new : DiskState} → ¬ A → RunsCopying A before mid old now → RunsCopying B mid after now new → RunsCopying B before after old new
+copying_then {before = before} {mid = mid} {after = after} {old = old} {now = now} {new = new} well one two = record {
+  rests = rests_on before mid after one.rests two.rests;
+  advances = advances_on old now new one.advances two.advances;
+  failed = λ told. elim (two.failed told) [
+    | inl read ↦ inl (failed_then before mid after one.rests.runs.faults read)
+    | inr written ↦ inr (failed_then old now new one.advances.runs.faults written)
+  ];
+  sound = λ not. ((two.sound not).0 ∙ (one.sound well).0, (two.sound not).1 ∙ (one.sound well).1);
+}
 
--- a call that failed in the second of two runs
-pub failed_then : (old mid new : DiskState) → Advances old mid → HasFailed mid new → HasFailed old new
-failed_then old mid new one (inl more) = inl (omega (arith, more, one.faults))
-failed_then old mid new one (inr spent) = inr spent
+pub copying_read : {A : Type 0} (before after old : DiskState) → RunsReading A before after → RunsCopying A before after old old
+copying_read before after old run = record {
+  rests = rests before after run;
+  advances = advances old old (writing_none {A = ⊥} old (λ none. none));
+  failed = λ told. inl (run.runs.failed told);
+  sound = λ not. (run.runs.sound not, refl);
+}
 
--- a step after some calls of the new disk that went well
-pub steps_after : {T : Type 0} (before after old one two : DiskState) (result : Result T CopyFault) → Advances old one → one.faults ≡ old.faults
-    → Steps before after one two result → Steps before after old two result
-steps_after before after old one two result goes unmet steps =
-    record {
-      rests = steps.rests;
-      advances = advances_on old one two goes steps.advances;
-      failed = λ is. elim (steps.failed is) [ inl read ↦ inl read | inr written ↦ inr (failed_then old one two goes written) ];
-      sound = λ not. ((steps.sound not).0, (steps.sound not).1 ∙ unmet);
-      others = steps.others;
-    }
+pub copying_write : {A : Type 0} (before old new : DiskState) → RunsWriting A old new → RunsCopying A before before old new
+copying_write before old new run = record {
+  rests = rests before before (reading_none {A = ⊥} before (λ none. none));
+  advances = advances old new run;
+  failed = λ told. inr (run.runs.failed told);
+  sound = λ not. (refl, run.runs.sound not);
+}
 
--- a fault that ends one step ends another
-pub steps_handed : {S T : Type 0} (before after old new : DiskState) (fault : CopyFault) → Steps {T = S} before after old new (Err fault) → Steps {T = T} before after old new (Err fault)
-steps_handed {S} {T} before after old new fault steps =
-    record {
-      rests = steps.rests;
-      advances = steps.advances;
-      failed = λ is. steps.failed (same_err {S = T} {T = S} fault Device is);
-      sound = λ not. steps.sound (λ is. not (same_err {S = S} {T = T} fault Device is));
-      others = steps.others;
-    }
+-- The same where the new disk is written in some extents alone.
+pub copies_as : {A B : Type 0} {xs : List Extent} {before after old new : DiskState} → (A → B) → (B → A) → CopiesOnly xs A before after old new → CopiesOnly xs B before after old new
+copies_as to from run = record { runs = copying_as to from run.runs; outside = run.outside }
 
--- a step that ends in a failed call of the new disk
-pub step_failed : {T : Type 0} (before after old new : DiskState) → Rests before after → Advances old new → HasFailed old new → Steps {T = T} before after old new (Err Device)
-step_failed before after old new rests goes failed =
-    record { rests = rests; advances = goes; failed = λ is. inr failed; sound = λ not. absurd (not refl); others = tt }
+pub copies_handed : {S T : Type 0} {xs : List Extent} {before after old new : DiskState} (r : Result T CopyFault) (e fault : CopyFault) → IsErrAnd r (λ y. y ≡ e)
+    → CopiesOnly xs (IsErrOf {T = S} (Err e) fault) before after old new → CopiesOnly xs (IsErrOf r fault) before after old new
+copies_handed {S} r e fault handed run = copies_as (told_on {S = S} r e fault handed) (handed_err r e fault handed) run
 
--- a step that went well
-pub step_done : {T : Type 0} (before after old new : DiskState) (x : T) → Rests before after → Advances old new → after.faults ≡ before.faults → new.faults ≡ old.faults
-    → Steps before after old new (Ok x)
-step_done before after old new x rests goes read written =
-    record { rests = rests; advances = goes; failed = λ is. absurd (ok_no_err is); sound = λ not. (read, written); others = tt }
-  where
-    ok_no_err : Ok x ≡ Err Device → ⊥
-    ok_no_err is = cc
+pub copies_then : {A B : Type 0} {xs ys : List Extent} {before mid after old now new : DiskState} (zs : List Extent) → IsSubset (in_some xs) (in_some zs) → IsSubset (in_some ys) (in_some zs)
+    → ¬ A → CopiesOnly xs A before mid old now → CopiesOnly ys B mid after now new → CopiesOnly zs B before after old new
+copies_then {old = old} {now = now} {new = new} zs first second well one two = record {
+  runs = copying_then well one.runs two.runs;
+  outside = λ kept beside. outside_on kept old now new (one.outside kept (λ b is. beside b (first b is))) (two.outside kept (λ b is. beside b (second b is)));
+}
+
+pub copies_within : {A : Type 0} {xs : List Extent} {before after old new : DiskState} (zs : List Extent) → IsSubset (in_some xs) (in_some zs)
+    → CopiesOnly xs A before after old new → CopiesOnly zs A before after old new
+copies_within zs part run = record { runs = run.runs; outside = λ kept beside. run.outside kept (λ b is. beside b (part b is)) }
+
+pub copies_read : {A B : Type 0} {xs : List Extent} {before mid after old new : DiskState} → ¬ A → CopiesOnly xs A before mid old new → RunsReading B mid after → CopiesOnly xs B before after old new
+copies_read {mid = mid} {after = after} {new = new} well one run = record { runs = copying_then well one.runs (copying_read mid after new run); outside = one.outside }
+
+pub copies_write : {A B : Type 0} {xs ys : List Extent} {before after old now new : DiskState} → IsSubset (in_some ys) (in_some xs)
+    → ¬ A → CopiesOnly xs A before after old now → WritesOnly ys B now new → CopiesOnly xs B before after old new
+copies_write {xs = xs} {after = after} {now = now} {new = new} part well one run =
+    copies_then xs (λ b is. is) part well one (record { runs = copying_write after now new run.runs; outside = run.outside })

@@ -6,7 +6,7 @@ use Rattle.std.proofs.lemmas.List.Elements.{All-nil, All-cons}
 use Rattle.rs_extent.specs.declared.Extent.{Extent}
 use Rattle.rs_extent.specs.Extents.{AreTaken}
 use Rattle.rs_extent.proofs.Taken.{taken_none, taken_both}
-use Rattle.rs_body.specs.Blocks.{blocks_of}
+use Rattle.rs_body.specs.Blocks.{blocks_of, IsSized}
 use Rattle.rs_record.specs.declared.record.Record.{Record}
 use Rattle.rs_image.specs.Reach.{bodies_of}
 use Rattle.rs_plan.specs.Room.{HasNoRun, HasNoRoom, Takes, TakesEach}
@@ -35,24 +35,18 @@ all_taken old new [] (e ∷ es) taken = absurd taken
 all_taken old new (n ∷ ns) [] taken = absurd taken
 all_taken old new (n ∷ ns) (e ∷ es) taken = taken_both old taken.0 new (e ∷ []) es (taken_lowest old taken.0 n e taken.1) (all_taken taken.0 new ns es taken.2)
 
+pub taken_sized : (old new : List Bool) (n : ℕ) (e : Extent) → Takes old (blocks_of n) e new → IsSized e n
+taken_sized old new n e taken = (taken.blocks, λ none. taken.nowhere (omega (arith, none)))
+
 -- The bodies of records that took blocks: the records are the same but for their extents, which are of their sizes.
-pub bodies_given : (old new : List Bool) (rs : List Record) (es : List Extent) → TakesEach old (records_needed rs) es new → bodies_of (with_extents rs es) ≡ es
-bodies_given old new [] [] taken = refl
-bodies_given old new [] (e ∷ es) taken = absurd taken
-bodies_given old new (r ∷ rs) [] taken = absurd taken
-bodies_given old new (r ∷ rs) (e ∷ es) taken = ap (λ (l : List Extent). e ∷ l) (bodies_given taken.0 new rs es taken.2)
-
-pub given_moved : (old new : List Bool) (rs : List Record) (es : List Extent) → TakesEach old (records_needed rs) es new → AllZip IsMoved rs (with_extents rs es)
-given_moved old new [] es taken = tt
-given_moved old new (r ∷ rs) [] taken = absurd taken
-given_moved old new (r ∷ rs) (e ∷ es) taken = (refl, given_moved taken.0 new rs es taken.2)
-
-no_blocks : (n : ℕ) → n ≡ 0 → blocks_of n ≡ 0
-no_blocks n none = omega (arith, none)
-
-pub given_sized : (old new : List Bool) (rs : List Record) (es : List Extent) → TakesEach old (records_needed rs) es new → All IsSizedRecord (with_extents rs es)
-given_sized old new [] es taken = All-nil IsSizedRecord
-given_sized old new (r ∷ rs) [] taken = absurd taken
-given_sized old new (r ∷ rs) (e ∷ es) taken =
-    All-cons IsSizedRecord (record r { extent = e }) (with_extents rs es)
-    (taken.1.blocks, λ none. taken.1.nowhere (no_blocks r.length none)) (given_sized taken.0 new rs es taken.2)
+pub given : (old new : List Bool) (rs : List Record) (es : List Extent) → TakesEach old (records_needed rs) es new
+    → (bodies_of (with_extents rs es) ≡ es) × AllZip IsMoved rs (with_extents rs es) × All IsSizedRecord (with_extents rs es)
+given old new [] [] taken = (refl, tt, All-nil IsSizedRecord)
+given old new [] (e ∷ es) taken = absurd taken
+given old new (r ∷ rs) [] taken = absurd taken
+given old new (r ∷ rs) (e ∷ es) taken =
+    let rest = given taken.0 new rs es taken.2 in (
+      ap (λ (l : List Extent). e ∷ l) rest.0,
+      (refl, rest.1),
+      All-cons IsSizedRecord (record r { extent = e }) (with_extents rs es) (taken_sized old taken.0 r.length e taken.1) rest.2,
+    )

@@ -1,18 +1,18 @@
 -- What stands of a copy tells the state that was copied.
-use Rattle.std.proofs.Common.{◌≡◌, ◌++◌, ℕ, Bool, List, length, map, refl, sym, ◌∙◌, ap, subst}
+use Rattle.std.proofs.Common.{◌≡◌, ℕ, Bool, List, [], ◌∷◌, length, map, refl, sym, ◌∙◌, ap, subst}
 use Rattle.std.specs.Prelude.{All}
 use Rattle.rs_disk.specs.Medium.{DiskState}
 use Rattle.rs_extent.specs.declared.Extent.{Extent}
-use Rattle.rs_extent.specs.Extents.{in_some, AreBeside, IsBeside}
-use Rattle.rs_extent.proofs.Sets.{some_front, some_behind}
-use Rattle.rs_body.specs.Outside.{Keeps, WritesOutside}
+use Rattle.rs_extent.specs.Extents.{in_some}
+use Rattle.rs_extent.proofs.Sets.{in_one, none_front, none_behind, apart_between}
+use Rattle.rs_body.specs.Outside.{Keeps, WritesOnly}
 use Rattle.rs_body.proofs.KeptBlocks.{outside_on}
 use Rattle.rs_record.specs.declared.record.Record.{Record}
 use Rattle.rs_record.specs.declared.change.Change.{Change}
 use Rattle.rs_model.specs.State.{Source}
 use Rattle.rs_model.specs.Listed.{entry_of}
 use Rattle.rs_page.specs.Items.{record_format, change_format}
-use Rattle.rs_page.specs.Pages.{Page, IsStored, placed_extents, stored, stored_refs}
+use Rattle.rs_page.specs.Pages.{Page, IsStored, stored, stored_refs}
 use Rattle.rs_page.specs.DiskPages.{Stands as PageStands}
 use Rattle.rs_page.proofs.Standing.{written_stand, written_stay, standing_are_pages}
 use Rattle.rs_catalogue.specs.Catalogue.{AreHeld, records_of, IsCatalogue, HoldsCatalogue}
@@ -26,43 +26,35 @@ use Rattle.rs_image.specs.Whole.{IsWhole}
 use Rattle.rs_plan.proofs.Stored.{stored_items}
 use Rattle.rs_copy.specs.Laying.{as_published, with_extents, IsLaidOut, all_stored}
 use Rattle.rs_copy.specs.Copies.{HasItsBody}
-use Rattle.rs_copy.specs.Copying.{HasRoom, ArePagesWritten, IsListed, CopyStands, copied_root, pages_in}
+use Rattle.rs_copy.specs.Copying.{HasRoom, ArePagesWritten, CopyStands, copied_root, pages_in}
 use Rattle.rs_copy.proofs.FullPages.{full_stand}
-use Rattle.rs_copy.proofs.Laid.{changes_are, listed_are}
-use Rattle.rs_copy.proofs.MovedBodies.{held_stay, intact_stay}
+use Rattle.rs_copy.proofs.Laid.{among_first, among_second, among_last, changes_are, listed_are}
+use Rattle.rs_copy.proofs.MovedBodies.{bodies_stay}
 use Rattle.rs_copy.proofs.Records.{entries_moved, published_moved}
 
 -- Bodies, then pages, then the directory: all of them stand at the end.
-module _ (size : ℕ) (c : Contents) (directory : Extent) (room : HasRoom size c directory) (one two three : DiskState)
-    (pages : (kept : ℕ → Bool) → AreBeside kept (pages_in c) → WritesOutside kept one two) (last : (kept : ℕ → Bool) → IsBeside kept directory → WritesOutside kept two three) where
+module _ {A B : Type 0} (size : ℕ) (c : Contents) (directory : Extent) (room : HasRoom size c directory) (one two three : DiskState)
+    (pages : WritesOnly (pages_in c) A one two) (last : WritesOnly (directory ∷ []) B two three) where
   bodies_kept : Keeps (in_some (bodies_of (records_of c.catalogue))) one.now.seen three.now.seen
   bodies_kept =
-      let bodies = in_some (bodies_of (records_of c.catalogue)) in
-      (outside_on bodies one two three (pages bodies room.pages_beside) (last bodies room.directory_beside)).seen
+      let bodies = bodies_of (records_of c.catalogue) in
+      (outside_on (in_some bodies) one two three (pages.outside (in_some bodies) (apart_between (pages_in c) bodies room.apart.1))
+      (last.outside (in_some bodies) (λ b is. none_behind (pages_in c) bodies b (room.apart.0 b (in_one directory b is))))).seen
 
   pages_kept : Keeps (in_some (pages_in c)) two.now.seen three.now.seen
-  pages_kept = (last (in_some (pages_in c)) room.directory_beside_pages).seen
+  pages_kept = (last.outside (in_some (pages_in c)) (λ b is. none_front (pages_in c) (bodies_of (records_of c.catalogue)) b (room.apart.0 b (in_one directory b is)))).seen
 
-  pub held_at_end : map (held_in three.now.seen) (records_of c.catalogue) ≡ map (held_in one.now.seen) (records_of c.catalogue)
-  held_at_end = held_stay (in_some (bodies_of (records_of c.catalogue))) size (records_of c.catalogue) one.now.seen three.now.seen room.bodies (λ b is. is) bodies_kept
+  pub bodies_at_end : (map (held_in three.now.seen) (records_of c.catalogue) ≡ map (held_in one.now.seen) (records_of c.catalogue))
+      × (All (HasItsBody one.now.seen) (records_of c.catalogue) → All (HasItsBody three.now.seen) (records_of c.catalogue))
+  bodies_at_end = bodies_stay (in_some (bodies_of (records_of c.catalogue))) size (records_of c.catalogue) one.now.seen three.now.seen room.bodies (λ b is. is) bodies_kept
 
-  pub stands_at_end : All (HasItsBody one.now.seen) (records_of c.catalogue) → ArePagesWritten two.now.seen c → IsListed directory (all_stored c) three.now.seen
-      → CopyStands c directory three.now.seen
-  stands_at_end intact written listed =
-      let first = placed_extents c.catalogue in
-      let second = placed_extents c.history.pages in
-      let third = placed_extents c.published in
+  pub stands_at_end : ArePagesWritten two.now.seen c → ArePagesWritten three.now.seen c
+  stands_at_end written =
       let all = in_some (pages_in c) in
       record {
-        pages = record {
-          catalogue = written_stay record_format all c.catalogue two.now.seen three.now.seen
-              (λ b is. some_front (first ++ second) third b (some_front first second b is)) pages_kept written.catalogue;
-          history = written_stay change_format all c.history.pages two.now.seen three.now.seen
-              (λ b is. some_front (first ++ second) third b (some_behind first second b is)) pages_kept written.history;
-          published = written_stay record_format all c.published two.now.seen three.now.seen (λ b is. some_behind (first ++ second) third b is) pages_kept written.published;
-        };
-        listed = listed;
-        intact = intact_stay (in_some (bodies_of (records_of c.catalogue))) size (records_of c.catalogue) one.now.seen three.now.seen room.bodies (λ b is. is) bodies_kept intact;
+        catalogue = written_stay record_format all c.catalogue two.now.seen three.now.seen (among_first c) pages_kept written.catalogue;
+        history = written_stay change_format all c.history.pages two.now.seen three.now.seen (among_second c) pages_kept written.history;
+        published = written_stay record_format all c.published two.now.seen three.now.seen (among_last c) pages_kept written.published;
       }
 
 -- The lists are on the disk.

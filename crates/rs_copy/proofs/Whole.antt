@@ -5,7 +5,7 @@ use Rattle.std.proofs.lemmas.Bool.{or_right}
 use Rattle.rs_extent.specs.declared.Extent.{Extent}
 use Rattle.rs_extent.specs.Blocks.{is_used}
 use Rattle.rs_extent.specs.Extents.{in_some, AreApart, AreDisjoint}
-use Rattle.rs_extent.proofs.Sets.{none_front, apart_behind, beside_between}
+use Rattle.rs_extent.proofs.Sets.{none_front, some_behind, apart_front, apart_behind, beside_between}
 use Rattle.rs_commit.specs.declared.root.Root.{Root}
 use Rattle.rs_record.specs.declared.change.Change.{Change}
 use Rattle.rs_page.specs.Items.{record_format, change_format}
@@ -23,10 +23,10 @@ use Rattle.rs_image.specs.StateOfImage.{AreListable, listing, directory_bytes_of
 use Rattle.rs_body.specs.Blocks.{IsSized}
 use Rattle.rs_plan.proofs.Stored.{stored_items, length_stored, all_stored as pages_stored}
 use Rattle.rs_copy.specs.Laying.{as_published, with_extents, IsLaidOut, all_stored}
-use Rattle.rs_copy.specs.Copying.{pages_in, copied_root}
+use Rattle.rs_copy.specs.Copying.{HasPlace, pages_in, copied_root, written_in}
 use Rattle.rs_copy.proofs.FullPages.{full_extents, full_blocks, none_shared}
-use Rattle.rs_copy.proofs.Laid.{all_places, changes_are, listed_are, records_moved, records_sized, taken, inside, room}
-use Rattle.rs_copy.proofs.Records.{published_moved, sized_published, sound_moved}
+use Rattle.rs_copy.proofs.Laid.{block_fits, places_among, changes_are, listed_are, records_moved, records_sized, taken, inside, room}
+use Rattle.rs_copy.proofs.Records.{published_moved, sized_among, sized_published, sound_moved}
 
 -- the moments stay in order where the header and the changes stay
 moments_stay : (c c' : Contents) (h : Header) → c.header ≡ h → changes_of c'.history.pages ≡ changes_of c.history.pages → AreMoments c.header c → AreMoments h c'
@@ -61,7 +61,7 @@ module _ (size : ℕ) (c placed : Contents) (directory : Extent) (used : List Bo
 
   -- none of them is shared
   apart_pages : AreApart (pages_in placed)
-  apart_pages = (room size c placed directory used laid).pages_apart
+  apart_pages = apart_front (pages_in placed) (bodies_of (records_of placed.catalogue)) (taken size c placed directory used laid).apart.1
 
   not_shared : unshared (stored_refs (stored record_format placed.published)) (stored_refs (stored record_format placed.catalogue)) ≡ stored_refs (stored record_format placed.published)
   not_shared =
@@ -76,14 +76,11 @@ module _ (size : ℕ) (c placed : Contents) (directory : Extent) (used : List Bo
       (subst (λ (es : List Extent). AreDisjoint (in_some last) (in_some es)) (sym catalogue_at) beside))
 
   -- so the root reaches what was laid out
-  reach_is : reach (copied_root directory (all_stored placed)) (all_stored placed) ≡ all_places size c placed directory used laid
+  reach_is : reach (copied_root directory (all_stored placed)) (all_stored placed) ≡ written_in placed directory
   reach_is =
       let published : extents_of (unshared (stored_refs (stored record_format placed.published)) (stored_refs (stored record_format placed.catalogue))) ≡ placed_extents placed.published =
       ap extents_of not_shared ∙ published_at in
       λ i. directory ∷ catalogue_at i ++ history_at i ++ published i ++ bodies_of (stored_items record_format placed.catalogue i)
-
-  header_is : c.header ≡ placed.header
-  header_is = sym laid.lists.header
 
   copied_changes : changes_of (stored change_format placed.history.pages) ≡ changes_of c.history.pages
   copied_changes = stored_items change_format placed.history.pages ∙ changes_are size c placed directory used laid
@@ -115,12 +112,12 @@ module _ (size : ℕ) (c placed : Contents) (directory : Extent) (used : List Bo
         catalogue = pages_stored record_format placed.catalogue has.untouched.catalogue;
         history = pages_stored change_format placed.history.pages has.untouched.history;
         published = pages_stored record_format placed.published has.untouched.published;
-        moments = moments_stay c (all_stored placed) placed.header header_is copied_changes whole.moments;
-        number = laid.lists.first ∙ whole.number ∙ ap (λ (h : Header). h.first) header_is;
-        records = subst (λ (h : Header). All (IsSoundRecord h.start h.last) (records_of (stored record_format placed.catalogue))) header_is (sound_records c.header.start c.header.last whole.records);
-        changes = subst (λ (h : Header). All (IsSoundChange h.begin h.last) (changes_of (stored change_format placed.history.pages))) header_is
+        moments = moments_stay c (all_stored placed) placed.header (sym laid.lists.header) copied_changes whole.moments;
+        number = laid.lists.first ∙ whole.number ∙ ap (λ (h : Header). h.first) (sym laid.lists.header);
+        records = subst (λ (h : Header). All (IsSoundRecord h.start h.last) (records_of (stored record_format placed.catalogue))) (sym laid.lists.header) (sound_records c.header.start c.header.last whole.records);
+        changes = subst (λ (h : Header). All (IsSoundChange h.begin h.last) (changes_of (stored change_format placed.history.pages))) (sym laid.lists.header)
             (subst (All (IsSoundChange c.header.begin c.header.last)) (sym copied_changes) whole.changes);
-        listed = subst (λ (h : Header). All (IsSoundRecord h.start h.at) (records_of (stored record_format placed.published))) header_is (sound_listed c.header.start c.header.at whole.listed);
+        listed = subst (λ (h : Header). All (IsSoundRecord h.start h.at) (records_of (stored record_format placed.published))) (sym laid.lists.header) (sound_listed c.header.start c.header.at whole.listed);
         directory = subst (IsSized directory) (sym (long ∙ as_long)) has.sized;
         apart = subst AreApart (sym reach_is) (taken size c placed directory used laid).apart;
         published_apart = subst AreApart (sym published_at) (apart_behind (first ++ second) (placed_extents placed.published) apart_pages);
@@ -142,3 +139,16 @@ module _ (size : ℕ) (c placed : Contents) (directory : Extent) (used : List Bo
       → AreListable written_format (all_stored placed) → MemoryIsSound (rooted size (copied_root directory (all_stored placed)) (all_stored placed)) used
   sound_copied size' root whole room long listable =
       record { rooted = record { room = room; whole = whole_copied size' root whole long; listable = listable }; used = used_copied }
+
+-- The records behind any root have their places.
+-- what a root reaches before the bodies
+abbrev lists_reached : Root → Contents → List Extent
+lists_reached root c =
+    root.directory ∷ extents_of (stored_refs c.catalogue) ++ extents_of (stored_refs c.history.pages)
+    ++ extents_of (unshared (stored_refs c.published) (stored_refs c.catalogue))
+
+pub all_have_places : (size : ℕ) (root : Root) (c : Contents) → IsWhole size root c → All (HasPlace size) (records_of c.catalogue)
+all_have_places size root c whole =
+    places_among size (records_of c.catalogue)
+    (λ b is. block_fits size b (whole.inside b (some_behind (lists_reached root c) (bodies_of (records_of c.catalogue)) b is)).1)
+    (sized_among c.header.start c.header.last (records_of c.catalogue) whole.records)

@@ -1,7 +1,8 @@
 -- What a copy of a source is, and what it leaves of both disks.
 use Rattle.std.specs.Prelude.{◌≡◌, ◌⊎◌, ◌↔◌, ◌<◌, ◌≤◌, ◌+◌, ℕ, List, All, None, Result, IfOk, IsErrOf, IsTrue}
 use Rattle.rs_disk.specs.Medium.{DiskState, IsImage}
-use Rattle.rs_disk.specs.Leaves.{Advances, HasFailed, Leaves, Rests}
+use Rattle.rs_disk.specs.Leaves.{Leaves}
+use Rattle.rs_disk.specs.Runs.{Advances, HasFailed, Rests}
 use Rattle.rs_fixity.specs.Digests.{digests}
 use Rattle.rs_record.specs.declared.record.Record.{Record}
 use Rattle.rs_body.specs.Blocks.{part}

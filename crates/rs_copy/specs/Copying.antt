@@ -1,13 +1,14 @@
 -- Words of the copier's own contracts: what a step of a copy leaves, and what stands once it is made.
-use Rattle.std.specs.Prelude.{◌≡◌, ◌⊎◌, ◌<◌, ◌≤◌, ◌+◌, ◌*◌, ◌++◌, ℕ, Bool, [], nat_lt, List, length, All, None, Result, IfErr, IfOk, OnOk, OnErr, IsErrOf, IsTrue}
-use Rattle.rs_disk.specs.declared.disk.Fault.{Fault}
+use Rattle.std.specs.Prelude.{◌≡◌, ◌⊎◌, ◌<◌, ◌≤◌, ◌+◌, ◌*◌, ◌++◌, ℕ, Bool, [], nat_lt, ◌∷◌, List, length, map, All, None, Result, IfErr, IfOk, OnOk, IsErrOf, IsTrue}
 use Rattle.rs_disk.specs.Medium.{DiskState, IsImage}
-use Rattle.rs_disk.specs.Leaves.{Advances, HasFailed, Leaves, Rests}
+use Rattle.rs_disk.specs.Leaves.{Leaves}
+use Rattle.rs_disk.specs.Runs.{Advances, HasFailed, Rests}
 use Rattle.rs_fixity.specs.Digests.{digests}
 use Rattle.rs_extent.specs.declared.Extent.{Extent}
 use Rattle.rs_extent.specs.Blocks.{block_size}
-use Rattle.rs_extent.specs.Extents.{in_some, IsOnDisk, AreOnDisk, AreApart, IsBeside, AreBeside}
+use Rattle.rs_extent.specs.Extents.{IsOnDisk, AreOnDisk, AreApart, AreBeside}
 use Rattle.rs_body.specs.Blocks.{part, IsSized}
+use Rattle.rs_body.specs.Outside.{WritesOutside}
 use Rattle.rs_commit.specs.declared.root.Root.{Root}
 use Rattle.rs_commit.specs.Commit.{IsReady}
 use Rattle.rs_commit.specs.Slots.{Standing, current, written_version}
@@ -24,7 +25,7 @@ use Rattle.rs_directory.specs.Directory.{written_format}
 use Rattle.rs_image.specs.declared.contents.Contents.{Contents}
 use Rattle.rs_image.specs.Reach.{bodies_of}
 use Rattle.rs_image.specs.Rooted.{rooted, MemoryIsSound}
-use Rattle.rs_image.specs.StateOfImage.{Tells, StandsFor, AreListable, listing, state_in, directory_bytes_of, AreLists}
+use Rattle.rs_image.specs.StateOfImage.{Tells, StandsFor, AreListable, listing, held_in, state_in, directory_bytes_of, AreLists}
 use Rattle.rs_image.specs.Whole.{IsWhole}
 use Rattle.rs_copy.specs.declared.faults.CopyFault.{CopyFault}
 use Rattle.rs_copy.specs.declared.faults.CopyFault.TheVariants.{TooSmall, Full, Device, Damaged, NoMemory}
@@ -53,26 +54,41 @@ IsOfWriting Device = Unit {0}
 IsOfWriting Damaged = Unit {0}
 IsOfWriting NoMemory = Unit {0}
 
+-- what may end the writing of the directory, beside it
+abbrev pub IsOfListing : CopyFault → Type 0
+IsOfListing TooSmall = ⊥
+IsOfListing Full = ⊥
+IsOfListing Device = Unit {0}
+IsOfListing Damaged = ⊥
+IsOfListing NoMemory = Unit {0}
+
 -- no page has blocks that it is not written to
 pub record AreAllUnplaced (c : Contents) : Type 0 where
   pub catalogue : placed_extents c.catalogue ≡ []
   pub history : placed_extents c.history.pages ≡ []
   pub published : placed_extents c.published ≡ []
 
--- What a step of a copy leaves of both disks, whatever it answers: the old one is only read, and a fault is answered where one was met.
-pub record Steps {T : Type 0} (before after old new : DiskState) (result : Result T CopyFault) : Type 0 where
+-- A run of calls of both disks of a copy: the old one is only read, and the new one is written. The answer tells of a device only where
+-- a call of one of the two failed, and where it doesn't tell of one, none did.
+pub record RunsCopying (told : Type 0) (before after old new : DiskState) : Type 0 where
   pub rests : Rests before after
   pub advances : Advances old new
-  pub failed : IsErrOf result Device → HasFailed before after ⊎ HasFailed old new
-  pub sound : ¬ IsErrOf result Device → (after.faults ≡ before.faults) × (new.faults ≡ old.faults)
-  pub others : IfErr result IsOfWriting
+  pub failed : told → HasFailed before after ⊎ HasFailed old new
+  pub sound : ¬ told → (after.faults ≡ before.faults) × (new.faults ≡ old.faults)
 
--- The same of the pieces of a body, which end where a call of one of the disks fails.
-pub record CopiesPieces {T : Type 0} (before after old new : DiskState) (result : Result T Fault) : Type 0 where
-  pub rests : Rests before after
-  pub advances : Advances old new
-  pub failed : OnErr result (HasFailed before after ⊎ HasFailed old new)
-  pub sound : OnOk result ((after.faults ≡ before.faults) × (new.faults ≡ old.faults))
+-- Such a run that writes these extents of the new disk alone: each set of blocks beside them stays.
+pub record CopiesOnly (extents : List Extent) (told : Type 0) (before after old new : DiskState) : Type 0 where
+  pub runs : RunsCopying told before after old new
+  pub outside : (kept : ℕ → Bool) → AreBeside kept extents → WritesOutside kept old new
+
+-- Bodies of one disk were copied to the extents that these records have on another one, or were not.
+-- `copied`: of an old disk that has followed the model, they are the bodies that it holds.
+-- `intact`: of every old disk, each has its SHA-256.
+-- `damaged`: of an old disk that has followed the model, Damaged is answered only where a body of it has not.
+pub record CopiesBodies {T : Type 0} (rs moved : List Record) (before after new : DiskState) (result : Result T CopyFault) : Type 0 where
+  pub copied : OnOk result (IsTrue after.honest → map (held_in new.now.seen) moved ≡ map (held_in before.now.seen) rs)
+  pub intact : OnOk result (All (HasItsBody new.now.seen) moved)
+  pub damaged : IsErrOf result Damaged → IsTrue after.honest → ¬ All (HasItsBody before.now.seen) rs
 
 -- the blocks of the slots
 abbrev pub is_slot : ℕ → Bool
@@ -117,28 +133,30 @@ pub record IsListed (directory : Extent) (c : Contents) (image : List ℕ) : Typ
   pub long : length (listing written_format c) ≡ directory_bytes_of c
   pub reads : part directory (length (listing written_format c)) image ≡ listing written_format c
 
+-- all that a copy writes behind the slots, in the order in which a root reaches it
+abbrev pub written_in : Contents → Extent → List Extent
+written_in c directory = directory ∷ pages_in c ++ bodies_of (records_of c.catalogue)
+
 -- What a copy writes has room on a disk of this many bytes: it lies behind the slots, no two things with a block in common, each page
 -- has its place, and the directory has exactly its blocks.
 pub record HasRoom (size : ℕ) (c : Contents) (directory : Extent) : Type 0 where
   pub bodies : All (HasPlace size) (records_of c.catalogue)
-  pub pages : AreOnDisk (pages_in c) size
-  pub directory_on_disk : IsOnDisk directory size
-  pub bodies_apart : AreApart (bodies_of (records_of c.catalogue))
-  pub pages_apart : AreApart (pages_in c)
-  pub pages_beside : AreBeside (in_some (bodies_of (records_of c.catalogue))) (pages_in c)
-  pub directory_beside : IsBeside (in_some (bodies_of (records_of c.catalogue))) directory
-  pub directory_beside_pages : IsBeside (in_some (pages_in c)) directory
-  pub bodies_behind : AreBeside is_slot (bodies_of (records_of c.catalogue))
-  pub pages_behind : AreBeside is_slot (pages_in c)
-  pub directory_behind : IsBeside is_slot directory
+  pub on_disk : AreOnDisk (written_in c directory) size
+  pub apart : AreApart (written_in c directory)
+  pub behind : AreBeside is_slot (written_in c directory)
   pub untouched : AreUntouched c
   pub sized : IsSized directory (directory_bytes_of c)
 
--- What stands of a copy behind the slots: its pages and its directory, and each body with its SHA-256.
+-- What stands of the lists of a copy: their pages and their directory.
 pub record CopyStands (c : Contents) (directory : Extent) (image : List ℕ) : Type 0 where
   pub pages : ArePagesWritten image c
   pub listed : IsListed directory (all_stored c) image
-  pub intact : All (HasItsBody image) (records_of c.catalogue)
+
+-- All but the root of a copy is written as it was laid out: `made` is the root that names it, and the layout has the stored lists.
+pub record IsWrittenBehind (l l' : Layout) (made : Root) (image : List ℕ) : Type 0 where
+  pub root : made ≡ copied_root l.directory (all_stored l.contents)
+  pub layout : l' ≡ record l { contents = all_stored l.contents }
+  pub stands : CopyStands l.contents l.directory image
 
 -- these lists stand behind some root of a disk of this many bytes, and all rules are kept
 pub record IsBehindRoot (size : ℕ) (c : Contents) : Type 0 where
@@ -149,10 +167,11 @@ pub record IsBehindRoot (size : ℕ) (c : Contents) : Type 0 where
 abbrev pub NoneOrState : Source → List ℕ → Type 0
 NoneOrState s image = (current image ≡ None) ⊎ StandsFor image s
 
--- What the writing of a copy leaves, as it was laid out: `steps` as each step does; `damaged` where a body has not its SHA-256; what
+-- What the writing of a copy leaves, as it was laid out: `runs` of both disks; `damaged` where a body has not its SHA-256; what
 -- stands where it went well; and of the state that the old lists tell, what each image tells then and at any moment.
 pub record WritesCopy (c : Contents) (l l' : Layout) (before after old new : DiskState) (result : Result Standing CopyFault) : Type 0 where
-  pub steps : Steps before after old new result
+  pub runs : RunsCopying (IsErrOf result Device) before after old new
+  pub others : IfErr result IsOfWriting
   pub damaged : IsErrOf result Damaged → IsTrue after.honest → ¬ All (HasItsBody before.now.seen) (records_of c.catalogue)
   pub slots : IfOk result (λ slots. slots ≡ fresh (copied_root l.directory (all_stored l.contents)))
   pub ready : IfOk result (λ slots. IsReady slots new.now)

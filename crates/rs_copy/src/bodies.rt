@@ -1,19 +1,15 @@
 //! Copying bodies from one disk to another.
 
-ghost use Rattle.std.specs.Prelude.{◌≡◌, ◌*◌, ◌≤◌, ℕ, Bool, map, All, IfOk, OnOk, IsErrOf, IsTrue};
+ghost use Rattle.std.specs.Prelude.{◌≡◌, [], ◌∷◌, All, IfOk, IfErr, OnOk, IsErr, IsErrOf, IsTrue};
 ghost use Rattle.std.specs.List.{AllZip};
 ghost use Rattle.rs_fixity.specs.Digests.{digests};
-ghost use Rattle.rs_extent.specs.Blocks.{block_size};
-ghost use Rattle.rs_extent.specs.Extents.{AreApart, AreBeside, IsBeside, IsOnDisk};
+ghost use Rattle.rs_extent.specs.Extents.{AreApart};
 ghost use Rattle.rs_body.specs.Blocks.{part};
-ghost use Rattle.rs_body.specs.Outside.{WritesOutside};
 ghost use Rattle.rs_catalogue.specs.Catalogue.{records_of};
 ghost use Rattle.rs_image.specs.Reach.{bodies_of};
-ghost use Rattle.rs_image.specs.StateOfImage.{held_in};
 ghost use Rattle.rs_copy.specs.declared.faults.CopyFault.{CopyFault};
 ghost use Rattle.rs_copy.specs.Laying.{IsMoved};
-ghost use Rattle.rs_copy.specs.Copies.{HasItsBody};
-ghost use Rattle.rs_copy.specs.Copying.{HasPlace, Steps, CopiesPieces};
+ghost use Rattle.rs_copy.specs.Copying.{CopiesBodies, CopiesOnly, HasPlace, IsOfWriting};
 
 use crate::CopyFault;
 use rs_body::{read_piece, write_piece};
@@ -43,20 +39,11 @@ pub(crate) fn copy_bodies<D: Disk, E: Disk>(
     requires places { All (HasPlace (D.state from.old).size) (records_of old.now) }
     requires rooms { All (HasPlace (E.state to.old).size) (records_of new.now) }
     requires apart { AreApart (bodies_of (records_of new.now)) }
-    ensures steps { Steps (D.state from.old) (D.state from.new)
-        (E.state to.old) (E.state to.new) result }
-
-    // That what was copied is what the old disk holds is said of a device that has followed the
-    // model; that it has its SHA-256, of every device.
-    ensures copied { OnOk result (IsTrue (D.state from.new).honest
-        → map (held_in (E.state to.new).now.seen) (records_of new.now)
-        ≡ map (held_in (D.state from.old).now.seen) (records_of old.now)) }
-    ensures intact { OnOk result
-        (All (HasItsBody (E.state to.new).now.seen) (records_of new.now)) }
-    ensures damaged { IsErrOf result CopyFault.Damaged → IsTrue (D.state from.new).honest
-        → ¬ All (HasItsBody (D.state from.old).now.seen) (records_of old.now) }
-    ensures outside { (kept : ℕ → Bool) → AreBeside kept (bodies_of (records_of new.now))
-        → WritesOutside kept (E.state to.old) (E.state to.new) }
+    ensures copies { CopiesOnly (bodies_of (records_of new.now)) (IsErrOf result CopyFault.Device)
+        (D.state from.old) (D.state from.new) (E.state to.old) (E.state to.new) }
+    ensures bodies { CopiesBodies (records_of old.now) (records_of new.now)
+        (D.state from.old) (D.state from.new) (E.state to.new) result }
+    ensures others { IfErr result IsOfWriting }
 {
     for i in 0..old.len() {
         copy_body(from, old.at(i), to, new.at(i).extent)?;
@@ -72,20 +59,12 @@ fn copy_body<D: Disk, E: Disk>(
     extent: Extent,
 ) -> Result<(), CopyFault>
     requires place { HasPlace (D.state from.old).size held.now }
-    requires room { IsOnDisk extent (E.state to.old).size }
-    requires fits { held.now.length ≤ block_size * extent.blocks }
-    ensures steps { Steps (D.state from.old) (D.state from.new)
-        (E.state to.old) (E.state to.new) result }
-    ensures copied { OnOk result (IsTrue (D.state from.new).honest
-        → part extent held.now.length (E.state to.new).now.seen
-        ≡ part held.now.extent held.now.length (D.state from.old).now.seen) }
-    ensures intact { OnOk result
-        ((digests (part extent held.now.length (E.state to.new).now.seen)).sha256
-        ≡ held.now.digests.sha256) }
-    ensures damaged { IsErrOf result CopyFault.Damaged → IsTrue (D.state from.new).honest
-        → ¬ HasItsBody (D.state from.old).now.seen held.now }
-    ensures outside { (kept : ℕ → Bool) → IsBeside kept extent
-        → WritesOutside kept (E.state to.old) (E.state to.new) }
+    requires room { HasPlace (E.state to.old).size (record held.now { extent = extent }) }
+    ensures copies { CopiesOnly (extent ∷ []) (IsErrOf result CopyFault.Device)
+        (D.state from.old) (D.state from.new) (E.state to.old) (E.state to.new) }
+    ensures bodies { CopiesBodies (held.now ∷ []) (record held.now { extent = extent } ∷ [])
+        (D.state from.old) (D.state from.new) (E.state to.new) result }
+    ensures others { IfErr result IsOfWriting }
 {
     let sha256 = copy_pieces(from, held, to, extent)?;
     if sha256 == held.digests.sha256 {
@@ -104,17 +83,14 @@ fn copy_pieces<D: Disk, E: Disk>(
     extent: Extent,
 ) -> Result<[u8; 32], Fault>
     requires place { HasPlace (D.state from.old).size held.now }
-    requires room { IsOnDisk extent (E.state to.old).size }
-    requires fits { held.now.length ≤ block_size * extent.blocks }
-    ensures steps { CopiesPieces (D.state from.old) (D.state from.new)
-        (E.state to.old) (E.state to.new) result }
+    requires room { HasPlace (E.state to.old).size (record held.now { extent = extent }) }
+    ensures copies { CopiesOnly (extent ∷ []) (IsErr result)
+        (D.state from.old) (D.state from.new) (E.state to.old) (E.state to.new) }
     ensures copied { OnOk result (IsTrue (D.state from.new).honest
         → part extent held.now.length (E.state to.new).now.seen
         ≡ part held.now.extent held.now.length (D.state from.old).now.seen) }
     ensures digest { IfOk result (λ sha256. sha256
         ≡ (digests (part extent held.now.length (E.state to.new).now.seen)).sha256) }
-    ensures outside { (kept : ℕ → Bool) → IsBeside kept extent
-        → WritesOutside kept (E.state to.old) (E.state to.new) }
 {
     let mut buffer = [0; PIECE_SIZE];
     let mut hashing = Sha256Hashing::new();

@@ -1,18 +1,16 @@
 //! Writing a copy as it was laid out.
 
-ghost use Rattle.std.specs.Prelude.{◌≡◌, ◌<◌, ◌≤◌, ℕ, Bool, map, All, IfOk, IfErr, OnOk, IsErrOf, IsTrue};
+ghost use Rattle.std.specs.Prelude.{◌≡◌, ◌<◌, ◌≤◌, [], ◌∷◌, All, IfOk, IfErr, OnOk, IsErrOf};
 ghost use Rattle.std.specs.List.{AllZip};
-ghost use Rattle.rs_disk.specs.Leaves.{Advances, TellsFaults};
-ghost use Rattle.rs_extent.specs.Extents.{AreApart, AreBeside, AreOnDisk, IsBeside, IsOnDisk};
+ghost use Rattle.rs_extent.specs.Extents.{AreApart, AreOnDisk, IsOnDisk};
 ghost use Rattle.rs_body.specs.Blocks.{IsSized};
-ghost use Rattle.rs_body.specs.Outside.{WritesOutside};
+ghost use Rattle.rs_body.specs.Outside.{WritesOnly};
 ghost use Rattle.rs_page.specs.declared.page.store.StoreFault.{StoreFault};
 ghost use Rattle.rs_catalogue.specs.Catalogue.{records_of};
-ghost use Rattle.rs_image.specs.StateOfImage.{held_in, directory_bytes_of, AreAllStored};
+ghost use Rattle.rs_image.specs.StateOfImage.{directory_bytes_of, AreAllStored};
 ghost use Rattle.rs_copy.specs.declared.faults.CopyFault.{CopyFault};
 ghost use Rattle.rs_copy.specs.Laying.{IsLaidOut, IsMoved, all_stored};
-ghost use Rattle.rs_copy.specs.Copies.{HasItsBody};
-ghost use Rattle.rs_copy.specs.Copying.{ArePagesWritten, AreUntouched, HasPlace, HasRoom, IsBehindRoot, IsListed, IsOfWriting, CopyStands, Steps, WritesCopy, copied_root, is_slot, pages_in};
+ghost use Rattle.rs_copy.specs.Copying.{ArePagesWritten, AreUntouched, CopiesBodies, CopiesOnly, HasPlace, HasRoom, IsBehindRoot, IsListed, IsOfListing, IsOfWriting, IsWrittenBehind, WritesCopy, copied_root, pages_in, written_in};
 
 use crate::CopyFault;
 use crate::bodies::copy_bodies;
@@ -70,20 +68,15 @@ fn write_behind<D: Disk, E: Disk>(
     requires alike { AllZip IsMoved (records_of old.now.catalogue)
         (records_of layout.old.contents.catalogue) }
     requires room { HasRoom (E.state to.old).size layout.old.contents layout.old.directory }
-    ensures steps { Steps (D.state from.old) (D.state from.new)
-        (E.state to.old) (E.state to.new) result }
-    ensures root { IfOk result (λ root. root
-        ≡ copied_root layout.old.directory (all_stored layout.old.contents)) }
-    ensures layout { OnOk result (layout.new
-        ≡ record layout.old { contents = all_stored layout.old.contents }) }
-    ensures stands { OnOk result
-        (CopyStands layout.old.contents layout.old.directory (E.state to.new).now.seen) }
-    ensures copied { OnOk result (IsTrue (D.state from.new).honest
-        → map (held_in (E.state to.new).now.seen) (records_of layout.old.contents.catalogue)
-        ≡ map (held_in (D.state from.old).now.seen) (records_of old.now.catalogue)) }
-    ensures damaged { IsErrOf result CopyFault.Damaged → IsTrue (D.state from.new).honest
-        → ¬ All (HasItsBody (D.state from.old).now.seen) (records_of old.now.catalogue) }
-    ensures outside { WritesOutside is_slot (E.state to.old) (E.state to.new) }
+    ensures copies { CopiesOnly (written_in layout.old.contents layout.old.directory)
+        (IsErrOf result CopyFault.Device)
+        (D.state from.old) (D.state from.new) (E.state to.old) (E.state to.new) }
+    ensures bodies { CopiesBodies (records_of old.now.catalogue)
+        (records_of layout.old.contents.catalogue)
+        (D.state from.old) (D.state from.new) (E.state to.new) result }
+    ensures made { IfOk result
+        (λ root. IsWrittenBehind layout.old layout.new root (E.state to.new).now.seen) }
+    ensures others { IfErr result IsOfWriting }
 {
     copy_bodies(from, &old.catalogue, to, &layout.contents.catalogue)?;
     write_pages(alloc, to, &mut layout.contents)?;
@@ -101,11 +94,8 @@ fn write_pages<E: Disk>(
     requires apart { AreApart (pages_in contents.old) }
     ensures stored { OnOk result (contents.new ≡ all_stored contents.old) }
     ensures written { OnOk result (ArePagesWritten (E.state to.new).now.seen contents.old) }
-    ensures device { TellsFaults (IsErrOf result StoreFault.Device)
+    ensures writes { WritesOnly (pages_in contents.old) (IsErrOf result StoreFault.Device)
         (E.state to.old) (E.state to.new) }
-    ensures outside { (kept : ℕ → Bool) → AreBeside kept (pages_in contents.old)
-        → WritesOutside kept (E.state to.old) (E.state to.new) }
-    ensures advances { Advances (E.state to.old) (E.state to.new) }
 {
     contents.catalogue.store_touched(alloc, to)?;
     contents.history.store_touched(alloc, to)?;
@@ -124,13 +114,9 @@ fn write_directory<E: Disk>(
     requires sized { IsSized extent (directory_bytes_of contents.now) }
     ensures root { IfOk result (λ root. root ≡ copied_root extent contents.now) }
     ensures listed { OnOk result (IsListed extent contents.now (E.state to.new).now.seen) }
-    ensures device { TellsFaults (IsErrOf result CopyFault.Device)
+    ensures others { IfErr result IsOfListing }
+    ensures writes { WritesOnly (extent ∷ []) (IsErrOf result CopyFault.Device)
         (E.state to.old) (E.state to.new) }
-    ensures others { IfErr result IsOfWriting }
-    ensures not_damaged { ¬ IsErrOf result CopyFault.Damaged }
-    ensures outside { (kept : ℕ → Bool) → IsBeside kept extent
-        → WritesOutside kept (E.state to.old) (E.state to.new) }
-    ensures advances { Advances (E.state to.old) (E.state to.new) }
 {
     let bytes = contents.directory(alloc)?;
     write_body(to, extent, &bytes)?;

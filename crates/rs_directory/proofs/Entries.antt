@@ -7,10 +7,11 @@ use Rattle.std.proofs.lemmas.List.Elements.{All-nil, All-cons, All-head, All-tai
 use Rattle.rs_record.proofs.FieldLaws.{AreBytes}
 use Rattle.rs_record.proofs.Answered.{alone}
 use Rattle.rs_page.specs.declared.place.PageRef.{PageRef}
-use Rattle.rs_directory.specs.Directory.{ref_bytes, IsLawfulRef}
-use Rattle.rs_directory.specs.Reading.{page_entry_at}
+use Rattle.rs_directory.specs.Directory.{ref_bytes, IsLawfulRef, BeginsWith}
+use Rattle.rs_directory.specs.declared.parts.PageCounts.{PageCounts}
+use Rattle.rs_directory.specs.Reading.{page_entry_at, pages_of, counts_of, AreListsOf}
 use Rattle.rs_directory.proofs.Pieces.{length-ref_bytes, length-entries}
-use Rattle.rs_directory.proofs.PartLaws.{ref, ref_none}
+use Rattle.rs_directory.proofs.PartLaws.{AreLawfulCounts, ref, ref_none}
 
 -- one entry more was written
 pub refs_more : (refs : List PageRef) (i : ℕ) (d : PageRef) → i < length refs
@@ -48,26 +49,33 @@ all_read refs n bytes rest lawful found fewer size =
     let none : rest ≡ [] = no_bytes rest (omega arith) in
     (omega arith, found ∙ ap (λ xs. flat_map ref_bytes refs ++ xs) none ∙ append-nil (flat_map ref_bytes refs))
 
+pub same_counts : (catalogue changes published : List PageRef) (n : PageCounts) → length catalogue ≡ n.catalogue → length changes ≡ n.changes
+    → length published ≡ n.published → counts_of catalogue changes published ≡ n
+same_counts catalogue changes published n e f g =
+    let made : ℕ → ℕ → ℕ → PageCounts = λ x y z. record { catalogue = x; changes = y; published = z } in
+    ap₂ (λ x y. made x y (length published)) e f ∙ ap (made n.catalogue n.changes) g
+
 -- three lists of entries, each read from its own part of the bytes
-pub three_read : (x y z : ℕ) (bytes front after mid last : List ℕ) (a b c : List PageRef) (r s t : List ℕ) → length bytes ≡ 44 * (x + y + z)
-    → front ≡ take (44 * x) bytes → after ≡ drop (44 * x) bytes → mid ≡ take (44 * y) after → last ≡ drop (44 * y) after
+pub three_read : (n : PageCounts) (bytes front after mid last : List ℕ) (a b c : List PageRef) (r s t : List ℕ) → AreLawfulCounts n → length bytes ≡ 44 * pages_of n
+    → front ≡ take (44 * n.catalogue) bytes → after ≡ drop (44 * n.catalogue) bytes → mid ≡ take (44 * n.changes) after → last ≡ drop (44 * n.changes) after
     → All IsLawfulRef a → front ≡ flat_map ref_bytes a ++ r → length r < 44 → All IsLawfulRef b → mid ≡ flat_map ref_bytes b ++ s → length s < 44
-    → All IsLawfulRef c → last ≡ flat_map ref_bytes c ++ t → length t < 44
-    → (length a ≡ x) × (length b ≡ y) × (length c ≡ z) × (bytes ≡ flat_map ref_bytes a ++ (flat_map ref_bytes b ++ flat_map ref_bytes c))
-three_read x y z bytes front after mid last a b c r s t size e f g h la fa sa lb fb sb lc fc sc =
-    let front_size : length front ≡ 44 * x = omega (arith, ap length e, length-take (44 * x) bytes) in
-    let after_size : length after ≡ 44 * (y + z) = omega (arith, ap length f, length-drop (44 * x) bytes) in
-    let mid_size : length mid ≡ 44 * y = omega (arith, ap length g, length-take (44 * y) after) in
-    let last_size : length last ≡ 44 * z = omega (arith, ap length h, length-drop (44 * y) after) in
-    let ra = all_read a x front r la fa sa front_size in
-    let rb = all_read b y mid s lb fb sb mid_size in
-    let rc = all_read c z last t lc fc sc last_size in (
-      ra.0,
-      rb.0,
-      rc.0,
-      sym (take-append-drop (44 * x) bytes)
-          ∙ ap₂ (λ xs ys. xs ++ ys) (sym e ∙ ra.1) (sym f ∙ sym (take-append-drop (44 * y) after) ∙ ap₂ (λ xs ys. xs ++ ys) (sym g ∙ rb.1) (sym h ∙ rc.1)),
-    )
+    → All IsLawfulRef c → last ≡ flat_map ref_bytes c ++ t → length t < 44 → AreListsOf n bytes a b c
+three_read n bytes front after mid last a b c r s t few size e f g h la fa sa lb fb sb lc fc sc =
+    let front_size : length front ≡ 44 * n.catalogue = omega (arith, ap length e, length-take (44 * n.catalogue) bytes) in
+    let after_size : length after ≡ 44 * (n.changes + n.published) = omega (arith, ap length f, length-drop (44 * n.catalogue) bytes) in
+    let mid_size : length mid ≡ 44 * n.changes = omega (arith, ap length g, length-take (44 * n.changes) after) in
+    let last_size : length last ≡ 44 * n.published = omega (arith, ap length h, length-drop (44 * n.changes) after) in
+    let ra = all_read a n.catalogue front r la fa sa front_size in
+    let rb = all_read b n.changes mid s lb fb sb mid_size in
+    let rc = all_read c n.published last t lc fc sc last_size in
+    record {
+      of_catalogue = record { each = la; count = omega (arith, ra.0, few.catalogue) };
+      of_changes = record { each = lb; count = omega (arith, rb.0, few.changes) };
+      of_published = record { each = lc; count = omega (arith, rc.0, few.published) };
+      counts = same_counts a b c n ra.0 rb.0 rc.0;
+      spelled = sym (take-append-drop (44 * n.catalogue) bytes)
+          ∙ ap₂ (λ xs ys. xs ++ ys) (sym e ∙ ra.1) (sym f ∙ sym (take-append-drop (44 * n.changes) after) ∙ ap₂ (λ xs ys. xs ++ ys) (sym g ∙ rb.1) (sym h ∙ rc.1));
+    }
 
 -- n entries that bytes begin with
 pub record BeginsWithEntries (n : ℕ) (bytes : List ℕ) : Type 0 where
@@ -104,6 +112,14 @@ some_entries (suc n) bytes fits size = next (λ rest. some_entries n rest) (page
           rest_bytes = more.rest_bytes;
         }
 
+-- bytes that an entry was read off begin with it
+pub begins_with : (bytes : List ℕ) (page : PageRef) (after : List ℕ) → AreBytes bytes → page_entry_at bytes ≡ Some (page, after) → BeginsWith bytes page after
+begins_with bytes page after fits read = let taken = ref.takes bytes (page, after) fits read in record { lawful = taken.lawful; spelled = taken.parts }
+
+-- one entry is read in one way
+pub same_entry : (r s : PageRef) (x y : List ℕ) → IsLawfulRef r → IsLawfulRef s → ref_bytes r ++ x ≡ ref_bytes s ++ y → (r ≡ s) × (x ≡ y)
+same_entry r s x y = alone page_entry_at ref_bytes IsLawfulRef ref r s x y
+
 -- so many entries are read in one way
 pub same_refs : (a b : List PageRef) (x y : List ℕ) → All IsLawfulRef a → All IsLawfulRef b → length a ≡ length b
     → flat_map ref_bytes a ++ x ≡ flat_map ref_bytes b ++ y → (a ≡ b) × (x ≡ y)
@@ -111,7 +127,7 @@ same_refs [] [] x y a_lawful b_lawful long same = (refl, same)
 same_refs [] (s ∷ b) x y a_lawful b_lawful long same = absurd (omega arith)
 same_refs (r ∷ a) [] x y a_lawful b_lawful long same = absurd (omega arith)
 same_refs (r ∷ a) (s ∷ b) x y a_lawful b_lawful long same =
-    let first = alone page_entry_at ref_bytes IsLawfulRef ref r s (flat_map ref_bytes a ++ x) (flat_map ref_bytes b ++ y)
+    let first = same_entry r s (flat_map ref_bytes a ++ x) (flat_map ref_bytes b ++ y)
     (All-head IsLawfulRef r a a_lawful) (All-head IsLawfulRef s b b_lawful)
     (sym (append_assoc (ref_bytes r) (flat_map ref_bytes a) x) ∙ same ∙ append_assoc (ref_bytes s) (flat_map ref_bytes b) y) in
     let more = same_refs a b x y (All-tail IsLawfulRef r a a_lawful) (All-tail IsLawfulRef s b b_lawful) (omega arith) first.1 in

@@ -5,3 +5,4 @@ pub mod Headers
 pub mod PartLaws
 pub mod Entries
 pub mod OneDirectory
+pub mod Naming

@@ -7,22 +7,14 @@ use Rattle.rs_record.specs.Base.{is_base}
 use Rattle.rs_record.proofs.FieldLaws.{AreBytes, Takes, bind_some, guard_some, some_is}
 use Rattle.rs_page.specs.declared.place.PageRef.{PageRef}
 use Rattle.rs_directory.specs.declared.header.Header.{Header}
-use Rattle.rs_directory.specs.declared.parts.Counts.{Counts}
-use Rattle.rs_directory.specs.Directory.{header_bytes, ref_bytes, directory_bytes, directory_length, written_format, IsLawfulHeader, IsLawfulRef, AreLawfulRefs}
+use Rattle.rs_directory.specs.declared.parts.PageCounts.{PageCounts}
+use Rattle.rs_directory.specs.Directory.{header_bytes, ref_bytes, directory_bytes, directory_length, written_format, IsDirectory, IsNoDirectory, IsLawfulHeader, IsLawfulRef, AreLawfulRefs}
 use Rattle.rs_directory.specs.Laws.{DirectoryReadsOnce}
-use Rattle.rs_directory.specs.Reading.{header_at, counts_at, entries_at, pages_of}
+use Rattle.rs_directory.specs.Reading.{header_at, counts_at, entries_at, pages_of, counts_of, all_entries, AreListsOf}
 use Rattle.rs_directory.proofs.Pieces.{length-header_bytes, length-entries}
 use Rattle.rs_directory.proofs.Headers.{HasLawfulNumbers, header}
 use Rattle.rs_directory.proofs.PartLaws.{AreLawfulCounts, counts_bytes, counts}
-use Rattle.rs_directory.proofs.Entries.{all_read, some_entries, same_refs}
-
--- how many pages there are
-abbrev pub counts_of : List PageRef → List PageRef → List PageRef → Counts
-counts_of catalogue changes published = record { catalogue = length catalogue; changes = length changes; published = length published }
-
--- the entries of each kind
-abbrev pub all_entries : List PageRef → List PageRef → List PageRef → List ℕ
-all_entries catalogue changes published = flat_map ref_bytes catalogue ++ (flat_map ref_bytes changes ++ flat_map ref_bytes published)
+use Rattle.rs_directory.proofs.Entries.{all_read, some_entries, same_counts, same_refs}
 
 -- what follows a header
 abbrev pub after_header : List PageRef → List PageRef → List PageRef → List ℕ
@@ -108,11 +100,11 @@ entries_read catalogue changes published of_a of_b of_c =
     rw (counts.again n e (record { catalogue = of_a.count; changes = of_b.count; published = of_c.count }), exact) refl
 
 -- what was read after a header
-pub record HasEntries (bytes : List ℕ) (x : Counts × List ℕ) : Type 0 where
+pub record HasEntries (bytes : List ℕ) (x : PageCounts × List ℕ) : Type 0 where
   pub takes : Takes counts_bytes AreLawfulCounts bytes x
   pub size : length x.1 ≡ 44 * pages_of x.0
 
-pub entries_takes : (bytes : List ℕ) (x : Counts × List ℕ) → AreBytes bytes → entries_at bytes ≡ Some x → HasEntries bytes x
+pub entries_takes : (bytes : List ℕ) (x : PageCounts × List ℕ) → AreBytes bytes → entries_at bytes ≡ Some x → HasEntries bytes x
 unfolding entries_at
 entries_takes bytes x fits e =
     let a = bind_some (counts_at bytes) (λ n. cond (eqb (length n.1) (44 * pages_of n.0)) (Some n) None) x e in
@@ -121,36 +113,26 @@ entries_takes bytes x fits e =
 
 -- Bytes are a directory of a version of at most one header and of at most one list of entries of each kind.
 pub one_directory : DirectoryReadsOnce
-one_directory version h h' catalogue catalogue' changes changes' published published' of_h of_a of_b of_c of_h' of_a' of_b' of_c' same =
+one_directory version h h' catalogue catalogue' changes changes' published published' of of' same =
     let bytes = directory_bytes version h catalogue changes published in
     let head : (h, after_header catalogue changes published) ≡ (h', after_header catalogue' changes' published') =
-    some_is _ _ (sym (header_read version bytes h catalogue changes published of_h refl) ∙ header_read version bytes h' catalogue' changes' published' of_h' same) in
+    some_is _ _ (sym (header_read version bytes h catalogue changes published of.of_header refl) ∙ header_read version bytes h' catalogue' changes' published' of'.of_header same) in
     let rest : (counts_of catalogue changes published, all_entries catalogue changes published) ≡
     (counts_of catalogue' changes' published', all_entries catalogue' changes' published') =
-    some_is _ _ (sym (entries_read catalogue changes published of_a of_b of_c) ∙ ap entries_at (ap (λ x. x.1) head)
-    ∙ entries_read catalogue' changes' published' of_a' of_b' of_c') in
-    let first = same_refs catalogue catalogue' _ _ of_a.each of_a'.each (ap (λ x. x.0.catalogue) rest) (ap (λ x. x.1) rest) in
-    let second = same_refs changes changes' _ _ of_b.each of_b'.each (ap (λ x. x.0.changes) rest) first.1 in
-    let third = same_refs published published' [] [] of_c.each of_c'.each (ap (λ x. x.0.published) rest)
+    some_is _ _ (sym (entries_read catalogue changes published of.of_catalogue of.of_changes of.of_published) ∙ ap entries_at (ap (λ x. x.1) head)
+    ∙ entries_read catalogue' changes' published' of'.of_catalogue of'.of_changes of'.of_published) in
+    let first = same_refs catalogue catalogue' _ _ of.of_catalogue.each of'.of_catalogue.each (ap (λ x. x.0.catalogue) rest) (ap (λ x. x.1) rest) in
+    let second = same_refs changes changes' _ _ of.of_changes.each of'.of_changes.each (ap (λ x. x.0.changes) rest) first.1 in
+    let third = same_refs published published' [] [] of.of_published.each of'.of_published.each (ap (λ x. x.0.published) rest)
     (append-nil _ ∙ second.1 ∙ sym (append-nil _)) in
     (ap (λ x. x.0) head, first.0, second.0, third.0)
 
-pub same_counts : (catalogue changes published : List PageRef) (n : Counts) → length catalogue ≡ n.catalogue → length changes ≡ n.changes
-    → length published ≡ n.published → counts_of catalogue changes published ≡ n
-same_counts catalogue changes published n e f g =
-    let made : ℕ → ℕ → ℕ → Counts = λ x y z. record { catalogue = x; changes = y; published = z } in
-    ap₂ (λ x y. made x y (length published)) e f ∙ ap (made n.catalogue n.changes) g
-
 -- lists of entries, of which there are as many bytes as the numbers of pages say
-record HasLists (n : Counts) (bytes : List ℕ) : Type 0 where
+record HasLists (n : PageCounts) (bytes : List ℕ) : Type 0 where
   catalogue : List PageRef
   changes : List PageRef
   published : List PageRef
-  of_catalogue : AreLawfulRefs catalogue
-  of_changes : AreLawfulRefs changes
-  of_published : AreLawfulRefs published
-  counts : counts_of catalogue changes published ≡ n
-  entries : bytes ≡ all_entries catalogue changes published
+  are : AreListsOf n bytes catalogue changes published
 
 entries_joined : (a b c : List PageRef) (entries x y : List ℕ) → entries ≡ flat_map ref_bytes a ++ x → x ≡ flat_map ref_bytes b ++ y → y ≡ flat_map ref_bytes c
     → entries ≡ all_entries a b c
@@ -162,7 +144,7 @@ after_entries : (refs : List PageRef) (n : ℕ) (bytes rest : List ℕ) → leng
 after_entries refs n bytes rest count lawful parts =
     omega (arith, count, ap length parts, length-append (flat_map ref_bytes refs) rest, length-entries refs lawful)
 
-some_lists : (n : Counts) (bytes : List ℕ) → AreBytes bytes → AreLawfulCounts n → length bytes ≡ 44 * pages_of n → HasLists n bytes
+some_lists : (n : PageCounts) (bytes : List ℕ) → AreBytes bytes → AreLawfulCounts n → length bytes ≡ 44 * pages_of n → HasLists n bytes
 some_lists n bytes fits lawful size =
     let a = some_entries n.catalogue bytes fits (omega arith) in
     let a_size = after_entries a.refs n.catalogue bytes a.rest a.count a.lawful a.parts in
@@ -175,11 +157,13 @@ some_lists n bytes fits lawful size =
       catalogue = a.refs;
       changes = b.refs;
       published = c.refs;
-      of_catalogue = record { each = a.lawful; count = omega (arith, a.count, lawful.catalogue) };
-      of_changes = record { each = b.lawful; count = omega (arith, b.count, lawful.changes) };
-      of_published = record { each = c.lawful; count = omega (arith, c.count, lawful.published) };
-      counts = same_counts a.refs b.refs c.refs n a.count b.count c.count;
-      entries = entries_joined a.refs b.refs c.refs bytes a.rest b.rest a.parts b.parts last.1;
+      are = record {
+        of_catalogue = record { each = a.lawful; count = omega (arith, a.count, lawful.catalogue) };
+        of_changes = record { each = b.lawful; count = omega (arith, b.count, lawful.changes) };
+        of_published = record { each = c.lawful; count = omega (arith, c.count, lawful.published) };
+        counts = same_counts a.refs b.refs c.refs n a.count b.count c.count;
+        spelled = entries_joined a.refs b.refs c.refs bytes a.rest b.rest a.parts b.parts last.1;
+      };
     }
 
 -- ---- what a refusal says
@@ -191,58 +175,51 @@ false_is : false ≡ true → ⊥
 false_is e = absurd cc
 
 module _ (version : ℕ) (bytes : List ℕ) (fits : AreBytes bytes) where
-  -- the bytes are no lawful directory of this version
-  abbrev pub IsNone : Type 0
-  IsNone = (h : Header) (catalogue changes published : List PageRef) → IsLawfulHeader version h
-      → AreLawfulRefs catalogue → AreLawfulRefs changes → AreLawfulRefs published → ¬ (bytes ≡ directory_bytes version h catalogue changes published)
+  pub no_header : header_at version bytes ≡ None → IsNoDirectory version bytes
+  no_header e h catalogue changes published is =
+      none_is _ (sym e ∙ header_read version bytes h catalogue changes published is.lawful.of_header is.spelled)
 
-  pub no_header : header_at version bytes ≡ None → IsNone
-  no_header e h catalogue changes published of_h of_a of_b of_c is =
-      none_is _ (sym e ∙ header_read version bytes h catalogue changes published of_h is)
+  pub no_entries : (h : Header) (rest : List ℕ) → header_at version bytes ≡ Some (h, rest) → entries_at rest ≡ None → IsNoDirectory version bytes
+  no_entries h rest e f h' catalogue changes published is =
+      let same : (h, rest) ≡ (h', after_header catalogue changes published) = some_is _ _ (sym e ∙ header_read version bytes h' catalogue changes published is.lawful.of_header is.spelled) in
+      none_is _ (sym f ∙ ap entries_at (ap (λ x. x.1) same) ∙ entries_read catalogue changes published is.lawful.of_catalogue is.lawful.of_changes is.lawful.of_published)
 
-  pub no_entries : (h : Header) (rest : List ℕ) → header_at version bytes ≡ Some (h, rest) → entries_at rest ≡ None → IsNone
-  no_entries h rest e f h' catalogue changes published of_h of_a of_b of_c is =
-      let same : (h, rest) ≡ (h', after_header catalogue changes published) = some_is _ _ (sym e ∙ header_read version bytes h' catalogue changes published of_h is) in
-      none_is _ (sym f ∙ ap entries_at (ap (λ x. x.1) same) ∙ entries_read catalogue changes published of_a of_b of_c)
+  pub no_base : (h : Header) (rest : List ℕ) → header_at version bytes ≡ Some (h, rest) → is_base h.base ≡ false → IsNoDirectory version bytes
+  no_base h rest e f h' catalogue changes published is =
+      let same : (h, rest) ≡ (h', after_header catalogue changes published) = some_is _ _ (sym e ∙ header_read version bytes h' catalogue changes published is.lawful.of_header is.spelled) in
+      false_is (sym f ∙ ap (λ x. is_base x.0.base) same ∙ is.lawful.of_header.base)
 
-  pub no_base : (h : Header) (rest : List ℕ) → header_at version bytes ≡ Some (h, rest) → is_base h.base ≡ false → IsNone
-  no_base h rest e f h' catalogue changes published of_h of_a of_b of_c is =
-      let same : (h, rest) ≡ (h', after_header catalogue changes published) = some_is _ _ (sym e ∙ header_read version bytes h' catalogue changes published of_h is) in
-      false_is (sym f ∙ ap (λ x. is_base x.0.base) same ∙ of_h.base)
-
-  -- a header that was read, with a lawful base, is lawful
-  pub is_lawful : (h : Header) (rest : List ℕ) → header_at version bytes ≡ Some (h, rest) → IsTrue (is_base h.base) → IsLawfulHeader version h
-  is_lawful h rest e base = lawful_header version h base ((header version).takes bytes (h, rest) fits e).lawful
-
-  -- what was read is a directory
-  pub is_directory : (h : Header) (rest : List ℕ) (n : Counts) (entries : List ℕ) (catalogue changes published : List PageRef)
-      → header_at version bytes ≡ Some (h, rest) → entries_at rest ≡ Some (n, entries) → counts_of catalogue changes published ≡ n
-      → entries ≡ all_entries catalogue changes published
-      → bytes ≡ directory_bytes version h catalogue changes published
-  is_directory h rest n entries catalogue changes published e f same is =
+  -- what was read is a directory, where its base is lawful
+  pub is_directory : (h : Header) (rest : List ℕ) (n : PageCounts) (entries : List ℕ) (catalogue changes published : List PageRef)
+      → header_at version bytes ≡ Some (h, rest) → entries_at rest ≡ Some (n, entries) → IsTrue (is_base h.base)
+      → AreListsOf n entries catalogue changes published → IsDirectory version bytes h catalogue changes published
+  is_directory h rest n entries catalogue changes published e f base are =
       let t = (header version).takes bytes (h, rest) fits e in
       let u = entries_takes rest (n, entries) t.rest f in
-      t.parts ∙ ap (λ xs. header_bytes version h ++ xs) (u.takes.parts ∙ ap₂ (λ m xs. counts_bytes m ++ xs) (sym same) is)
-      ∙ sym (directory_parts version h catalogue changes published)
+      record {
+        lawful = record { of_header = lawful_header version h base t.lawful; of_catalogue = are.of_catalogue; of_changes = are.of_changes; of_published = are.of_published };
+        spelled = t.parts ∙ ap (λ xs. header_bytes version h ++ xs) (u.takes.parts ∙ ap₂ (λ m xs. counts_bytes m ++ xs) (sym are.counts) are.spelled)
+            ∙ sym (directory_parts version h catalogue changes published);
+      }
 
   -- where the parts were read and the base is lawful, the bytes are some lawful directory
-  pub not_none : (h : Header) (rest : List ℕ) (n : Counts) (entries : List ℕ) → header_at version bytes ≡ Some (h, rest) → entries_at rest ≡ Some (n, entries)
-      → IsTrue (is_base h.base) → IsNone → ⊥
+  pub not_none : (h : Header) (rest : List ℕ) (n : PageCounts) (entries : List ℕ) → header_at version bytes ≡ Some (h, rest) → entries_at rest ≡ Some (n, entries)
+      → IsTrue (is_base h.base) → IsNoDirectory version bytes → ⊥
   not_none h rest n entries e f base none =
       let t = (header version).takes bytes (h, rest) fits e in
       let u = entries_takes rest (n, entries) t.rest f in
       let all = some_lists n entries u.takes.rest u.takes.lawful u.size in
-      none h all.catalogue all.changes all.published (lawful_header version h base t.lawful) all.of_catalogue all.of_changes all.of_published
-      (is_directory h rest n entries all.catalogue all.changes all.published e f all.counts all.entries)
+      none h all.catalogue all.changes all.published
+      (is_directory h rest n entries all.catalogue all.changes all.published e f base all.are)
 
   -- as many bytes of entries as the numbers of pages say
-  pub size_read : (h : Header) (rest : List ℕ) (n : Counts) (entries : List ℕ) → header_at version bytes ≡ Some (h, rest) → entries_at rest ≡ Some (n, entries)
+  pub size_read : (h : Header) (rest : List ℕ) (n : PageCounts) (entries : List ℕ) → header_at version bytes ≡ Some (h, rest) → entries_at rest ≡ Some (n, entries)
       → length entries ≡ 44 * pages_of n
   size_read h rest n entries e f = (entries_takes rest (n, entries) ((header version).takes bytes (h, rest) fits e).rest f).size
 
   -- where the parts were read, only a bad base is left
-  pub bad_base : (h : Header) (rest : List ℕ) (n : Counts) (entries : List ℕ) → header_at version bytes ≡ Some (h, rest) → entries_at rest ≡ Some (n, entries)
-      → IsNone → is_base h.base ≡ false
+  pub bad_base : (h : Header) (rest : List ℕ) (n : PageCounts) (entries : List ℕ) → header_at version bytes ≡ Some (h, rest) → entries_at rest ≡ Some (n, entries)
+      → IsNoDirectory version bytes → is_base h.base ≡ false
   bad_base h rest n entries e f none = by_cases (is_base h.base) refl
     where
       by_cases : (b : Bool) → is_base h.base ≡ b → is_base h.base ≡ false

@@ -5,26 +5,26 @@ use Rattle.std.specs.Int.{w32, to_be_bytes}
 use Rattle.rs_record.specs.Reading.{◌>>=◌, piece_at, number_in}
 use Rattle.rs_record.proofs.FieldLaws.{AreBytes, Takes, IsFormat, bind_some, takes_as, one_more, concat-onto, piece, piece_read, number_4, number_none, piece_none_of}
 use Rattle.rs_page.specs.declared.place.PageRef.{PageRef}
-use Rattle.rs_directory.specs.declared.parts.Counts.{Counts}
+use Rattle.rs_directory.specs.declared.parts.PageCounts.{PageCounts}
 use Rattle.rs_directory.specs.Directory.{ref_bytes, IsLawfulRef}
 use Rattle.rs_directory.specs.Reading.{counts_at, page_entry_at}
 
 -- ---- numbers of pages
 
 -- three numbers, one after the other
-abbrev pub counts_bytes : Counts → List ℕ
+abbrev pub counts_bytes : PageCounts → List ℕ
 counts_bytes n = concat (to_be_bytes w32 n.catalogue ∷ to_be_bytes w32 n.changes ∷ to_be_bytes w32 n.published ∷ [])
 
 -- each has 32 bits
-pub record AreLawfulCounts (n : Counts) : Type 0 where
+pub record AreLawfulCounts (n : PageCounts) : Type 0 where
   pub catalogue : n.catalogue < 2 ^ 32
   pub changes : n.changes < 2 ^ 32
   pub published : n.published < 2 ^ 32
 
-counts_takes : (bytes : List ℕ) (x : Counts × List ℕ) → AreBytes bytes → counts_at bytes ≡ Some x → Takes counts_bytes AreLawfulCounts bytes x
+counts_takes : (bytes : List ℕ) (x : PageCounts × List ℕ) → AreBytes bytes → counts_at bytes ≡ Some x → Takes counts_bytes AreLawfulCounts bytes x
 unfolding counts_at
 counts_takes bytes x fits e =
-    let made : ℕ → ℕ → ℕ → Counts = λ catalogue changes published. record { catalogue = catalogue; changes = changes; published = published } in
+    let made : ℕ → ℕ → ℕ → PageCounts = λ catalogue changes published. record { catalogue = catalogue; changes = changes; published = published } in
     let a = bind_some (number_in w32 bytes) (λ catalogue. number_in w32 catalogue.1 >>= λ changes. number_in w32 changes.1
     >>= λ published. Some (made catalogue.0 changes.0 published.0, published.1)) x e in
     let b = bind_some (number_in w32 a.0.1) (λ changes. number_in w32 changes.1 >>= λ published. Some (made a.0.0 changes.0 published.0, published.1)) x a.2 in
@@ -40,7 +40,7 @@ counts_takes bytes x fits e =
     takes_as (made a.0.0 b.0.0 d.0.0, d.0.1) x d.2
     (record { parts = three; rest = td.rest; lawful = record { catalogue = ta.lawful; changes = tb.lawful; published = td.lawful } })
 
-counts_again : (n : Counts) (rest : List ℕ) → AreLawfulCounts n → counts_at (counts_bytes n ++ rest) ≡ Some (n, rest)
+counts_again : (n : PageCounts) (rest : List ℕ) → AreLawfulCounts n → counts_at (counts_bytes n ++ rest) ≡ Some (n, rest)
 unfolding counts_at
 counts_again n rest lawful =
     let published = to_be_bytes w32 n.published ++ rest in

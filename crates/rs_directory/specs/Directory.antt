@@ -1,5 +1,5 @@
 -- The directory of a source: what a root points to, and how it is spelled on the disk.
-use Rattle.std.specs.Prelude.{◌≡◌, ◌<◌, ◌≤◌, ◌+◌, ◌*◌, ◌^◌, ℕ, nat_eq, if◌then◌else◌, List, [], ◌∷◌, length, flat_map, All, IsTrue}
+use Rattle.std.specs.Prelude.{◌≡◌, ◌<◌, ◌≤◌, ◌+◌, ◌*◌, ◌^◌, ℕ, nat_eq, if◌then◌else◌, List, [], ◌∷◌, ◌++◌, length, flat_map, All, IsTrue}
 use Rattle.std.specs.List.{concat}
 use Rattle.std.specs.Int.{w16, w32, w64, to_be_bytes}
 use Rattle.rs_time.specs.Moment.{IsMoment}
@@ -76,3 +76,38 @@ pub record IsLawfulRef (r : PageRef) : Type 0 where
 pub record AreLawfulRefs (refs : List PageRef) : Type 0 where
   pub each : All IsLawfulRef refs
   pub count : length refs < 2 ^ 32
+
+-- a header and entries that a directory of a version can have
+pub record AreLawful (version : ℕ) (h : Header) (catalogue changes published : List PageRef) : Type 0 where
+  pub of_header : IsLawfulHeader version h
+  pub of_catalogue : AreLawfulRefs catalogue
+  pub of_changes : AreLawfulRefs changes
+  pub of_published : AreLawfulRefs published
+
+-- Bytes are the directory of this header and these entries in a version: it can have them, and is spelled so.
+pub record IsDirectory (version : ℕ) (bytes : List ℕ) (h : Header) (catalogue changes published : List PageRef) : Type 0 where
+  pub lawful : AreLawful version h catalogue changes published
+  pub spelled : bytes ≡ directory_bytes version h catalogue changes published
+
+-- bytes are no lawful directory of a version
+abbrev pub IsNoDirectory : ℕ → List ℕ → Type 0
+IsNoDirectory version bytes = (h : Header) (catalogue changes published : List PageRef) → ¬ IsDirectory version bytes h catalogue changes published
+
+-- Bytes are a lawful directory of a version that names these pages: those of its three lists, one list after the other.
+pub record Names (version : ℕ) (bytes : List ℕ) (pages : List PageRef) : Type 0 where
+  pub header : Header
+  pub catalogue : List PageRef
+  pub changes : List PageRef
+  pub published : List PageRef
+  pub directory : IsDirectory version bytes header catalogue changes published
+  pub all : pages ≡ catalogue ++ (changes ++ published)
+
+-- Bytes begin with the entry of a page, and go on with these.
+pub record BeginsWith (bytes : List ℕ) (page : PageRef) (after : List ℕ) : Type 0 where
+  pub lawful : IsLawfulRef page
+  pub spelled : bytes ≡ ref_bytes page ++ after
+
+-- Bytes are the entries of these pages, one after the other.
+pub record AreEntries (bytes : List ℕ) (pages : List PageRef) : Type 0 where
+  pub lawful : All IsLawfulRef pages
+  pub spelled : bytes ≡ flat_map ref_bytes pages

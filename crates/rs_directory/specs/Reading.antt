@@ -1,13 +1,14 @@
 -- Words of the readers' own contracts: each takes a part of a directory off the front of some bytes, and gives a value and
 -- the bytes after it, or nothing. What the public reader owes is said by Directory.
-use Rattle.std.specs.Prelude.{ℕ, ◌+◌, ◌*◌, ◌==◌, nat_eq, List, length, Option, Some, None, if◌then◌else◌}
+use Rattle.std.specs.Prelude.{◌≡◌, ℕ, ◌+◌, ◌*◌, ◌==◌, nat_eq, List, ◌++◌, length, flat_map, Option, Some, None, if◌then◌else◌}
 use Rattle.std.specs.Int.{w16, w32, w64}
 use Rattle.rs_record.specs.Reading.{◌>>=◌, piece_at, number_in, counted_at, moment_in}
 use Rattle.rs_page.specs.declared.place.PageRef.{PageRef}
 use Rattle.rs_directory.specs.declared.header.Header.{Header}
 use Rattle.rs_directory.specs.declared.parts.HeaderFields.{HeaderFields}
-use Rattle.rs_directory.specs.declared.parts.Counts.{Counts}
+use Rattle.rs_directory.specs.declared.parts.PageCounts.{PageCounts}
 use Rattle.rs_directory.specs.Limit.{limit_of}
+use Rattle.rs_directory.specs.Directory.{ref_bytes, AreLawfulRefs}
 
 -- an item limit
 unfoldable pub limit_at : List ℕ → Option (ℕ × List ℕ)
@@ -50,7 +51,7 @@ header_at version bytes = do
   )
 
 -- the numbers of pages
-unfoldable pub counts_at : List ℕ → Option (Counts × List ℕ)
+unfoldable pub counts_at : List ℕ → Option (PageCounts × List ℕ)
 counts_at bytes = do
   catalogue ← number_in w32 bytes
   changes ← number_in w32 catalogue.1
@@ -58,8 +59,24 @@ counts_at bytes = do
   Some (record { catalogue = catalogue.0; changes = changes.0; published = published.0 }, published.1)
 
 -- how many pages there are
-abbrev pub pages_of : Counts → ℕ
+abbrev pub pages_of : PageCounts → ℕ
 pages_of counts = counts.catalogue + counts.changes + counts.published
+
+-- how many there are in three lists
+abbrev pub counts_of : List PageRef → List PageRef → List PageRef → PageCounts
+counts_of catalogue changes published = record { catalogue = length catalogue; changes = length changes; published = length published }
+
+-- the entries of three lists, one list after the other
+abbrev pub all_entries : List PageRef → List PageRef → List PageRef → List ℕ
+all_entries catalogue changes published = flat_map ref_bytes catalogue ++ (flat_map ref_bytes changes ++ flat_map ref_bytes published)
+
+-- Bytes are the entries of three lists that a directory can have, as many of each as the numbers of pages say.
+pub record AreListsOf (n : PageCounts) (bytes : List ℕ) (catalogue changes published : List PageRef) : Type 0 where
+  pub of_catalogue : AreLawfulRefs catalogue
+  pub of_changes : AreLawfulRefs changes
+  pub of_published : AreLawfulRefs published
+  pub counts : counts_of catalogue changes published ≡ n
+  pub spelled : bytes ≡ all_entries catalogue changes published
 
 -- an entry of a page
 unfoldable pub page_entry_at : List ℕ → Option (PageRef × List ℕ)
@@ -71,7 +88,7 @@ page_entry_at bytes = do
   Some (record { extent = record { first = first.0; blocks = blocks.0 }; length = len.0; sha256 = sha256.0 }, sha256.1)
 
 -- the numbers of pages, and as many bytes of entries as these say
-unfoldable pub entries_at : List ℕ → Option (Counts × List ℕ)
+unfoldable pub entries_at : List ℕ → Option (PageCounts × List ℕ)
 entries_at bytes = do
   counts ← counts_at bytes
   if length counts.1 == 44 * pages_of counts.0 then Some counts else None

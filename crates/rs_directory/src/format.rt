@@ -2,7 +2,7 @@
 
 ghost use Rattle.std.specs.Prelude.{◌≡◌, ◌≤◌, ◌+◌, ◌*◌, ◌++◌, vec_len, vec_capacity, length, flat_map, All, IfOk};
 ghost use Rattle.rs_record.specs.Limits.{most_items};
-ghost use Rattle.rs_directory.specs.Directory.{header_bytes, ref_bytes, count_bytes, directory_bytes as bytes_of, directory_length, written_format, IsLawfulHeader, IsLawfulRef, AreLawfulRefs};
+ghost use Rattle.rs_directory.specs.Directory.{header_bytes, ref_bytes, count_bytes, directory_length, written_format, IsDirectory, IsLawfulHeader, IsLawfulRef};
 
 use crate::Header;
 use rs_page::PageRef;
@@ -40,16 +40,10 @@ pub fn directory_bytes(
     requires catalogue { length catalogue.now ≤ most_items }
     requires changes { length changes.now ≤ most_items }
     requires published { length published.now ≤ most_items }
-    ensures bytes { IfOk result (λ out. out.items
-        ≡ bytes_of written_format header.now catalogue.now changes.now published.now) }
+    ensures bytes { IfOk result (λ out. IsDirectory written_format out.items
+        header.now catalogue.now changes.now published.now) }
     ensures size { IfOk result (λ out. vec_len out ≡ directory_length header.now
         (length catalogue.now + length changes.now + length published.now)) }
-
-    // So what was written is read again.
-    ensures header { IfOk result (λ _. IsLawfulHeader written_format header.now) }
-    ensures catalogue { IfOk result (λ _. AreLawfulRefs catalogue.now) }
-    ensures changes { IfOk result (λ _. AreLawfulRefs changes.now) }
-    ensures published { IfOk result (λ _. AreLawfulRefs published.now) }
 {
     let entries = catalogue.len() + changes.len() + published.len();
     let mut out = Vec::with_capacity(alloc, directory_size(header, entries) as usize)?;
@@ -63,7 +57,7 @@ pub fn directory_bytes(
     Ok(out)
 }
 
-// Appends a header, for which there is room.
+/// Appends a header, for which there is room.
 fn append_header(header: &Header, out: &mut Vec<u8>)
     requires { vec_len out.old + 51 + length header.now.base ≤ vec_capacity out.old }
     ensures items { out.new.items ≡ out.old.items ++ header_bytes written_format header.now }
@@ -83,7 +77,7 @@ fn append_header(header: &Header, out: &mut Vec<u8>)
     append(&header.begin.ms().to_be_bytes(), out);
 }
 
-// Appends the number of the entries, for which there is room.
+/// Appends the number of the entries, for which there is room.
 fn append_count(refs: &[PageRef], out: &mut Vec<u8>)
     requires most { length refs.now ≤ most_items }
     requires room { vec_len out.old + 4 ≤ vec_capacity out.old }
@@ -94,7 +88,7 @@ fn append_count(refs: &[PageRef], out: &mut Vec<u8>)
     append(&(refs.len() as u32).to_be_bytes(), out);
 }
 
-// Appends the entries, for which there is room.
+/// Appends the entries, for which there is room.
 fn append_refs(refs: &[PageRef], out: &mut Vec<u8>)
     requires { vec_len out.old + 44 * length refs.now ≤ vec_capacity out.old }
     ensures items { out.new.items ≡ out.old.items ++ flat_map ref_bytes refs.now }
@@ -107,7 +101,7 @@ fn append_refs(refs: &[PageRef], out: &mut Vec<u8>)
     }
 }
 
-// Appends an entry, for which there is room.
+/// Appends an entry, for which there is room.
 fn append_ref(entry: &PageRef, out: &mut Vec<u8>)
     requires { vec_len out.old + 44 ≤ vec_capacity out.old }
     ensures items { out.new.items ≡ out.old.items ++ ref_bytes entry.now }
@@ -121,7 +115,7 @@ fn append_ref(entry: &PageRef, out: &mut Vec<u8>)
     append(&entry.sha256, out);
 }
 
-// Appends bytes for which there is room, and so takes no memory.
+/// Appends bytes for which there is room, and so takes no memory.
 fn append(bytes: &[u8], out: &mut Vec<u8>)
     requires room { vec_len out.old + length bytes.now ≤ vec_capacity out.old }
     ensures items { out.new.items ≡ out.old.items ++ bytes.now }

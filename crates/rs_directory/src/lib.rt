@@ -11,6 +11,7 @@ mod format;
 mod header;
 pub mod laws;
 mod limit;
+mod named;
 mod parts;
 mod reading;
 
@@ -18,4 +19,5 @@ pub use directory::Directory;
 pub use format::{directory_bytes, directory_size};
 pub use header::Header;
 pub use limit::Limit;
+pub use named::{entries_of, entry_at};
 pub use reading::read_directory;

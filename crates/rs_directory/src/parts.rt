@@ -1,12 +1,10 @@
 //! The parts of a directory, read off the front of some bytes.
 
 ghost use Rattle.rs_record.specs.Reading.{IsSeenAs};
-ghost use Rattle.rs_directory.specs.Reading.{header_at as header_read, history_at as history_read, counts_at as counts_read, entries_at as entries_read, page_entry_at as ref_read, header_seen};
+ghost use Rattle.rs_directory.specs.Reading.{header_at as header_read, history_at as history_read, counts_at as counts_read, entries_at as entries_read, header_seen};
 
 use crate::Limit;
 use crate::format::ENTRY_SIZE;
-use rs_extent::Extent;
-use rs_page::PageRef;
 use rs_record::fields::{counted_at, u16_at, u32_at, u64_at};
 use rs_time::Moment;
 
@@ -25,7 +23,7 @@ pub struct HeaderFields<'a> {
 
 /// How many pages of each kind there are.
 #[derive(Clone, Copy)]
-pub struct Counts {
+pub struct PageCounts {
     pub catalogue: u32,
     pub changes: u32,
     pub published: u32,
@@ -62,8 +60,8 @@ pub fn header_at(version: u8, bytes: &[u8]) -> Option<(HeaderFields<'_>, &[u8])>
     Some((header, rest))
 }
 
-// The first kept part and the begin of the history, and the bytes after them. Version 1 doesn't
-// tell them: they are 0 and the start.
+/// The first kept part and the begin of the history, and the bytes after them. Version 1 doesn't
+/// tell them: they are 0 and the start.
 #[tactic(auto, unfolding(crate::specs::Reading::history_at, rs_record::specs::Reading::moment_in))]
 fn history_at(version: u8, start: Moment, bytes: &[u8]) -> Option<((u64, Moment), &[u8])>
     ensures { IsSeenAs (λ x. (x.0, x.1.now)) result (history_read version start bytes.now) }
@@ -77,15 +75,15 @@ fn history_at(version: u8, start: Moment, bytes: &[u8]) -> Option<((u64, Moment)
     Some(((first, begin), rest))
 }
 
-// The numbers of pages, and the bytes after them.
+/// The numbers of pages, and the bytes after them.
 #[tactic(auto, unfolding(crate::specs::Reading::counts_at))]
-fn counts_at(bytes: &[u8]) -> Option<(Counts, &[u8])>
+fn counts_at(bytes: &[u8]) -> Option<(PageCounts, &[u8])>
     ensures { IsSeenAs (λ x. (x.0, x.1.now)) result (counts_read bytes.now) }
 {
     let (catalogue, rest) = u32_at(bytes)?;
     let (changes, rest) = u32_at(rest)?;
     let (published, rest) = u32_at(rest)?;
-    let counts = Counts {
+    let counts = PageCounts {
         catalogue,
         changes,
         published,
@@ -95,7 +93,7 @@ fn counts_at(bytes: &[u8]) -> Option<(Counts, &[u8])>
 
 /// The numbers of pages, and the bytes of their entries: as many as the numbers say, and no more.
 #[tactic(auto, unfolding(crate::specs::Reading::entries_at))]
-pub fn entries_at(bytes: &[u8]) -> Option<(Counts, &[u8])>
+pub fn entries_at(bytes: &[u8]) -> Option<(PageCounts, &[u8])>
     ensures { IsSeenAs (λ x. (x.0, x.1.now)) result (entries_read bytes.now) }
 {
     let (counts, entries) = counts_at(bytes)?;
@@ -104,21 +102,4 @@ pub fn entries_at(bytes: &[u8]) -> Option<(Counts, &[u8])>
         return None;
     }
     Some((counts, entries))
-}
-
-/// An entry of a page, and the bytes after it.
-#[tactic(auto, unfolding(crate::specs::Reading::page_entry_at))]
-pub fn ref_at(bytes: &[u8]) -> Option<(PageRef, &[u8])>
-    ensures { IsSeenAs (λ x. (x.0, x.1.now)) result (ref_read bytes.now) }
-{
-    let (first, rest) = u32_at(bytes)?;
-    let (blocks, rest) = u32_at(rest)?;
-    let (length, rest) = u32_at(rest)?;
-    let (sha256, rest) = rest.split_first_chunk::<32>()?;
-    let entry = PageRef {
-        extent: Extent { first, blocks },
-        length,
-        sha256: *sha256,
-    };
-    Some((entry, rest))
 }

@@ -1,14 +1,13 @@
 //! A directory as it is read.
 
 ghost use Rattle.std.specs.Prelude.{◌≡◌, ◌<◌, ◌+◌, ◌*◌, ◌++◌, ◌↔◌, ℕ, List, length, flat_map, All, false, IsTrue, IfOk, OnOk, IsErrOf};
-ghost use Rattle.rs_page.specs.declared.place.PageRef.{PageRef};
-ghost use Rattle.rs_directory.specs.declared.header.Header.{Header};
-ghost use Rattle.rs_directory.specs.Directory.{ref_bytes, directory_bytes, IsLawfulHeader, IsLawfulRef, AreLawfulRefs};
+ghost use Rattle.rs_directory.specs.Directory.{ref_bytes, IsDirectory, IsNoDirectory, IsLawfulRef};
 ghost use Rattle.rs_record.specs.Base.{is_base};
-ghost use Rattle.rs_directory.specs.Reading.{header_seen, pages_of};
+ghost use Rattle.rs_directory.specs.Reading.{header_seen, pages_of, AreListsOf};
 
 use crate::format::ENTRY_SIZE;
-use crate::parts::{Counts, HeaderFields, entries_at, header_at, ref_at};
+use crate::named::entry_at;
+use crate::parts::{HeaderFields, PageCounts, entries_at, header_at};
 use crate::{Directory, Header};
 use rs_page::PageRef;
 use rs_record::{Base, BaseError, FieldFault};
@@ -25,16 +24,9 @@ use std::alloc::{AllocError, Global};
 /// `Malformed` exactly where the bytes are no lawful directory; `NoMemory` where the memory for the
 /// base or the entries was refused.
 pub fn read_directory(alloc: Global, version: u8, bytes: &[u8]) -> Result<Directory, FieldFault>
-    ensures header { IfOk result (λ d. IsLawfulHeader version d.header) }
-    ensures catalogue { IfOk result (λ d. AreLawfulRefs d.catalogue.items) }
-    ensures changes { IfOk result (λ d. AreLawfulRefs d.changes.items) }
-    ensures published { IfOk result (λ d. AreLawfulRefs d.published.items) }
-    ensures found { IfOk result (λ d. bytes.now
-        ≡ directory_bytes version d.header d.catalogue.items d.changes.items d.published.items) }
-    ensures malformed { IsErrOf result FieldFault.Malformed
-        ↔ ((h : Header) (catalogue changes published : List PageRef) → IsLawfulHeader version h
-        → AreLawfulRefs catalogue → AreLawfulRefs changes → AreLawfulRefs published
-        → ¬ (bytes.now ≡ directory_bytes version h catalogue changes published)) }
+    ensures found { IfOk result (λ d. IsDirectory version bytes.now
+        d.header d.catalogue.items d.changes.items d.published.items) }
+    ensures malformed { IsErrOf result FieldFault.Malformed ↔ IsNoDirectory version bytes.now }
 {
     let Some((fields, rest)) = header_at(version, bytes) else {
         return Err(FieldFault::Malformed);
@@ -54,7 +46,7 @@ pub fn read_directory(alloc: Global, version: u8, bytes: &[u8]) -> Result<Direct
     })
 }
 
-// The header with memory of its own, where its base is lawful.
+/// The header with memory of its own, where its base is lawful.
 fn header_of(alloc: Global, fields: HeaderFields<'_>) -> Result<Header, FieldFault>
     ensures value { IfOk result (λ header. header ≡ header_seen fields.entry) }
     ensures lawful { OnOk result (IsTrue (is_base fields.entry.base.now)) }
@@ -78,22 +70,15 @@ fn header_of(alloc: Global, fields: HeaderFields<'_>) -> Result<Header, FieldFau
     })
 }
 
-// The entries of each kind: as many as the counts say, which are all that there are.
+/// The entries of each kind: as many as the counts say, which are all that there are.
 fn lists_of(
     alloc: Global,
-    counts: Counts,
+    counts: PageCounts,
     entries: &[u8],
 ) -> Result<(Vec<PageRef>, Vec<PageRef>, Vec<PageRef>), AllocError>
     requires { length entries.now ≡ 44 * pages_of counts }
-    ensures counts { IfOk result (λ lists. (length lists.0.items ≡ counts.catalogue)
-        × (length lists.1.items ≡ counts.changes)
-        × (length lists.2.items ≡ counts.published)) }
-    ensures lawful { IfOk result (λ lists. AreLawfulRefs lists.0.items
-        × AreLawfulRefs lists.1.items
-        × AreLawfulRefs lists.2.items) }
-    ensures bytes { IfOk result (λ lists. entries.now
-        ≡ flat_map ref_bytes lists.0.items
-        ++ (flat_map ref_bytes lists.1.items ++ flat_map ref_bytes lists.2.items)) }
+    ensures { IfOk result (λ lists. AreListsOf counts entries.now
+        lists.0.items lists.1.items lists.2.items) }
 {
     let (catalogue, rest) = entries.split_at(ENTRY_SIZE * counts.catalogue as usize);
     let (changes, published) = rest.split_at(ENTRY_SIZE * counts.changes as usize);
@@ -104,7 +89,7 @@ fn lists_of(
     ))
 }
 
-// The entries that the bytes begin with, as many as there are. Fewer bytes than one has may follow.
+/// The entries that the bytes begin with, as many as there are. Fewer bytes than one has may follow.
 fn refs_of(alloc: Global, bytes: &[u8]) -> Result<Vec<PageRef>, AllocError>
     ensures lawful { IfOk result (λ refs. All IsLawfulRef refs.items) }
     ensures found { IfOk result (λ refs. (rest : List ℕ)
@@ -112,7 +97,7 @@ fn refs_of(alloc: Global, bytes: &[u8]) -> Result<Vec<PageRef>, AllocError>
 {
     let mut refs = Vec::with_capacity(alloc, bytes.len() / ENTRY_SIZE)?;
     let mut rest = bytes;
-    while let Some((entry, after)) = ref_at(rest) {
+    while let Some((entry, after)) = entry_at(rest) {
         refs.push(entry)?;
         rest = after;
     }

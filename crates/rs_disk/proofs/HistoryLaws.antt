@@ -1,11 +1,11 @@
 -- One more change in a memory disk's record.
 use Rattle.std.proofs.Common.{◌≡◌, ℕ, ◌<◌, ◌≤◌, Bool, true, false, nat_lt, nat_eq, List, [], ◌∷◌, ◌++◌, refl, ◌∙◌, ap, arith, cond}
 use Rattle.std.proofs.lemmas.Bool.Decides.{nat_tests}
-use Rattle.rs_disk.specs.declared.history.Entry.{Entry}
+use Rattle.rs_disk.specs.declared.history.CallChange.{CallChange}
 use Rattle.rs_disk.specs.Medium.{Medium}
 use Rattle.rs_disk.specs.History.{during, after, seen_from, replay}
 
-replay_push : (k : ℕ) (m : Medium) (es : List Entry) (e : Entry) → replay k m (es ++ e ∷ []) ≡ seen_from k e (replay k m es)
+replay_push : (k : ℕ) (m : Medium) (es : List CallChange) (e : CallChange) → replay k m (es ++ e ∷ []) ≡ seen_from k e (replay k m es)
 replay_push k m [] e = refl
 replay_push k m (x ∷ es) e = replay_push k (seen_from k x m) es e
 
@@ -22,7 +22,7 @@ eq_false : (m n : ℕ) → n < m → nat_eq m n ≡ false
 eq_false m n lt = grind (arith, nat_tests)
 
 -- what a crash later than the entry's call sees, one within it, and one before it
-module _ (m : Medium) (es : List Entry) (e : Entry) where
+module _ (m : Medium) (es : List CallChange) (e : CallChange) where
   choice : Bool → Bool → ℕ → Medium
   choice past here k = cond past (after e.change (replay k m es)) (cond here (during e.change (replay k m es)) (replay k m es))
 

@@ -1,9 +1,9 @@
--- How a run of device calls goes on.
+-- What a run of device calls leaves of a crash within it.
 use Rattle.std.proofs.Common.{true≢false, ◌≡◌, inl, inr, ⊎_elim, ℕ, ◌+◌, ◌<◌, ◌≤◌, ◌^◌, List, length, refl, sym, ◌∙◌, ◌↔◌, ap, subst, arith, Result, Ok, Err, IsErr, OnOk, OnErr}
 use Rattle.std.proofs.lemmas.Bool.{cases_lt}
 use Rattle.rs_disk.specs.Medium.{Medium, DiskState, IsImage, IsImageAt, IsMedium, widened, written}
 use Rattle.rs_disk.specs.Calls.{CountsCall, Passes, Stays, Writes, Tears, Settles}
-use Rattle.rs_disk.specs.Leaves.{Leaves, TornFrom, Rests, Runs}
+use Rattle.rs_disk.specs.Leaves.{Leaves, TornFrom}
 use Rattle.rs_disk.proofs.Images.{torn_from, written_image, image_widened, resting_image}
 
 -- before the first call
@@ -108,48 +108,6 @@ pub exit_images : (old new : DiskState) (P : ℕ → List ℕ → Type 0) → Le
 exit_images old new P so_far image is =
     so_far.each new.calls image so_far.later (omega arith) (record { past = λ lt. absurd (omega (arith, lt)); now = λ _. is })
 
--- Of every device: a run of no call, and one of one call.
-pub runs_started : {T E : Type 0} (disk : DiskState) (x : T) → Runs {T = T} {E = E} disk disk (Ok x)
-runs_started disk x = record { size = refl; lasts = λ h. h; calls = omega arith; faults = omega arith; ok = refl; cause = tt }
-
-pub runs_one : {T E : Type 0} (old new : DiskState) (result : Result T E) → CountsCall old new result → Runs old new result
-runs_one old new (Ok x) counts =
-    record { size = counts.size; lasts = counts.lasts; calls = (counts_calls old new (Ok x) counts).0; faults = let same : new.faults ≡ old.faults = counts.ok in omega arith; ok = counts.ok; cause = tt }
-runs_one old new (Err e) counts = elim (cases_lt (old.calls + 1) (2 ^ 64)) [
-  | inl more ↦
-      let one : new.calls ≡ old.calls + 1 = counts.calls more in
-      let fault : new.faults ≡ old.faults + 1 = counts.fault more in
-      record { size = counts.size; lasts = counts.lasts; calls = omega arith; faults = omega arith; ok = tt; cause = inl (omega arith) }
-  | inr last ↦
-      let calls : new.calls ≡ old.calls = ap (λ (d : DiskState). d.calls) (counts.spent last).0 in
-      let faults : new.faults ≡ old.faults = ap (λ (d : DiskState). d.faults) (counts.spent last).0 in
-      record { size = counts.size; lasts = counts.lasts; calls = omega arith; faults = omega arith; ok = tt; cause = inr (omega arith) }
-]
-
--- calls that change nothing
-pub rests : (disk : DiskState) → Rests disk disk
-rests disk = record { now = refl; size = refl; lasts = λ h. h; faults = omega arith; leaves = started disk (λ _. IsImage disk.now) (λ image left. left) }
-
-pub rest_one : {T E : Type 0} (old new : DiskState) (result : Result T E) → CountsCall old new result → Stays old new → Rests old new
-rest_one old new result counts stays =
-    let calls = counts_calls old new result counts in
-    record {
-      now = stays.now;
-      size = counts.size;
-      lasts = counts.lasts;
-      faults = (runs_one old new result counts).faults;
-      leaves = one_call old new (λ _. IsImage old.now) old.now stays.passes calls.0 calls.1 (λ image left. left) (λ image left. subst (λ (m : Medium). IsImage m image) stays.now left);
-    }
-
-pub rest_on : (old mid new : DiskState) → Rests old mid → Rests mid new → Rests old new
-rest_on old mid new first behind = record {
-  now = behind.now ∙ first.now;
-  size = behind.size ∙ first.size;
-  lasts = λ h. first.lasts (behind.lasts h);
-  faults = omega (arith, first.faults, behind.faults);
-  leaves = goes_on old mid new (λ _. IsImage old.now) first.leaves (subst (λ (m : Medium). Leaves mid new (λ _. IsImage m)) first.now behind.leaves);
-}
-
 -- a run and then another, where what is said of the first changes with the second
 pub goes_further : (old mid new : DiskState) (P Q : ℕ → List ℕ → Type 0) → Leaves old mid P → ((m : ℕ) (image : List ℕ) → m < mid.calls → P m image → Q m image) → Leaves mid new Q → Leaves old new Q
 goes_further old mid new P Q first from behind = record {
@@ -167,25 +125,3 @@ past_images old new held passes later m image lt = (
   (λ was. record { past = λ _. subst (λ (k : Medium). IsImage k image) (sym (passes.past m lt)) (was.past lt); now = λ ge. absurd (omega (arith, ge, lt, later)) }),
   (λ is. record { past = λ _. subst (λ (k : Medium). IsImage k image) (passes.past m lt) (is.past (omega (arith, lt, later))); now = λ ge. absurd (omega (arith, ge, lt)) }),
 )
-
--- Of every device: a run and then another, and one that ends where a run of it failed.
-pub runs_on : {T E U F : Type 0} (old mid new : DiskState) (first : Result T E) (result : Result U F) → (IsErr first → IsErr result)
-    → Runs old mid first → Runs mid new result → Runs old new result
-runs_on old mid new (Ok y) (Ok x) fails one two =
-    let unmet : mid.faults ≡ old.faults = one.ok in
-    record { size = two.size ∙ one.size; lasts = λ h. one.lasts (two.lasts h); calls = omega (arith, one.calls, two.calls); faults = omega (arith, one.faults, two.faults); ok = two.ok ∙ unmet; cause = tt }
-runs_on old mid new (Err f) (Ok x) fails one two = absurd (true≢false (sym (fails refl)))
-runs_on old mid new first (Err e) fails one two = record {
-  size = two.size ∙ one.size;
-  lasts = λ h. one.lasts (two.lasts h);
-  calls = omega (arith, one.calls, two.calls);
-  faults = omega (arith, one.faults, two.faults);
-  ok = tt;
-  cause = ⊎_elim (λ rose. inl (omega (arith, one.faults, rose))) (λ last. inr last) two.cause;
-}
-
-pub runs_failed : {T E U F : Type 0} (old new : DiskState) (first : Result T E) (result : Result U F) → IsErr first → IsErr result
-    → Runs old new first → Runs old new result
-runs_failed old new (Err e) (Err f) failed fails one = record { size = one.size; lasts = one.lasts; calls = one.calls; faults = one.faults; ok = tt; cause = one.cause }
-runs_failed old new (Err e) (Ok x) failed fails one = absurd (true≢false (sym fails))
-runs_failed old new (Ok y) result failed fails one = absurd (true≢false (sym failed))

@@ -1,7 +1,7 @@
 -- The contents of a memory disk, seen as a medium.
-use Rattle.rs_disk.specs.declared.contents.Contents.{Contents}
+use Rattle.rs_disk.specs.declared.contents.HeldBytes.{HeldBytes}
 use Rattle.rs_disk.specs.Medium.{Medium}
 
 -- what a memory disk's contents stand for
-abbrev pub medium_of : Contents → Medium
+abbrev pub medium_of : HeldBytes → Medium
 medium_of c = record { seen = c.seen.items; settled = c.settled.items; unsettled = c.unsettled.items }

@@ -1,9 +1,10 @@
 -- What follows from the disk model alone.
-use Rattle.std.specs.Prelude.{◌≡◌, ◌↔◌, ℕ, ◌+◌, ◌<◌, ◌≤◌, List, [], ◌∷◌, length, replicate, get_or, Result, IsErr, OnOk, OnErr}
+use Rattle.std.specs.Prelude.{◌≡◌, ◌↔◌, ◌⊎◌, ℕ, ◌+◌, ◌<◌, ◌≤◌, List, [], ◌∷◌, length, replicate, get_or, Result, IsErr, OnOk, OnErr}
 use Rattle.rs_disk.specs.declared.disk.Fault.{Fault}
 use Rattle.rs_disk.specs.Medium.{Medium, DiskState, IsImage, IsImageAt, IsMedium, widened, partly_written, written, resting, image_of}
 use Rattle.rs_disk.specs.Calls.{CountsCall, Passes, Stays, Writes, Tears, Settles}
-use Rattle.rs_disk.specs.Leaves.{Leaves, Runs, TornFrom, Rests}
+use Rattle.rs_disk.specs.Leaves.{Leaves, TornFrom}
+use Rattle.rs_disk.specs.Runs.{Runs, RunsWriting, RunsReading, WritesNothing}
 
 -- Where all is settled, what a read gives is the one image.
 abbrev pub SettledImage : Type 0
@@ -43,10 +44,6 @@ abbrev pub SyncLeaves : Type 0
 SyncLeaves = (old new : DiskState) (result : Result (Unit {0}) Fault) → CountsCall old new result → IsMedium old.size old.now
     → OnOk result (Settles old new) → OnErr result (Stays old new) → Leaves old new (λ _. IsImage old.now)
 
--- Whatever a read answers, nothing changes.
-abbrev pub ReadRests : Type 0
-ReadRests = (old new : DiskState) (result : Result (Unit {0}) Fault) → CountsCall old new result → Stays old new → Rests old new
-
 -- A run of no call leaves P where each image of what is held has it.
 abbrev pub NoCallLeaves : (ℕ → List ℕ → Type 0) → Type 0
 NoCallLeaves P = (disk : DiskState) → ((image : List ℕ) → IsImage disk.now image → P disk.calls image) → Leaves disk disk P
@@ -68,19 +65,33 @@ ExitHas P = (old new : DiskState) → Leaves old new P → (image : List ℕ) �
 abbrev pub WeakerIsLeft : (ℕ → List ℕ → Type 0) → (ℕ → List ℕ → Type 0) → Type 0
 WeakerIsLeft P Q = (old new : DiskState) → ((m : ℕ) (image : List ℕ) → P m image → Q m image) → Leaves old new P → Leaves old new Q
 
--- One call is a run.
+-- One call is a run, of every device; a write or a sync is one that writes, and a read one that changes nothing.
 abbrev pub OneCallRuns : Type 0 → Type 0 → Type 0
-OneCallRuns T E = (old new : DiskState) (result : Result T E) → CountsCall old new result → Runs old new result
+OneCallRuns T E = (old new : DiskState) (result : Result T E) → CountsCall old new result → Runs (IsErr result) old new
 
--- A run and then another are a run with the second's answer, where that is an error if the first one's is.
-abbrev pub CountsGoOn : Type 0 → Type 0 → Type 0 → Type 0 → Type 0
-CountsGoOn T E U F = (old mid new : DiskState) (first : Result T E) (result : Result U F) → (IsErr first → IsErr result)
-    → Runs old mid first → Runs mid new result → Runs old new result
+abbrev pub OneCallWrites : Type 0 → Type 0 → Type 0
+OneCallWrites T E = (old new : DiskState) (result : Result T E) → CountsCall old new result → new.honest ≡ old.honest → RunsWriting (IsErr result) old new
 
--- A run that failed may end a run that answers any error.
-abbrev pub FailedRunEnds : Type 0 → Type 0 → Type 0 → Type 0 → Type 0
-FailedRunEnds T E U F = (old new : DiskState) (first : Result T E) (result : Result U F) → IsErr first → IsErr result
-    → Runs old new first → Runs old new result
+abbrev pub OneCallReads : Type 0 → Type 0 → Type 0
+OneCallReads T E = (old new : DiskState) (result : Result T E) → CountsCall old new result → Stays old new → RunsReading (IsErr result) old new
+
+-- A sync writes nothing.
+abbrev pub SyncWritesNothing : Type 0 → Type 0
+SyncWritesNothing E = (old new : DiskState) (result : Result (Unit {0}) E) → CountsCall old new result → IsMedium old.size old.now
+    → OnOk result (Settles old new) → OnErr result (Stays old new) → WritesNothing (IsErr result) old new
+
+-- A run and then another are one run, whose answer tells of the device where one of theirs does.
+abbrev pub RunsJoin : Type 0 → Type 0 → Type 0 → Type 0
+RunsJoin A B C = (old mid new : DiskState) → (A → C) → (B → C) → (C → A ⊎ B) → Runs A old mid → Runs B mid new → Runs C old new
+
+abbrev pub WritingJoins : Type 0 → Type 0 → Type 0 → Type 0
+WritingJoins A B C = (old mid new : DiskState) → (A → C) → (B → C) → (C → A ⊎ B) → RunsWriting A old mid → RunsWriting B mid new → RunsWriting C old new
+
+abbrev pub ReadingJoins : Type 0 → Type 0 → Type 0 → Type 0
+ReadingJoins A B C = (old mid new : DiskState) → (A → C) → (B → C) → (C → A ⊎ B) → RunsReading A old mid → RunsReading B mid new → RunsReading C old new
+
+abbrev pub NothingJoins : Type 0 → Type 0 → Type 0 → Type 0
+NothingJoins A B C = (old mid new : DiskState) → (A → C) → (B → C) → (C → A ⊎ B) → WritesNothing A old mid → WritesNothing B mid new → WritesNothing C old new
 
 -- eight zero bytes, settled
 abbrev pub zeros : Medium

@@ -1,6 +1,7 @@
 pub mod Medium
 pub mod Calls
 pub mod Leaves
+pub mod Runs
 pub mod Contents
 pub mod History
 pub mod Plan

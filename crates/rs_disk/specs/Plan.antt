@@ -1,7 +1,7 @@
 -- Which further calls of a memory disk fail, and how.
 use Rattle.std.specs.Prelude.{ℕ, nat_lt, nat_eq, if◌then◌else◌, ◌/◌, List, length, take}
-use Rattle.rs_disk.specs.declared.plan.Plan.{Plan}
-use Rattle.rs_disk.specs.declared.plan.Plan.TheVariants.{Sound, StopsAfter, Stopped, FailsAfter}
+use Rattle.rs_disk.specs.declared.plan.FaultPlan.{FaultPlan}
+use Rattle.rs_disk.specs.declared.plan.FaultPlan.TheVariants.{Sound, StopsAfter, Stopped, FailsAfter}
 use Rattle.rs_disk.specs.declared.plan.Outcome.{Outcome}
 use Rattle.rs_disk.specs.declared.plan.Outcome.TheVariants.{Works, FailsHalfway, FailsAtStart, Refused}
 use Rattle.rs_disk.specs.Medium.{Medium, widened, partly_written}
@@ -15,7 +15,7 @@ abbrev pub fails_once : ℕ → ℕ → Outcome
 fails_once k i = if nat_eq i k then FailsHalfway else Works
 
 -- what a plan makes of the i-th further call, counted from 0
-abbrev pub planned_by : Plan → ℕ → Outcome
+abbrev pub planned_by : FaultPlan → ℕ → Outcome
 planned_by Sound i = Works
 planned_by (StopsAfter k) i = stops_after k i
 planned_by Stopped i = Refused

@@ -6,7 +6,7 @@ ghost use Rattle.rs_disk.specs.Medium.{IsMedium, over, marked, resting, partly_w
 use std::alloc::{AllocError, Global};
 
 #[derive(Drop)]
-pub(crate) struct Contents {
+pub(crate) struct HeldBytes {
     seen: Vec<u8>,
     settled: Vec<u8>,
     unsettled: Vec<bool>,
@@ -14,14 +14,14 @@ pub(crate) struct Contents {
         (record { seen = seen.items; settled = settled.items; unsettled = unsettled.items }) },
 }
 
-impl Contents {
+impl HeldBytes {
     ghost use Rattle.rs_disk.specs.Contents.{medium_of};
 
     // These bytes, all settled.
     pub(crate) fn resting(alloc: Global, bytes: &[u8]) -> Result<Self, AllocError>
         ensures { IfOk result (λ c. medium_of c ≡ resting bytes.now) }
     {
-        Ok(Contents {
+        Ok(HeldBytes {
             seen: bytes.to_vec(alloc)?,
             settled: bytes.to_vec(alloc)?,
             unsettled: vec![in alloc; false; bytes.len()]?,

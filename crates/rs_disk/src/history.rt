@@ -6,7 +6,7 @@ ghost use Rattle.rs_disk.specs.Medium.{resting};
 use std::alloc::{AllocError, Global};
 
 #[derive(Drop)]
-pub(crate) enum Change {
+pub(crate) enum HeldChange {
     // These bytes were put at an offset, and this many places from there became unsettled.
     Write {
         at: usize,
@@ -19,32 +19,32 @@ pub(crate) enum Change {
 
 // A change, and how many calls were counted before its own.
 #[derive(Drop)]
-pub(crate) struct Entry {
+pub(crate) struct CallChange {
     call: u64,
-    change: Change,
+    change: HeldChange,
 }
 
 // The bytes at first, all settled, and the changes since.
 #[derive(Drop)]
-pub(crate) struct History {
+pub(crate) struct CallHistory {
     first: Vec<u8>,
-    entries: Vec<Entry>,
+    entries: Vec<CallChange>,
 }
 
-impl History {
+impl CallHistory {
     ghost use Rattle.rs_disk.specs.History.{held_within, during, after};
 
     pub(crate) fn starting_with(alloc: Global, bytes: &[u8]) -> Result<Self, AllocError>
         ensures { IfOk result (λ h. (k : ℕ) → held_within k h ≡ resting bytes.now) }
     {
-        Ok(History {
+        Ok(CallHistory {
             first: bytes.to_vec(alloc)?,
             entries: Vec::new(alloc),
         })
     }
 
     // Notes a change within the call that comes after this many counted ones.
-    pub(crate) fn note(&mut self, call: u64, change: Change) -> Result<(), AllocError>
+    pub(crate) fn note(&mut self, call: u64, change: HeldChange) -> Result<(), AllocError>
         ensures before { OnOk result ((k : ℕ) → k < call
             → held_within k self.new ≡ held_within k self.old) }
         ensures within { OnOk result (held_within call self.new
@@ -53,7 +53,7 @@ impl History {
             → held_within k self.new ≡ after change (held_within k self.old)) }
         ensures err { OnErr result ((k : ℕ) → held_within k self.new ≡ held_within k self.old) }
     {
-        self.entries.push(Entry { call, change })?;
+        self.entries.push(CallChange { call, change })?;
         Ok(())
     }
 }

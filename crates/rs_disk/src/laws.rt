@@ -5,7 +5,7 @@
 ghost use Rattle.std.specs.Prelude.{◌≡◌, ℕ, List, [], ◌∷◌, replicate};
 ghost use Rattle.rs_disk.specs.Medium.{image_of, resting, written};
 ghost use Rattle.rs_disk.specs.Plan.{left_by_write, stops_after, fails_once};
-ghost use Rattle.rs_disk.specs.Laws.{SettledImage, ImagesWithinWrite, ImagesAfterWrite, ChoicesAreImages, ImagesHaveChoices, PastImagesStay, WriteLeaves, SyncLeaves, ReadRests, NoCallLeaves, OneCallLeaves, RunsGoOn, ExitHas, WeakerIsLeft, OneCallRuns, CountsGoOn, FailedRunEnds, zeros, three_written};
+ghost use Rattle.rs_disk.specs.Laws.{SettledImage, ImagesWithinWrite, ImagesAfterWrite, ChoicesAreImages, ImagesHaveChoices, PastImagesStay, WriteLeaves, SyncLeaves, NoCallLeaves, OneCallLeaves, RunsGoOn, ExitHas, WeakerIsLeft, OneCallRuns, OneCallWrites, OneCallReads, SyncWritesNothing, RunsJoin, WritingJoins, ReadingJoins, NothingJoins, zeros, three_written};
 
 /// Where all is settled, what a read gives is the one image.
 pub fn settled_disk_has_one_image()
@@ -33,7 +33,6 @@ pub fn past_images_stay()
 
 /// What one call of a disk leaves at each moment from its entry to its exit, whatever it answers.
 pub fn one_call_leaves()
-    ensures read { ReadRests }
     ensures write { WriteLeaves }
     ensures sync { SyncLeaves }
 {}
@@ -85,10 +84,25 @@ pub fn weaker_claim_is_left<P: Claim, Q: Claim>()
     ensures { WeakerIsLeft P.of Q.of }
 {}
 
-/// The counts of a run of calls of every device: of one call, of one run and then another, and of
-/// one that ends where a run of it failed.
-pub fn runs_count<T, E, U, F>()
-    ensures one { OneCallRuns T E }
-    ensures goes_on { CountsGoOn T E U F }
-    ensures failed { FailedRunEnds T E U F }
+/// One call is a run, by what its answer tells of the device: of every device, one that writes or
+/// syncs, one that reads.
+pub fn one_call_runs<T, E>()
+    ensures any { OneCallRuns T E }
+    ensures writing { OneCallWrites T E }
+    ensures reading { OneCallReads T E }
+    ensures syncing { SyncWritesNothing E }
+{}
+
+/// That an answer tells of a failed device.
+pub trait Told {
+    ghost told: { Type 0 };
+}
+
+/// A run and then another are one run, whose answer tells of the device where one of theirs does: of
+/// every device, runs that write, runs that change nothing, and runs that write nothing.
+pub fn runs_join<A: Told, B: Told, C: Told>()
+    ensures any { RunsJoin A.told B.told C.told }
+    ensures writing { WritingJoins A.told B.told C.told }
+    ensures reading { ReadingJoins A.told B.told C.told }
+    ensures nothing { NothingJoins A.told B.told C.told }
 {}

@@ -6,9 +6,9 @@ ghost use Rattle.rs_disk.specs.Medium.{IsImage, resting, image_of};
 ghost use Rattle.rs_disk.specs.Contents.{medium_of};
 ghost use Rattle.rs_disk.specs.History.{held_within};
 
-use crate::contents::Contents;
-use crate::history::History;
-use crate::plan::Plan;
+use crate::contents::HeldBytes;
+use crate::history::CallHistory;
+use crate::plan::FaultPlan;
 use std::alloc::{AllocError, Global};
 
 /// A disk in memory, which keeps a record of its writes and syncs.
@@ -20,11 +20,11 @@ use std::alloc::{AllocError, Global};
 #[derive(Drop)]
 pub struct MemoryDisk {
     alloc: Global,
-    contents: Contents,
-    history: History,
+    contents: HeldBytes,
+    history: CallHistory,
     calls: u64,
     faults: u64,
-    plan: Plan,
+    plan: FaultPlan,
     ghost replays: { (k : ℕ) → calls ≤ k → held_within k history ≡ medium_of contents },
     ghost fewer: { faults ≤ calls },
 }
@@ -47,11 +47,11 @@ impl MemoryDisk {
     {
         Ok(MemoryDisk {
             alloc,
-            contents: Contents::resting(alloc, bytes)?,
-            history: History::starting_with(alloc, bytes)?,
+            contents: HeldBytes::resting(alloc, bytes)?,
+            history: CallHistory::starting_with(alloc, bytes)?,
             calls: 0,
             faults: 0,
-            plan: Plan::Sound,
+            plan: FaultPlan::Sound,
         })
     }
 
@@ -78,7 +78,7 @@ impl MemoryDisk {
         ensures state { memory_state self.new ≡ memory_state self.old }
         ensures plan { (i : ℕ) → planned self.new i ≡ stops_after k i }
     {
-        self.plan = Plan::StopsAfter(k);
+        self.plan = FaultPlan::StopsAfter(k);
     }
 
     /// After `k` further calls one call fails, and the later ones work.
@@ -89,7 +89,7 @@ impl MemoryDisk {
         ensures state { memory_state self.new ≡ memory_state self.old }
         ensures plan { (i : ℕ) → planned self.new i ≡ fails_once k i }
     {
-        self.plan = Plan::FailsAfter(k);
+        self.plan = FaultPlan::FailsAfter(k);
     }
 
     /// An image that a crash may leave now: the settled bytes, where the i-th unsettled place in

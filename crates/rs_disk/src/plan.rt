@@ -3,7 +3,7 @@ ghost use Rattle.std.specs.Prelude.{◌≡◌, ℕ, ◌+◌};
 
 // Which further calls fail.
 #[derive(Clone, Copy, Drop)]
-pub(crate) enum Plan {
+pub(crate) enum FaultPlan {
     // None fails.
     Sound,
     // After this many further calls every call fails.
@@ -26,7 +26,7 @@ pub(crate) enum Outcome {
     Refused,
 }
 
-impl Plan {
+impl FaultPlan {
     ghost use Rattle.rs_disk.specs.Plan.{planned_by};
 
     // What the next call does.
@@ -35,22 +35,22 @@ impl Plan {
         ensures later { (i : ℕ) → planned_by self.new i ≡ planned_by self.old (i + 1) }
     {
         match *self {
-            Plan::Sound => Outcome::Works,
-            Plan::StopsAfter(0) => {
-                *self = Plan::Stopped;
+            FaultPlan::Sound => Outcome::Works,
+            FaultPlan::StopsAfter(0) => {
+                *self = FaultPlan::Stopped;
                 Outcome::FailsAtStart
             }
-            Plan::StopsAfter(k) => {
-                *self = Plan::StopsAfter(k - 1);
+            FaultPlan::StopsAfter(k) => {
+                *self = FaultPlan::StopsAfter(k - 1);
                 Outcome::Works
             }
-            Plan::Stopped => Outcome::Refused,
-            Plan::FailsAfter(0) => {
-                *self = Plan::Sound;
+            FaultPlan::Stopped => Outcome::Refused,
+            FaultPlan::FailsAfter(0) => {
+                *self = FaultPlan::Sound;
                 Outcome::FailsHalfway
             }
-            Plan::FailsAfter(k) => {
-                *self = Plan::FailsAfter(k - 1);
+            FaultPlan::FailsAfter(k) => {
+                *self = FaultPlan::FailsAfter(k - 1);
                 Outcome::Works
             }
         }

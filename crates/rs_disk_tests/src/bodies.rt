@@ -3,7 +3,7 @@
 
 use crate::images::image_is;
 use rs_body::{
-    BodyFault, blocks_for, is_intact, is_on_disk, is_sized, read_body, write_body, write_piece,
+    LoadFault, blocks_for, is_intact, is_on_disk, is_sized, read_body, write_body, write_piece,
 };
 use rs_disk::{Disk, Fault, MemoryDisk};
 use rs_extent::Extent;
@@ -97,7 +97,7 @@ fn read_so(
     digest: &[u8; 32],
     into: &mut Vec<u8>,
     length: u32,
-) -> Result<(), BodyFault> {
+) -> Result<(), LoadFault> {
     assert!(rt; is_on_disk(extent, disk.size()));
     assert!(rt; u64::from(length) <= 512 * u64::from(extent.blocks));
     read_body(disk, extent, length, digest, into)
@@ -113,7 +113,7 @@ fn is_kept(rt: &(impl Abort + AllocGlobal), disk: &mut MemoryDisk, row: &Row, bo
     assert_eq!(rt; (read, into.as_slice()), (Ok(()), body));
     assert_eq!(rt; disk.calls(), if length == 0 { 0 } else { 2 });
     let read = read_so(rt, disk, extent, &sha256(last, first), &mut into, length);
-    assert_eq!(rt; (read, into.len()), (Err(BodyFault::Damaged), 0));
+    assert_eq!(rt; (read, into.len()), (Err(LoadFault::Damaged), 0));
 }
 
 #[test]

@@ -1,6 +1,6 @@
 //! How faults are shown.
 
-use rs_body::BodyFault;
+use rs_body::LoadFault;
 use rs_commit::{CommitFault, SlotFault};
 use rs_disk::Fault;
 use rs_file::FileFault;
@@ -15,15 +15,15 @@ fn faults_are_shown(rt: HostRuntime) -> Result<(), Fail> {
         SlotFault::Device,
         CommitFault::Exhausted,
         CommitFault::Device,
-        BodyFault::Device,
-        BodyFault::Damaged,
-        BodyFault::NoMemory,
+        LoadFault::Device,
+        LoadFault::Damaged,
+        LoadFault::NoMemory,
         FileFault::Exists,
         FileFault::Device
     )?;
     let wanted =
         "the device failed; the disk holds no source; the device failed; no generation is left; \
-        the device failed; the device failed; the body is damaged; out of memory; Exists Device";
+        the device failed; the device failed; what stands there is damaged; out of memory; Exists Device";
     assert_eq!(rt; text.as_str(), wanted);
     Ok(())
 }

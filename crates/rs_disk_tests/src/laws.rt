@@ -2,13 +2,19 @@
 
 use rs_disk::Fault;
 
-/// Claims nothing of any image.
+/// Claims nothing of any image, and tells nothing.
 struct Anything;
 
 impl rs_disk::laws::Claim for Anything {
     ghost use Rattle.std.specs.Prelude.{⊤};
 
     ghost of = { λ _ _. ⊤ };
+}
+
+impl rs_disk::laws::Told for Anything {
+    ghost use Rattle.std.specs.Prelude.{⊤};
+
+    ghost told = { ⊤ };
 }
 
 #[test]
@@ -22,7 +28,8 @@ fn the_laws(_rt: HostRuntime) {
     rs_disk::laws::worked_failures();
     rs_disk::laws::runs_leave::<Anything>();
     rs_disk::laws::weaker_claim_is_left::<Anything, Anything>();
-    rs_disk::laws::runs_count::<(), Fault, (), Fault>();
+    rs_disk::laws::one_call_runs::<(), Fault>();
+    rs_disk::laws::runs_join::<Anything, Anything, Anything>();
     rs_commit::laws::opens_once();
     rs_commit::laws::opens_stays();
     rs_commit::laws::ready_stays();
@@ -34,6 +41,7 @@ fn the_laws(_rt: HostRuntime) {
     rs_body::laws::outside_none();
     rs_body::laws::outside_goes_on();
     rs_body::laws::outside_less();
-    rs_body::laws::outside_rests();
+    rs_body::laws::outside_rests::<Anything>();
+    rs_body::laws::only_goes_on::<Anything, Anything, Anything>();
     rs_body::laws::part_kept();
 }

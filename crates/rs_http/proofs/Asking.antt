@@ -1,6 +1,7 @@
 -- What the answers of the source come to.
-use Rattle.std.proofs.Common.{◌≡◌, ℕ, List, [], ◌++◌, append_assoc, append-nil, codes, Option, Some, None, Result, Ok, Err, Vec, Global, Bool, true, false, ◌↔◌, length, refl, ap, sym, subst, ◌∙◌, if◌then◌else◌, IsErrOf, IsTrue, IfOk, option_map}
+use Rattle.std.proofs.Common.{◌≡◌, ℕ, List, [], ◌++◌, append_assoc, append-nil, codes, Option, Some, None, Result, Ok, Err, Vec, Global, Bool, true, false, ◌↔◌, length, refl, ap, sym, subst, ◌∙◌, if◌then◌else◌, IsErrOf, IsTrue, option_map}
 use Rattle.rs_disk.specs.Medium.{DiskState}
+use Rattle.rs_disk.proofs.Runs.{reading_as}
 use Rattle.rs_model.specs.Step.{is_held}
 use Rattle.rs_lists.specs.declared.doc.Doc.{Doc}
 use Rattle.rs_lists.specs.Shown.{Shown}
@@ -13,21 +14,24 @@ use Rattle.rs_store.specs.Views as views
 use Rattle.rs_store.specs.declared.refusal.Refusal as stored
 use Rattle.rs_store.specs.declared.refusal.Refusal.TheVariants.{Closed, NotHeld, Device, Damaged, NoMemory}
 use Rattle.rs_recovery.specs.Documents.{DocumentsAreOfTheState}
+use Rattle.rs_io.specs.declared.watch.Watched.{Watched}
+use Rattle.rs_http.specs.declared.fault.FrontFault.{FrontFault}
 use Rattle.rs_http.specs.declared.response.Framing.{Framing}
 use Rattle.httpdate.specs.Date.{date_text}
-use Rattle.rs_http.specs.Responses.{RequestOutcome, shown, refused, status_code, response_text, first_lines, content_lines, sent_body, framed}
-use Rattle.rs_http.specs.Outcomes.{ReadComesTo, document_or_none, document_shown, Responds}
+use Rattle.rs_http.specs.Turn.{Turn}
+use Rattle.rs_http.specs.Responses.{RequestOutcome, shown, refused, response_text, first_lines, content_lines, sent_body, framed}
+use Rattle.rs_http.specs.Outcomes.{ReadComesTo, document_or_none, document_shown, Sends, Responds}
 
--- an outcome is answered
-pub answered : {E : Type 0} (framing : Framing) (Written : List ℕ → Type 0) (comes : RequestOutcome → Type 0) (result : Result ℕ E) (outcome : RequestOutcome)
-    → comes outcome → IfOk result (λ status. status ≡ status_code outcome) → Written (response_text framing outcome)
-    → Responds framing Written comes result
-answered framing Written comes result outcome c s w = record { outcome = outcome; comes_of_it = c; status = s; written = w }
+module _ {W : Type 0} {contents : W → Option (List ℕ)} {before after : Watched W} {framing : Framing} {result : Result ℕ FrontFault} where
+  -- an outcome is answered
+  pub answered : {comes : RequestOutcome → Type 0} (outcome : RequestOutcome) → comes outcome → Sends contents before after framing outcome result
+      → Responds contents before after framing comes result
+  answered outcome is sends = record { outcome = outcome; comes_of_it = is; sends = sends }
 
--- what comes of it may be told in other words
-pub answers_more : {E : Type 0} (framing : Framing) (Written : List ℕ → Type 0) (comes more : RequestOutcome → Type 0) (result : Result ℕ E)
-    → ((outcome : RequestOutcome) → comes outcome → more outcome) → Responds framing Written comes result → Responds framing Written more result
-answers_more framing Written comes more result is r = record { outcome = r.outcome; comes_of_it = is r.outcome r.comes_of_it; status = r.status; written = r.written }
+  -- what comes of it may be told in other words
+  pub answers_more : {comes more : RequestOutcome → Type 0} → ((outcome : RequestOutcome) → comes outcome → more outcome)
+      → Responds contents before after framing comes result → Responds contents before after framing more result
+  answers_more is r = record { outcome = r.outcome; comes_of_it = is r.outcome r.comes_of_it; sends = r.sends }
 
 -- the source is open where it gives what it is asked
 opened : {T : Type 0} (given : T) (closed : Bool) → IsErrOf {E = stored.Refusal} (Ok given) Closed ↔ IsTrue closed → closed ≡ false
@@ -51,15 +55,21 @@ elsewhere {A = A} {B = B} r s P h =
     (λ e. h.0 (back e), λ p. there (h.1 p))
 
 -- what is asked of a source that gave a body is asked of the same state
-module _ {D : Type 0} (device : D → DiskState) (old new : Stored D) (name : List ℕ) (bytes : Vec ℕ Global) (a : AnswersBody device old new name (Ok bytes)) where
+module _ {D : Type 0} {device : D → DiskState} (turn : Turn device) (name : List ℕ) (bytes : Vec ℕ Global) (a : AnswersBody device turn.old turn.new name (Ok bytes)) where
+  abbrev old : Stored D
+  old = turn.old
+
+  abbrev new : Stored D
+  new = turn.new
+
   same_state : state_of device new ≡ state_of device old
   same_state =
-      let now : (device new.disk).now ≡ (device old.disk).now = a.reads_only.rests.now in
+      let now : (device new.disk).now ≡ (device old.disk).now = a.runs.now in
       let contents : new.contents ≡ old.contents = a.reads_only.contents in
       cc
 
   -- the body is shown with its recorded type
-  pub body_shown : (kind k given : List ℕ) → kind_of name (state_of device new) ≡ Some kind → k ≡ kind → given ≡ bytes.items → ReadComesTo device old new name (shown k given)
+  pub body_shown : (kind k given : List ℕ) → kind_of name (state_of device new) ≡ Some kind → k ≡ kind → given ≡ bytes.items → ReadComesTo turn name (shown k given)
   body_shown kind k given e type_is is = record {
     result = Ok bytes;
     answers = a;
@@ -68,7 +78,7 @@ module _ {D : Type 0} (device : D → DiskState) (old new : Stored D) (name : Li
 
   -- or the memory for its type is refused, and so the body is
   pub kind_refused : (refusal : stored.Refusal) → IsErrOf {T = List ℕ} (Err refusal) Closed ↔ IsTrue new.is_closed
-      → IsErrOf {T = List ℕ} (Err refusal) NotHeld ↔ ((new.is_closed ≡ false) × (is_held (state_of device new) name ≡ false)) → IsOfKind refusal → ReadComesTo device old new name (refused refusal)
+      → IsErrOf {T = List ℕ} (Err refusal) NotHeld ↔ ((new.is_closed ≡ false) × (is_held (state_of device new) name ≡ false)) → IsOfKind refusal → ReadComesTo turn name (refused refusal)
   kind_refused refusal closed not_held is = record {
     result = Err refusal;
     answers = record {
@@ -79,7 +89,7 @@ module _ {D : Type 0} (device : D → DiskState) (old new : Stored D) (name : Li
           (subst (λ b. IsErrOf {T = List ℕ} (Err refusal) NotHeld ↔ ((b ≡ false) × (is_held (state_of device old) name ≡ false))) a.reads_only.is_closed
           (subst (λ s. IsErrOf {T = List ℕ} (Err refusal) NotHeld ↔ ((new.is_closed ≡ false) × (is_held s name ≡ false))) same_state not_held));
       damaged = λ e. let no : refusal ≡ Damaged = cc in absurd (subst IsOfKind no is);
-      told = record { failed = λ e. let no : refusal ≡ Device = cc in absurd (subst IsOfKind no is); sound = λ _. a.told.sound (λ e. absurd cc) };
+      runs = reading_as (device old.disk) (device new.disk) (λ e. absurd cc) (λ e. let no : refusal ≡ Device = cc in absurd (subst IsOfKind no is)) a.runs;
       others = of_kind refusal is;
       reads_only = a.reads_only;
     };

@@ -12,14 +12,15 @@ use Rattle.rs_store.specs.Laws.{RestIsIdle}
 use Rattle.rs_store.specs.Runs.{IsIdle}
 use Rattle.rs_store.specs.Source.{Stored}
 use Rattle.rs_store.specs.declared.refusal.Refusal as stored
-use Rattle.rs_store.specs.declared.refusal.Refusal.TheVariants.{Closed, BadGroup, TooLong, NotHeld, TooManyResources, TooManyChanges, Exhausted, Full, ReadFault, ShortBody, Device, Damaged, NoMemory}
+use Rattle.rs_store.specs.declared.refusal.Refusal.TheVariants.{ReadFault, ShortBody}
 use Rattle.rs_recovery.specs.Prefixes.{counted_as, IsRunOf, IdleIsRun, CommandIsRun}
 use Rattle.rs_recovery.specs.Turns.{ReadingsIdle, CutPutsIdle}
-use Rattle.rs_http.specs.declared.request.Plan.{Plan}
-use Rattle.rs_http.specs.declared.request.Plan.TheVariants.{ShowBody, ShowDocument, Put, Delete, Publish, Group}
+use Rattle.rs_http.specs.declared.request.RequestPlan.{RequestPlan}
+use Rattle.rs_http.specs.declared.request.RequestPlan.TheVariants.{ShowBody, ShowDocument, Put, Delete, Publish, Group}
 use Rattle.rs_http.specs.declared.request.NoPlan.{NoPlan}
 use Rattle.rs_http.specs.Groups.{items_asked}
 use Rattle.rs_http.specs.Outcomes.{GroupComesTo, RequestGives, outcome_replied}
+use Rattle.rs_http.specs.Turn.{Turn}
 use Rattle.rs_http.specs.Responses.{RequestOutcome}
 use Rattle.rs_http.specs.Counted.{counted_with, counted_group, Counts}
 use Rattle.rs_http.specs.Serving.{IsBroken}
@@ -28,28 +29,25 @@ use Rattle.rs_http.proofs.Groups.{asked_items, unasked_counts}
 -- what counts by the outcome counts by the answer of the source
 counts_alike : (command : Command) (now : ℕ) (result : Result Reply stored.Refusal) → counted_with command now (outcome_replied result) ≡ counted_as command now result
 counts_alike command now (Ok reply) = refl
-counts_alike command now (Err Closed) = refl
-counts_alike command now (Err BadGroup) = refl
-counts_alike command now (Err TooLong) = refl
-counts_alike command now (Err NotHeld) = refl
-counts_alike command now (Err TooManyResources) = refl
-counts_alike command now (Err TooManyChanges) = refl
-counts_alike command now (Err Exhausted) = refl
-counts_alike command now (Err Full) = refl
-counts_alike command now (Err ReadFault) = refl
-counts_alike command now (Err ShortBody) = refl
-counts_alike command now (Err Device) = refl
-counts_alike command now (Err Damaged) = refl
-counts_alike command now (Err NoMemory) = refl
+counts_alike command now (Err refusal) = refl
 
 -- a body that came whole is the only one
-whole_body : (n : ℕ) (came body : List ℕ) → length came ≡ n → IsBodyOf n came body → body ≡ came
+pub whole_body : (n : ℕ) (came body : List ℕ) → length came ≡ n → IsBodyOf n came body → body ≡ came
 whole_body n came body all is =
     let same : length body ≡ length came = is.len ∙ sym all in
     sym (take-length body) ∙ ap (λ (m : ℕ). take m body) same ∙ is.front
 
 module _ {D : Type 0} (device : D → DiskState) (rest : RestIsIdle device) (reading : ReadingsIdle device) (cut : CutPutsIdle device)
-    (idle : IdleIsRun device) (one : CommandIsRun device) (old new : Stored D) (now : ℕ) where
+    (idle : IdleIsRun device) (one : CommandIsRun device) (turn : Turn device) where
+  abbrev old : Stored D
+  old = turn.old
+
+  abbrev new : Stored D
+  new = turn.new
+
+  abbrev now : ℕ
+  now = turn.now
+
   -- nothing that counts was asked
   idles : IsIdle device old new → IsRunOf device old [] new
   idles is = idle old new is
@@ -75,23 +73,13 @@ module _ {D : Type 0} (device : D → DiskState) (rest : RestIsIdle device) (rea
       subst (λ (l : List (Command × ℕ)). IsRunOf device old l new) (ap (counted_with (commands.Put name kind body) now) (sym is)) (idles (cut old new name kind n now came (inl a)))
   put_run name kind n came body (Err ShortBody) outcome is a whole =
       subst (λ (l : List (Command × ℕ)). IsRunOf device old l new) (ap (counted_with (commands.Put name kind body) now) (sym is)) (idles (cut old new name kind n now came (inr a)))
-  put_run name kind n came body (Err Closed) outcome is a whole = command_run (commands.Put name kind body) (Err Closed) outcome is (a.1 body whole)
-  put_run name kind n came body (Err BadGroup) outcome is a whole = command_run (commands.Put name kind body) (Err BadGroup) outcome is (a.1 body whole)
-  put_run name kind n came body (Err TooLong) outcome is a whole = command_run (commands.Put name kind body) (Err TooLong) outcome is (a.1 body whole)
-  put_run name kind n came body (Err NotHeld) outcome is a whole = command_run (commands.Put name kind body) (Err NotHeld) outcome is (a.1 body whole)
-  put_run name kind n came body (Err TooManyResources) outcome is a whole = command_run (commands.Put name kind body) (Err TooManyResources) outcome is (a.1 body whole)
-  put_run name kind n came body (Err TooManyChanges) outcome is a whole = command_run (commands.Put name kind body) (Err TooManyChanges) outcome is (a.1 body whole)
-  put_run name kind n came body (Err Exhausted) outcome is a whole = command_run (commands.Put name kind body) (Err Exhausted) outcome is (a.1 body whole)
-  put_run name kind n came body (Err Full) outcome is a whole = command_run (commands.Put name kind body) (Err Full) outcome is (a.1 body whole)
-  put_run name kind n came body (Err Device) outcome is a whole = command_run (commands.Put name kind body) (Err Device) outcome is (a.1 body whole)
-  put_run name kind n came body (Err Damaged) outcome is a whole = command_run (commands.Put name kind body) (Err Damaged) outcome is (a.1 body whole)
-  put_run name kind n came body (Err NoMemory) outcome is a whole = command_run (commands.Put name kind body) (Err NoMemory) outcome is (a.1 body whole)
+  put_run name kind n came body (Err refusal) outcome is a whole = command_run (commands.Put name kind body) (Err refusal) outcome is (a.1 body whole)
 
   recounted : (l k : List (Command × ℕ)) → l ≡ k → IsRunOf device old k new → IsRunOf device old l new
   recounted l k same r = subst (λ (x : List (Command × ℕ)). IsRunOf device old x new) (sym same) r
 
   -- a group was read
-  group_run : (n : ℕ) (more : List ℕ) (left : Option (List ℕ)) (outcome : RequestOutcome) (counted : List (Command × ℕ)) → GroupComesTo device old new n now more left outcome
+  group_run : (n : ℕ) (more : List ℕ) (left : Option (List ℕ)) (outcome : RequestOutcome) (counted : List (Command × ℕ)) → GroupComesTo turn n more left outcome
       → counted ≡ counted_group (items_asked n more) now outcome → IsRunOf device old counted new
   group_run n more left outcome counted (inl unasked) is = recounted counted [] (is ∙ unasked_counts n more left outcome now unasked.1) (still_run unasked.0)
   group_run n more left outcome counted (inr asked) is =
@@ -100,12 +88,12 @@ module _ {D : Type 0} (device : D → DiskState) (rest : RestIsIdle device) (rea
       (command_run (commands.Group asked.items) asked.comes.result outcome asked.comes.outcome_is asked.comes.answers)
 
   -- what may come of a request
-  pub request_run : (plan : Result Plan NoPlan) (more : List ℕ) (left : Option (List ℕ)) (outcome : RequestOutcome)
-      → RequestGives device old now plan more left outcome new → (counted : List (Command × ℕ)) → Counts now plan more outcome counted → IsRunOf device old counted new
+  pub request_run : (plan : Result RequestPlan NoPlan) (more : List ℕ) (left : Option (List ℕ)) (outcome : RequestOutcome)
+      → RequestGives turn plan more left outcome → (counted : List (Command × ℕ)) → Counts now plan more outcome counted → IsRunOf device old counted new
   request_run (Ok (ShowBody name)) more left outcome gives counted is = recounted counted [] is (idles (reading old new gives.1.answers.reads_only))
   request_run (Ok (ShowDocument doc)) more left outcome gives counted is = recounted counted [] is (still_run gives.2)
   request_run (Ok (Put name kind n waits)) more left outcome gives counted is =
-      recounted counted (counted_with (commands.Put name kind is.0) now outcome) is.2 (put_run name kind n more is.0 gives.result outcome gives.outcome_is gives.answers is.1)
+      recounted counted (counted_with (commands.Put name kind is.0) now outcome) is.2 (put_run name kind n more is.0 gives.0.result outcome gives.0.outcome_is gives.0.answers is.1)
   request_run (Ok (Delete name)) more left outcome gives counted is =
       recounted counted (counted_with (commands.Delete name) now outcome) is (command_run (commands.Delete name) gives.1.result outcome gives.1.outcome_is gives.1.answers)
   request_run (Ok Publish) more left outcome gives counted is =
@@ -114,11 +102,7 @@ module _ {D : Type 0} (device : D → DiskState) (rest : RestIsIdle device) (rea
   request_run (Err reason) more left outcome gives counted is = recounted counted [] is (still_run gives.2)
 
   -- a put or a group whose reader failed
-  pub broken_run : (plan : Result Plan NoPlan) (more : List ℕ) → IsBroken device old now plan more new → IsRunOf device old [] new
+  pub broken_run : (plan : Result RequestPlan NoPlan) (more : List ℕ) → IsBroken turn plan more → IsRunOf device old [] new
   broken_run (Ok (Put name kind n waits)) more broken = idles (cut old new name kind n now more (inl broken))
   broken_run (Ok (Group n waits)) more broken = still_run broken.1
-  broken_run (Ok (ShowBody name)) more broken = absurd broken
-  broken_run (Ok (ShowDocument doc)) more broken = absurd broken
-  broken_run (Ok (Delete name)) more broken = absurd broken
-  broken_run (Ok Publish) more broken = absurd broken
-  broken_run (Err reason) more broken = absurd broken
+  broken_run plan more broken = absurd broken

@@ -1,67 +1,97 @@
 -- How the answer to a plan and to a request ends.
-use Rattle.std.proofs.Common.{◌≡◌, ◌/◌, ℕ, List, [], ◌++◌, Option, Some, Result, Ok, Err, refl, ap, sym, ◌∙◌, subst, inl, inr, ◌⊎◌, ◌+◌, ◌<◌, arith, append-nil}
-use Rattle.std.specs.Prelude.{MatchResult, OnOk, OnErr}
+use Rattle.std.proofs.Common.{◌≡◌, ◌/◌, ◌+◌, ℕ, List, [], ◌++◌, Option, Result, Ok, Err, refl, ap, sym, ◌∙◌, subst, inl, inr, ◌⊎◌, arith, append-nil}
+use Rattle.std.specs.Prelude.{MatchResult, OnOk, OnErr, IfErr, IsErrOf, Some, Bool}
+use Rattle.std.specs.Result.{IsErr, IsErrAnd}
 use Rattle.std.specs.Io.KnownBytes.{Consumes, Appends, Keeps, IsAtEnd}
-use Rattle.std.proofs.KnownBytes.{Consumes-trans, Appends-trans, Appends-kept}
+use Rattle.std.proofs.KnownBytes.{Consumes-nil, Consumes-trans, Appends-trans, Appends-kept}
 use Rattle.httpdate.specs.Date.{unix_secs}
 use Rattle.httpdate.specs.declared.date.HttpDate.{HttpDate}
 use Rattle.rs_disk.specs.Medium.{DiskState}
-use Rattle.rs_io.specs.declared.fault.WriteFault.{WriteFault}
 use Rattle.rs_io.specs.declared.watch.Watched.{Watched}
-use Rattle.rs_io.specs.Watch.{watched, seen_by, failures, PutFailed, FlushFailed, Wrote, WritesOut, FailedWithin}
-use Rattle.rs_io.proofs.Faults.{later_put_fault}
-use Rattle.rs_store.specs.Source.{Stored}
+use Rattle.rs_io.specs.Watch.{watched, seen_by, failures, EndFailed, FlushFailed, Wrote, FailedWithin, TellsEnd, End, Ends, ends_of}
+use Rattle.rs_io.proofs.Faults.{later_fault, later_put_fault}
+use Rattle.rs_model.specs.declared.command.Reply.{Reply}
+use Rattle.rs_store.specs.Received.{AnswersFrom}
+use Rattle.rs_store.specs.declared.refusal.Refusal.{Refusal}
+use Rattle.rs_store.specs.declared.refusal.Refusal.TheVariants.{ReadFault, ShortBody}
 use Rattle.rs_http.specs.declared.fault.FrontFault.{FrontFault}
 use Rattle.rs_http.specs.declared.fault.FrontFault.TheVariants.{Read, Write}
 use Rattle.rs_http.specs.declared.head.HeadRead.{HeadRead}
 use Rattle.rs_http.specs.declared.head.HeadRead.TheVariants.{Ended}
-use Rattle.rs_http.specs.declared.request.Plan.{Plan}
+use Rattle.rs_http.specs.declared.request.RequestPlan.{RequestPlan}
+use Rattle.rs_http.specs.declared.request.RequestPlan.TheVariants.{Put}
 use Rattle.rs_http.specs.declared.request.NoPlan.{NoPlan}
 use Rattle.rs_http.specs.declared.request.Request.{Request}
 use Rattle.rs_http.specs.declared.response.Framing.{Framing}
 use Rattle.rs_http.specs.declared.serve.Served.TheVariants.{Answered}
+use Rattle.rs_http.specs.Turn.{Turn}
 use Rattle.rs_http.specs.Head.{HeadIs}
 use Rattle.rs_http.specs.Requests.{Asks}
-use Rattle.rs_http.specs.Responses.{RequestOutcome, response_text}
-use Rattle.rs_http.specs.Outcomes.{RequestGives, Responds}
-use Rattle.rs_recovery.specs.Prefixes.{Recovers}
-use Rattle.rs_http.specs.Counted.{RequestRecovers}
-use Rattle.rs_http.specs.Walked.{MakesWalk, MakesNoEvent}
-use Rattle.rs_http.specs.Serving.{Output, PlanEnds, RequestEnds, TakesPart, IsBroken, preface_of, Reads, Serves, Breaks, Halts}
+use Rattle.rs_http.specs.Responses.{RequestOutcome, response_text, go_on}
+use Rattle.rs_http.specs.Outcomes.{outcome_replied, RequestGives, Sends, Responds}
+use Rattle.rs_http.specs.Laws.{RequestsRecover, BrokenBodiesRecover, RequestsMakeWalks, BrokenBodiesMakeNoEvent}
+use Rattle.rs_http.specs.Serving.{PlanEnds, RequestEnds, TakesPart, preface_of, IsUnsaid, IsCutOff, Stands, Reads, Serves, Breaks, Halts}
+use Rattle.rs_http.proofs.Asking.{answered}
 
--- an answer that was sent ends a plan, for which these bytes were read
-pub sent_ends : {D W : Type 0} (device : D → DiskState) (old new : Stored D) (now : ℕ) (plan asked : Result Plan NoPlan) (framing : Framing)
-    (left rest : Option (List ℕ)) (contents : W → Option (List ℕ)) (before after : Watched W) (more : List ℕ) (comes : RequestOutcome → Type 0) (result : Result ℕ WriteFault) (out : Result ℕ FrontFault)
-    → Consumes left rest more → plan ≡ asked → MatchResult result (λ status. out ≡ Ok status) (λ _. out ≡ Err Write) → Responds framing (WritesOut contents before after result) comes result
-    → ((outcome : RequestOutcome) → comes outcome → RequestGives device old now asked more rest outcome new) → PlanEnds device old now plan framing left rest (seen_by contents before) (seen_by contents after) new out
-sent_ends device old new now plan asked framing left rest contents before after more comes (Ok status) out came same e r gives =
-    subst (λ o. PlanEnds device old now plan framing left rest (seen_by contents before) (seen_by contents after) new o) (sym e) (
-      more,
-      came,
-      record {
-        outcome = r.outcome;
-        comes_of_it = subst (λ p. RequestGives device old now p more rest r.outcome new) (sym same) (gives r.outcome r.comes_of_it);
-        status = r.status;
-        written = r.written.0;
-      },
-    )
-sent_ends device old new now plan asked framing left rest contents before after more comes (Err fault) out came same e r gives =
-    let w = r.written in
-    subst (λ o. PlanEnds device old now plan framing left rest (seen_by contents before) (seen_by contents after) new o) (sym e) (
-      more,
-      came,
-      record {
-        outcome = r.outcome;
-        comes_of_it = subst (λ p. RequestGives device old now p more rest r.outcome new) (sym same) (gives r.outcome r.comes_of_it);
-        status = tt;
-        written = record { part = w.part; left_out = w.left_out; bytes_are = w.bytes_are; took = w.took; failed = inl w.failed };
-      },
-    )
+-- a response that was sent is not answered as unread
+pub unread : (result : Result ℕ FrontFault) → IfErr result (λ fault. fault ≡ Write) → IsErrOf result Read → ⊥
+unread (Ok status) is e = absurd cc
+unread (Err fault) is e = absurd cc
 
--- a put that failed took a beginning of the text
-pub took_part : {W : Type 0} (contents : W → Option (List ℕ)) (before after : Watched W) (text : List ℕ) → FailedWithin contents before after text
-    → TakesPart (seen_by contents before) (seen_by contents after) [] text
-took_part contents before after text w = record { part = w.part; left_out = w.left_out; bytes_are = w.bytes_are; took = w.took; failed = inl w.failed }
+module _ {W : Type 0} (contents : W → Option (List ℕ)) (before after : Watched W) where
+  -- a response that was sent, as it is seen by its bytes
+  seen_sends : (framing : Framing) (outcome : RequestOutcome) (result : Result ℕ FrontFault) → Sends contents before after framing outcome result
+      → Sends (λ bytes. bytes) (seen_by contents before) (seen_by contents after) framing outcome result
+  seen_sends framing outcome (Ok status) s = s
+  seen_sends framing outcome (Err fault) s =
+      let w = s.1 in (s.0, record { failed = w.failed; part = w.part; left_out = w.left_out; bytes_are = w.bytes_are; took = w.took }, s.2)
+
+  -- a put that failed took a beginning of the text
+  pub took_part : (text : List ℕ) → FailedWithin contents before after text → TakesPart (seen_by contents before) (seen_by contents after) [] text
+  took_part text w = record { part = w.part; left_out = w.left_out; bytes_are = w.bytes_are; took = w.took; failed = inl w.failed }
+
+module _ {D R W : Type 0} {device : D → DiskState} {turn : Turn device} {plan : Result RequestPlan NoPlan} {framing : Framing} {contents : W → Option (List ℕ)}
+    {before after : Watched W} {comes : RequestOutcome → Type 0} {result : Result ℕ FrontFault}
+    (asked : Result RequestPlan NoPlan) (remaining : R → Option (List ℕ)) where
+  -- an answer that was sent ends a plan, for which these bytes were read
+  pub sent_ends : (reader left : Watched R) (more : List ℕ) → plan ≡ asked → Consumes (remaining (watched reader)) (remaining (watched left)) more → failures left ≡ failures reader
+      → Responds contents before after framing comes result
+      → ((outcome : RequestOutcome) → comes outcome → RequestGives turn asked more (remaining (watched left)) outcome)
+      → PlanEnds turn plan framing (ends_of remaining reader left contents before after) result
+  sent_ends reader left more same came sound r gives = record {
+    more = more;
+    came = came;
+    reader = record { failed = λ is. absurd (unread result r.sends.2 is); sound = λ _. sound };
+    broken = λ is. absurd (unread result r.sends.2 is);
+    answered = λ _. record {
+      outcome = r.outcome;
+      comes_of_it = subst (λ p. RequestGives turn p more (remaining (watched left)) r.outcome) (sym same) (gives r.outcome r.comes_of_it);
+      sends = seen_sends contents before after framing r.outcome result r.sends;
+    };
+  }
+
+  -- or for which no byte is read
+  pub sent_bare : (reader : Watched R) → plan ≡ asked → Responds contents before after framing comes result
+      → ((outcome : RequestOutcome) → comes outcome → RequestGives turn asked [] (remaining (watched reader)) outcome)
+      → PlanEnds turn plan framing (ends_of remaining reader reader contents before after) result
+  sent_bare reader same r gives = sent_ends reader reader [] same (Consumes-nil (remaining (watched reader))) refl r gives
+
+-- what the source answered to a put is answered, unless the reader failed
+pub put_ends : {D R W : Type 0} {device : D → DiskState} {turn : Turn device} {framing : Framing} {result : Result ℕ FrontFault} {name kind : List ℕ} {n : ℕ} {waits : Bool}
+    (remaining : R → Option (List ℕ)) (reader left : Watched R) (contents : W → Option (List ℕ)) (before after : Watched W) (answer : Result Reply Refusal)
+    → (came : List ℕ) × Consumes (remaining (watched reader)) (remaining (watched left)) came × AnswersFrom device turn.old turn.new name kind n turn.now came answer
+    → (IsErrOf answer ReadFault → ⊥) → TellsEnd (IsErrOf answer ReadFault) reader left → (IsErrOf answer ShortBody → IsAtEnd (remaining (watched left)))
+    → Sends contents before after framing (outcome_replied answer) result
+    → PlanEnds turn (Ok (Put name kind n waits)) framing (ends_of remaining reader left contents before after) result
+put_ends {turn = turn} {name = name} {kind = kind} {n = n} {waits = waits} remaining reader left contents before after answer came unbroken tells ended sends =
+    sent_ends (Ok (Put name kind n waits)) remaining reader left came.0 refl came.1 (tells.sound unbroken)
+    (answered {contents = contents} {before = before} {after = after} {comes = λ outcome. RequestGives turn (Ok (Put name kind n waits)) came.0 (remaining (watched left)) outcome}
+    (outcome_replied answer) (record { result = answer; answers = came.2; unbroken = unbroken; outcome_is = refl }, ended) sends) (λ o h. h)
+
+-- what `?` gives of a fault
+pub passes : {T : Type 0} (r : Result T FrontFault) (fault : FrontFault) → IsErr r × IsErrAnd r (λ made. made ≡ fault) → r ≡ Err fault
+passes (Ok v) fault is = absurd is.1
+passes (Err made) fault is = ap Err is.1
 
 -- a flush after calls that did not fail
 later_flush_fault : {T : Type 0} (a b c : Watched T) → failures b ≡ failures a → FlushFailed b c → FlushFailed a c
@@ -69,7 +99,7 @@ later_flush_fault a b c same (inl rose) = inl (omega (arith, ap (λ f. f.flushes
 later_flush_fault a b c same (inr last) = inr last
 
 -- a flush that failed behind the text, of which nothing was left out
-pub took_all : (before mid after : Output) (first text : List ℕ) → Appends (watched before) (watched mid) (first ++ text) → failures mid ≡ failures before
+took_all : (before mid after : End) (first text : List ℕ) → Appends (watched before) (watched mid) (first ++ text) → failures mid ≡ failures before
     → Keeps (watched mid) (watched after) → FlushFailed mid after → TakesPart before after first text
 took_all before mid after first text put same kept failed = record {
   part = text;
@@ -91,80 +121,113 @@ module _ {X E W : Type 0} (contents : W → Option (List ℕ)) (before mid after
   unflushed (Ok v) failed = tt
   unflushed (Err e) failed = took_all (seen_by contents before) (seen_by contents mid) (seen_by contents after) [] text put.0 put.1 kept failed
 
--- a call after those that did not fail
-later_failed : (before mid after : Output) (left_out : List ℕ) → failures mid ≡ failures before → PutFailed mid after ⊎ ((left_out ≡ []) × FlushFailed mid after)
-    → PutFailed before after ⊎ ((left_out ≡ []) × FlushFailed before after)
-later_failed before mid after left_out same (inl put) = inl (later_put_fault before mid after same put)
-later_failed before mid after left_out same (inr flush) = inr (flush.0, later_flush_fault before mid after same flush.1)
-
-module _ {D : Type 0} (device : D → DiskState) (old new : Stored D) (now : ℕ) (request : Request) (date : HttpDate) (dated : unix_secs date ≡ now / 1000)
-    (left rest : Option (List ℕ)) (before mid after : Output) (preface : Appends (watched before) (watched mid) (preface_of request.plan)) (sound : failures mid ≡ failures before) where
+module _ {D : Type 0} {device : D → DiskState} (turn : Turn device) (request : Request) (date : HttpDate) (dated : unix_secs date ≡ turn.now / 1000)
+    (left rest before mid after : End) (preface : Wrote (λ bytes. bytes) before mid (preface_of request.plan)) where
   abbrev framing : Framing
   framing = record { date = date; is_head = request.is_head }
 
+  abbrev asked : Ends
+  asked = record { left = left; rest = rest; before = mid; after = after }
+
+  -- what went out before, and then this text
+  both : (text : List ℕ) → Appends (watched mid) (watched after) text → Appends (watched before) (watched after) (preface_of request.plan ++ text)
+  both text then = Appends-trans (watched before) (watched mid) (watched after) (preface_of request.plan) text preface.0 then
+
   -- the plan was answered, and then the writer was flushed
-  pub finished : (kept : Output) (status : ℕ) (out : Result ℕ FrontFault) → PlanEnds device old now request.plan framing left rest mid after new (Ok status)
-      → failures after ≡ failures mid → Keeps (watched after) (watched kept) → OnErr out (FlushFailed after kept)
-      → MatchResult out (λ given. given ≡ status) (λ fault. fault ≡ Write) → RequestEnds device old now request left rest before kept new out
-  finished kept status (Ok given) (more, came, r) put k failed same = (
-    more,
-    preface_of request.plan ++ response_text framing r.outcome,
-    came,
-    Appends-kept (watched before) (watched after) (watched kept) (preface_of request.plan ++ response_text framing r.outcome)
-        (Appends-trans (watched before) (watched mid) (watched after) (preface_of request.plan) (response_text framing r.outcome) preface r.written) k,
-    record { outcome = r.outcome; date = date; dated = dated; gives = r.comes_of_it; status_is = same ∙ r.status; written = refl },
-  )
-  finished kept status (Err Read) ends put k failed same = absurd cc
-  finished kept status (Err Write) (more, came, r) put k failed same = (
-    more,
-    came,
-    inr (record {
-      outcome = r.outcome;
-      date = date;
-      dated = dated;
-      gives = r.comes_of_it;
-      took = took_all before after kept (preface_of request.plan) (response_text framing r.outcome)
-          (Appends-trans (watched before) (watched mid) (watched after) (preface_of request.plan) (response_text framing r.outcome) preface r.written)
-          (put ∙ sound) k failed;
-    }),
-  )
+  pub finished : (kept : End) (status : ℕ) (out : Result ℕ FrontFault) → PlanEnds turn request.plan framing asked (Ok status)
+      → OnOk out (failures kept ≡ failures after) → OnErr out (EndFailed after kept) → Keeps (watched after) (watched kept) → OnErr out (FlushFailed after kept)
+      → MatchResult out (λ given. given ≡ status) (λ fault. fault ≡ Write)
+      → RequestEnds turn request (record { left = left; rest = rest; before = before; after = kept }) out
+  finished kept status (Ok given) e sound failed k unflushed same =
+      let r = e.answered (λ no. absurd cc) in
+      let text = response_text framing r.outcome in record {
+        more = e.more;
+        came = e.came;
+        reader = record { failed = λ no. absurd cc; sound = λ _. e.reader.sound (λ no. absurd cc) };
+        writer = record { failed = λ no. absurd cc; sound = λ _. sound ∙ r.sends.1.1 ∙ preface.1 };
+        answered = (
+          preface_of request.plan ++ text,
+          Appends-kept (watched before) (watched after) (watched kept) (preface_of request.plan ++ text) (both text r.sends.1.0) k,
+          record { outcome = r.outcome; date = date; dated = dated; gives = r.comes_of_it; status_is = same ∙ r.sends.0; written = refl },
+        );
+        broken = λ no. absurd cc;
+        stands = λ no. absurd cc;
+      }
+  finished kept status (Err Read) e sound failed k unflushed same = absurd cc
+  finished kept status (Err Write) e sound failed k unflushed same =
+      let r = e.answered (λ no. absurd cc) in
+      let text = response_text framing r.outcome in record {
+        more = e.more;
+        came = e.came;
+        reader = record { failed = λ no. absurd cc; sound = λ _. e.reader.sound (λ no. absurd cc) };
+        writer = record { failed = λ _. later_fault before after kept (r.sends.1.1 ∙ preface.1) failed; sound = λ no. absurd (no refl) };
+        answered = tt;
+        broken = λ no. absurd cc;
+        stands = λ _. inr (record {
+          outcome = r.outcome;
+          date = date;
+          dated = dated;
+          gives = r.comes_of_it;
+          took = took_all before after kept (preface_of request.plan) text (both text r.sends.1.0) (r.sends.1.1 ∙ preface.1) k unflushed;
+        });
+      }
 
   -- it was not
-  pub passed_on : (fault : FrontFault) → PlanEnds device old now request.plan framing left rest mid after new (Err fault)
-      → RequestEnds device old now request left rest before after new (Err fault)
-  passed_on Read (unwritten, more, came, broken) =
-      (more, came, subst (λ (a : Output). Appends (watched before) (watched a) (preface_of request.plan)) (sym unwritten) preface, broken)
-  passed_on Write (more, came, r) = (
-    more,
-    came,
-    inr (record {
-      outcome = r.outcome;
-      date = date;
-      dated = dated;
-      gives = r.comes_of_it;
-      took = record {
-        part = r.written.part;
-        left_out = r.written.left_out;
-        bytes_are = r.written.bytes_are;
-        took = Appends-trans (watched before) (watched mid) (watched after) (preface_of request.plan) r.written.part preface r.written.took;
-        failed = later_failed before mid after r.written.left_out sound r.written.failed;
-      };
-    }),
-  )
+  pub passed_on : (fault : FrontFault) → PlanEnds turn request.plan framing asked (Err fault)
+      → RequestEnds turn request (record { left = left; rest = rest; before = before; after = after }) (Err fault)
+  passed_on Read e =
+      let broken = e.broken refl in record {
+        more = e.more;
+        came = e.came;
+        reader = e.reader;
+        writer = record { failed = λ no. absurd cc; sound = λ _. ap failures broken.0 ∙ preface.1 };
+        answered = tt;
+        broken = λ _. (subst (λ (a : End). Appends (watched before) (watched a) (preface_of request.plan)) (sym broken.0) preface.0, broken.1);
+        stands = λ no. absurd cc;
+      }
+  passed_on Write e =
+      let r = e.answered (λ no. absurd cc) in
+      let w = r.sends.1 in record {
+        more = e.more;
+        came = e.came;
+        reader = e.reader;
+        writer = record { failed = λ _. later_fault before mid after preface.1 w.failed.0; sound = λ no. absurd (no refl) };
+        answered = tt;
+        broken = λ no. absurd cc;
+        stands = λ _. inr (record {
+          outcome = r.outcome;
+          date = date;
+          dated = dated;
+          gives = r.comes_of_it;
+          took = record { part = w.part; left_out = w.left_out; bytes_are = w.bytes_are; took = both w.part w.took; failed = inl (later_put_fault before mid after preface.1 w.failed) };
+        });
+      }
 
-module _ {D : Type 0} (device : D → DiskState) (old new : Stored D) (now : ℕ) (request : Request) (bytes : List ℕ) (read : HeadRead)
-    (left mid rest : Option (List ℕ)) (before after : Output)
-    (recovers : (plan : Result Plan NoPlan) (more : List ℕ) (outcome : RequestOutcome) → RequestGives device old now plan more rest outcome new → RequestRecovers device old now plan more outcome new)
-    (idles : (plan : Result Plan NoPlan) (more : List ℕ) → IsBroken device old now plan more new → Recovers device old [] new)
-    (walks : (more : List ℕ) (outcome : RequestOutcome) → RequestGives device old now request.plan more rest outcome new → MakesWalk device old now request more outcome new)
-    (stays : (plan : Result Plan NoPlan) (more : List ℕ) → IsBroken device old now plan more new → MakesNoEvent device old new)
-    (came : Consumes left mid bytes) (head : HeadIs bytes read) (ended : read ≡ Ended → IsAtEnd mid)
-    (asks : Asks bytes read (Some request)) where
-  reads : (more : List ℕ) → Consumes mid rest more → Reads left (bytes ++ more) more rest request
+-- the word to go on was not said
+pub unsaid : {D : Type 0} {device : D → DiskState} {turn : Turn device} (request : Request) (ends : Ends) → ends.rest ≡ ends.left → turn.new ≡ turn.old → EndFailed ends.before ends.after
+    → (preface_of request.plan ≡ go_on) × TakesPart ends.before ends.after [] go_on → RequestEnds turn request ends (Err Write)
+unsaid request ends unread same failed took = record {
+  more = [];
+  came = subst (λ (rest : End). Consumes (watched ends.left) (watched rest) []) (sym unread) (Consumes-nil (watched ends.left));
+  reader = record { failed = λ no. absurd cc; sound = λ _. ap failures unread };
+  writer = record { failed = λ _. failed; sound = λ no. absurd (no refl) };
+  answered = tt;
+  broken = λ no. absurd cc;
+  stands = λ _. inl (took.0, refl, same, took.1);
+}
+
+module _ {D : Type 0} {device : D → DiskState} (turn : Turn device) (recovers : RequestsRecover device) (idles : BrokenBodiesRecover device)
+    (walks : RequestsMakeWalks device) (stays : BrokenBodiesMakeNoEvent device) (ends : Ends) (behind : End) (request : Request) (bytes : List ℕ) (read : HeadRead)
+    (came : Consumes (watched ends.left) (watched behind) bytes) (sound : failures behind ≡ failures ends.left) (head : HeadIs bytes read)
+    (ended : read ≡ Ended → IsAtEnd (watched behind)) (asks : Asks bytes read (Some request)) where
+  abbrev later : Ends
+  later = record { left = behind; rest = ends.rest; before = ends.before; after = ends.after }
+
+  reads : (more : List ℕ) → Consumes (watched behind) (watched ends.rest) more → Reads ends (bytes ++ more) more request
   reads more then = record {
     bytes = bytes;
     read = read;
-    behind = mid;
+    behind = watched behind;
     input_is = refl;
     head = head;
     came = came;
@@ -173,36 +236,61 @@ module _ {D : Type 0} (device : D → DiskState) (old new : Stored D) (now : ℕ
     asks = asks;
   }
 
+  all_came : (more : List ℕ) → Consumes (watched behind) (watched ends.rest) more → Consumes (watched ends.left) (watched ends.rest) (bytes ++ more)
+  all_came more then = Consumes-trans (watched ends.left) (watched behind) (watched ends.rest) bytes more came then
+
   -- a request that was read was answered
-  pub served : (status : ℕ) → RequestEnds device old now request mid rest before after new (Ok status)
-      → (input : List ℕ) × (output : List ℕ) × Consumes left rest input × Appends (watched before) (watched after) output × (Serves device old now left input rest output (Answered status) new)
-  served status (more, output, then, written, is) = (
-    bytes ++ more,
-    output,
-    Consumes-trans left mid rest bytes more came then,
-    written,
-    (more, request, reads more then, is, recovers request.plan more is.outcome is.gives, walks more is.outcome is.gives),
-  )
+  pub served : (status : ℕ) → RequestEnds turn request later (Ok status) → Serves turn ends (Answered status)
+  served status e =
+      let is = e.answered.2 in record {
+        input = bytes ++ e.more;
+        output = e.answered.0;
+        came = all_came e.more e.came;
+        written = e.answered.1;
+        reader = e.reader.sound (λ no. absurd cc) ∙ sound;
+        writer = e.writer.sound (λ no. absurd cc);
+        responds = (
+          e.more,
+          request,
+          reads e.more e.came,
+          is,
+          recovers turn request.plan e.more (watched ends.rest) is.outcome is.gives,
+          walks turn bytes read request e.more (watched ends.rest) is.outcome asks is.gives,
+        );
+      }
 
   -- the reader failed in its body
-  pub broken : (fault : FrontFault) → fault ≡ Read → RequestEnds device old now request mid rest before after new (Err fault)
-      → (input : List ℕ) × (output : List ℕ) × Consumes left rest input × Appends (watched before) (watched after) output × (Breaks device old now left input rest output new)
-  broken Read e (more, then, written, is) = (
-    bytes ++ more,
-    preface_of request.plan,
-    Consumes-trans left mid rest bytes more came then,
-    written,
-    inr (more, request, reads more then, refl, is, idles request.plan more is, stays request.plan more is),
+  pub broken : (fault : FrontFault) → fault ≡ Read → RequestEnds turn request later (Err fault) → Breaks turn ends
+  broken Write is e = absurd cc
+  broken Read is_read e =
+      let is = e.broken refl in record {
+        input = bytes ++ e.more;
+        output = preface_of request.plan;
+        came = all_came e.more e.came;
+        written = is.0;
+        reader = later_fault ends.left behind ends.rest sound (e.reader.failed refl);
+        writer = e.writer.sound (λ no. absurd cc);
+        within = inr (e.more, request, reads e.more e.came, refl, is.1, idles turn request.plan e.more is.1, stays turn request.plan e.more is.1);
+      }
+
+  stood : (more : List ℕ) → IsUnsaid turn request more later ⊎ IsCutOff turn request more later → IsUnsaid turn request more ends ⊎ Stands turn request more ends
+  stood more (inl unsaid) = inl unsaid
+  stood more (inr cut) = inr (
+    record { outcome = cut.outcome; date = cut.date; dated = cut.dated; gives = cut.gives; took = cut.took },
+    recovers turn request.plan more (watched ends.rest) cut.outcome cut.gives,
+    walks turn bytes read request more (watched ends.rest) cut.outcome asks cut.gives,
   )
-  broken Write e ends = absurd cc
 
   -- the writer failed
-  pub halted : (fault : FrontFault) → fault ≡ Write → RequestEnds device old now request mid rest before after new (Err fault)
-      → (input : List ℕ) × Consumes left rest input × (Halts device old now left input rest before after new)
-  halted Read e ends = absurd cc
-  halted Write e (more, then, inl unsaid) = (bytes ++ more, Consumes-trans left mid rest bytes more came then, (more, request, reads more then, inl unsaid))
-  halted Write e (more, then, inr cut) = (
-    bytes ++ more,
-    Consumes-trans left mid rest bytes more came then,
-    (more, request, reads more then, inr (cut, recovers request.plan more cut.outcome cut.gives, walks more cut.outcome cut.gives)),
-  )
+  pub halted : (fault : FrontFault) → fault ≡ Write → RequestEnds turn request later (Err fault) → Halts turn ends
+  halted Read is e = absurd cc
+  halted Write is e = record {
+    input = bytes ++ e.more;
+    came = all_came e.more e.came;
+    reader = e.reader.sound (λ no. absurd cc) ∙ sound;
+    writer = e.writer.failed refl;
+    more = e.more;
+    request = request;
+    reads = reads e.more e.came;
+    stands = stood e.more (e.stands refl);
+  }

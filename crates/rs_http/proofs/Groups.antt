@@ -6,6 +6,7 @@ use Rattle.std.proofs.lemmas.Bool.Decides.{nat_tests}
 use Rattle.std.proofs.lemmas.List.{take_all, length-take-le}
 use Rattle.std.specs.Prelude.{not, ◌&&◌, nat_le}
 use Rattle.rs_disk.specs.Medium.{DiskState}
+use Rattle.rs_model.specs.State.{Source}
 use Rattle.rs_model.specs.Step.{is_bad_group, refusal_of, items_causes, first_cause}
 use Rattle.rs_model.specs.declared.command.Command.TheVariants as commands
 use Rattle.rs_model.specs.declared.command.Item.{Item}
@@ -14,11 +15,12 @@ use Rattle.rs_model.specs.declared.command.Refusal.TheVariants as decides
 use Rattle.rs_model.specs.declared.command.Reply.{Reply}
 use Rattle.rs_items.specs.declared.item.ItemFault.{ItemFault}
 use Rattle.rs_store.specs.Answered.{Answers}
-use Rattle.rs_store.specs.Commands.{IsCause}
+use Rattle.rs_store.specs.Commands.{IsCause, Leads}
 use Rattle.rs_store.specs.Refusals.{decided, or_spent, is_spent}
 use Rattle.rs_store.specs.Source.{Stored, state_of}
 use Rattle.rs_store.specs.declared.refusal.Refusal as stored
 use Rattle.rs_store.specs.declared.refusal.Refusal.TheVariants.{Closed, BadGroup, ReadFault, ShortBody, NoMemory}
+use Rattle.rs_http.specs.Turn.{Turn}
 use Rattle.rs_http.specs.Counted.{counted_group}
 use Rattle.rs_http.specs.Groups.{items_in, items_asked, IsUnread}
 use Rattle.rs_http.specs.Outcomes.{RunComesTo, UnaskedGroup, unplanned, reason_of_fault}
@@ -84,7 +86,16 @@ IsEarly Closed = Unit {0}
 IsEarly BadGroup = Unit {0}
 IsEarly refusal = ⊥
 
-module _ {D : Type 0} (device : D → DiskState) (old new : Stored D) (now : ℕ) where
+module _ {D : Type 0} {device : D → DiskState} (turn : Turn device) where
+  abbrev old : Stored D
+  old = turn.old
+
+  abbrev new : Stored D
+  new = turn.new
+
+  abbrev now : ℕ
+  now = turn.now
+
   module _ (one other : List Item) (bad : is_bad_group one ≡ true) (worse : is_bad_group other ≡ true) where
     refused_bad : (items : List Item) → is_bad_group items ≡ true → refusal_of (state_of device old) (commands.Group items) now ≡ Some decides.BadGroup
     refused_bad items is = chosen (is_bad_group items) (Some decides.BadGroup) (first_cause (items_causes (state_of device old) items now)) is
@@ -100,40 +111,32 @@ module _ {D : Type 0} (device : D → DiskState) (old new : Stored D) (now : ℕ
     early true found is = (Closed, tt, is)
     early false found is = (BadGroup, tt, is)
 
+    early_cause : (r : stored.Refusal) → IsEarly r → IsCause device old new (commands.Group one) now r → IsCause device old new (commands.Group other) now r
+    early_cause Closed e is = sym decided_alike ∙ is
+    early_cause BadGroup e is = sym decided_alike ∙ is
+    early_cause r e is = absurd e
+
+    early_leads : (r : stored.Refusal) (s : Source) → IsEarly r → Leads device old new s (commands.Group one) now (Err r) → Leads device old new s (commands.Group other) now (Err r)
+    early_leads Closed s e led = led
+    early_leads BadGroup s e led = led
+    early_leads r s e led = absurd e
+
     refused_alike : (r : stored.Refusal) → IsEarly r → Answers device old new (commands.Group one) now (Err r) → Answers device old new (commands.Group other) now (Err r)
-    refused_alike Closed e a = record {
+    refused_alike r e a = record {
       decides = λ r is. a.decides r (decided_alike ∙ is);
       untouched = λ r is. a.untouched r (decided_alike ∙ is);
       full = a.full;
-      refused = λ r is. let same : Closed ≡ r = cc in subst (λ (x : stored.Refusal). IsCause device old new (commands.Group other) now x) same (sym decided_alike ∙ a.refused Closed refl);
+      refused = λ q is. let same : r ≡ q = cc in subst (λ (x : stored.Refusal). IsCause device old new (commands.Group other) now x) same (early_cause r e (a.refused r refl));
       accepted = a.accepted;
       planned = a.planned;
       generation = a.generation;
       version = a.version;
-      leads = a.leads;
-      told = a.told;
+      leads = λ s held. early_leads r s e (a.leads s held);
+      runs = a.runs;
       closes = a.closes;
       stays_open = a.stays_open;
       unchanged = a.unchanged;
-      goes_on = a.goes_on;
     }
-    refused_alike BadGroup e a = record {
-      decides = λ r is. a.decides r (decided_alike ∙ is);
-      untouched = λ r is. a.untouched r (decided_alike ∙ is);
-      full = a.full;
-      refused = λ r is. let same : BadGroup ≡ r = cc in subst (λ (x : stored.Refusal). IsCause device old new (commands.Group other) now x) same (sym decided_alike ∙ a.refused BadGroup refl);
-      accepted = a.accepted;
-      planned = a.planned;
-      generation = a.generation;
-      version = a.version;
-      leads = a.leads;
-      told = a.told;
-      closes = a.closes;
-      stays_open = a.stays_open;
-      unchanged = a.unchanged;
-      goes_on = a.goes_on;
-    }
-    refused_alike r e a = absurd e
 
     -- two groups of a number of items that none may have are answered alike
     answered_alike : (result : Result Reply stored.Refusal) → Answers device old new (commands.Group one) now result → Answers device old new (commands.Group other) now result
@@ -144,18 +147,18 @@ module _ {D : Type 0} (device : D → DiskState) (old new : Stored D) (now : ℕ
         let Q : Result Reply stored.Refusal → Type 0 = λ r. Answers device old new (commands.Group other) now r in
         subst Q (sym is) (refused_alike found.0 found.1 (subst P is a))
 
-    alike_comes : (outcome : RequestOutcome) → RunComesTo device old new (commands.Group one) now outcome → RunComesTo device old new (commands.Group other) now outcome
+    alike_comes : (outcome : RequestOutcome) → RunComesTo turn (commands.Group one) outcome → RunComesTo turn (commands.Group other) outcome
     alike_comes outcome r = record { result = r.result; answers = answered_alike r.result r.answers; outcome_is = r.outcome_is }
 
   by_count : (all : List Item) (outcome : RequestOutcome) → (length all < 17) ⊎ (17 ≤ length all)
-      → RunComesTo device old new (commands.Group (take 17 all)) now outcome → RunComesTo device old new (commands.Group all) now outcome
+      → RunComesTo turn (commands.Group (take 17 all)) outcome → RunComesTo turn (commands.Group all) outcome
   by_count all outcome (inl few) r =
       let same : take 17 all ≡ all = take_all 17 all (omega arith) in
-      subst (λ (items : List Item). RunComesTo device old new (commands.Group items) now outcome) same r
+      subst (λ (items : List Item). RunComesTo turn (commands.Group items) outcome) same r
   by_count all outcome (inr many) r =
       let kept : length (take 17 all) ≡ 17 = length-take-le 17 all many in
       alike_comes (take 17 all) all (too_many (length (take 17 all)) (omega arith)) (too_many (length all) many) outcome r
 
   -- what comes of a group of the first 17 items comes of the group of all
-  pub whole_comes : (all : List Item) (outcome : RequestOutcome) → RunComesTo device old new (commands.Group (take 17 all)) now outcome → RunComesTo device old new (commands.Group all) now outcome
+  pub whole_comes : (all : List Item) (outcome : RequestOutcome) → RunComesTo turn (commands.Group (take 17 all)) outcome → RunComesTo turn (commands.Group all) outcome
   whole_comes all outcome r = by_count all outcome (cases_lt (length all) 17) r

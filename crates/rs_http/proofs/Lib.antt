@@ -10,4 +10,3 @@ pub mod Room
 pub mod Counting
 pub mod NamedDocuments
 pub mod Walks
-pub mod Sent

@@ -10,8 +10,8 @@ use Rattle.rs_http.specs.declared.target.Place.{Place}
 use Rattle.rs_http.specs.declared.target.Place.TheVariants.{Resource, Unlawful, Document, Publishing, Grouping, Nowhere}
 use Rattle.rs_http.specs.declared.head.HeadRead.{HeadRead}
 use Rattle.rs_http.specs.declared.head.HeadRead.TheVariants.{Whole, TooLong, Ended}
-use Rattle.rs_http.specs.declared.request.Plan.{Plan}
-use Rattle.rs_http.specs.declared.request.Plan.TheVariants.{ShowBody, ShowDocument, Delete, Publish}
+use Rattle.rs_http.specs.declared.request.RequestPlan.{RequestPlan}
+use Rattle.rs_http.specs.declared.request.RequestPlan.TheVariants.{ShowBody, ShowDocument, Delete, Publish}
 use Rattle.rs_http.specs.declared.request.NoPlan.{NoPlan}
 use Rattle.rs_http.specs.declared.request.Request.{Request}
 use Rattle.rs_http.specs.Fields.{Parts, head_parts, values_of}
@@ -20,7 +20,7 @@ use Rattle.rs_http.specs.Requests.{IsPlanFor, Asks}
 use Rattle.rs_http.specs.Targets.{path_of_target, resource_place, document_place, place_of}
 
 -- a document that is asked for is one that a path can name
-abbrev pub HasPath : Result Plan NoPlan → Type 0
+abbrev pub HasPath : Result RequestPlan NoPlan → Type 0
 HasPath (Ok (ShowDocument doc)) = HasCounts doc
 HasPath plan = Unit {0}
 
@@ -46,25 +46,25 @@ place_has path =
     (place_either (bytes_eq path (codes "/group")) Grouping (document_place (doc_of path)) tt (document_has path (doc_of path) refl)))
 
 -- what is asked of a resource is no document
-resource_has : (b c : Bool) (put : Plan) (name : List ℕ) → HasPath (Ok put) → HasPath (Ok (cond b put (cond c (Delete name) (ShowBody name))))
+resource_has : (b c : Bool) (put : RequestPlan) (name : List ℕ) → HasPath (Ok put) → HasPath (Ok (cond b put (cond c (Delete name) (ShowBody name))))
 resource_has true c put name h = h
 resource_has false true put name h = tt
 resource_has false false put name h = tt
 
-asked_at : (place : Place) (p : Parts) (plan : Plan) → PlaceHas place → plan_at place p ≡ Some plan → HasPath (Ok plan)
-asked_at (Document doc) p plan h is = let same : ShowDocument doc ≡ plan = cc in subst (λ (q : Plan). HasPath (Ok q)) same h
+asked_at : (place : Place) (p : Parts) (plan : RequestPlan) → PlaceHas place → plan_at place p ≡ Some plan → HasPath (Ok plan)
+asked_at (Document doc) p plan h is = let same : ShowDocument doc ≡ plan = cc in subst (λ (q : RequestPlan). HasPath (Ok q)) same h
 asked_at (Resource name) p plan h is =
     let same : resource_plan name p ≡ plan = cc in
-    subst (λ (q : Plan). HasPath (Ok q)) same
+    subst (λ (q : RequestPlan). HasPath (Ok q)) same
     (resource_has (is_put p.method) (is_delete p.method)
     (put_plan name (values_of (codes "content-type") p.fields) (unwrap_or (stated_in p) 0) (expects_word p)) name tt)
-asked_at Publishing p plan h is = let same : Publish ≡ plan = cc in subst (λ (q : Plan). HasPath (Ok q)) same tt
+asked_at Publishing p plan h is = let same : Publish ≡ plan = cc in subst (λ (q : RequestPlan). HasPath (Ok q)) same tt
 asked_at Grouping p plan h is =
-    let same : group_plan (unwrap_or (stated_in p) 0) (expects_word p) ≡ plan = cc in subst (λ (q : Plan). HasPath (Ok q)) same tt
+    let same : group_plan (unwrap_or (stated_in p) 0) (expects_word p) ≡ plan = cc in subst (λ (q : RequestPlan). HasPath (Ok q)) same tt
 asked_at Unlawful p plan h is = absurd cc
 asked_at Nowhere p plan h is = absurd cc
 
-planned_has : (p : Parts) (plan : Result Plan NoPlan) → IsPlanFor (causes_of p) (plan_at (place_in p) p) plan → HasPath plan
+planned_has : (p : Parts) (plan : Result RequestPlan NoPlan) → IsPlanFor (causes_of p) (plan_at (place_in p) p) plan → HasPath plan
 planned_has p (Ok plan) is = asked_at (place_in p) p plan (place_has (path_of_target p.target)) is.1
 planned_has p (Err reason) is = tt
 

@@ -1,7 +1,7 @@
 -- Causes in a row: those of the fields, and then the others; and plans that take memory.
 use Rattle.std.proofs.Common.{◌≡◌, ◌∙◌, Bool, true, false, not, [], ◌∷◌, ◌++◌, Option, Some, None, Result, Ok, Err, refl}
 use Rattle.rs_http.specs.declared.request.RequestFault.{RequestFault}
-use Rattle.rs_http.specs.declared.request.Plan.{Plan}
+use Rattle.rs_http.specs.declared.request.RequestPlan.{RequestPlan}
 use Rattle.rs_http.specs.declared.request.NoPlan.{NoPlan}
 use Rattle.rs_http.specs.declared.request.NoPlan.TheVariants.{Refused, NoMemory}
 use Rattle.rs_http.specs.Checks.{Causes, first_fault}
@@ -19,7 +19,7 @@ met [] ys fault e = absurd cc
 met ((true, f) ∷ xs) ys fault e = e
 met ((false, f) ∷ xs) ys fault e = met xs ys fault e
 
-pub planned_after : (xs ys : Causes) (plan : Option Plan) (made : Result Plan NoPlan) → first_fault xs ≡ None → IsPlanFor ys plan made → IsPlanFor (xs ++ ys) plan made
+pub planned_after : (xs ys : Causes) (plan : Option RequestPlan) (made : Result RequestPlan NoPlan) → first_fault xs ≡ None → IsPlanFor ys plan made → IsPlanFor (xs ++ ys) plan made
 planned_after xs ys plan (Ok p) e h = (passed xs ys e ∙ h.0, h.1)
 planned_after xs ys plan (Err (Refused fault)) e h = passed xs ys e ∙ h
 planned_after xs ys plan (Err NoMemory) e h = (passed xs ys e ∙ h.0, h.1)

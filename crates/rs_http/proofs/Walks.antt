@@ -1,6 +1,6 @@
 -- A request makes a walk.
-use Rattle.std.proofs.Common.{◌≡◌, inl, inr, ◌≤◌, ◌-◌, ℕ, Bool, true, false, List, [], ◌∷◌, ◌++◌, length, take, refl, sym, ◌∙◌, ap, subst, arith, cond, Option, Some, None, Result, Ok, Err, Vec, Global, IsTrue, length-append}
-use Rattle.std.proofs.Math.Seq.{take-length, take-append_seam}
+use Rattle.std.proofs.Common.{◌≡◌, inl, inr, ◌≤◌, ◌-◌, ℕ, Bool, true, false, List, [], ◌∷◌, ◌++◌, length, refl, sym, ◌∙◌, ap, subst, arith, cond, Option, Some, None, Result, Ok, Err, Vec, Global, IsTrue, length-append}
+use Rattle.std.proofs.Math.Seq.{take-append_seam}
 use Rattle.std.proofs.lemmas.List.{length-replicate}
 use Rattle.std.specs.Prelude.{◌⊎◌, replicate, codes}
 use Rattle.rs_disk.specs.Medium.{DiskState, IsMedium}
@@ -22,23 +22,25 @@ use Rattle.rs_caps.specs.Shows.{shown_of}
 use Rattle.rs_store.specs.Answered.{Answers}
 use Rattle.rs_store.specs.AnswersBody.{AnswersBody}
 use Rattle.rs_store.specs.Laws.{HeldStands}
-use Rattle.rs_store.specs.Received.{IsBodyOf, AnswersFrom}
+use Rattle.rs_store.specs.Received.{IsBodyOf, MayHaveCome, AnswersFrom}
 use Rattle.rs_store.specs.Refusals.{named_as}
 use Rattle.rs_store.specs.Source.{Stored, Holds, state_of}
 use Rattle.rs_store.specs.declared.refusal.Refusal as stored
-use Rattle.rs_store.specs.declared.refusal.Refusal.TheVariants.{Closed, BadGroup, TooLong, NotHeld, TooManyResources, TooManyChanges, Exhausted, Full, ReadFault, ShortBody, Device, Damaged, NoMemory}
+use Rattle.rs_store.specs.declared.refusal.Refusal.TheVariants.{Closed, ReadFault, ShortBody, Device, NoMemory}
 use Rattle.rs_recovery.specs.Turns.{ReadingsIdle}
 use Rattle.rs_recovery.specs.Walked.{CommandEvents, LeavesWalk, CommandsMakeWalks}
 use Rattle.rs_recovery.proofs.Walked.{told, walked}
-use Rattle.rs_http.specs.declared.request.Plan.{Plan}
-use Rattle.rs_http.specs.declared.request.Plan.TheVariants.{ShowBody, ShowDocument, Put, Delete, Publish, Group}
+use Rattle.rs_http.specs.declared.request.RequestPlan.{RequestPlan}
+use Rattle.rs_http.specs.declared.request.RequestPlan.TheVariants.{ShowBody, ShowDocument, Put, Delete, Publish, Group}
 use Rattle.rs_http.specs.declared.request.NoPlan.{NoPlan}
+use Rattle.rs_http.specs.Turn.{Turn}
 use Rattle.rs_http.specs.Groups.{items_asked}
 use Rattle.rs_http.specs.Outcomes.{outcome_replied, IsShownAs, RunComesTo, UnaskedGroup, GroupComesTo, document_or_none, document_shown, RequestGives}
 use Rattle.rs_http.specs.Responses.{RequestOutcome, shown, refused}
 use Rattle.rs_http.specs.Serving.{IsBroken}
 use Rattle.rs_http.specs.Walked.{RunEvents, PutEvents, GroupEvents, ShowEvents, PlanEvents, IsBodyFor}
 use Rattle.rs_http.specs.Laws.{RequestsMakeWalks, BrokenBodiesMakeNoEvent}
+use Rattle.rs_http.proofs.Counting.{whole_body}
 use Rattle.rs_http.proofs.Groups.{asked_items, asked_faulty, asked_short}
 use Rattle.rs_http.proofs.NamedDocuments.{HasPath, asked_has}
 
@@ -48,14 +50,10 @@ Kind = List Event → Type 0
 -- the model refuses nothing for memory
 never_named : (reason : model.Refusal) → named_as reason ≡ NoMemory → ⊥
 never_named decides.BadGroup e = absurd cc
-never_named decides.TooLong e = absurd cc
-never_named decides.NotHeld e = absurd cc
-never_named decides.TooManyResources e = absurd cc
-never_named decides.TooManyChanges e = absurd cc
-never_named decides.Exhausted e = absurd cc
+never_named reason e = absurd cc
 
 -- no more came than the body has: there is a body that begins so
-begins_one : (n : ℕ) (came : List ℕ) → length came ≤ n → (body : List ℕ) × IsBodyOf n came body
+pub begins_one : (n : ℕ) (came : List ℕ) → length came ≤ n → (body : List ℕ) × IsBodyOf n came body
 begins_one n came le = (
   came ++ replicate (n - length came) 0,
   record {
@@ -64,47 +62,43 @@ begins_one n came le = (
   },
 )
 
--- a body that came whole is the only one
-whole_body : (n : ℕ) (came body : List ℕ) → length came ≡ n → IsBodyOf n came body → body ≡ came
-whole_body n came body all is =
-    let same : length body ≡ length came = is.len ∙ sym all in
-    sym (take-length body) ∙ ap (λ (m : ℕ). take m body) same ∙ is.front
-
 -- no byte came, or all of a body
 none_or_all : (n : ℕ) (came : List ℕ) → (came ≡ []) ⊎ (length came ≡ n) → length came ≤ n
 none_or_all n came (inl none) = rw none (omega arith)
 none_or_all n came (inr all) = omega (arith, all)
 
-module _ {D : Type 0} (device : D → DiskState) (old new : Stored D) (now : ℕ) where
-  some_of : (name kind : List ℕ) (n : ℕ) (came : List ℕ) (result : Result Reply stored.Refusal) → AnswersFrom device old new name kind n now came result → length came ≤ n
+-- no more came of a body that was refused so than it has
+pub may_fit : (n : ℕ) (came : List ℕ) (refusal : stored.Refusal) → MayHaveCome n came refusal → length came ≤ n
+may_fit n came Device may = may
+may_fit n came NoMemory may = none_or_all n came may
+may_fit n came refusal may = rw may (omega arith)
+
+module _ {D : Type 0} {device : D → DiskState} (turn : Turn device) where
+  some_of : (name kind : List ℕ) (n : ℕ) (came : List ℕ) (result : Result Reply stored.Refusal)
+      → AnswersFrom device turn.old turn.new name kind n turn.now came result → length came ≤ n
   some_of name kind n came (Ok reply) a = omega (arith, a.0)
   some_of name kind n came (Err ReadFault) a = omega (arith, a.fewer)
   some_of name kind n came (Err ShortBody) a = omega (arith, a.fewer)
-  some_of name kind n came (Err Device) a = a.0
-  some_of name kind n came (Err NoMemory) a = none_or_all n came a.0
-  some_of name kind n came (Err Closed) a = rw a.0 (omega arith)
-  some_of name kind n came (Err BadGroup) a = rw a.0 (omega arith)
-  some_of name kind n came (Err TooLong) a = rw a.0 (omega arith)
-  some_of name kind n came (Err NotHeld) a = rw a.0 (omega arith)
-  some_of name kind n came (Err TooManyResources) a = rw a.0 (omega arith)
-  some_of name kind n came (Err TooManyChanges) a = rw a.0 (omega arith)
-  some_of name kind n came (Err Exhausted) a = rw a.0 (omega arith)
-  some_of name kind n came (Err Full) a = rw a.0 (omega arith)
-  some_of name kind n came (Err Damaged) a = rw a.0 (omega arith)
+  some_of name kind n came (Err refusal) a = may_fit n came refusal a.0
 
-  some_body : (plan : Result Plan NoPlan) (more : List ℕ) (rest : Option (List ℕ)) (outcome : RequestOutcome) → RequestGives device old now plan more rest outcome new
+  some_body : (plan : Result RequestPlan NoPlan) (more : List ℕ) (rest : Option (List ℕ)) (outcome : RequestOutcome) → RequestGives turn plan more rest outcome
       → (body : List ℕ) × IsBodyFor plan more body
-  some_body (Ok (Put name kind n waits)) more rest outcome gives = begins_one n more (some_of name kind n more gives.result gives.answers)
-  some_body (Ok (ShowBody name)) more rest outcome gives = ([], tt)
-  some_body (Ok (ShowDocument doc)) more rest outcome gives = ([], tt)
-  some_body (Ok (Delete name)) more rest outcome gives = ([], tt)
-  some_body (Ok Publish) more rest outcome gives = ([], tt)
+  some_body (Ok (Put name kind n waits)) more rest outcome gives = begins_one n more (some_of name kind n more gives.0.result gives.0.answers)
   some_body (Ok (Group n waits)) more rest outcome gives = (more, refl)
-  some_body (Err reason) more rest outcome gives = ([], tt)
+  some_body plan more rest outcome gives = ([], tt)
 
 module _ {D : Type 0} (device : D → DiskState) (sound : (disk : D) → IsMedium (device disk).size (device disk).now) (stands : HeldStands device)
     (reading : ReadingsIdle device) (commands_walk : CommandsMakeWalks device) (documents : DocumentsAreAnswered) (bodies : BodiesAreAnswered)
-    (old new : Stored D) (s : Source) (now : ℕ) (holds : Holds device old s) where
+    (turn : Turn device) (s : Source) (holds : Holds device turn.old s) where
+  abbrev old : Stored D
+  old = turn.old
+
+  abbrev new : Stored D
+  new = turn.new
+
+  abbrev now : ℕ
+  now = turn.now
+
   -- no event
   nothing : (M : Kind) → M [] → Holds device new s → LeavesWalk device s M new
   nothing M none held = walked device stands s M new [] none held
@@ -117,7 +111,7 @@ module _ {D : Type 0} (device : D → DiskState) (sound : (disk : D) → IsMediu
   of_reply command (Ok reply) walk = walk
   of_reply command (Err refusal) walk = walk
 
-  run_walk : (command : Command) (outcome : RequestOutcome) → RunComesTo device old new command now outcome
+  run_walk : (command : Command) (outcome : RequestOutcome) → RunComesTo turn command outcome
       → LeavesWalk device s (RunEvents s command now outcome) new
   run_walk command outcome r =
       let P : RequestOutcome → Type 0 = λ o. LeavesWalk device s (RunEvents s command now o) new in
@@ -140,17 +134,7 @@ module _ {D : Type 0} (device : D → DiskState) (sound : (disk : D) → IsMediu
     put_walk (Ok reply) a = was_put (Ok reply) (all_came reply a.0 a.1)
     put_walk (Err ReadFault) a = nothing (PutEvents s put now (refused ReadFault)) refl (a.left.holds s holds).0
     put_walk (Err ShortBody) a = nothing (PutEvents s put now (refused ShortBody)) refl (a.left.holds s holds).0
-    put_walk (Err Device) a = was_put (Err Device) (a.1 body whole)
-    put_walk (Err NoMemory) a = was_put (Err NoMemory) (a.1 body whole)
-    put_walk (Err Closed) a = was_put (Err Closed) (a.1 body whole)
-    put_walk (Err BadGroup) a = was_put (Err BadGroup) (a.1 body whole)
-    put_walk (Err TooLong) a = was_put (Err TooLong) (a.1 body whole)
-    put_walk (Err NotHeld) a = was_put (Err NotHeld) (a.1 body whole)
-    put_walk (Err TooManyResources) a = was_put (Err TooManyResources) (a.1 body whole)
-    put_walk (Err TooManyChanges) a = was_put (Err TooManyChanges) (a.1 body whole)
-    put_walk (Err Exhausted) a = was_put (Err Exhausted) (a.1 body whole)
-    put_walk (Err Full) a = was_put (Err Full) (a.1 body whole)
-    put_walk (Err Damaged) a = was_put (Err Damaged) (a.1 body whole)
+    put_walk (Err refusal) a = was_put (Err refusal) (a.1 body whole)
 
   -- a group, by the items that it asks for
   abbrev Grouped : RequestOutcome → Option (List Item) → Type 0
@@ -169,7 +153,7 @@ module _ {D : Type 0} (device : D → DiskState) (sound : (disk : D) → IsMediu
   unasked_walk n came rest outcome (inr (inr lacking)) held =
       subst (λ (o : RequestOutcome). Grouped o (items_asked n came)) (sym lacking.1) (lacking_walk (items_asked n came) held)
 
-  group_walk : (n : ℕ) (came : List ℕ) (rest : Option (List ℕ)) (outcome : RequestOutcome) → GroupComesTo device old new n now came rest outcome → Grouped outcome (items_asked n came)
+  group_walk : (n : ℕ) (came : List ℕ) (rest : Option (List ℕ)) (outcome : RequestOutcome) → GroupComesTo turn n came rest outcome → Grouped outcome (items_asked n came)
   group_walk n came rest outcome (inl unasked) = unasked_walk n came rest outcome unasked.1 (same_held unasked.0)
   group_walk n came rest outcome (inr asked) =
       subst (Grouped outcome) (sym (asked_items n came asked.items asked.whole asked.are)) (run_walk (commands.Group asked.items) outcome asked.comes)
@@ -210,15 +194,15 @@ module _ {D : Type 0} (device : D → DiskState) (sound : (disk : D) → IsMediu
       let P : RequestOutcome → Type 0 = λ o. LeavesWalk device s (ShowEvents is_head s (body_path name) o) new in
       subst P (sym is) (unshown_walk is_head (body_path name) refusal ((reading old new a.reads_only).holds s holds).0)
 
-  plan_walk : (is_head : Bool) (plan : Result Plan NoPlan) (more : List ℕ) (rest : Option (List ℕ)) (outcome : RequestOutcome) (body : List ℕ) → HasPath plan
-      → RequestGives device old now plan more rest outcome new → IsTrue (device new.disk).honest → IsBodyFor plan more body
+  plan_walk : (is_head : Bool) (plan : Result RequestPlan NoPlan) (more : List ℕ) (rest : Option (List ℕ)) (outcome : RequestOutcome) (body : List ℕ) → HasPath plan
+      → RequestGives turn plan more rest outcome → IsTrue (device new.disk).honest → IsBodyFor plan more body
       → LeavesWalk device s (PlanEvents is_head s now plan body outcome) new
   plan_walk is_head (Ok (ShowBody name)) more rest outcome body has gives honest is =
       read_walk is_head name gives.1.result outcome gives.1.answers gives.1.outcome_is honest
   plan_walk is_head (Ok (ShowDocument doc)) more rest outcome body has gives honest is = document_walk is_head doc outcome has gives.1 gives.2
   plan_walk is_head (Ok (Put name kind n waits)) more rest outcome body has gives honest is =
       let P : RequestOutcome → Type 0 = λ o. LeavesWalk device s (PutEvents s (commands.Put name kind body) now o) new in
-      subst P (sym gives.outcome_is) (put_walk name kind n more body is gives.result gives.answers)
+      subst P (sym gives.0.outcome_is) (put_walk name kind n more body is gives.0.result gives.0.answers)
   plan_walk is_head (Ok (Delete name)) more rest outcome body has gives honest is = run_walk (commands.Delete name) outcome gives.1
   plan_walk is_head (Ok Publish) more rest outcome body has gives honest is = run_walk commands.Publish outcome gives.1
   plan_walk is_head (Ok (Group n waits)) more rest outcome body has gives honest is =
@@ -226,25 +210,20 @@ module _ {D : Type 0} (device : D → DiskState) (sound : (disk : D) → IsMediu
   plan_walk is_head (Err reason) more rest outcome body has gives honest is =
       nothing (PlanEvents is_head s now (Err reason) body outcome) refl (same_held gives.2)
 
-  broken_walk : (plan : Result Plan NoPlan) (more : List ℕ) → IsBroken device old now plan more new → LeavesWalk device s (λ events. events ≡ []) new
+  broken_walk : (plan : Result RequestPlan NoPlan) (more : List ℕ) → IsBroken turn plan more → LeavesWalk device s (λ events. events ≡ []) new
   broken_walk (Ok (Put name kind n waits)) more broken = nothing (λ events. events ≡ []) refl (broken.left.holds s holds).0
   broken_walk (Ok (Group n waits)) more broken = nothing (λ events. events ≡ []) refl (same_held broken.1)
-  broken_walk (Ok (ShowBody name)) more broken = absurd broken
-  broken_walk (Ok (ShowDocument doc)) more broken = absurd broken
-  broken_walk (Ok (Delete name)) more broken = absurd broken
-  broken_walk (Ok Publish) more broken = absurd broken
-  broken_walk (Err reason) more broken = absurd broken
+  broken_walk plan more broken = absurd broken
 
 module _ {D : Type 0} (device : D → DiskState) (sound : (disk : D) → IsMedium (device disk).size (device disk).now) (stands : HeldStands device)
     (reading : ReadingsIdle device) (walking : CommandsMakeWalks device) (documents : DocumentsAreAnswered) (bodies : BodiesAreAnswered) where
   pub requests_walk : RequestsMakeWalks device
-  requests_walk old new now bytes read request more rest outcome asks gives = record {
-    some_body = some_body device old new now request.plan more rest outcome gives;
+  requests_walk turn bytes read request more rest outcome asks gives = record {
+    some_body = some_body turn request.plan more rest outcome gives;
     walks = λ s body holds honest is.
-        plan_walk device sound stands reading walking documents bodies old new s now holds request.is_head request.plan more rest outcome body
+        plan_walk device sound stands reading walking documents bodies turn s holds request.is_head request.plan more rest outcome body
         (asked_has bytes read request asks) gives honest is;
   }
 
   pub broken_bodies_walk : BrokenBodiesMakeNoEvent device
-  broken_bodies_walk old new now plan more broken s holds =
-      broken_walk device sound stands reading walking documents bodies old new s now holds plan more broken
+  broken_bodies_walk turn plan more broken s holds = broken_walk device sound stands reading walking documents bodies turn s holds plan more broken

@@ -10,9 +10,9 @@ use Rattle.rs_http.specs.declared.target.Place.TheVariants.{Resource, Unlawful, 
 use Rattle.rs_http.specs.declared.target.Methods.TheVariants.{OfResources, OfDocuments, OfPosts}
 use Rattle.rs_http.specs.declared.request.RequestFault.{RequestFault}
 use Rattle.rs_http.specs.declared.request.RequestFault.TheVariants.{ManyFields, BadHost, TransferEncoding, BadLength, BadName, NoSuchDocument, BadMethod, NoLength, BadType, TooLong}
-use Rattle.rs_http.specs.declared.request.Plan.{Plan}
-use Rattle.rs_http.specs.declared.request.Plan.TheVariants.{ShowBody, ShowDocument, Put, Delete, Publish, Group}
-use Rattle.rs_http.specs.Fields.{Parts, values_of}
+use Rattle.rs_http.specs.declared.request.RequestPlan.{RequestPlan}
+use Rattle.rs_http.specs.declared.request.RequestPlan.TheVariants.{ShowBody, ShowDocument, Put, Delete, Publish, Group}
+use Rattle.rs_http.specs.Fields.{Pairs, Parts, values_of}
 use Rattle.rs_http.specs.Targets.{path_of_target, place_of}
 
 -- the greatest number of fields
@@ -48,6 +48,10 @@ stated_length (text ∷ texts) = length_in text
 -- the length that a head states
 abbrev pub stated_in : Parts → Option ℕ
 stated_in p = stated_length (values_of (codes "content-length") p.fields)
+
+-- the types that the fields state
+abbrev pub kinds_in : Pairs → List (List ℕ)
+kinds_in fields = values_of (codes "content-type") fields
 
 -- an unlawful type, or a second one
 abbrev pub is_bad_type : List (List ℕ) → Bool
@@ -104,7 +108,7 @@ abbrev pub put_head_causes : Option ℕ → List (List ℕ) → Causes
 put_head_causes stated kinds = (is_none stated, NoLength) ∷ (is_bad_type kinds, BadType) ∷ (is_too_long stated, TooLong) ∷ []
 
 abbrev pub put_head_causes_in : Parts → Causes
-put_head_causes_in p = put_head_causes (stated_in p) (values_of (codes "content-type") p.fields)
+put_head_causes_in p = put_head_causes (stated_in p) (kinds_in p.fields)
 
 -- Those of a group, in their order: no length, and too long a body.
 abbrev pub group_head_causes : Option ℕ → Causes
@@ -137,25 +141,25 @@ abbrev pub is_waited : Bool → ℕ → Bool
 is_waited expects n = expects && nat_lt 0 n
 
 -- A put: its type, its length, and whether it waits for the word to go on before it sends its body.
-abbrev pub put_plan : List ℕ → List (List ℕ) → ℕ → Bool → Plan
+abbrev pub put_plan : List ℕ → List (List ℕ) → ℕ → Bool → RequestPlan
 put_plan name kinds n expects = Put name (stated_type kinds) n (is_waited expects n)
 
 -- a group: the length of its body, and whether it waits so
-abbrev pub group_plan : ℕ → Bool → Plan
+abbrev pub group_plan : ℕ → Bool → RequestPlan
 group_plan n expects = Group n (is_waited expects n)
 
 -- what is asked of a resource
-abbrev pub resource_plan : List ℕ → Parts → Plan
+abbrev pub resource_plan : List ℕ → Parts → RequestPlan
 resource_plan name p =
     if is_put p.method then
-    put_plan name (values_of (codes "content-type") p.fields)
+    put_plan name (kinds_in p.fields)
     (unwrap_or (stated_in p) 0)
     (expects_word p)
     else if is_delete p.method then Delete name
     else ShowBody name
 
 -- what a request asks for that is not refused
-abbrev pub plan_at : Place → Parts → Option Plan
+abbrev pub plan_at : Place → Parts → Option RequestPlan
 plan_at (Resource name) p = Some (resource_plan name p)
 plan_at (Document doc) p = Some (ShowDocument doc)
 plan_at Publishing p = Some Publish

@@ -5,13 +5,13 @@ use Rattle.rs_model.specs.declared.command.Command.{Command}
 use Rattle.rs_model.specs.declared.command.Command.TheVariants as commands
 use Rattle.rs_model.specs.declared.command.Item.{Item}
 use Rattle.rs_store.specs.Received.{IsBodyOf}
-use Rattle.rs_store.specs.Source.{Stored}
 use Rattle.rs_store.specs.declared.refusal.Refusal.TheVariants.{Device}
 use Rattle.rs_recovery.specs.Prefixes.{Recovers}
-use Rattle.rs_http.specs.declared.request.Plan.{Plan}
-use Rattle.rs_http.specs.declared.request.Plan.TheVariants.{ShowBody, ShowDocument, Put, Delete, Publish, Group}
+use Rattle.rs_http.specs.declared.request.RequestPlan.{RequestPlan}
+use Rattle.rs_http.specs.declared.request.RequestPlan.TheVariants.{ShowBody, ShowDocument, Put, Delete, Publish, Group}
 use Rattle.rs_http.specs.declared.request.NoPlan.{NoPlan}
 use Rattle.rs_http.specs.Groups.{items_asked}
+use Rattle.rs_http.specs.Turn.{Turn}
 use Rattle.rs_http.specs.Responses.{RequestOutcome, replied, refused}
 
 -- A command counts where it was accepted, and where the device failed in it, since its step may stand then.
@@ -27,7 +27,7 @@ counted_group (Some items) now outcome = counted_with (commands.Group items) now
 
 -- These are the commands of a request that count, one or none. A put that was answered before its body was read whole counts as
 -- one of any body that begins so.
-abbrev pub Counts : ℕ → Result Plan NoPlan → List ℕ → RequestOutcome → List (Command × ℕ) → Type 0
+abbrev pub Counts : ℕ → Result RequestPlan NoPlan → List ℕ → RequestOutcome → List (Command × ℕ) → Type 0
 Counts now (Ok (Put name kind n waits)) more outcome counted =
     (body : List ℕ) × IsBodyOf n more body × (counted ≡ counted_with (commands.Put name kind body) now outcome)
 Counts now (Ok (Delete name)) more outcome counted = counted ≡ counted_with (commands.Delete name) now outcome
@@ -38,5 +38,6 @@ Counts now (Ok (ShowDocument doc)) more outcome counted = counted ≡ []
 Counts now (Err reason) more outcome counted = counted ≡ []
 
 -- Whenever a stop comes within a request, it leaves what was held, or what the command of the request that counts makes of it.
-abbrev pub RequestRecovers : {D : Type 0} → (D → DiskState) → Stored D → ℕ → Result Plan NoPlan → List ℕ → RequestOutcome → Stored D → Type 0
-RequestRecovers device old now plan more outcome new = (counted : List (Command × ℕ)) → Counts now plan more outcome counted → Recovers device old counted new
+abbrev pub RequestRecovers : {D : Type 0} {device : D → DiskState} → Turn device → Result RequestPlan NoPlan → List ℕ → RequestOutcome → Type 0
+RequestRecovers {device = device} turn plan more outcome =
+    (counted : List (Command × ℕ)) → Counts turn.now plan more outcome counted → Recovers device turn.old counted turn.new

@@ -2,12 +2,12 @@
 use Rattle.std.specs.Prelude.{ℕ, List, [], Option, Some, Result}
 use Rattle.rs_disk.specs.Medium.{DiskState}
 use Rattle.rs_model.specs.declared.command.Command.{Command}
-use Rattle.rs_store.specs.Source.{Stored}
 use Rattle.rs_recovery.specs.Prefixes.{IsRunOf, Recovers}
 use Rattle.rs_http.specs.declared.head.HeadRead.{HeadRead}
-use Rattle.rs_http.specs.declared.request.Plan.{Plan}
+use Rattle.rs_http.specs.declared.request.RequestPlan.{RequestPlan}
 use Rattle.rs_http.specs.declared.request.NoPlan.{NoPlan}
 use Rattle.rs_http.specs.declared.request.Request.{Request}
+use Rattle.rs_http.specs.Turn.{Turn}
 use Rattle.rs_http.specs.Requests.{Asks}
 use Rattle.rs_http.specs.Responses.{RequestOutcome}
 use Rattle.rs_http.specs.Outcomes.{RequestGives}
@@ -17,32 +17,32 @@ use Rattle.rs_http.specs.Serving.{IsBroken}
 
 -- What a request asks of a source is a run of its command that counts, or of none.
 abbrev pub RequestsAreRuns : {D : Type 0} → (D → DiskState) → Type 0
-RequestsAreRuns {D} device = (old new : Stored D) (now : ℕ) (plan : Result Plan NoPlan) (more : List ℕ) (rest : Option (List ℕ)) (outcome : RequestOutcome)
-    → RequestGives device old now plan more rest outcome new
-    → (counted : List (Command × ℕ)) → Counts now plan more outcome counted → IsRunOf device old counted new
+RequestsAreRuns device = (turn : Turn device) (plan : Result RequestPlan NoPlan) (more : List ℕ) (rest : Option (List ℕ)) (outcome : RequestOutcome)
+    → RequestGives turn plan more rest outcome
+    → (counted : List (Command × ℕ)) → Counts turn.now plan more outcome counted → IsRunOf device turn.old counted turn.new
 
 -- A put or a group whose reader failed is a run of no command.
 abbrev pub BrokenBodiesAreRuns : {D : Type 0} → (D → DiskState) → Type 0
-BrokenBodiesAreRuns {D} device = (old new : Stored D) (now : ℕ) (plan : Result Plan NoPlan) (more : List ℕ)
-    → IsBroken device old now plan more new → IsRunOf device old [] new
+BrokenBodiesAreRuns device = (turn : Turn device) (plan : Result RequestPlan NoPlan) (more : List ℕ)
+    → IsBroken turn plan more → IsRunOf device turn.old [] turn.new
 
 -- Whatever comes of a request, whenever a stop comes: it leaves what the command of the request makes that counts.
 abbrev pub RequestsRecover : {D : Type 0} → (D → DiskState) → Type 0
-RequestsRecover {D} device = (old new : Stored D) (now : ℕ) (plan : Result Plan NoPlan) (more : List ℕ) (rest : Option (List ℕ)) (outcome : RequestOutcome)
-    → RequestGives device old now plan more rest outcome new → RequestRecovers device old now plan more outcome new
+RequestsRecover device = (turn : Turn device) (plan : Result RequestPlan NoPlan) (more : List ℕ) (rest : Option (List ℕ)) (outcome : RequestOutcome)
+    → RequestGives turn plan more rest outcome → RequestRecovers turn plan more outcome
 
 -- A put or a group whose reader failed is not done, whenever a stop comes.
 abbrev pub BrokenBodiesRecover : {D : Type 0} → (D → DiskState) → Type 0
-BrokenBodiesRecover {D} device = (old new : Stored D) (now : ℕ) (plan : Result Plan NoPlan) (more : List ℕ)
-    → IsBroken device old now plan more new → Recovers device old [] new
+BrokenBodiesRecover device = (turn : Turn device) (plan : Result RequestPlan NoPlan) (more : List ℕ)
+    → IsBroken turn plan more → Recovers device turn.old [] turn.new
 
 -- Each request that the bytes of a head ask for makes a walk, whatever comes of it.
 abbrev pub RequestsMakeWalks : {D : Type 0} → (D → DiskState) → Type 0
-RequestsMakeWalks {D} device = (old new : Stored D) (now : ℕ) (bytes : List ℕ) (read : HeadRead) (request : Request) (more : List ℕ) (rest : Option (List ℕ)) (outcome : RequestOutcome)
-    → Asks bytes read (Some request) → RequestGives device old now request.plan more rest outcome new
-    → MakesWalk device old now request more outcome new
+RequestsMakeWalks device = (turn : Turn device) (bytes : List ℕ) (read : HeadRead) (request : Request) (more : List ℕ) (rest : Option (List ℕ)) (outcome : RequestOutcome)
+    → Asks bytes read (Some request) → RequestGives turn request.plan more rest outcome
+    → MakesWalk turn request more outcome
 
 -- A put or a group whose reader failed leaves a walk of no event.
 abbrev pub BrokenBodiesMakeNoEvent : {D : Type 0} → (D → DiskState) → Type 0
-BrokenBodiesMakeNoEvent {D} device = (old new : Stored D) (now : ℕ) (plan : Result Plan NoPlan) (more : List ℕ)
-    → IsBroken device old now plan more new → MakesNoEvent device old new
+BrokenBodiesMakeNoEvent device = (turn : Turn device) (plan : Result RequestPlan NoPlan) (more : List ℕ)
+    → IsBroken turn plan more → MakesNoEvent turn

@@ -10,3 +10,4 @@ pub mod Counted
 pub mod Serving
 pub mod Laws
 pub mod Walked
+pub mod Turn

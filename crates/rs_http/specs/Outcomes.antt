@@ -1,5 +1,5 @@
 -- What may come of a request that is asked of a stored source.
-use Rattle.std.specs.Prelude.{◌≡◌, ◌⊎◌, ℕ, ◌<◌, if◌then◌else◌, List, [], length, codes, Option, Some, None, Result, Ok, Err, Vec, IfOk, IsErrOf}
+use Rattle.std.specs.Prelude.{◌≡◌, ◌⊎◌, ℕ, ◌<◌, if◌then◌else◌, List, [], length, codes, Option, Some, None, Result, Ok, Err, Vec, IfOk, IfErr, IsErrOf}
 use Rattle.std.specs.Global.{Global}
 use Rattle.std.specs.Io.KnownBytes.{IsAtEnd}
 use Rattle.rs_disk.specs.Medium.{DiskState}
@@ -20,13 +20,18 @@ use Rattle.rs_store.specs.Shows.{kind_of}
 use Rattle.rs_store.specs.Source.{Stored, state_of}
 use Rattle.rs_store.specs.declared.refusal.Refusal as stored
 use Rattle.rs_store.specs.declared.refusal.Refusal.TheVariants.{Closed, ReadFault, ShortBody, NoMemory}
-use Rattle.rs_http.specs.declared.request.Plan.{Plan}
-use Rattle.rs_http.specs.declared.request.Plan.TheVariants.{ShowBody, ShowDocument, Put, Delete, Publish, Group}
+use Rattle.rs_io.specs.declared.watch.Watched.{Watched}
+use Rattle.rs_io.specs.Watch.{WritesOut}
+use Rattle.rs_http.specs.declared.fault.FrontFault.{FrontFault}
+use Rattle.rs_http.specs.declared.fault.FrontFault.TheVariants.{Write}
+use Rattle.rs_http.specs.declared.request.RequestPlan.{RequestPlan}
+use Rattle.rs_http.specs.declared.request.RequestPlan.TheVariants.{ShowBody, ShowDocument, Put, Delete, Publish, Group}
 use Rattle.rs_http.specs.declared.request.NoPlan.{NoPlan}
 use Rattle.rs_http.specs.declared.request.NoPlan.TheVariants.{Refused, NoMemory as NoPlanMemory}
 use Rattle.rs_http.specs.declared.request.RequestFault.TheVariants.{NoSuchDocument, BadLine, BadName, BadHex, BadType}
 use Rattle.rs_http.specs.declared.response.Framing.{Framing}
 use Rattle.rs_http.specs.Groups.{items_in}
+use Rattle.rs_http.specs.Turn.{Turn}
 use Rattle.rs_http.specs.Responses.{RequestOutcome, faulted, replied, shown, refused, status_code, response_text}
 
 -- what comes of an answer to a command
@@ -35,18 +40,17 @@ outcome_replied (Ok reply) = replied reply
 outcome_replied (Err refusal) = refused refusal
 
 -- A command was asked of the source, which answered as it may.
-pub record RunComesTo {D : Type 0} (device : D → DiskState) (old new : Stored D) (command : Command) (now : ℕ) (outcome : RequestOutcome) : Type 0 where
+pub record RunComesTo {D : Type 0} {device : D → DiskState} (turn : Turn device) (command : Command) (outcome : RequestOutcome) : Type 0 where
   pub result : Result Reply stored.Refusal
-  pub answers : Answers device old new command now result
+  pub answers : Answers device turn.old turn.new command turn.now result
   pub outcome_is : outcome ≡ outcome_replied result
 
--- A put of the next n bytes of the input was asked of the source, which answered as it may. These bytes came, and this was
--- left behind them. The reader did not fail, and it had ended where the body is short.
-pub record PutComesTo {D : Type 0} (device : D → DiskState) (old new : Stored D) (name kind : List ℕ) (n now : ℕ) (came : List ℕ) (rest : Option (List ℕ)) (outcome : RequestOutcome) : Type 0 where
+-- A put of the next n bytes of the input was asked of the source, which answered as it may. These bytes came, and the reader did
+-- not fail.
+pub record PutComesTo {D : Type 0} {device : D → DiskState} (turn : Turn device) (name kind : List ℕ) (n : ℕ) (came : List ℕ) (outcome : RequestOutcome) : Type 0 where
   pub result : Result Reply stored.Refusal
-  pub answers : AnswersFrom device old new name kind n now came result
+  pub answers : AnswersFrom device turn.old turn.new name kind n turn.now came result
   pub unbroken : IsErrOf result ReadFault → ⊥
-  pub ended : IsErrOf result ShortBody → IsAtEnd rest
   pub outcome_is : outcome ≡ outcome_replied result
 
 -- what comes of an answer to the question for a body: its bytes are shown with their recorded type
@@ -55,10 +59,10 @@ IsShownAs s name (Ok bytes) outcome = (kind : List ℕ) × (kind_of name s ≡ S
 IsShownAs s name (Err refusal) outcome = outcome ≡ refused refusal
 
 -- A body was asked of the source, which answered as it may.
-pub record ReadComesTo {D : Type 0} (device : D → DiskState) (old new : Stored D) (name : List ℕ) (outcome : RequestOutcome) : Type 0 where
+pub record ReadComesTo {D : Type 0} {device : D → DiskState} (turn : Turn device) (name : List ℕ) (outcome : RequestOutcome) : Type 0 where
   pub result : Result (Vec ℕ Global) stored.Refusal
-  pub answers : AnswersBody device old new name result
-  pub outcome_is : IsShownAs (state_of device old) name result outcome
+  pub answers : AnswersBody device turn.old turn.new name result
+  pub outcome_is : IsShownAs (state_of device turn.old) name result outcome
 
 -- a document, where it is there
 abbrev pub document_or_none : Option (List ℕ) → RequestOutcome
@@ -93,35 +97,45 @@ UnaskedGroup n came rest outcome =
     ⊎ (((came ≡ []) ⊎ (length came ≡ n)) × (outcome ≡ refused NoMemory))
 
 -- A group of n bytes that came whole was asked of the source: all items of its lines, none of which has a fault, in one command.
-pub record AskedGroup {D : Type 0} (device : D → DiskState) (old new : Stored D) (n now : ℕ) (came : List ℕ) (outcome : RequestOutcome) : Type 0 where
+pub record AskedGroup {D : Type 0} {device : D → DiskState} (turn : Turn device) (n : ℕ) (came : List ℕ) (outcome : RequestOutcome) : Type 0 where
   pub items : List Item
   pub whole : length came ≡ n
   pub are : items_in came ≡ Ok items
-  pub comes : RunComesTo device old new (commands.Group items) now outcome
+  pub comes : RunComesTo turn (commands.Group items) outcome
 
 -- A group of the next n bytes of the input was read. These came, and this was left behind them. Either the source was not asked,
 -- and nothing is done, or it answered as it may. The reader did not fail.
-abbrev pub GroupComesTo : {D : Type 0} → (D → DiskState) → Stored D → Stored D → ℕ → ℕ → List ℕ → Option (List ℕ) → RequestOutcome → Type 0
-GroupComesTo device old new n now came rest outcome =
-    ((new ≡ old) × UnaskedGroup n came rest outcome) ⊎ AskedGroup device old new n now came outcome
+abbrev pub GroupComesTo : {D : Type 0} {device : D → DiskState} → Turn device → ℕ → List ℕ → Option (List ℕ) → RequestOutcome → Type 0
+GroupComesTo turn n came rest outcome =
+    ((turn.new ≡ turn.old) × UnaskedGroup n came rest outcome) ⊎ AskedGroup turn n came outcome
 
--- What may come of a plan, where these bytes were read past the head and this was left behind them: a put and a group alone read any.
-abbrev pub PlanGives : {D : Type 0} → (D → DiskState) → Stored D → ℕ → Plan → List ℕ → Option (List ℕ) → RequestOutcome → Stored D → Type 0
-PlanGives device old now (ShowBody name) more rest outcome new = (more ≡ []) × ReadComesTo device old new name outcome
-PlanGives device old now (ShowDocument doc) more rest outcome new = (more ≡ []) × (outcome ≡ document_shown device old doc) × (new ≡ old)
-PlanGives device old now (Put name kind n waits) more rest outcome new = PutComesTo device old new name kind n now more rest outcome
-PlanGives device old now (Delete name) more rest outcome new = (more ≡ []) × RunComesTo device old new (commands.Delete name) now outcome
-PlanGives device old now Publish more rest outcome new = (more ≡ []) × RunComesTo device old new commands.Publish now outcome
-PlanGives device old now (Group n waits) more rest outcome new = GroupComesTo device old new n now more rest outcome
+-- What may come of a plan, where these bytes were read past the head and this was left behind them: a put and a group alone read
+-- any. The input had ended where the body of a put is short.
+abbrev pub PlanGives : {D : Type 0} {device : D → DiskState} → Turn device → RequestPlan → List ℕ → Option (List ℕ) → RequestOutcome → Type 0
+PlanGives turn (ShowBody name) more rest outcome = (more ≡ []) × ReadComesTo turn name outcome
+PlanGives {device = device} turn (ShowDocument doc) more rest outcome =
+    (more ≡ []) × (outcome ≡ document_shown device turn.old doc) × (turn.new ≡ turn.old)
+PlanGives turn (Put name kind n waits) more rest outcome =
+    (put : PutComesTo turn name kind n more outcome) × (IsErrOf put.result ShortBody → IsAtEnd rest)
+PlanGives turn (Delete name) more rest outcome = (more ≡ []) × RunComesTo turn (commands.Delete name) outcome
+PlanGives turn Publish more rest outcome = (more ≡ []) × RunComesTo turn commands.Publish outcome
+PlanGives turn (Group n waits) more rest outcome = GroupComesTo turn n more rest outcome
 
 -- What may come of a request. Without a plan nothing is read or done.
-abbrev pub RequestGives : {D : Type 0} → (D → DiskState) → Stored D → ℕ → Result Plan NoPlan → List ℕ → Option (List ℕ) → RequestOutcome → Stored D → Type 0
-RequestGives device old now (Ok plan) more rest outcome new = PlanGives device old now plan more rest outcome new
-RequestGives device old now (Err reason) more rest outcome new = (more ≡ []) × (outcome ≡ unplanned reason) × (new ≡ old)
+abbrev pub RequestGives : {D : Type 0} {device : D → DiskState} → Turn device → Result RequestPlan NoPlan → List ℕ → Option (List ℕ) → RequestOutcome → Type 0
+RequestGives turn (Ok plan) more rest outcome = PlanGives turn plan more rest outcome
+RequestGives turn (Err reason) more rest outcome = (more ≡ []) × (outcome ≡ unplanned reason) × (turn.new ≡ turn.old)
 
--- An outcome of which this holds is answered: its status is given, and its response is Written.
-pub record Responds {E : Type 0} (framing : Framing) (Written : List ℕ → Type 0) (comes : RequestOutcome → Type 0) (result : Result ℕ E) : Type 0 where
+-- The response to an outcome was written, and its status is given; or the writer failed within it.
+abbrev pub Sends : {W : Type 0} → (W → Option (List ℕ)) → Watched W → Watched W → Framing → RequestOutcome → Result ℕ FrontFault → Type 0
+Sends contents old new framing outcome result =
+    IfOk result (λ status. status ≡ status_code outcome)
+    × WritesOut contents old new result (response_text framing outcome)
+    × IfErr result (λ fault. fault ≡ Write)
+
+-- An outcome of which this holds is answered.
+pub record Responds {W : Type 0} (contents : W → Option (List ℕ)) (old new : Watched W) (framing : Framing) (comes : RequestOutcome → Type 0)
+    (result : Result ℕ FrontFault) : Type 0 where
   pub outcome : RequestOutcome
   pub comes_of_it : comes outcome
-  pub status : IfOk result (λ status. status ≡ status_code outcome)
-  pub written : Written (response_text framing outcome)
+  pub sends : Sends contents old new framing outcome result

@@ -1,20 +1,21 @@
 -- What the bytes of a head ask for.
-use Rattle.std.specs.Prelude.{◌≡◌, ◌⊎◌, ℕ, ◌<◌, true, false, List, [], length, codes, bytes_eq, Option, Some, None, Result, Ok, Err}
+use Rattle.std.specs.Prelude.{◌≡◌, ◌⊎◌, ℕ, ◌<◌, Bool, true, false, List, [], length, codes, bytes_eq, Option, Some, None, Result, Ok, Err, unwrap_or}
 use Rattle.httparse.specs.Grammar.{RequestHead, ReadsRequest, HasNoRequest}
 use Rattle.rs_http.specs.declared.head.HeadRead.{HeadRead}
 use Rattle.rs_http.specs.declared.head.HeadRead.TheVariants.{Whole, TooLong, Ended}
+use Rattle.rs_http.specs.declared.target.Place.{Place}
 use Rattle.rs_http.specs.declared.request.RequestFault.{RequestFault}
 use Rattle.rs_http.specs.declared.request.RequestFault.TheVariants.{HeadTooLong, BadHead, BadType}
-use Rattle.rs_http.specs.declared.request.Plan.{Plan}
-use Rattle.rs_http.specs.declared.request.Plan.TheVariants.{ShowBody, Put, Delete}
+use Rattle.rs_http.specs.declared.request.RequestPlan.{RequestPlan}
+use Rattle.rs_http.specs.declared.request.RequestPlan.TheVariants.{ShowBody, Put, Delete}
 use Rattle.rs_http.specs.declared.request.NoPlan.{NoPlan}
 use Rattle.rs_http.specs.declared.request.NoPlan.TheVariants.{Refused, NoMemory}
 use Rattle.rs_http.specs.declared.request.Request.{Request}
 use Rattle.rs_http.specs.Fields.{Parts, head_parts}
-use Rattle.rs_http.specs.Checks.{Causes, first_fault, causes_of, is_bad_type, stated_type, place_in, plan_at}
+use Rattle.rs_http.specs.Checks.{Causes, first_fault, causes_of, put_head_causes, place_causes, is_bad_type, stated_type, place_in, put_plan, plan_at}
 
 -- A plan of a resource holds its name, which takes memory. No other plan takes any.
-abbrev pub TakesMemory : Option Plan → Type 0
+abbrev pub TakesMemory : Option RequestPlan → Type 0
 TakesMemory (Some (ShowBody name)) = Unit {0}
 TakesMemory (Some (Put name kind n waits)) = Unit {0}
 TakesMemory (Some (Delete name)) = Unit {0}
@@ -22,10 +23,20 @@ TakesMemory plan = ⊥
 
 -- A request that has these causes is refused for the first one that is there, or has this plan. Memory may be refused for a plan
 -- that takes some, where no cause is there.
-abbrev pub IsPlanFor : Causes → Option Plan → Result Plan NoPlan → Type 0
+abbrev pub IsPlanFor : Causes → Option RequestPlan → Result RequestPlan NoPlan → Type 0
 IsPlanFor causes plan (Ok made) = (first_fault causes ≡ None) × (plan ≡ Some made)
 IsPlanFor causes plan (Err (Refused fault)) = first_fault causes ≡ Some fault
 IsPlanFor causes plan (Err NoMemory) = (first_fault causes ≡ None) × TakesMemory plan
+
+-- what a put to this name has for its plan, by the length and the types that the fields state, and by whether the word to go on is
+-- expected
+abbrev pub IsPutPlan : List ℕ → Option ℕ → List (List ℕ) → Bool → Result RequestPlan NoPlan → Type 0
+IsPutPlan name stated kinds expects made =
+    IsPlanFor (put_head_causes stated kinds) (Some (put_plan name kinds (unwrap_or stated 0) expects)) made
+
+-- what a request for this place has for its plan, by the parts of its head
+abbrev pub IsPlanAt : Place → Parts → Result RequestPlan NoPlan → Type 0
+IsPlanAt place p made = IsPlanFor (place_causes place p) (plan_at place p) made
 
 -- the type of a body, which is that of the fields, or why there is none: memory may be refused for a lawful one
 abbrev pub TypeIs : List (List ℕ) → Result (List ℕ) NoPlan → Type 0

@@ -1,25 +1,25 @@
 -- One request to a source: what was read, what was written, and what the source is then.
-use Rattle.std.specs.Prelude.{◌≡◌, ◌⊎◌, ◌/◌, ◌<◌, ℕ, true, List, [], length, ◌++◌, Option, Some, Result, Ok, Err}
+use Rattle.std.specs.Prelude.{◌≡◌, ◌⊎◌, ◌/◌, ◌<◌, ℕ, true, List, [], length, ◌++◌, Option, Some, Result, Ok, IfOk, IsErrOf}
 use Rattle.std.specs.Io.KnownBytes.{Consumes, Appends, IsAtEnd}
 use Rattle.httpdate.specs.Date.{unix_secs}
 use Rattle.httpdate.specs.declared.date.HttpDate.{HttpDate}
 use Rattle.rs_disk.specs.Medium.{DiskState}
 use Rattle.rs_io.specs.declared.watch.Watched.{Watched}
-use Rattle.rs_io.specs.Watch.{watched, failures, EndFailed, PutFailed, FlushFailed}
+use Rattle.rs_io.specs.Watch.{watched, seen_by, failures, EndFailed, PutFailed, FlushFailed, TellsEnd, End, Ends}
 use Rattle.rs_store.specs.Received.{IsCutShort}
-use Rattle.rs_store.specs.Source.{Stored}
 use Rattle.rs_recovery.specs.Prefixes.{Recovers}
 use Rattle.rs_http.specs.declared.fault.FrontFault.{FrontFault}
 use Rattle.rs_http.specs.declared.fault.FrontFault.TheVariants.{Read, Write}
 use Rattle.rs_http.specs.declared.head.HeadRead.{HeadRead}
 use Rattle.rs_http.specs.declared.head.HeadRead.TheVariants.{Ended}
-use Rattle.rs_http.specs.declared.request.Plan.{Plan}
-use Rattle.rs_http.specs.declared.request.Plan.TheVariants.{Put, Group}
+use Rattle.rs_http.specs.declared.request.RequestPlan.{RequestPlan}
+use Rattle.rs_http.specs.declared.request.RequestPlan.TheVariants.{Put, Group}
 use Rattle.rs_http.specs.declared.request.NoPlan.{NoPlan}
 use Rattle.rs_http.specs.declared.request.Request.{Request}
 use Rattle.rs_http.specs.declared.response.Framing.{Framing}
 use Rattle.rs_http.specs.declared.serve.Served.{Served}
 use Rattle.rs_http.specs.declared.serve.Served.TheVariants.{Answered, Nothing}
+use Rattle.rs_http.specs.Turn.{Turn}
 use Rattle.rs_http.specs.Head.{head_limit, HeadIs, HasNoEnd}
 use Rattle.rs_http.specs.Requests.{Asks}
 use Rattle.rs_http.specs.Responses.{RequestOutcome, status_code, response_text, go_on}
@@ -27,129 +27,139 @@ use Rattle.rs_http.specs.Outcomes.{RequestGives, Responds}
 use Rattle.rs_http.specs.Counted.{RequestRecovers}
 use Rattle.rs_http.specs.Walked.{MakesWalk, MakesNoEvent}
 
--- no call of either end failed in between
-abbrev pub NoneFailed : {R W : Type 0} → Watched R → Watched R → Watched W → Watched W → Type 0
-NoneFailed reader left writer after = (failures left ≡ failures reader) × (failures after ≡ failures writer)
-
--- a call of this end failed in between, and none of the other one
-abbrev pub FailedAlone : {A B : Type 0} → Watched A → Watched A → Watched B → Watched B → Type 0
-FailedAlone old new other after = EndFailed old new × (failures after ≡ failures other)
-
 -- what goes out before the source is asked: the word to go on, where a put or a group waits for it
-abbrev pub preface_of : Result Plan NoPlan → List ℕ
+abbrev pub preface_of : Result RequestPlan NoPlan → List ℕ
 preface_of (Ok (Put name kind n true)) = go_on
 preface_of (Ok (Group n true)) = go_on
 preface_of plan = []
 
 -- A put or a group was not done, since the reader failed within its body, of which these bytes came.
-abbrev pub IsBroken : {D : Type 0} → (D → DiskState) → Stored D → ℕ → Result Plan NoPlan → List ℕ → Stored D → Type 0
-IsBroken device old now (Ok (Put name kind n waits)) came new = IsCutShort device old new name kind n now came
-IsBroken device old now (Ok (Group n waits)) came new = (length came < n) × (new ≡ old)
-IsBroken device old now plan came new = ⊥
-
--- a writer, seen by the bytes that it holds
-abbrev pub Output : Type 0
-Output = Watched (Option (List ℕ))
+abbrev pub IsBroken : {D : Type 0} {device : D → DiskState} → Turn device → Result RequestPlan NoPlan → List ℕ → Type 0
+IsBroken {device = device} turn (Ok (Put name kind n waits)) came = IsCutShort device turn.old turn.new name kind n turn.now came
+IsBroken turn (Ok (Group n waits)) came = (length came < n) × (turn.new ≡ turn.old)
+IsBroken turn plan came = ⊥
 
 -- A writer took the first bytes whole and a beginning of the text, and failed. Either a put failed, and no flush; or it took all of the
 -- text, and a flush failed.
-pub record TakesPart (before after : Output) (first text : List ℕ) : Type 0 where
+pub record TakesPart (before after : End) (first text : List ℕ) : Type 0 where
   pub part : List ℕ
   pub left_out : List ℕ
   pub bytes_are : part ++ left_out ≡ text
   pub took : Appends (watched before) (watched after) (first ++ part)
   pub failed : PutFailed before after ⊎ ((left_out ≡ []) × FlushFailed before after)
 
--- How the answer to a plan ends, between what the reader had left and the writer before and after. Either the reader failed in
--- the body of a put or of a group, and nothing is written. Or what came of the plan is answered, and the response is written, or a
--- beginning of it, where the writer failed.
-abbrev pub PlanEnds : {D : Type 0} → (D → DiskState) → Stored D → ℕ → Result Plan NoPlan → Framing
-    → Option (List ℕ) → Option (List ℕ) → Output → Output → Stored D → Result ℕ FrontFault → Type 0
-PlanEnds device old now plan framing left rest before after new (Err Read) =
-    (after ≡ before) × (more : List ℕ) × Consumes left rest more × IsBroken device old now plan more new
-PlanEnds device old now plan framing left rest before after new (Err Write) =
-    (more : List ℕ) × Consumes left rest more
-    × Responds {E = FrontFault} framing (TakesPart before after []) (λ outcome. RequestGives device old now plan more rest outcome new) (Err Write)
-PlanEnds device old now plan framing left rest before after new (Ok status) =
-    (more : List ℕ) × Consumes left rest more
-    × Responds {E = FrontFault} framing (Appends (watched before) (watched after)) (λ outcome. RequestGives device old now plan more rest outcome new) (Ok status)
+-- How the answer to a plan ends. These bytes were read past the head, and the answer tells of the reader only where it failed. Then it
+-- failed in the body of a put or of a group, and nothing is written. Else what came of the plan is answered, and the response is
+-- written, or a beginning of it, where the writer failed.
+pub record PlanEnds {D : Type 0} {device : D → DiskState} (turn : Turn device) (plan : Result RequestPlan NoPlan) (framing : Framing)
+    (ends : Ends) (result : Result ℕ FrontFault) : Type 0 where
+  pub more : List ℕ
+  pub came : Consumes (watched ends.left) (watched ends.rest) more
+  pub reader : TellsEnd (IsErrOf result Read) ends.left ends.rest
+  pub broken : IsErrOf result Read → (ends.after ≡ ends.before) × IsBroken turn plan more
+  pub answered : ¬ IsErrOf result Read
+      → Responds (λ bytes. bytes) ends.before ends.after framing (RequestGives turn plan more (watched ends.rest)) result
 
 -- What came of a request is answered: the status is given, and after what went out before, its response is written.
-pub record IsAnswered {D : Type 0} (device : D → DiskState) (old : Stored D) (now : ℕ) (request : Request) (more : List ℕ) (rest : Option (List ℕ)) (output : List ℕ) (status : ℕ) (new : Stored D) : Type 0 where
+pub record IsAnswered {D : Type 0} {device : D → DiskState} (turn : Turn device) (request : Request) (more : List ℕ) (rest : Option (List ℕ))
+    (output : List ℕ) (status : ℕ) : Type 0 where
   pub outcome : RequestOutcome
   pub date : HttpDate
-  pub dated : unix_secs date ≡ now / 1000
-  pub gives : RequestGives device old now request.plan more rest outcome new
+  pub dated : unix_secs date ≡ turn.now / 1000
+  pub gives : RequestGives turn request.plan more rest outcome
   pub status_is : status ≡ status_code outcome
   pub written : output ≡ preface_of request.plan ++ response_text (record { date = date; is_head = request.is_head }) outcome
 
 -- What came of a request stands, and the writer failed in its response: it took what goes out before it, and a beginning of it.
-pub record IsCutOff {D : Type 0} (device : D → DiskState) (old : Stored D) (now : ℕ) (request : Request) (more : List ℕ)
-    (rest : Option (List ℕ)) (before after : Output) (new : Stored D) : Type 0 where
+pub record IsCutOff {D : Type 0} {device : D → DiskState} (turn : Turn device) (request : Request) (more : List ℕ) (ends : Ends) : Type 0 where
   pub outcome : RequestOutcome
   pub date : HttpDate
-  pub dated : unix_secs date ≡ now / 1000
-  pub gives : RequestGives device old now request.plan more rest outcome new
-  pub took : TakesPart before after (preface_of request.plan) (response_text (record { date = date; is_head = request.is_head }) outcome)
+  pub dated : unix_secs date ≡ turn.now / 1000
+  pub gives : RequestGives turn request.plan more (watched ends.rest) outcome
+  pub took : TakesPart ends.before ends.after (preface_of request.plan) (response_text (record { date = date; is_head = request.is_head }) outcome)
 
 -- The writer took a beginning of the word to go on, and failed then, or in its flush: nothing is done.
-abbrev pub IsUnsaid : {D : Type 0} → Stored D → Request → List ℕ → Output → Output → Stored D → Type 0
-IsUnsaid old request more before after new = (preface_of request.plan ≡ go_on) × (more ≡ []) × (new ≡ old) × TakesPart before after [] go_on
+abbrev pub IsUnsaid : {D : Type 0} {device : D → DiskState} → Turn device → Request → List ℕ → Ends → Type 0
+IsUnsaid turn request more ends =
+    (preface_of request.plan ≡ go_on) × (more ≡ []) × (turn.new ≡ turn.old) × TakesPart ends.before ends.after [] go_on
 
--- What a request leaves where the writer failed: the word to go on was not said; or what came of the request stands.
-abbrev pub LeavesStanding : {D : Type 0} → (D → DiskState) → Stored D → ℕ → Request → List ℕ
-    → Option (List ℕ) → Output → Output → Stored D → Type 0
-LeavesStanding device old now request more rest before after new =
-    IsUnsaid old request more before after new ⊎ IsCutOff device old now request more rest before after new
-
--- How the answer to a request ends.
-abbrev pub RequestEnds : {D : Type 0} → (D → DiskState) → Stored D → ℕ → Request
-    → Option (List ℕ) → Option (List ℕ) → Output → Output → Stored D → Result ℕ FrontFault → Type 0
-RequestEnds device old now request left rest before after new (Ok status) =
-    (more : List ℕ) × (output : List ℕ) × Consumes left rest more × Appends (watched before) (watched after) output × IsAnswered device old now request more rest output status new
-RequestEnds device old now request left rest before after new (Err Read) =
-    (more : List ℕ) × Consumes left rest more × Appends (watched before) (watched after) (preface_of request.plan) × IsBroken device old now request.plan more new
-RequestEnds device old now request left rest before after new (Err Write) =
-    (more : List ℕ) × Consumes left rest more × LeavesStanding device old now request more rest before after new
+-- How the answer to a request ends: these bytes were read past the head, and the answer tells of each end only where it failed. What
+-- came of the request is answered. Or the reader failed in a body, and no more than the word to go on is written. Or the writer
+-- failed: that word was not said, or what came of the request stands.
+pub record RequestEnds {D : Type 0} {device : D → DiskState} (turn : Turn device) (request : Request) (ends : Ends) (result : Result ℕ FrontFault) : Type 0 where
+  pub more : List ℕ
+  pub came : Consumes (watched ends.left) (watched ends.rest) more
+  pub reader : TellsEnd (IsErrOf result Read) ends.left ends.rest
+  pub writer : TellsEnd (IsErrOf result Write) ends.before ends.after
+  pub answered : IfOk result (λ status. (output : List ℕ) × Appends (watched ends.before) (watched ends.after) output
+      × IsAnswered turn request more (watched ends.rest) output status)
+  pub broken : IsErrOf result Read
+      → Appends (watched ends.before) (watched ends.after) (preface_of request.plan) × IsBroken turn request.plan more
+  pub stands : IsErrOf result Write → IsUnsaid turn request more ends ⊎ IsCutOff turn request more ends
 
 -- An input is these bytes, which ask for this request, and what was read past them. `behind` is what the reader had left
 -- behind them: nothing, where they are a head that is cut.
-pub record Reads (left : Option (List ℕ)) (input more : List ℕ) (rest : Option (List ℕ)) (request : Request) : Type 0 where
+pub record Reads (ends : Ends) (input more : List ℕ) (request : Request) : Type 0 where
   pub bytes : List ℕ
   pub read : HeadRead
   pub behind : Option (List ℕ)
   pub input_is : input ≡ bytes ++ more
   pub head : HeadIs bytes read
-  pub came : Consumes left behind bytes
+  pub came : Consumes (watched ends.left) behind bytes
   pub ended : read ≡ Ended → IsAtEnd behind
-  pub passed : Consumes behind rest more
+  pub passed : Consumes behind (watched ends.rest) more
   pub asks : Asks bytes read (Some request)
 
--- What was written for an input, of a reader that had this left: nothing where it has no byte, and else the response to the
--- request at its front. Whenever a stop comes, it leaves what the command makes that counts; and the request makes a walk, of one
--- event or none.
-abbrev pub Serves : {D : Type 0} → (D → DiskState) → Stored D → ℕ → Option (List ℕ) → List ℕ → Option (List ℕ) → List ℕ → Served → Stored D → Type 0
-Serves device old now left input rest output Nothing new = (input ≡ []) × IsAtEnd rest × (output ≡ []) × (new ≡ old)
-Serves device old now left input rest output (Answered status) new =
-    (more : List ℕ) × (request : Request) × Reads left input more rest request
-    × (answered : IsAnswered device old now request more rest output status new)
-    × RequestRecovers device old now request.plan more answered.outcome new × MakesWalk device old now request more answered.outcome new
+-- What was written for an input: nothing where it has no byte, and else the response to the request at its front. Whenever a stop
+-- comes, it leaves what the command makes that counts; and the request makes a walk, of one event or none.
+abbrev pub IsResponse : {D : Type 0} {device : D → DiskState} → Turn device → Ends → List ℕ → List ℕ → Served → Type 0
+IsResponse turn ends input output Nothing = (input ≡ []) × IsAtEnd (watched ends.rest) × (output ≡ []) × (turn.new ≡ turn.old)
+IsResponse turn ends input output (Answered status) =
+    (more : List ℕ) × (request : Request) × Reads ends input more request
+    × (answered : IsAnswered turn request more (watched ends.rest) output status)
+    × RequestRecovers turn request.plan more answered.outcome × MakesWalk turn request more answered.outcome
+
+-- A request was served: no call of either end failed, and what was written is the response to what was read.
+pub record Serves {D : Type 0} {device : D → DiskState} (turn : Turn device) (ends : Ends) (served : Served) : Type 0 where
+  pub input : List ℕ
+  pub output : List ℕ
+  pub came : Consumes (watched ends.left) (watched ends.rest) input
+  pub written : Appends (watched ends.before) (watched ends.after) output
+  pub reader : failures ends.rest ≡ failures ends.left
+  pub writer : failures ends.after ≡ failures ends.before
+  pub responds : IsResponse turn ends input output served
 
 -- What was written and done where the reader failed within an input: nothing before the head had ended or was too long; and in the body of
 -- a put or of a group no more than the word to go on, and it is not done, whenever a stop comes, and is no event.
-abbrev pub Breaks : {D : Type 0} → (D → DiskState) → Stored D → ℕ → Option (List ℕ) → List ℕ → Option (List ℕ) → List ℕ → Stored D → Type 0
-Breaks device old now left input rest output new =
-    (HasNoEnd input × (length input < head_limit) × (output ≡ []) × (new ≡ old))
-    ⊎ ((more : List ℕ) × (request : Request) × Reads left input more rest request × (output ≡ preface_of request.plan)
-    × IsBroken device old now request.plan more new × Recovers device old [] new × MakesNoEvent device old new)
+abbrev pub BreaksWithin : {D : Type 0} {device : D → DiskState} → Turn device → Ends → List ℕ → List ℕ → Type 0
+BreaksWithin {device = device} turn ends input output =
+    (HasNoEnd input × (length input < head_limit) × (output ≡ []) × (turn.new ≡ turn.old))
+    ⊎ ((more : List ℕ) × (request : Request) × Reads ends input more request × (output ≡ preface_of request.plan)
+    × IsBroken turn request.plan more × Recovers device turn.old [] turn.new × MakesNoEvent turn)
 
--- What was done and written where the writer failed, between what it was before and after. It took a beginning of the word to
--- go on, or it failed in its flush, and nothing is done. Or what the request at the front of the input comes to stands: whenever a stop comes, it leaves
--- what the command makes that counts, and it makes a walk.
-abbrev pub Halts : {D : Type 0} → (D → DiskState) → Stored D → ℕ → Option (List ℕ) → List ℕ
-    → Option (List ℕ) → Output → Output → Stored D → Type 0
-Halts device old now left input rest before after new =
-    (more : List ℕ) × (request : Request) × Reads left input more rest request
-    × (IsUnsaid old request more before after new
-    ⊎ ((cut : IsCutOff device old now request more rest before after new)
-    × RequestRecovers device old now request.plan more cut.outcome new × MakesWalk device old now request more cut.outcome new))
+-- A call of the reader failed within what was read, and none of the writer.
+pub record Breaks {D : Type 0} {device : D → DiskState} (turn : Turn device) (ends : Ends) : Type 0 where
+  pub input : List ℕ
+  pub output : List ℕ
+  pub came : Consumes (watched ends.left) (watched ends.rest) input
+  pub written : Appends (watched ends.before) (watched ends.after) output
+  pub reader : EndFailed ends.left ends.rest
+  pub writer : failures ends.after ≡ failures ends.before
+  pub within : BreaksWithin turn ends input output
+
+-- What came of a request stands, whenever a stop comes: it leaves what the command makes that counts, and it makes a walk.
+abbrev pub Stands : {D : Type 0} {device : D → DiskState} → Turn device → Request → List ℕ → Ends → Type 0
+Stands turn request more ends =
+    (cut : IsCutOff turn request more ends) × RequestRecovers turn request.plan more cut.outcome × MakesWalk turn request more cut.outcome
+
+-- A call of the writer failed, and none of the reader. The writer took a beginning of the word to go on, or it failed in its flush,
+-- and nothing is done. Or what the request at the front of the input comes to stands.
+pub record Halts {D : Type 0} {device : D → DiskState} (turn : Turn device) (ends : Ends) : Type 0 where
+  pub input : List ℕ
+  pub came : Consumes (watched ends.left) (watched ends.rest) input
+  pub reader : failures ends.rest ≡ failures ends.left
+  pub writer : EndFailed ends.before ends.after
+  pub more : List ℕ
+  pub request : Request
+  pub reads : Reads ends input more request
+  pub stands : IsUnsaid turn request more ends ⊎ Stands turn request more ends

@@ -8,17 +8,18 @@ use Rattle.rs_model.specs.declared.command.Item.{Item}
 use Rattle.rs_model.specs.declared.event.Event.{Event}
 use Rattle.rs_model.specs.declared.event.Event.TheVariants.{Fetch}
 use Rattle.rs_store.specs.Received.{IsBodyOf}
-use Rattle.rs_store.specs.Source.{Stored, Holds}
+use Rattle.rs_store.specs.Source.{Holds}
 use Rattle.rs_store.specs.declared.refusal.Refusal.TheVariants.{ReadFault, ShortBody}
 use Rattle.rs_recovery.specs.Walked.{CommandEvents, LeavesWalk}
 use Rattle.rs_caps.specs.Answer.{answer}
 use Rattle.rs_caps.specs.PathAnswers.{body_path}
 use Rattle.rs_caps.specs.Paths.{path_of}
-use Rattle.rs_http.specs.declared.request.Plan.{Plan}
-use Rattle.rs_http.specs.declared.request.Plan.TheVariants.{ShowBody, ShowDocument, Put, Delete, Publish, Group}
+use Rattle.rs_http.specs.declared.request.RequestPlan.{RequestPlan}
+use Rattle.rs_http.specs.declared.request.RequestPlan.TheVariants.{ShowBody, ShowDocument, Put, Delete, Publish, Group}
 use Rattle.rs_http.specs.declared.request.NoPlan.{NoPlan}
 use Rattle.rs_http.specs.declared.request.Request.{Request}
 use Rattle.rs_http.specs.Groups.{items_asked}
+use Rattle.rs_http.specs.Turn.{Turn}
 use Rattle.rs_http.specs.Responses.{RequestOutcome, replied, shown, refused}
 
 -- the event of a command, by what came of it
@@ -44,28 +45,28 @@ ShowEvents false s path (shown kind bytes) events = (answer s path ≡ Some byte
 ShowEvents is_head s path outcome events = events ≡ []
 
 -- The events of a plan in a state and at a moment, where a put has this body, and of a group these bytes came: one, or none.
-abbrev pub PlanEvents : Bool → Source → ℕ → Result Plan NoPlan → List ℕ → RequestOutcome → List Event → Type 0
-PlanEvents is_head s now (Ok (Put name kind n waits)) body outcome events = PutEvents s (commands.Put name kind body) now outcome events
-PlanEvents is_head s now (Ok (Delete name)) body outcome events = RunEvents s (commands.Delete name) now outcome events
-PlanEvents is_head s now (Ok Publish) body outcome events = RunEvents s commands.Publish now outcome events
-PlanEvents is_head s now (Ok (Group n waits)) body outcome events = GroupEvents s (items_asked n body) now outcome events
-PlanEvents is_head s now (Ok (ShowBody name)) body outcome events = ShowEvents is_head s (body_path name) outcome events
-PlanEvents is_head s now (Ok (ShowDocument doc)) body outcome events = ShowEvents is_head s (path_of doc) outcome events
-PlanEvents is_head s now (Err reason) body outcome events = events ≡ []
+abbrev pub PlanEvents : Bool → Source → ℕ → Result RequestPlan NoPlan → List ℕ → RequestOutcome → (List Event → Type 0)
+PlanEvents is_head s now (Ok (Put name kind n waits)) body outcome = PutEvents s (commands.Put name kind body) now outcome
+PlanEvents is_head s now (Ok (Delete name)) body outcome = RunEvents s (commands.Delete name) now outcome
+PlanEvents is_head s now (Ok Publish) body outcome = RunEvents s commands.Publish now outcome
+PlanEvents is_head s now (Ok (Group n waits)) body outcome = GroupEvents s (items_asked n body) now outcome
+PlanEvents is_head s now (Ok (ShowBody name)) body outcome = ShowEvents is_head s (body_path name) outcome
+PlanEvents is_head s now (Ok (ShowDocument doc)) body outcome = ShowEvents is_head s (path_of doc) outcome
+PlanEvents is_head s now (Err reason) body outcome = (λ events. events ≡ [])
 
 -- what a put may have for its body, of which these bytes came; a group has those that came
-abbrev pub IsBodyFor : Result Plan NoPlan → List ℕ → List ℕ → Type 0
+abbrev pub IsBodyFor : Result RequestPlan NoPlan → List ℕ → List ℕ → Type 0
 IsBodyFor (Ok (Put name kind n waits)) more body = IsBodyOf n more body
 IsBodyFor (Ok (Group n waits)) more body = body ≡ more
 IsBodyFor plan more body = Unit {0}
 
 -- What came of a request to a source that held a state, of a device that has followed the model, leaves a walk of its one event or
 -- none. A put that was answered before its body was read whole is the put of some body that begins so, and it holds of each.
-pub record MakesWalk {D : Type 0} (device : D → DiskState) (old : Stored D) (now : ℕ) (request : Request) (more : List ℕ) (outcome : RequestOutcome) (new : Stored D) : Type 0 where
+pub record MakesWalk {D : Type 0} {device : D → DiskState} (turn : Turn device) (request : Request) (more : List ℕ) (outcome : RequestOutcome) : Type 0 where
   pub some_body : (body : List ℕ) × IsBodyFor request.plan more body
-  pub walks : (s : Source) (body : List ℕ) → Holds device old s → IsTrue (device new.disk).honest → IsBodyFor request.plan more body
-      → LeavesWalk device s (PlanEvents request.is_head s now request.plan body outcome) new
+  pub walks : (s : Source) (body : List ℕ) → Holds device turn.old s → IsTrue (device turn.new.disk).honest → IsBodyFor request.plan more body
+      → LeavesWalk device s (PlanEvents request.is_head s turn.now request.plan body outcome) turn.new
 
 -- What a source is left as that held a state is a walk of no event.
-abbrev pub MakesNoEvent : {D : Type 0} → (D → DiskState) → Stored D → Stored D → Type 0
-MakesNoEvent device old new = (s : Source) → Holds device old s → LeavesWalk device s (λ events. events ≡ []) new
+abbrev pub MakesNoEvent : {D : Type 0} {device : D → DiskState} → Turn device → Type 0
+MakesNoEvent {device = device} turn = (s : Source) → Holds device turn.old s → LeavesWalk device s (λ events. events ≡ []) turn.new

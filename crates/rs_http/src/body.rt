@@ -2,7 +2,7 @@
 
 ghost use Rattle.std.specs.Prelude.{◌≡◌, ℕ, List, length, IfOk, IfErr, IsErrOf};
 ghost use Rattle.std.specs.Io.KnownBytes.{Consumes};
-ghost use Rattle.rs_io.specs.Watch.{watched, failures, EndFailed, Took};
+ghost use Rattle.rs_io.specs.Watch.{watched, TellsEnd, Took};
 ghost use Rattle.rs_http.specs.Groups.{IsUnread};
 
 use rs_io::Watched;
@@ -27,8 +27,7 @@ pub(crate) fn read_body<R: Read>(
     ensures unread { IfErr result (λ refusal. (came : List ℕ)
         × Consumes (R.remaining (watched reader.old)) (R.remaining (watched reader.new)) came
         × IsUnread body_length (R.remaining (watched reader.new)) came refusal) }
-    ensures failed { IsErrOf result Refusal.ReadFault → EndFailed reader.old reader.new }
-    ensures sound { ¬ IsErrOf result Refusal.ReadFault → failures reader.new ≡ failures reader.old }
+    ensures failed { TellsEnd (IsErrOf result Refusal.ReadFault) reader.old reader.new }
 {
     let mut body = vec![in alloc; 0u8; body_length as usize]?;
     read_into(reader, &mut body)?;

@@ -13,7 +13,7 @@ use rs_record::number;
 /// The most digits of a length.
 const LENGTH_DIGITS: usize = 18;
 
-// Whether there is more than one Host, or none in HTTP/1.1.
+/// Whether there is more than one Host, or none in HTTP/1.1.
 fn is_bad_host(minor: u8, host: Lone) -> bool
     ensures { (head : List ℕ) (hosts : List (List ℕ)) → LoneIs head host hosts
         → result ≡ has_bad_host minor hosts }
@@ -25,7 +25,7 @@ fn is_bad_host(minor: u8, host: Lone) -> bool
     }
 }
 
-// Whether there is a field.
+/// Whether there is a field.
 fn is_there(lone: Lone) -> bool
     ensures { (head : List ℕ) (values : List (List ℕ)) → LoneIs head lone values
         → result ≡ has_one values }
@@ -36,7 +36,7 @@ fn is_there(lone: Lone) -> bool
     }
 }
 
-// The length that the fields of a head state, or `BadLength`.
+/// The length that the fields of a head state, or `BadLength`.
 fn body_length(head: &[u8], lone: Lone) -> Result<Option<u64>, RequestFault>
     requires { (values : List (List ℕ)) × LoneIs head.now lone values }
     ensures ok { IfOk result (λ length. (values : List (List ℕ)) → LoneIs head.now lone values
@@ -85,7 +85,7 @@ pub(crate) fn check_fields(
     body_length(head, find_lone(head, headers, b"content-length"))
 }
 
-// Whether an `Expect` says `100-continue`.
+/// Whether an `Expect` says `100-continue`.
 fn is_continue(head: &[u8], headers: &[HeaderSpan]) -> bool
     requires { All (IsHeaderWithin (length head.now)) headers.now }
     ensures { result

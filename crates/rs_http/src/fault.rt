@@ -1,5 +1,8 @@
 //! Why a connection ends early.
 
+ghost use Rattle.std.specs.Prelude.{◌≡◌};
+
+use rs_io::WriteFault;
 use thiserror::Error;
 
 /// Why a connection ends with no whole response. Nothing is tried again.
@@ -12,4 +15,14 @@ pub enum FrontFault {
     /// The writer failed. A command that was accepted stands.
     #[error("the response cannot be written")]
     Write,
+}
+
+impl From<WriteFault> for FrontFault {
+    ghost use Rattle.rs_http.specs.declared.fault.FrontFault.TheVariants.{Write};
+
+    ghost from_gives = { λ _ made. made ≡ Write };
+
+    fn from(_: WriteFault) -> FrontFault {
+        FrontFault::Write
+    }
 }

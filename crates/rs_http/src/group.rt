@@ -19,7 +19,7 @@ use std::alloc::{AllocError, Global};
 /// with all that follow.
 const MOST_KEPT: usize = MOST_GROUPED + 1;
 
-// The line before a line feed: a carriage return at its end is dropped.
+/// The line before a line feed: a carriage return at its end is dropped.
 fn cut_return(raw: &[u8]) -> &[u8]
     ensures { result.now ≡ without_return raw.now }
 {
@@ -29,14 +29,14 @@ fn cut_return(raw: &[u8]) -> &[u8]
     }
 }
 
-// Where the first line feed stands.
+/// Where the first line feed stands.
 fn first_break(bytes: &[u8]) -> Option<usize>
     ensures { result ≡ position is_break bytes.now }
 {
     bytes.iter().position(|b| *b == b'\n')
 }
 
-// The first line of some bytes, and what follows its line feed, or `None` where there is none.
+/// The first line of some bytes, and what follows its line feed, or `None` where there is none.
 fn split_line(bytes: &[u8]) -> Option<(&[u8], &[u8])>
     ensures some { IfSome result (λ parts.
         lines_of bytes.now ≡ parts.0.now ∷ lines_of parts.1.now) }
@@ -49,7 +49,7 @@ fn split_line(bytes: &[u8]) -> Option<(&[u8], &[u8])>
     }
 }
 
-// Keeps an item behind the others, where they are not so many yet.
+/// Keeps an item behind the others, where they are not so many yet.
 fn keep(items: &mut Vec<Item>, item: Item) -> Result<(), AllocError>
     requires { length items.old.items ≤ 17 }
     ensures { OnOk result (items.new.items ≡ take 17 (items.old.items ++ item ∷ [])) }
@@ -61,7 +61,7 @@ fn keep(items: &mut Vec<Item>, item: Item) -> Result<(), AllocError>
     Ok(())
 }
 
-// Reads one line more, and keeps its item among the first ones.
+/// Reads one line more, and keeps its item among the first ones.
 fn add_item(alloc: Global, items: &mut Vec<Item>, line: &[u8]) -> Result<(), NoPlan>
     requires { length items.old.items ≤ 17 }
     ensures ok { OnOk result ((item : Item) × (item_of_line line.now ≡ Ok item)
@@ -75,7 +75,7 @@ fn add_item(alloc: Global, items: &mut Vec<Item>, line: &[u8]) -> Result<(), NoP
     Ok(())
 }
 
-// Reads what no line feed ends, which is a line where it has bytes.
+/// Reads what no line feed ends, which is a line where it has bytes.
 fn add_last(alloc: Global, items: &mut Vec<Item>, bytes: &[u8]) -> Result<(), NoPlan>
     requires { length items.old.items ≤ 17 }
     ensures ok { OnOk result ((last : List Item) × (items_of_lines (last_line bytes.now) ≡ Ok last)

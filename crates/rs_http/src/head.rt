@@ -22,7 +22,7 @@ pub(crate) enum HeadRead {
     Ended,
 }
 
-// Whether the bytes end as a head does.
+/// Whether the bytes end as a head does.
 #[tactic(auto, unfolding(crate::specs::Head::ends_head))]
 fn is_end(bytes: &[u8]) -> bool
     ensures { result ≡ ends_head bytes.now (length bytes.now) }

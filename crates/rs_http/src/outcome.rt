@@ -1,10 +1,12 @@
 //! The responses to what came of requests.
 
-ghost use Rattle.std.specs.Prelude.{◌≡◌, ◌≤◌, length, IfOk, OnErr};
+ghost use Rattle.std.specs.Prelude.{◌≡◌, ◌≤◌, length, OnErr};
 ghost use Rattle.rs_io.specs.Watch.{EndFailed, WritesOut};
-ghost use Rattle.rs_http.specs.Responses.{fault_status as status_of_fault, fault_word as word_of_fault, refusal_status as status_of_refusal, allow_of, reply_line, content_lines, framed, response_text, status_code, plain};
+ghost use Rattle.rs_http.specs.Responses.{fault_status as status_of_fault, fault_word as word_of_fault, refusal_status as status_of_refusal, allow_of, reply_line, content_lines, framed, plain};
 ghost use Rattle.rs_http.specs.Responses.{faulted, replied, shown, refused};
+ghost use Rattle.rs_http.specs.Outcomes.{Sends};
 
+use crate::fault::FrontFault;
 use crate::request::RequestFault;
 use crate::response::{Framing, write_bare, write_response, write_text, write_word};
 use crate::target::Methods;
@@ -15,7 +17,7 @@ use rs_store::Refusal;
 use rs_time::Moment;
 use std::io::Write;
 
-// The status of a request that is refused before the source is asked.
+/// The status of a request that is refused before the source is asked.
 fn fault_status(fault: RequestFault) -> u16
     ensures { result ≡ status_of_fault fault }
 {
@@ -37,7 +39,7 @@ fn fault_status(fault: RequestFault) -> u16
     }
 }
 
-// The word of it.
+/// The word of it.
 fn fault_word(fault: RequestFault) -> &'static str
     ensures { result.now ≡ word_of_fault fault }
 {
@@ -59,7 +61,7 @@ fn fault_word(fault: RequestFault) -> &'static str
     }
 }
 
-// The field with the methods that are allowed, where another was asked for.
+/// The field with the methods that are allowed, where another was asked for.
 fn allow_text(fault: RequestFault) -> &'static str
     ensures { result.now ≡ allow_of fault }
 {
@@ -71,7 +73,7 @@ fn allow_text(fault: RequestFault) -> &'static str
     }
 }
 
-// The status of a request that the source refuses.
+/// The status of a request that the source refuses.
 fn refusal_status(refusal: Refusal) -> u16
     ensures { result ≡ status_of_refusal refusal }
 {
@@ -97,11 +99,8 @@ pub(crate) fn write_fault<W: Write>(
     writer: &mut Watched<W>,
     framing: Framing,
     fault: RequestFault,
-) -> Result<u16, WriteFault>
-    ensures status { IfOk result (λ status. status ≡ status_code (faulted fault)) }
-    ensures written { WritesOut W.contents writer.old writer.new result
-        (response_text framing (faulted fault)) }
-    ensures failed { OnErr result (EndFailed writer.old writer.new) }
+) -> Result<u16, FrontFault>
+    ensures { Sends W.contents writer.old writer.new framing (faulted fault) result }
 {
     let status = fault_status(fault);
     let allow = allow_text(fault);
@@ -115,11 +114,8 @@ pub(crate) fn write_refusal<W: Write>(
     writer: &mut Watched<W>,
     framing: Framing,
     refusal: Refusal,
-) -> Result<u16, WriteFault>
-    ensures status { IfOk result (λ status. status ≡ status_code (refused refusal)) }
-    ensures written { WritesOut W.contents writer.old writer.new result
-        (response_text framing (refused refusal)) }
-    ensures failed { OnErr result (EndFailed writer.old writer.new) }
+) -> Result<u16, FrontFault>
+    ensures { Sends W.contents writer.old writer.new framing (refused refusal) result }
 {
     let status = refusal_status(refusal);
     let word = refusal.word();
@@ -133,18 +129,15 @@ pub(crate) fn write_shown<W: Write>(
     framing: Framing,
     kind: &[u8],
     bytes: &[u8],
-) -> Result<u16, WriteFault>
-    ensures status { IfOk result (λ status. status ≡ status_code (shown kind.now bytes.now)) }
-    ensures written { WritesOut W.contents writer.old writer.new result
-        (response_text framing (shown kind.now bytes.now)) }
-    ensures failed { OnErr result (EndFailed writer.old writer.new) }
+) -> Result<u16, FrontFault>
+    ensures { Sends W.contents writer.old writer.new framing (shown kind.now bytes.now) result }
 {
     write_text(writer, framing, 200, "", kind, bytes)?;
     Ok(200)
 }
 
-// Writes the response to an accepted command whose reply is this word, with a space behind it, a
-// number and a moment.
+/// Writes the response to an accepted command whose reply is this word, with a space behind it, a
+/// number and a moment.
 #[tactic(auto, unfolding(crate::specs::Responses::content_lines))]
 fn write_line<W: Write>(
     writer: &mut Watched<W>,
@@ -175,11 +168,8 @@ pub(crate) fn write_reply<W: Write>(
     writer: &mut Watched<W>,
     framing: Framing,
     reply: Reply,
-) -> Result<u16, WriteFault>
-    ensures status { IfOk result (λ status. status ≡ status_code (replied reply)) }
-    ensures written { WritesOut W.contents writer.old writer.new result
-        (response_text framing (replied reply)) }
-    ensures failed { OnErr result (EndFailed writer.old writer.new) }
+) -> Result<u16, FrontFault>
+    ensures { Sends W.contents writer.old writer.new framing (replied reply) result }
 {
     match reply {
         Reply::Created(_) => {

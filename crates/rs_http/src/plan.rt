@@ -3,21 +3,21 @@
 ghost use Rattle.std.specs.Prelude.{◌≡◌, ◌≤◌, ◌∷◌, [], ℕ, List, length, map, All, IfSome, IfNone, Some, codes, bytes_eq, unwrap_or};
 ghost use Rattle.httparse.specs.Grammar.{HasNoRequest};
 ghost use Rattle.httparse.specs.Spans.{IsHeaderWithin, IsWithin, IsRequestWithin, IsRequestOf, header_bytes};
-ghost use Rattle.rs_http.specs.Fields.{LoneIs, values_of, head_parts_at};
-ghost use Rattle.rs_http.specs.Checks.{is_get as gets, is_post as posts, stated_in, put_head_causes, put_plan as plan_of_put, group_head_causes, group_plan as plan_of_group, place_causes, causes_of, plan_at as plan_there, place_in};
-ghost use Rattle.rs_http.specs.Requests.{TypeIs, IsPlanFor, AsksFor, Asks, refused_for};
+ghost use Rattle.rs_http.specs.Fields.{LoneIs, head_parts_at};
+ghost use Rattle.rs_http.specs.Checks.{is_get as gets, is_post as posts, stated_in, kinds_in, group_head_causes, group_plan as plan_of_group, causes_of, plan_at as plan_there, place_in};
+ghost use Rattle.rs_http.specs.Requests.{TypeIs, IsPlanFor, IsPutPlan, IsPlanAt, AsksFor, Asks, refused_for};
 
 use crate::checks::{check_fields, expects_word};
 use crate::fields::{Lone, find_lone};
 use crate::head::HeadRead;
-use crate::request::{NoPlan, Plan, Request, RequestFault};
+use crate::request::{NoPlan, Request, RequestFault, RequestPlan};
 use crate::target::{Methods, Place, path_of_target, place_of};
 use httparse::Status;
 use httparse::spans::{EMPTY_HEADER_SPAN, HeaderSpan, RequestSpans, parse_request};
 use rs_record::{LONGEST_BODY, MediaType, MediaTypeError, Name};
 use std::alloc::Global;
 
-// The media type of this text.
+/// The media type of this text.
 fn type_of(alloc: Global, text: &[u8]) -> Result<MediaType, NoPlan>
     ensures { TypeIs (text.now ∷ []) result }
 {
@@ -28,7 +28,7 @@ fn type_of(alloc: Global, text: &[u8]) -> Result<MediaType, NoPlan>
     }
 }
 
-// The media type of a body, by the fields that state one.
+/// The media type of a body, by the fields that state one.
 fn body_type(alloc: Global, head: &[u8], lone: Lone) -> Result<MediaType, NoPlan>
     requires { (kinds : List (List ℕ)) × LoneIs head.now lone kinds }
     ensures { (kinds : List (List ℕ)) → LoneIs head.now lone kinds → TypeIs kinds result }
@@ -40,8 +40,8 @@ fn body_type(alloc: Global, head: &[u8], lone: Lone) -> Result<MediaType, NoPlan
     }
 }
 
-// The plan of a put to this name, or to one for which there is no memory, with the length that the fields
-// state.
+/// The plan of a put to this name, or to one for which there is no memory, with the length that the fields
+/// state.
 fn put_plan(
     alloc: Global,
     head: &[u8],
@@ -49,13 +49,10 @@ fn put_plan(
     name: Option<Name>,
     stated: Option<u64>,
     expects: bool,
-) -> Result<Plan, NoPlan>
+) -> Result<RequestPlan, NoPlan>
     requires { All (IsHeaderWithin (length head.now)) headers.now }
-    ensures { (bytes : List ℕ) → IfSome name (λ name. name ≡ bytes)
-        → let kinds = values_of (codes "content-type")
-        (map (header_bytes head.now) headers.now) in
-        IsPlanFor (put_head_causes stated kinds)
-        (Some (plan_of_put bytes kinds (unwrap_or stated 0) expects)) result }
+    ensures { (bytes : List ℕ) → IfSome name (λ name. name ≡ bytes) → IsPutPlan bytes stated
+        (kinds_in (map (header_bytes head.now) headers.now)) expects result }
 {
     let Some(length) = stated else {
         return Err(NoPlan::Refused(RequestFault::NoLength));
@@ -70,7 +67,7 @@ fn put_plan(
     let (Some(name), Ok(kind)) = (name, kind) else {
         return Err(NoPlan::NoMemory);
     };
-    Ok(Plan::Put {
+    Ok(RequestPlan::Put {
         name,
         kind,
         length,
@@ -78,8 +75,8 @@ fn put_plan(
     })
 }
 
-// The plan of a group, with the length that the fields state.
-fn group_plan(stated: Option<u64>, expects: bool) -> Result<Plan, NoPlan>
+/// The plan of a group, with the length that the fields state.
+fn group_plan(stated: Option<u64>, expects: bool) -> Result<RequestPlan, NoPlan>
     ensures { IsPlanFor (group_head_causes stated)
         (Some (plan_of_group (unwrap_or stated 0) expects)) result }
 {
@@ -89,27 +86,27 @@ fn group_plan(stated: Option<u64>, expects: bool) -> Result<Plan, NoPlan>
     if length > LONGEST_BODY as u64 {
         return Err(NoPlan::Refused(RequestFault::TooLong));
     }
-    Ok(Plan::Group {
+    Ok(RequestPlan::Group {
         length,
         waits: expects && length > 0,
     })
 }
 
-// Whether a method is `POST`.
+/// Whether a method is `POST`.
 fn is_post(method: &[u8]) -> bool
     ensures { result ≡ posts method.now }
 {
     method == b"POST".as_slice()
 }
 
-// Whether a method gives what is there, with a body or without.
+/// Whether a method gives what is there, with a body or without.
 fn is_get(method: &[u8]) -> bool
     ensures { result ≡ gets method.now }
 {
     method == b"GET".as_slice() || method == b"HEAD".as_slice()
 }
 
-// The plan of a request for the resource of this name, or of one for which there is no memory.
+/// The plan of a request for the resource of this name, or of one for which there is no memory.
 fn resource_plan(
     alloc: Global,
     head: &[u8],
@@ -117,14 +114,12 @@ fn resource_plan(
     headers: &[HeaderSpan],
     stated: Option<u64>,
     name: Option<Name>,
-) -> Result<Plan, NoPlan>
+) -> Result<RequestPlan, NoPlan>
     requires method { IsWithin (length head.now) spans.method }
     requires headers { All (IsHeaderWithin (length head.now)) headers.now }
     requires stated { stated ≡ stated_in (head_parts_at head.now spans headers.now) }
     ensures { (bytes : List ℕ) → IfSome name (λ name. name ≡ bytes)
-        → let p = head_parts_at head.now spans headers.now in
-        IsPlanFor (place_causes (Place.Resource bytes) p)
-        (plan_there (Place.Resource bytes) p) result }
+        → IsPlanAt (Place.Resource bytes) (head_parts_at head.now spans headers.now) result }
 {
     let method = spans.method.of(head);
     if method == b"PUT".as_slice() {
@@ -137,12 +132,12 @@ fn resource_plan(
     }
     match name {
         None => Err(NoPlan::NoMemory),
-        Some(name) if deletes => Ok(Plan::Delete(name)),
-        Some(name) => Ok(Plan::ShowBody(name)),
+        Some(name) if deletes => Ok(RequestPlan::Delete(name)),
+        Some(name) => Ok(RequestPlan::ShowBody(name)),
     }
 }
 
-// The plan of a request for what stands there.
+/// The plan of a request for what stands there.
 fn plan_at(
     alloc: Global,
     head: &[u8],
@@ -150,12 +145,11 @@ fn plan_at(
     headers: &[HeaderSpan],
     stated: Option<u64>,
     place: Place,
-) -> Result<Plan, NoPlan>
+) -> Result<RequestPlan, NoPlan>
     requires method { IsWithin (length head.now) spans.method }
     requires headers { All (IsHeaderWithin (length head.now)) headers.now }
     requires stated { stated ≡ stated_in (head_parts_at head.now spans headers.now) }
-    ensures { let p = head_parts_at head.now spans headers.now in
-        IsPlanFor (place_causes place p) (plan_there place p) result }
+    ensures { IsPlanAt place (head_parts_at head.now spans headers.now) result }
 {
     let method = spans.method.of(head);
     match place {
@@ -163,13 +157,13 @@ fn plan_at(
         Place::Unlawful => Err(NoPlan::Refused(RequestFault::BadName)),
         Place::Document(doc) => {
             if is_get(method) {
-                return Ok(Plan::ShowDocument(doc));
+                return Ok(RequestPlan::ShowDocument(doc));
             }
             Err(NoPlan::Refused(RequestFault::BadMethod(Methods::OfDocuments)))
         }
         Place::Publishing => {
             if is_post(method) {
-                return Ok(Plan::Publish);
+                return Ok(RequestPlan::Publish);
             }
             Err(NoPlan::Refused(RequestFault::BadMethod(Methods::OfPosts)))
         }
@@ -183,13 +177,13 @@ fn plan_at(
     }
 }
 
-// What a head asks for whose parts lie at these spans and headers.
+/// What a head asks for whose parts lie at these spans and headers.
 fn plan_request(
     alloc: Global,
     head: &[u8],
     spans: RequestSpans,
     headers: &[HeaderSpan],
-) -> Result<Plan, NoPlan>
+) -> Result<RequestPlan, NoPlan>
     requires method { IsWithin (length head.now) spans.method }
     requires target { IsWithin (length head.now) spans.path }
     requires headers { All (IsHeaderWithin (length head.now)) headers.now }
@@ -203,10 +197,10 @@ fn plan_request(
     }
 }
 
-// More fields than 8,192 bytes can hold.
+/// More fields than 8,192 bytes can hold.
 const ROOM: usize = 2731;
 
-// Reads a head at the front of some bytes, with room for all its fields.
+/// Reads a head at the front of some bytes, with room for all its fields.
 fn parse_head(head: &[u8], headers: &mut [HeaderSpan]) -> Option<RequestSpans>
     requires short { length head.now ≤ 8192 }
     requires room { length headers.old ≡ 2731 }
@@ -221,7 +215,7 @@ fn parse_head(head: &[u8], headers: &mut [HeaderSpan]) -> Option<RequestSpans>
     }
 }
 
-// A request of which no more is known.
+/// A request of which no more is known.
 fn refused_request(fault: RequestFault) -> Request
     ensures { result ≡ refused_for fault }
 {
@@ -231,14 +225,14 @@ fn refused_request(fault: RequestFault) -> Request
     }
 }
 
-// Whether a method is `HEAD`.
+/// Whether a method is `HEAD`.
 fn is_head(method: &[u8]) -> bool
     ensures { result ≡ bytes_eq method.now (codes "HEAD") }
 {
     method == b"HEAD".as_slice()
 }
 
-// What a head asks for, with room for its fields.
+/// What a head asks for, with room for its fields.
 fn read_with(alloc: Global, head: &[u8], headers: &mut [HeaderSpan]) -> Request
     requires short { length head.now ≤ 8192 }
     requires room { length headers.old ≡ 2731 }
@@ -253,7 +247,7 @@ fn read_with(alloc: Global, head: &[u8], headers: &mut [HeaderSpan]) -> Request
     }
 }
 
-// What a head asks for.
+/// What a head asks for.
 fn read_whole(alloc: Global, head: &[u8]) -> Request
     requires { length head.now ≤ 8192 }
     ensures { AsksFor head.now result }

@@ -44,7 +44,7 @@ pub(crate) enum RequestFault {
 
 /// What a request asks for.
 #[derive(Debug, Drop)]
-pub(crate) enum Plan {
+pub(crate) enum RequestPlan {
     /// The body of a resource.
     ShowBody(Name),
     /// A document.
@@ -118,5 +118,5 @@ pub(crate) struct Request {
     /// Its method is known to be HEAD, so that its response has no body.
     pub(crate) is_head: bool,
     /// What it asks for.
-    pub(crate) plan: Result<Plan, NoPlan>,
+    pub(crate) plan: Result<RequestPlan, NoPlan>,
 }

@@ -20,7 +20,7 @@ pub(crate) struct Framing {
     pub(crate) is_head: bool,
 }
 
-// The reason phrase of a status.
+/// The reason phrase of a status.
 fn reason_of(status: u16) -> &'static str
     ensures { result.now ≡ reason_text status }
 {
@@ -41,7 +41,7 @@ fn reason_of(status: u16) -> &'static str
     }
 }
 
-// Writes the status line, the date and that the connection ends.
+/// Writes the status line, the date and that the connection ends.
 #[tactic(auto, unfolding(crate::specs::Responses::first_lines))]
 fn write_first<W: Write>(
     writer: &mut Watched<W>,

@@ -1,9 +1,9 @@
 //! One request to a source.
 
-ghost use Rattle.std.specs.Prelude.{◌≡◌, ℕ, List, true, IfOk, OnOk, IsErrOf};
-ghost use Rattle.std.specs.Io.KnownBytes.{Consumes};
-ghost use Rattle.rs_io.specs.Watch.{watched, seen_by, is_flushed, StaysFlushed, EndFailed, Took, Wrote};
+ghost use Rattle.std.specs.Prelude.{◌≡◌, ℕ, true, IfOk, OnOk, IsErrOf};
+ghost use Rattle.rs_io.specs.Watch.{is_flushed, StaysFlushed, ends_of};
 ghost use Rattle.rs_store.specs.Advancing.{GoesOnOnce};
+ghost use Rattle.rs_http.specs.Turn.{turn};
 ghost use Rattle.rs_http.specs.Serving.{Serves, Breaks, Halts};
 
 use crate::answer::answer;
@@ -53,28 +53,19 @@ pub fn serve_one<D: Disk, R: Read, W: Write>(
     now: Moment,
 ) -> Result<Served, FrontFault>
     // What is written is the response to what was read.
-    ensures ok { IfOk result (λ served. (input : List ℕ) × (output : List ℕ)
-        × Took R.remaining reader.old reader.new input
-        × Wrote W.contents writer.old writer.new output
-        × Serves D.state source.old now (R.remaining (watched reader.old)) input
-        (R.remaining (watched reader.new)) output served source.new) }
+    ensures ok { IfOk result (Serves (turn D.state source.old now source.new)
+        (ends_of R.remaining reader.old reader.new W.contents writer.old writer.new)) }
 
     // A read failed within what was read, and the writer did not.
-    ensures read { IsErrOf result FrontFault.Read → EndFailed reader.old reader.new
-        × (input : List ℕ) × (output : List ℕ)
-        × Consumes (R.remaining (watched reader.old)) (R.remaining (watched reader.new)) input
-        × Wrote W.contents writer.old writer.new output
-        × Breaks D.state source.old now (R.remaining (watched reader.old)) input
-        (R.remaining (watched reader.new)) output source.new }
+    ensures read { IsErrOf result FrontFault.Read
+        → Breaks (turn D.state source.old now source.new)
+        (ends_of R.remaining reader.old reader.new W.contents writer.old writer.new) }
 
     // A call of the writer failed, and none of the reader. A put failed within what was to be
     // written, or a flush behind it. What was done stands.
-    ensures write { IsErrOf result FrontFault.Write → EndFailed writer.old writer.new
-        × (input : List ℕ)
-        × Took R.remaining reader.old reader.new input
-        × Halts D.state source.old now (R.remaining (watched reader.old)) input
-        (R.remaining (watched reader.new)) (seen_by W.contents writer.old)
-        (seen_by W.contents writer.new) source.new }
+    ensures write { IsErrOf result FrontFault.Write
+        → Halts (turn D.state source.old now source.new)
+        (ends_of R.remaining reader.old reader.new W.contents writer.old writer.new) }
 
     // An answer was flushed whole, with all that the writer had held back. What else was written was
     // flushed too: the word to go on before the body was read.
@@ -96,8 +87,6 @@ pub fn serve_one<D: Disk, R: Read, W: Write>(
     let Some(request) = read_request(alloc, &buf[..came], read) else {
         return Ok(Served::Nothing);
     };
-    match answer(alloc, source, reader, writer, request, now) {
-        Ok(status) => Ok(Served::Answered(status)),
-        Err(fault) => Err(fault),
-    }
+    let status = answer(alloc, source, reader, writer, request, now)?;
+    Ok(Served::Answered(status))
 }

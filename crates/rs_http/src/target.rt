@@ -38,7 +38,7 @@ pub(crate) enum Methods {
     OfPosts,
 }
 
-// How long the scheme is with which a target begins, `http://` or `https://` in any case.
+/// How long the scheme is with which a target begins, `http://` or `https://` in any case.
 fn scheme_length(target: &[u8]) -> usize
     ensures value { result ≡ length_of_scheme target.now }
     ensures fits { result ≤ length target.now }
@@ -52,14 +52,14 @@ fn scheme_length(target: &[u8]) -> usize
     0
 }
 
-// Where the first `/` stands.
+/// Where the first `/` stands.
 fn first_slash(bytes: &[u8]) -> Option<usize>
     ensures { result ≡ position (λ b. b == 47) bytes.now }
 {
     bytes.iter().position(|b| *b == b'/')
 }
 
-// The path after an authority, which is `/` where none is written.
+/// The path after an authority, which is `/` where none is written.
 fn after_authority(rest: &[u8]) -> &[u8]
     ensures { result.now ≡ path_after rest.now }
 {
@@ -80,7 +80,7 @@ pub(crate) fn path_of_target(target: &[u8]) -> &[u8]
     after_authority(&target[length..])
 }
 
-// The resource of this name, where it is lawful.
+/// The resource of this name, where it is lawful.
 fn resource_place(alloc: Global, name: &[u8]) -> Result<Place, AllocError>
     ensures ok { IfOk result (λ place. place ≡ resource_at name.now) }
     ensures err { OnErr result ((bytes : List ℕ) × (resource_at name.now ≡ Place.Resource bytes)) }

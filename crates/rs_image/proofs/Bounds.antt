@@ -9,7 +9,7 @@ use Rattle.rs_record.specs.Base.{is_base}
 use Rattle.rs_page.specs.declared.place.PageRef.{PageRef}
 use Rattle.rs_page.specs.Pages.{Page, stored_ref, stored_refs, items_of}
 use Rattle.rs_directory.specs.declared.header.Header.{Header}
-use Rattle.rs_directory.specs.Directory.{written_format, IsLawfulHeader, directory_length}
+use Rattle.rs_directory.specs.Directory.{written_format, IsDirectory, directory_length}
 use Rattle.rs_image.specs.declared.contents.Contents.{Contents}
 use Rattle.rs_image.specs.StateOfImage.{AreAllStored, directory_bytes_of, pages_in_all}
 
@@ -47,10 +47,11 @@ refs_fit pages refs some room is =
     omega (arith, same, fewer_refs pages some, room)
 
 -- a directory of three such lists has fewer bytes than 32 bits count
-pub fits : {E : Type 0} (result : Result (Vec ℕ Global) E) (h : Header) (n : ℕ) → n ≤ 150000 → IfOk result (λ out. vec_len out ≡ directory_length h n)
-    → IfOk result (λ _. IsLawfulHeader written_format h) → IfOk result (λ out. vec_len out < 2 ^ 32)
-fits (Ok out) h n few size lawful = omega (arith, size, short_base h.base lawful.base)
-fits (Err e) h n few size lawful = tt
+pub fits : {E : Type 0} (result : Result (Vec ℕ Global) E) (h : Header) (n : ℕ) (catalogue changes published : List PageRef) → n ≤ 150000
+    → IfOk result (λ out. vec_len out ≡ directory_length h n) → IfOk result (λ out. IsDirectory written_format out.items h catalogue changes published)
+    → IfOk result (λ out. vec_len out < 2 ^ 32)
+fits (Ok out) h n catalogue changes published few size is = omega (arith, size, short_base h.base is.lawful.of_header.base)
+fits (Err e) h n catalogue changes published few size is = tt
 
 -- and where each page is stored, exactly as many as it tells
 pub sized : {E : Type 0} (result : Result (Vec ℕ Global) E) (c : Contents) (n : ℕ) → (AreAllStored c → n ≡ pages_in_all c)

@@ -7,7 +7,7 @@ pub mod Each
 pub mod Searched
 pub mod Once
 pub mod Frame
+pub mod ListsRead
 pub mod Found
 pub mod Standing
-pub mod ListsRead
 pub mod Named

@@ -1,5 +1,5 @@
 -- An image tells at most one set of lists, and stands for at most one state.
-use Rattle.std.proofs.Common.{◌≡◌, ℕ, List, [], ◌∷◌, map, refl, sym, ◌∙◌, ap, subst}
+use Rattle.std.proofs.Common.{◌≡◌, ℕ, List, [], ◌∷◌, refl, sym, ◌∙◌, ap, subst}
 use Rattle.std.specs.Prelude.{All, IsSome}
 use Rattle.std.specs.List.{cons_option}
 use Rattle.std.proofs.lemmas.List.Elements.{All-head, All-tail}
@@ -12,15 +12,18 @@ use Rattle.rs_page.specs.FormatsApart.{records_apart, changes_apart}
 use Rattle.rs_page.specs.Items.{record_format, change_format}
 use Rattle.rs_page.specs.Pages.{Page, IsStored, stored_ref, stored_refs}
 use Rattle.rs_page.proofs.OneList.{pages_hold_once}
+use Rattle.rs_pages.specs.Storing.{items_by_page}
 use Rattle.rs_catalogue.specs.Catalogue.{HoldsCatalogue}
 use Rattle.rs_catalogue.specs.Laws.{CatalogueHeldOnce}
 use Rattle.rs_changes.specs.History.{HoldsHistory}
 use Rattle.rs_changes.specs.Laws.{HistoryHeldOnce}
 use Rattle.rs_directory.specs.declared.header.Header.{Header}
+use Rattle.rs_directory.specs.Directory.{AreLawful}
+use Rattle.rs_image.specs.declared.contents.Contents.{Contents}
 use Rattle.rs_directory.proofs.OneDirectory.{one_directory}
 use Rattle.rs_record.specs.declared.record.Record.{Record}
 use Rattle.rs_record.specs.declared.change.Change.{Change}
-use Rattle.rs_image.specs.StateOfImage.{state_in, Tells}
+use Rattle.rs_image.specs.StateOfImage.{AreListable, state_in, Tells}
 use Rattle.rs_image.specs.Laws.{StandsOnce, TellsOnce}
 
 -- pages of records, and of changes
@@ -44,38 +47,41 @@ one_place (Stored ref) (Stored other) more others is_a is_b same =
 
 -- Stored pages are what the references to them and the items of each say.
 pub pages_once : {T : Type 0} (a b : List (Page T)) → All IsStored a → All IsStored b → stored_refs a ≡ stored_refs b
-    → map (λ page. page.items) a ≡ map (λ page. page.items) b → a ≡ b
+    → items_by_page a ≡ items_by_page b → a ≡ b
 pages_once [] [] of_a of_b refs items = refl
 pages_once [] (page ∷ b) of_a of_b refs items = absurd cc
 pages_once (page ∷ a) [] of_a of_b refs items = absurd cc
 pages_once (x ∷ a) (y ∷ b) of_a of_b refs items =
     let place = one_place x.place y.place (stored_refs a) (stored_refs b) (All-head IsStored x a of_a) (All-head IsStored y b of_b) refs in
     let here : x.items ≡ y.items = cc in
-    let there : map (λ page. page.items) a ≡ map (λ page. page.items) b = cc in
+    let there : items_by_page a ≡ items_by_page b = cc in
     let rest : a ≡ b = pages_once a b (All-tail IsStored x a of_a) (All-tail IsStored y b of_b) place.1 there in
     λ i. record { items = here i; place = place.0 i } ∷ rest i
 
 -- the lists of a catalogue, and of a history, by the references to their pages
 pub catalogue_once : (a b : List (Page Record)) (image : List ℕ) → All IsStored a → All IsStored b → stored_refs a ≡ stored_refs b
-    → HoldsCatalogue (stored_refs a) image (map (λ page. page.items) a) → HoldsCatalogue (stored_refs b) image (map (λ page. page.items) b) → a ≡ b
+    → HoldsCatalogue (stored_refs a) image (items_by_page a) → HoldsCatalogue (stored_refs b) image (items_by_page b) → a ≡ b
 catalogue_once a b image of_a of_b refs holds_a holds_b =
     pages_once a b of_a of_b refs
-    (catalogue_held_once (stored_refs b) image (map (λ page. page.items) a) (map (λ page. page.items) b)
-    (subst (λ (of : List PageRef). HoldsCatalogue of image (map (λ page. page.items) a)) refs holds_a) holds_b)
+    (catalogue_held_once (stored_refs b) image (items_by_page a) (items_by_page b)
+    (subst (λ (of : List PageRef). HoldsCatalogue of image (items_by_page a)) refs holds_a) holds_b)
 
 pub history_once : (a b : List (Page Change)) (image : List ℕ) → All IsStored a → All IsStored b → stored_refs a ≡ stored_refs b
-    → HoldsHistory (stored_refs a) image (map (λ page. page.items) a) → HoldsHistory (stored_refs b) image (map (λ page. page.items) b) → a ≡ b
+    → HoldsHistory (stored_refs a) image (items_by_page a) → HoldsHistory (stored_refs b) image (items_by_page b) → a ≡ b
 history_once a b image of_a of_b refs holds_a holds_b =
     pages_once a b of_a of_b refs
-    (history_held_once (stored_refs b) image (map (λ page. page.items) a) (map (λ page. page.items) b)
-    (subst (λ (of : List PageRef). HoldsHistory of image (map (λ page. page.items) a)) refs holds_a) holds_b)
+    (history_held_once (stored_refs b) image (items_by_page a) (items_by_page b)
+    (subst (λ (of : List PageRef). HoldsHistory of image (items_by_page a)) refs holds_a) holds_b)
+
+-- a directory can have what can be listed
+pub listable_lawful : (version : ℕ) (c : Contents) → AreListable version c → AreLawful version c.header (stored_refs c.catalogue) (stored_refs c.history.pages) (stored_refs c.published)
+listable_lawful version c listable = record { of_header = listable.header; of_catalogue = listable.catalogue; of_changes = listable.history; of_published = listable.published }
 
 -- A root tells at most one set of lists in an image.
 pub tells_once : TellsOnce
 tells_once root c d image s t one two =
     let same = one_directory root.version c.header d.header (stored_refs c.catalogue) (stored_refs d.catalogue) (stored_refs c.history.pages) (stored_refs d.history.pages)
-    (stored_refs c.published) (stored_refs d.published) one.listable.header one.listable.catalogue one.listable.history one.listable.published
-    two.listable.header two.listable.catalogue two.listable.history two.listable.published (sym one.directory ∙ two.directory) in
+    (stored_refs c.published) (stored_refs d.published) (listable_lawful root.version c one.listable) (listable_lawful root.version d two.listable) (sym one.directory ∙ two.directory) in
     let catalogue : c.catalogue ≡ d.catalogue =
     catalogue_once c.catalogue d.catalogue image one.whole.catalogue two.whole.catalogue same.1 one.catalogue two.catalogue in
     let pages : c.history.pages ≡ d.history.pages =

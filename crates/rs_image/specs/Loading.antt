@@ -1,29 +1,34 @@
 -- Words of the loader's contracts: where a directory and its pages may lie, a directory as it was read, and lists that stand where it says.
-use Rattle.std.specs.Prelude.{◌≡◌, ◌<◌, ◌≤◌, ◌+◌, List, ◌++◌, length, ℕ, true, All, IsTrue}
+use Rattle.std.specs.Prelude.{◌≡◌, ◌<◌, ◌≤◌, ◌+◌, List, length, ℕ, true, All, IsTrue}
 use Rattle.rs_disk.specs.Medium.{DiskState}
-use Rattle.rs_disk.specs.Leaves.{Rests}
+use Rattle.rs_disk.specs.Runs.{RunsReading, CallsAtMost}
 use Rattle.rs_fixity.specs.Digests.{digests}
 use Rattle.rs_extent.specs.Extents.{within}
 use Rattle.rs_extent.specs.declared.Extent.{Extent}
 use Rattle.rs_body.specs.Blocks.{IsSized, part}
 use Rattle.rs_commit.specs.declared.root.Root.{Root}
+use Rattle.rs_time.specs.Moment.{greatest}
 use Rattle.rs_record.specs.declared.record.Record.{Record}
 use Rattle.rs_record.specs.declared.change.Change.{Change}
 use Rattle.rs_page.specs.declared.place.PageRef.{PageRef}
-use Rattle.rs_page.specs.Pages.{IsStored, stored_refs}
-use Rattle.rs_pages.specs.Storing.{unshared}
+use Rattle.rs_page.specs.Pages.{stored_refs}
+use Rattle.rs_pages.specs.Storing.{items_by_page, unshared}
 use Rattle.rs_catalogue.specs.Catalogue.{HoldsCatalogue}
 use Rattle.rs_changes.specs.History.{HoldsHistory}
-use Rattle.rs_directory.specs.declared.header.Header.{Header}
-use Rattle.rs_directory.specs.Directory.{directory_bytes, IsLawfulHeader, AreLawfulRefs}
+use Rattle.rs_directory.specs.Directory.{directory_bytes, AreLawful}
 use Rattle.rs_directory.specs.declared.directory.Directory.{Directory}
 use Rattle.rs_image.specs.declared.contents.Contents.{Contents}
 use Rattle.rs_image.specs.Reach.{blocks_of_disk}
+use Rattle.rs_image.specs.StateOfImage.{AreAllStored}
 
--- An extent has exactly the blocks of n bytes, all of them behind the slots in what is used of a disk of this many bytes.
+-- each block of an extent is behind the slots, in what is used of a disk of this many bytes
+abbrev pub IsInside : ℕ → Extent → Type 0
+IsInside size extent = (b : ℕ) → within extent b ≡ true → (2 ≤ b) × (b < blocks_of_disk size)
+
+-- An extent has exactly the blocks of n bytes, all of them inside.
 pub record IsPlaced (size : ℕ) (extent : Extent) (n : ℕ) : Type 0 where
   pub sized : IsSized extent n
-  pub inside : (b : ℕ) → within extent b ≡ true → (2 ≤ b) × (b < blocks_of_disk size)
+  pub inside : IsInside size extent
 
 -- the directory of a root is placed so ..
 abbrev pub IsDirectoryPlaced : ℕ → Root → Type 0
@@ -43,25 +48,9 @@ pub record ArePlaced (size : ℕ) (d : Directory) : Type 0 where
 abbrev pub spelled : ℕ → Directory → List ℕ
 spelled version d = directory_bytes version d.header d.catalogue.items d.changes.items d.published.items
 
--- What every directory of a version that was read keeps.
-pub record IsLawfulDirectory (version : ℕ) (d : Directory) : Type 0 where
-  pub header : IsLawfulHeader version d.header
-  pub catalogue : AreLawfulRefs d.catalogue.items
-  pub changes : AreLawfulRefs d.changes.items
-  pub published : AreLawfulRefs d.published.items
-
--- Bytes are a lawful directory of a version that names these pages: those of its three lists, one list after the other.
-pub record Names (version : ℕ) (bytes : List ℕ) (pages : List PageRef) : Type 0 where
-  pub header : Header
-  pub catalogue : List PageRef
-  pub changes : List PageRef
-  pub published : List PageRef
-  pub of_header : IsLawfulHeader version header
-  pub of_catalogue : AreLawfulRefs catalogue
-  pub of_changes : AreLawfulRefs changes
-  pub of_published : AreLawfulRefs published
-  pub spelled : bytes ≡ directory_bytes version header catalogue changes published
-  pub all : pages ≡ catalogue ++ (changes ++ published)
+-- what every directory of a version that was read keeps
+abbrev pub IsLawfulDirectory : ℕ → Directory → Type 0
+IsLawfulDirectory version d = AreLawful version d.header d.catalogue.items d.changes.items d.published.items
 
 -- Where the root's extent holds the bytes of a directory, all pages that it names are placed.
 abbrev pub NamesPlaced : ℕ → Root → List ℕ → Type 0
@@ -75,32 +64,58 @@ pub record AreOf (d : Directory) (c : Contents) : Type 0 where
   pub catalogue : stored_refs c.catalogue ≡ d.catalogue.items
   pub changes : stored_refs c.history.pages ≡ d.changes.items
   pub published : stored_refs c.published ≡ d.published.items
-  pub catalogue_stored : All IsStored c.catalogue
-  pub changes_stored : All IsStored c.history.pages
-  pub published_stored : All IsStored c.published
+  pub stored : AreAllStored c
 
 -- how many pages are read where a directory is: each that it names, but for a published one that is a page of the catalogue too
 abbrev pub pages_read : Directory → ℕ
 pages_read d = length d.catalogue.items + (length d.changes.items + length (unshared d.published.items d.catalogue.items))
 
 -- What reading what stands behind a root leaves, whatever it answers.
--- `rests`: nothing changes but what the disk counts.
+-- `runs`: nothing changes but what the disk counts.
 -- `once`: the directory costs one call at most, and each page that it names one more.
 -- `placed`: of a device that has followed the model, none of these pages is read unless all of them are placed.
-pub record ReadsBehind (root : Root) (old new : DiskState) : Type 0 where
-  pub rests : Rests old new
-  pub once : old.calls + 1 < new.calls → (d : Directory) × ((digests (spelled root.version d)).sha256 ≡ root.sha256) × (new.calls ≤ old.calls + 1 + pages_read d)
+pub record ReadsBehind (root : Root) (told : Type 0) (old new : DiskState) : Type 0 where
+  pub runs : RunsReading told old new
+  pub once : old.calls + 1 < new.calls → (d : Directory) × ((digests (spelled root.version d)).sha256 ≡ root.sha256) × CallsAtMost (1 + pages_read d) old new
   pub placed : old.calls + 1 < new.calls → IsTrue new.honest → NamesPlaced new.size root new.now.seen
 
+-- What a refusal of memory to a reader of a root tells of the disk: it asks for none before it looked at the places.
+-- `directory`: the directory is placed.
+-- `pages`: of a device that has followed the model, once the directory was read, each page that it names is placed.
+pub record RefusesMemory (root : Root) (old new : DiskState) : Type 0 where
+  pub directory : IsDirectoryPlaced new.size root
+  pub pages : IsTrue new.honest → old.calls < new.calls → NamesPlaced new.size root new.now.seen
+
+-- A directory that was read behind a root, in the root's version.
+-- `placed`, `room`, `pages`: it is placed, so that the disk has the slots, and so are all pages that it names.
+-- `lawful`, `first`: it keeps the rules of its version, and its first part has a number that a history can have.
+-- `digest`, `found`: its bytes have the root's digest, and a device that has followed the model holds them.
+pub record IsReadBehind (root : Root) (disk : DiskState) (d : Directory) : Type 0 where
+  pub placed : IsDirectoryPlaced disk.size root
+  pub room : 1024 ≤ disk.size
+  pub pages : ArePlaced disk.size d
+  pub lawful : IsLawfulDirectory root.version d
+  pub first : d.header.first ≤ greatest
+  pub digest : (digests (spelled root.version d)).sha256 ≡ root.sha256
+  pub found : IsTrue disk.honest → part root.directory root.length disk.now.seen ≡ spelled root.version d
+
 -- What reading the lists of a directory leaves, whatever it answers.
--- `rests`: nothing changes but what the disk counts.
--- `once`: each page that the directory names costs one call at most.
-pub record ReadsLists (d : Directory) (old new : DiskState) : Type 0 where
-  pub rests : Rests old new
-  pub once : new.calls ≤ old.calls + pages_read d
+-- `runs`: nothing changes but what the disk counts.
+-- `calls`: each page that the directory names costs one call at most.
+pub record ReadsLists (d : Directory) (told : Type 0) (old new : DiskState) : Type 0 where
+  pub runs : RunsReading told old new
+  pub calls : CallsAtMost (pages_read d) old new
 
 -- What the pages of a directory hold in an image: these records, changes and published records, page for page.
 pub record Hold (d : Directory) (image : List ℕ) (records : List (List Record)) (moves : List (List Change)) (listed : List (List Record)) : Type 0 where
   pub catalogue : HoldsCatalogue d.catalogue.items image records
   pub changes : HoldsHistory d.changes.items image moves
   pub published : HoldsCatalogue d.published.items image listed
+
+-- they hold these lists, ..
+abbrev pub HoldLists : Directory → List ℕ → Contents → Type 0
+HoldLists d image c = Hold d image (items_by_page c.catalogue) (items_by_page c.history.pages) (items_by_page c.published)
+
+-- .. or no lists at all
+abbrev pub HoldNoLists : Directory → List ℕ → Type 0
+HoldNoLists d image = (records : List (List Record)) (moves : List (List Change)) (listed : List (List Record)) → ¬ Hold d image records moves listed

@@ -9,6 +9,7 @@ use Rattle.rs_model.specs.declared.value.Held.{Held}
 use Rattle.rs_model.specs.State.{Source}
 use Rattle.rs_model.specs.Listed.{entry_of}
 use Rattle.rs_page.specs.Pages.{IsStored, stored_refs}
+use Rattle.rs_pages.specs.Storing.{items_by_page}
 use Rattle.rs_catalogue.specs.Catalogue.{records_of, HoldsCatalogue, IsCatalogue}
 use Rattle.rs_changes.specs.History.{changes_of, HoldsHistory, IsHistory}
 use Rattle.rs_directory.specs.Directory.{directory_bytes, directory_length, IsLawfulHeader, AreLawfulRefs}
@@ -73,11 +74,15 @@ pub record Tells (root : Root) (c : Contents) (image : List ℕ) (s : Source) : 
   pub listable : AreListable root.version c
   pub directory : part root.directory root.length image ≡ listing root.version c
   pub digest : (digests (listing root.version c)).sha256 ≡ root.sha256
-  pub catalogue : HoldsCatalogue (stored_refs c.catalogue) image (map (λ page. page.items) c.catalogue)
-  pub history : HoldsHistory (stored_refs c.history.pages) image (map (λ page. page.items) c.history.pages)
-  pub published : HoldsCatalogue (stored_refs c.published) image (map (λ page. page.items) c.published)
+  pub catalogue : HoldsCatalogue (stored_refs c.catalogue) image (items_by_page c.catalogue)
+  pub history : HoldsHistory (stored_refs c.history.pages) image (items_by_page c.history.pages)
+  pub published : HoldsCatalogue (stored_refs c.published) image (items_by_page c.published)
   pub whole : IsWhole (length image) root c
   pub state : state_in image c ≡ s
+
+-- a root tells nothing in an image: no lists, of no state
+abbrev pub TellsNothing : Root → List ℕ → Type 0
+TellsNothing root image = (c : Contents) (s : Source) → ¬ Tells root c image s
 
 -- An image stands for a state: it opens to a root, which tells lists of this state in it.
 abbrev pub StandsFor : List ℕ → Source → Type 0

@@ -17,7 +17,7 @@ use rs_extent::{BLOCK_SIZE, Extent, Used};
 use rs_page::PageRef;
 use std::alloc::{AllocError, Global};
 
-// The greatest number of blocks of a disk that are used.
+/// The greatest number of blocks of a disk that are used.
 const MOST_BLOCKS: u64 = 8_388_608;
 
 /// The blocks of a disk that are in use: those of the slots, and those that the root reaches. All
@@ -96,7 +96,7 @@ pub(crate) fn block_count(size: u64) -> u32
     (size / BLOCK_SIZE as u64).min(MOST_BLOCKS) as u32
 }
 
-// Takes all that a root reaches, until an extent is not free.
+/// Takes all that a root reaches, until an extent is not free.
 fn take_reached(
     alloc: Global,
     used: &mut Used,
@@ -143,7 +143,7 @@ pub fn unshared_pages(alloc: Global, contents: &Contents) -> Result<Vec<PageRef>
     Ok(pages)
 }
 
-// The pages that a root reaches: a published page that is a catalogue page too counts once.
+/// The pages that a root reaches: a published page that is a catalogue page too counts once.
 fn reached_pages(alloc: Global, contents: &Contents) -> Result<Vec<PageRef>, AllocError>
     ensures { IfOk result (λ pages. pages.items ≡ stored_refs contents.now.catalogue
         ++ stored_refs contents.now.history.pages
@@ -157,7 +157,7 @@ fn reached_pages(alloc: Global, contents: &Contents) -> Result<Vec<PageRef>, All
     Ok(pages)
 }
 
-// Takes an extent, if each of its blocks is on the disk and free.
+/// Takes an extent, if each of its blocks is on the disk and free.
 fn take(used: &mut Used, extent: Extent) -> bool
     ensures taken { result ≡ true → AreTaken used.old used.new (extent ∷ []) }
     ensures refused { result ≡ false → CanTake used.old (extent ∷ []) → ⊥ }
@@ -169,7 +169,7 @@ fn take(used: &mut Used, extent: Extent) -> bool
     is_free
 }
 
-// Takes the bodies of a catalogue's records, until one is not free.
+/// Takes the bodies of a catalogue's records, until one is not free.
 fn take_bodies(used: &mut Used, catalogue: &Catalogue) -> bool
     ensures taken { result ≡ true
         → AreTaken used.old used.new (bodies_of (records_of catalogue.now)) }
@@ -185,7 +185,7 @@ fn take_bodies(used: &mut Used, catalogue: &Catalogue) -> bool
     true
 }
 
-// Takes pages, until one is not free.
+/// Takes pages, until one is not free.
 fn take_pages(used: &mut Used, pages: &[PageRef]) -> bool
     ensures taken { result ≡ true → AreTaken used.old used.new (extents_of pages.now) }
     ensures refused { result ≡ false → CanTake used.old (extents_of pages.now) → ⊥ }
@@ -200,7 +200,7 @@ fn take_pages(used: &mut Used, pages: &[PageRef]) -> bool
     true
 }
 
-// Whether a page is one of these pages, which are sorted.
+/// Whether a page is one of these pages, which are sorted.
 fn is_among(page: &PageRef, sorted: &[PageRef]) -> bool
     requires { IsSorted ⟦<PageRef as Ord>⟧.cmp sorted.now }
     ensures { result ≡ list_any (same_page page.now) sorted.now }

@@ -1,9 +1,9 @@
 //! Whether what a root says, and the lists behind it, keep the rules of an image.
 ghost use Rattle.std.specs.Prelude.{◌≡◌, ◌≤◌, ◌↔◌, IsTrue, true, false, max, All, IfOk, IfSome, IfNone, MatchOption};
-ghost use Rattle.rs_page.specs.Pages.{IsStored};
 ghost use Rattle.rs_catalogue.specs.Catalogue.{records_of};
 ghost use Rattle.rs_changes.specs.History.{changes_of, last_of};
 ghost use Rattle.rs_image.specs.Whole.{HasFirstPart, IsWithin, IsSoundRecord, IsSoundChange, AreMoments, IsWhole};
+ghost use Rattle.rs_image.specs.StateOfImage.{AreAllStored};
 ghost use Rattle.rs_image.specs.Rooted.{AreUsed, rooted};
 
 use crate::Contents;
@@ -35,9 +35,7 @@ pub(crate) fn whole_set(
     contents: &Contents,
 ) -> Result<Option<Used>, AllocError>
     requires room { 1024 ≤ size }
-    requires catalogue { All IsStored contents.now.catalogue }
-    requires history { All IsStored contents.now.history.pages }
-    requires published { All IsStored contents.now.published }
+    requires stored { AreAllStored contents.now }
     requires number { contents.now.history.first ≡ contents.now.header.first }
     ensures whole { IfOk result
         (λ found. IfSome found (λ _. IsWhole size root.now contents.now)) }
@@ -65,9 +63,9 @@ pub(crate) fn whole_set(
     }
 }
 
-// Whether formatting, the begin of the history, the latest publication and the last command are in
-// order, the last command is the publication or the last change, and the first part has a number
-// that there can be.
+/// Whether formatting, the begin of the history, the latest publication and the last command are in
+/// order, the last command is the publication or the last change, and the first part has a number
+/// that there can be.
 fn are_moments(contents: &Contents) -> bool
     ensures yes { result ≡ true → AreMoments contents.now.header contents.now }
     ensures no { result ≡ false → ¬ AreMoments contents.now.header contents.now }
@@ -89,7 +87,7 @@ pub(crate) fn has_first_part(header: &Header) -> bool
         && (header.first != 0 || header.begin == header.start)
 }
 
-// The later moment of the latest publication and of the last change, if there is one.
+/// The later moment of the latest publication and of the last change, if there is one.
 fn latest(contents: &Contents) -> Moment
     ensures { MatchOption (last_of (changes_of contents.now.history.pages))
         (result ≡ contents.now.header.at)
@@ -104,7 +102,7 @@ fn latest(contents: &Contents) -> Moment
     }
 }
 
-// Whether each record of a catalogue is sound.
+/// Whether each record of a catalogue is sound.
 fn are_sound_records(low: Moment, high: Moment, catalogue: &Catalogue) -> bool
     ensures yes { result ≡ true → All (IsSoundRecord low high) (records_of catalogue.now) }
     ensures no { result ≡ false → ¬ All (IsSoundRecord low high) (records_of catalogue.now) }
@@ -117,7 +115,7 @@ fn are_sound_records(low: Moment, high: Moment, catalogue: &Catalogue) -> bool
     true
 }
 
-// Whether each change of a history is sound.
+/// Whether each change of a history is sound.
 fn are_sound_changes(low: Moment, high: Moment, history: &History) -> bool
     ensures yes { result ≡ true → All (IsSoundChange low high) (changes_of history.now.pages) }
     ensures no { result ≡ false → ¬ All (IsSoundChange low high) (changes_of history.now.pages) }
@@ -130,8 +128,8 @@ fn are_sound_changes(low: Moment, high: Moment, history: &History) -> bool
     true
 }
 
-// Whether a record is from within these moments, its body no longer than one may be, and its extent
-// of the size for it.
+/// Whether a record is from within these moments, its body no longer than one may be, and its extent
+/// of the size for it.
 fn is_sound_record(low: Moment, high: Moment, item: &Record) -> bool
     ensures yes { result ≡ true → IsSoundRecord low high item.now }
     ensures no { result ≡ false → ¬ IsSoundRecord low high item.now }
@@ -141,8 +139,8 @@ fn is_sound_record(low: Moment, high: Moment, item: &Record) -> bool
         && is_sized(item.extent, item.length)
 }
 
-// Whether a change is from within these moments, and its body, if it has one, no longer than one may
-// be.
+/// Whether a change is from within these moments, and its body, if it has one, no longer than one may
+/// be.
 fn is_sound_change(low: Moment, high: Moment, change: &Change) -> bool
     ensures yes { result ≡ true → IsSoundChange low high change.now }
     ensures no { result ≡ false → ¬ IsSoundChange low high change.now }
@@ -154,7 +152,7 @@ fn is_sound_change(low: Moment, high: Moment, change: &Change) -> bool
     is_short && is_within(low, high, change.moment)
 }
 
-// Whether a moment is after the first one and at most the second one.
+/// Whether a moment is after the first one and at most the second one.
 fn is_within(low: Moment, high: Moment, moment: Moment) -> bool
     ensures yes { result ≡ true → IsWithin low high moment }
     ensures no { result ≡ false → ¬ IsWithin low high moment }

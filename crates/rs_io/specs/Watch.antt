@@ -56,6 +56,32 @@ FlushFailed old new = ((failures old).flushes < (failures new).flushes) ⊎ (2 ^
 abbrev pub PutFailed : {T : Type 0} → Watched T → Watched T → Type 0
 PutFailed old new = EndFailed old new × ((failures new).flushes ≡ (failures old).flushes)
 
+-- An answer tells of an end only where a call of it failed in between, or the count stands at its last value; where it doesn't tell
+-- of it, none failed.
+pub record TellsEnd {T : Type 0} (told : Type 0) (old new : Watched T) : Type 0 where
+  pub failed : told → EndFailed old new
+  pub sound : ¬ told → failures new ≡ failures old
+
+-- an end, seen by the bytes that it has left or holds
+abbrev pub End : Type 0
+End = Watched (Option (List ℕ))
+
+-- The two ends of a call: what the reader had left before it and has left after it, and what the writer held before it and holds
+-- after it.
+pub record Ends : Type 0 where
+  pub left : End
+  pub rest : End
+  pub before : End
+  pub after : End
+
+abbrev pub ends_of : {R W : Type 0} → (R → Option (List ℕ)) → Watched R → Watched R → (W → Option (List ℕ)) → Watched W → Watched W → Ends
+ends_of remaining left rest contents before after = record {
+  left = seen_by remaining left;
+  rest = seen_by remaining rest;
+  before = seen_by contents before;
+  after = seen_by contents after;
+}
+
 -- one call of the end inside was made, or their count stands at its last value
 abbrev pub IsCalledOnce : {T : Type 0} → Watched T → Watched T → Type 0
 IsCalledOnce old new = (calls new ≡ calls old + 1) ⊎ ((calls new ≡ calls old) × (2 ^ 64 ≤ calls old + 1))

@@ -1,5 +1,5 @@
 -- How long lines and documents are at most.
-use Rattle.std.proofs.Common.{◌≡◌, ℕ, suc, ◌+◌, ◌-◌, ◌*◌, ◌≤◌, ◌<◌, ◌^◌, List, [], ◌∷◌, ◌++◌, Bool, true, false, nat_le, nat_eq, length, map, refl, sym, ap, ◌∙◌, append-nil, length-append, arith, Option, Some, None}
+use Rattle.std.proofs.Common.{◌≡◌, ℕ, suc, ◌+◌, ◌-◌, ◌*◌, ◌≤◌, ◌<◌, ◌^◌, List, [], ◌∷◌, ◌++◌, Bool, true, false, nat_le, nat_eq, length, refl, sym, ap, ◌∙◌, append-nil, length-append, arith, Option, Some, None}
 use Rattle.std.specs.Prelude.{codes, IsTrue, ◌==◌, ◌&&◌, ◌||◌, not, if◌then◌else◌}
 use Rattle.std.specs.List.{concat, list_all, All, ends_with}
 use Rattle.std.specs.Fmt.{decimal}
@@ -185,13 +185,13 @@ lines_small m n before next after e h k =
     let d : m * (n + 1) ≡ m * n + m = grind arith in
     omega arith
 
--- the lines of items that are each short
-pub children_small : {A : Type 0} (f : A → List ℕ) (m : ℕ) (xs : List A) → All (λ x. length (line (f x)) ≤ m) xs → length (joined (map f xs)) ≤ m * length xs
-children_small f m [] h = omega arith
-children_small f m (x ∷ xs) h =
-    let one : length (line (f x)) ≤ m = All-head (λ x. length (line (f x)) ≤ m) x xs h in
-    let rest = children_small f m xs (All-tail (λ x. length (line (f x)) ≤ m) x xs h) in
-    let both = length-append (line (f x)) (joined (map f xs)) in
+-- lines that are each short
+pub children_small : (m : ℕ) (xs : List (List ℕ)) → All (λ x. length (line x) ≤ m) xs → length (joined xs) ≤ m * length xs
+children_small m [] h = omega arith
+children_small m (x ∷ xs) h =
+    let one : length (line x) ≤ m = All-head (λ x. length (line x) ≤ m) x xs h in
+    let rest = children_small m xs (All-tail (λ x. length (line x) ≤ m) x xs h) in
+    let both = length-append (line x) (joined xs) in
     let d : m * suc (length xs) ≡ m * length xs + m = grind arith in
     omega arith
 

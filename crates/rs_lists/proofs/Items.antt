@@ -1,6 +1,6 @@
 -- The lines of items, in the pieces that are put.
-use Rattle.std.proofs.Common.{◌≡◌, ℕ, suc, zero, ◌+◌, ◌*◌, nat_le, length, take, arith, List, [], ◌∷◌, ◌++◌, sym, ap, ◌∙◌, Option, Some, None}
-use Rattle.std.specs.Prelude.{codes, slice_get, IsTrue, if◌then◌else◌}
+use Rattle.std.proofs.Common.{◌≡◌, ℕ, suc, zero, ◌+◌, get_or, map, take, List, [], ◌∷◌, ◌++◌, refl, sym, ap, ◌∙◌, Option, Some, None}
+use Rattle.std.specs.Prelude.{codes, slice_get, IsTrue}
 use Rattle.std.specs.List.{concat}
 use Rattle.std.specs.Fmt.{decimal}
 use Rattle.rs_time.specs.Moment.{moment_text}
@@ -16,6 +16,15 @@ use Rattle.rs_lists.specs.Text.{line, resource_line, change_line, what_text, loc
 use Rattle.rs_lists.proofs.Plain.{escape-uri}
 use Rattle.rs_lists.proofs.Lines.{resource_path_pieces, change_path_pieces}
 
+-- the line of an item that was found at its place
+pub item_line : {A : Type 0} (f : List ℕ → A → List ℕ) (b base : List ℕ) (xs : List A) (i : ℕ) (x : A) → b ≡ base → slice_get xs i ≡ Some x → line (f b x) ≡ line (get_or (map (f base) xs) i [])
+item_line f b base xs i x e h = ap (λ y. line (f y x)) e ∙ ap line (found (f base) xs i x h)
+  where
+    found : {A : Type 0} (f : A → List ℕ) (xs : List A) (i : ℕ) (x : A) → slice_get xs i ≡ Some x → f x ≡ get_or (map f xs) i []
+    found f [] i x h = cc
+    found f (y ∷ xs) zero x h = let e : y ≡ x = cc in ap f (sym e)
+    found f (y ∷ xs) (suc i) x h = found f xs i x h
+
 -- what follows the URI in the line of a resource
 resource_rest : Record → List ℕ → List ℕ
 resource_rest r kind =
@@ -26,20 +35,13 @@ pub resource_pieces : (base : List ℕ) (r : Record) (b n k : List ℕ) → IsTr
     ≡ line (resource_line base r)
 unfolding resource_rest
 resource_pieces base r b n k h p q s =
-    ap (λ x. line (codes "<url><loc>" ++ (x ++ (codes "/resource/" ++ (escape n ++ resource_rest r k))))) p
-    ∙ ap (λ x. line (codes "<url><loc>" ++ (base ++ (codes "/resource/" ++ (escape x ++ resource_rest r k))))) q
-    ∙ ap (λ x. line (codes "<url><loc>" ++ (base ++ (codes "/resource/" ++ (escape r.name ++ resource_rest r x))))) s
-    ∙ ap (λ x. line (codes "<url><loc>" ++ x)) (sym (escape-uri base r.name (resource_rest r r.kind) h))
+    rw (p, q, s) (ap (λ x. line (codes "<url><loc>" ++ x)) (sym (escape-uri base r.name (resource_rest r r.kind) h)))
 
 pub resource_entry_pieces : (s : Shown) (k : ℕ) (b : List ℕ) (n t : ℕ) → b ≡ s.base → n ≡ s.number → t ≡ s.at
     → line (codes "<sitemap><loc>" ++ (b ++ (codes "/resourcelist/" ++ (decimal n ++ (codes "/" ++ (decimal k ++ (codes ".xml</loc><rs:md at=\"" ++ (moment_text t ++ (codes "\"/></sitemap>" ++ [])))))))))
     ≡ line (resource_entry s k)
 resource_entry_pieces s k b n t p q r =
-    let rest : ℕ → List ℕ = λ at. codes "</loc><rs:md at=\"" ++ (moment_text at ++ (codes "\"/></sitemap>" ++ [])) in
-    ap (λ x. line (codes "<sitemap><loc>" ++ (x ++ (codes "/resourcelist/" ++ (decimal n ++ (codes "/" ++ (decimal k ++ (codes ".xml" ++ rest t)))))))) p
-    ∙ ap (λ x. line (codes "<sitemap><loc>" ++ (s.base ++ (codes "/resourcelist/" ++ (decimal x ++ (codes "/" ++ (decimal k ++ (codes ".xml" ++ rest t)))))))) q
-    ∙ ap (λ x. line (codes "<sitemap><loc>" ++ (s.base ++ (codes "/resourcelist/" ++ (decimal s.number ++ (codes "/" ++ (decimal k ++ (codes ".xml" ++ rest x)))))))) r
-    ∙ ap (λ x. line (codes "<sitemap><loc>" ++ x)) (resource_path_pieces s.base (rest s.at) s.number k)
+    rw (p, q, r) (ap (λ x. line (codes "<sitemap><loc>" ++ x)) (resource_path_pieces s.base (codes "</loc><rs:md at=\"" ++ (moment_text s.at ++ (codes "\"/></sitemap>" ++ []))) s.number k))
 
 -- the moment of the last of some changes
 pub last_moment-take : (t : ℕ) (changes : List Change) (n : ℕ) (c : Change) → slice_get changes n ≡ Some c → last_moment t (take (suc n) changes) ≡ c.moment
@@ -62,11 +64,7 @@ pub bound_pieces : (base : List ℕ) (c : Change) (f : Facts) (b n w k : List �
     ≡ line (change_line base c)
 unfolding bound_rest change_line_with
 bound_pieces base c f b n w k h e p q r s =
-    ap (λ x. line (codes "<url><loc>" ++ (x ++ (codes "/resource/" ++ (escape n ++ bound_rest c f w k))))) p
-    ∙ ap (λ x. line (codes "<url><loc>" ++ (base ++ (codes "/resource/" ++ (escape x ++ bound_rest c f w k))))) q
-    ∙ ap (λ x. line (codes "<url><loc>" ++ (base ++ (codes "/resource/" ++ (escape c.name ++ bound_rest c f x k))))) r
-    ∙ ap (λ x. line (codes "<url><loc>" ++ (base ++ (codes "/resource/" ++ (escape c.name ++ bound_rest c f (what_text c.what) x))))) s
-    ∙ ap (λ x. line (codes "<url><loc>" ++ x)) (sym (escape-uri base c.name (bound_rest c f (what_text c.what) f.kind) h))
+    rw (p, q, r, s) (ap (λ x. line (codes "<url><loc>" ++ x)) (sym (escape-uri base c.name (bound_rest c f (what_text c.what) f.kind) h)))
     ∙ ap (λ x. line (change_line_with base c x)) (sym e)
 
 -- what follows the URI in the line of a change that unbound a name
@@ -78,10 +76,7 @@ pub unbound_pieces : (base : List ℕ) (c : Change) (b n w : List ℕ) → IsTru
     ≡ line (change_line base c)
 unfolding unbound_rest change_line_with
 unbound_pieces base c b n w h e p q r =
-    ap (λ x. line (codes "<url><loc>" ++ (x ++ (codes "/resource/" ++ (escape n ++ unbound_rest c w))))) p
-    ∙ ap (λ x. line (codes "<url><loc>" ++ (base ++ (codes "/resource/" ++ (escape x ++ unbound_rest c w))))) q
-    ∙ ap (λ x. line (codes "<url><loc>" ++ (base ++ (codes "/resource/" ++ (escape c.name ++ unbound_rest c x))))) r
-    ∙ ap (λ x. line (codes "<url><loc>" ++ x)) (sym (escape-uri base c.name (unbound_rest c (what_text c.what)) h))
+    rw (p, q, r) (ap (λ x. line (codes "<url><loc>" ++ x)) (sym (escape-uri base c.name (unbound_rest c (what_text c.what)) h)))
     ∙ ap (λ x. line (change_line_with base c x)) (sym e)
 
 -- the line of a part of the Change List that is open or closed
@@ -92,7 +87,7 @@ change_entry_with base number from until =
 change_entry_same : (s : Shown) (k : ℕ) (b : List ℕ) (number from : ℕ) (until : Option ℕ) → b ≡ s.base → number ≡ s.first + k → from ≡ from_of s k → until ≡ until_of s k
     → line (change_entry_with b number from until) ≡ line (change_entry s k)
 unfolding change_entry_with
-change_entry_same s k b number from until p q r t = ap (λ x. line (change_entry_with x number from until)) p ∙ ap (λ x. line (change_entry_with s.base x from until)) q ∙ ap (λ x. line (change_entry_with s.base (s.first + k) x until)) r ∙ ap (λ x. line (change_entry_with s.base (s.first + k) (from_of s k) x)) t
+change_entry_same s k b number from until p q r t = rw (p, q, r, t) refl
 
 pub open_entry_pieces : (s : Shown) (k : ℕ) (b : List ℕ) (number from : ℕ) → b ≡ s.base → number ≡ s.first + k → from ≡ from_of s k → None ≡ until_of s k
     → line (codes "<sitemap><loc>" ++ (b ++ (codes "/changelist/" ++ (decimal number ++ (codes ".xml</loc><rs:md from=\"" ++ (moment_text from ++ (codes "\"/></sitemap>" ++ [])))))))
@@ -109,14 +104,3 @@ unfolding change_entry_with
 closed_entry_pieces s k b number from until p q r t =
     ap (λ x. line (codes "<sitemap><loc>" ++ x)) (change_path_pieces b (codes "</loc><rs:md from=\"" ++ (moment_text from ++ (codes "\" until=\"" ++ (moment_text until ++ (codes "\"/></sitemap>" ++ []))))) number)
     ∙ change_entry_same s k b number from (Some until) p q r t
-
--- the bounds of part k, where l is the item limit
-pub part_from : (s : Shown) (k l from : ℕ) → l ≡ s.limit → from ≡ last_moment s.begin (take (k * l) s.changes) → from ≡ from_of s k
-part_from s k l from e h = h ∙ ap (λ j. last_moment s.begin (take (k * j) s.changes)) e
-
-pub part_until : (s : Shown) (k l : ℕ) (until : Option ℕ) → l ≡ s.limit
-    → until ≡ (if nat_le (k * l + l) (length s.changes) then Some (last_moment s.begin (take (k * l + l) s.changes)) else None) → until ≡ until_of s k
-part_until s k l until e h =
-    let next : k * l + l ≡ (k + 1) * l = grind arith in
-    h ∙ ap (λ j. if nat_le j (length s.changes) then Some (last_moment s.begin (take j s.changes)) else None) next
-    ∙ ap (λ j. if nat_le ((k + 1) * j) (length s.changes) then Some (last_moment s.begin (take ((k + 1) * j) s.changes)) else None) e

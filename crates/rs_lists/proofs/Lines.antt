@@ -1,12 +1,14 @@
 -- Texts of several lines.
-use Rattle.std.proofs.Common.{◌≡◌, ℕ, suc, zero, ◌+◌, ◌-◌, ◌*◌, ◌≤◌, ◌<◌, List, [], ◌∷◌, ◌++◌, take, drop, length, map, refl, sym, ap, ◌∙◌, append_assoc, append-nil, arith, Some, Bool, true, false, min, nat_le, length-drop}
-use Rattle.std.specs.Prelude.{codes, slice_get}
+use Rattle.std.proofs.Common.{◌≡◌, ℕ, suc, zero, ◌+◌, ◌-◌, ◌*◌, ◌≤◌, ◌<◌, List, [], ◌∷◌, ◌++◌, take, drop, length, get_or, refl, sym, ap, ◌∙◌, append_assoc, append-nil, arith, Bool, true, false, min, nat_le, length-drop}
+use Rattle.std.specs.Prelude.{codes}
 use Rattle.std.specs.Fmt.{decimal}
 use Rattle.std.proofs.lemmas.Bool.Decides.{nat_tests}
-use Rattle.std.proofs.lemmas.List.{take_all, take-take, take-append-drop, map-append}
+use Rattle.std.proofs.lemmas.List.{take_all, take_more, take-take, take-append-drop, get_or-drop, get_or-map, length-map}
 use Rattle.std.proofs.lemmas.Grind.{flat_map-append, common_steps}
 use Rattle.rs_lists.specs.Chunks.{part_at}
-use Rattle.rs_lists.specs.Text.{line, joined, numbers_from, resource_part_path, change_part_path}
+use Rattle.rs_lists.specs.Listed.{Listed, item_at, item_lines, entries, parts_in, whole_text, index_text, part_text}
+use Rattle.rs_lists.specs.Shown.{Shown}
+use Rattle.rs_lists.specs.Text.{line, joined, xml_line, open_line, up_line, link_line, close_line, numbers_from, resource_part_path, change_part_path}
 
 -- one line more
 pub joined-next : (lines : List (List ℕ)) (l : List ℕ) → joined (lines ++ l ∷ []) ≡ joined lines ++ line l
@@ -19,45 +21,40 @@ document_lines front children md close =
     ∙ sym (joined-next (front ++ md ∷ children) close)
 
 -- the same, of lines that are known another way
-pub same_document : (front front' children children' : List (List ℕ)) (md md' close : List ℕ) → front ≡ front' → md ≡ md' → children ≡ children'
+same_document : (front front' children children' : List (List ℕ)) (md md' close : List ℕ) → front ≡ front' → md ≡ md' → children ≡ children'
     → ((joined front ++ line md) ++ joined children) ++ line close ≡ joined (front' ++ md' ∷ children' ++ close ∷ [])
 same_document front front' children children' md md' close p q r =
-    document_lines front children md close ∙ ap (λ l. joined (l ++ md ∷ children ++ close ∷ [])) p ∙ ap (λ l. joined (front' ++ l ∷ children ++ close ∷ [])) q
-    ∙ ap (λ l. joined (front' ++ md' ∷ l ++ close ∷ [])) r
+    rw (p, q, r) (document_lines front' children' md' close)
 
-pub three_texts : (x y z : List ℕ) → (x ++ y) ++ z ≡ x ++ (y ++ (z ++ []))
-three_texts x y z = append_assoc x y z ∙ ap (λ l. x ++ (y ++ l)) (sym (append-nil z))
+-- the first lines of a document
+pub opening_lines : (tag t base : List ℕ) → tag ≡ t → (line xml_line ++ line (open_line tag)) ++ line (up_line base) ≡ joined (xml_line ∷ open_line t ∷ up_line base ∷ [])
+opening_lines tag t base e =
+    rw e (append_assoc (line xml_line) (line (open_line t)) (line (up_line base)) ∙ ap (λ l. line xml_line ++ (line (open_line t) ++ l)) (sym (append-nil (line (up_line base)))))
 
-map-next : {A B : Type 0} (f : A → B) (xs : List A) (y : A) → map f (xs ++ y ∷ []) ≡ map f xs ++ f y ∷ []
-map-next f [] y = refl
-map-next f (x ∷ xs) y = ap (λ l. f x ∷ l) (map-next f xs y)
+-- the first lines, with the next one
+lines_next : (xs : List (List ℕ)) (i : ℕ) → i < length xs → joined (take i xs) ++ line (get_or xs i []) ≡ joined (take (i + 1) xs)
+lines_next xs i h = sym (ap joined (take_more xs i [] h) ∙ joined-next (take i xs) (get_or xs i []))
 
-take-next : {A : Type 0} (xs : List A) (i : ℕ) (r : A) → slice_get xs i ≡ Some r → take (suc i) xs ≡ take i xs ++ r ∷ []
-take-next [] i r h = cc
-take-next (x ∷ xs) zero r h = let e : x ≡ r = cc in ap (λ y. y ∷ []) e
-take-next (x ∷ xs) (suc i) r h = ap (λ l. x ∷ l) (take-next xs i r h)
+-- the first m lines begin the first n
+lines_begin : (xs : List (List ℕ)) (m n : ℕ) → m ≤ n → joined (take m xs) ++ joined (drop m (take n xs)) ≡ joined (take n xs)
+lines_begin xs m n h =
+    sym (flat_map-append line (take m xs) (drop m (take n xs))) ∙ ap (λ l. joined (l ++ drop m (take n xs))) (sym (take-take m n xs h)) ∙ ap joined (take-append-drop m (take n xs))
 
-slice_get-drop : {A : Type 0} (xs : List A) (from i : ℕ) → slice_get (drop from xs) i ≡ slice_get xs (from + i)
-slice_get-drop xs zero i = let e : i ≡ zero + i = omega arith in ap (slice_get xs) e
-slice_get-drop [] (suc from) i = refl
-slice_get-drop (x ∷ xs) (suc from) i = let e : suc (from + i) ≡ suc from + i = omega arith in slice_get-drop xs from i ∙ ap (slice_get (x ∷ xs)) e
-
--- the lines of the items from one place on, with the line of the next item
-pub item_lines : {A : Type 0} (f : A → List ℕ) (xs : List A) (from i : ℕ) (r : A) → slice_get xs i ≡ Some r → from ≤ i
-    → joined (map f (take (i - from) (drop from xs))) ++ line (f r) ≡ joined (map f (take (i + 1 - from) (drop from xs)))
-item_lines f xs from i r h k =
-    let n : i + 1 - from ≡ suc (i - from) = omega arith in
+-- the items from one place on, with the next one
+pub items_next : (l : Listed) (s : Shown) (from i : ℕ) → from ≤ i → i < length (l.items s) → item_lines l s from i ++ line (item_at l s i) ≡ item_lines l s from (i + 1)
+items_next l s from i low high =
+    let within : i - from < length (drop from (l.items s)) = omega (arith, length-drop from (l.items s)) in
+    let next : i + 1 - from ≡ i - from + 1 = omega arith in
     let place : from + (i - from) ≡ i = omega arith in
-    let got = slice_get-drop xs from (i - from) ∙ ap (slice_get xs) place ∙ h in
-    sym
-    (ap (λ j. joined (map f (take j (drop from xs)))) n ∙ ap (λ l. joined (map f l)) (take-next (drop from xs) (i - from) r got)
-    ∙ ap joined (map-next f (take (i - from) (drop from xs)) r) ∙ joined-next (map f (take (i - from) (drop from xs))) (f r))
+    let same : item_at l s i ≡ get_or (drop from (l.items s)) (i - from) [] = ap (λ j. get_or (l.items s) j []) (sym place) ∙ sym (get_or-drop from (l.items s) (i - from) []) in
+    ap (λ x. item_lines l s from i ++ line x) same ∙ lines_next (drop from (l.items s)) (i - from) within ∙ ap (λ j. joined (take j (drop from (l.items s)))) (sym next)
 
--- the lines of the first m items begin those of the first n
-pub lines_begin : {A : Type 0} (f : A → List ℕ) (xs : List A) (m n : ℕ) → m ≤ n → joined (map f (take m xs)) ++ joined (map f (drop m (take n xs))) ≡ joined (map f (take n xs))
-lines_begin f xs m n h =
-    sym (flat_map-append line (map f (take m xs)) (map f (drop m (take n xs)))) ∙ ap joined (sym (map-append f (take m xs) (drop m (take n xs))))
-    ∙ ap (λ l. joined (map f (l ++ drop m (take n xs)))) (sym (take-take m n xs h)) ∙ ap (λ l. joined (map f l)) (take-append-drop m (take n xs))
+-- and with those that follow
+pub items_rest : (l : Listed) (s : Shown) (from i to : ℕ) → from ≤ i → i < to → to ≤ length (l.items s)
+    → (item_lines l s from i ++ line (item_at l s i)) ++ joined (drop (i + 1 - from) (take (to - from) (drop from (l.items s)))) ≡ item_lines l s from to
+items_rest l s from i to low below high =
+    let rest = joined (drop (i + 1 - from) (take (to - from) (drop from (l.items s)))) in
+    ap (λ x. x ++ rest) (items_next l s from i low (omega arith)) ∙ lines_begin (drop from (l.items s)) (i + 1 - from) (to - from) (omega arith)
 
 part_range : {A : Type 0} (xs : List A) (limit from n : ℕ) (b : Bool) → n ≡ length xs → nat_le n (from + limit) ≡ b → take (min n (from + limit) - from) (drop from xs) ≡ take limit (drop from xs)
 part_range xs limit from n true e h =
@@ -83,36 +80,50 @@ pub part_is : {A : Type 0} (xs : List A) (part limit l n to : ℕ) → l ≡ lim
 part_is xs part limit l n to p q r =
     ap (λ j. take (j - part * l) (drop (part * l) xs)) r ∙ part_items xs l (part * l) n q ∙ ap (λ j. take j (drop (part * j) xs)) p
 
-numbers_from-next : (first n : ℕ) → numbers_from first (suc n) ≡ numbers_from first n ++ (first + n) ∷ []
-numbers_from-next first zero = let e : first ≡ first + 0 = omega arith in ap (λ x. x ∷ []) e
-numbers_from-next first (suc n) =
-    let e : first + 1 + n ≡ first + suc n = omega arith in
-    ap (λ l. first ∷ l) (numbers_from-next (first + 1) n ∙ ap (λ x. numbers_from (first + 1) n ++ x ∷ []) e)
+-- numbers one after another
+length-numbers_from : (first n : ℕ) → length (numbers_from first n) ≡ n
+length-numbers_from first zero = refl
+length-numbers_from first (suc n) = ap suc (length-numbers_from (first + 1) n)
 
--- the lines of the parts below k, with the line of part k
-pub part_lines : (f : ℕ → List ℕ) (k : ℕ) → joined (map f (numbers_from 0 k)) ++ line (f k) ≡ joined (map f (numbers_from 0 (k + 1)))
-part_lines f k =
-    let n : k + 1 ≡ suc k = omega arith in
-    let last : 0 + k ≡ k = omega arith in
-    sym
-    (ap (λ j. joined (map f (numbers_from 0 j))) n ∙ ap (λ l. joined (map f l)) (numbers_from-next 0 k ∙ ap (λ x. numbers_from 0 k ++ x ∷ []) last)
-    ∙ ap joined (map-next f (numbers_from 0 k) k) ∙ joined-next (map f (numbers_from 0 k)) (f k))
+get_or-numbers_from : (first n k : ℕ) → k < n → get_or (numbers_from first n) k 0 ≡ first + k
+get_or-numbers_from first zero k h = absurd (omega arith)
+get_or-numbers_from first (suc n) zero h = omega arith
+get_or-numbers_from first (suc n) (suc k) h = omega (arith, get_or-numbers_from (first + 1) n k (omega arith))
 
-numbers_from-add : (first m n : ℕ) → numbers_from first (m + n) ≡ numbers_from first m ++ numbers_from (first + m) n
-numbers_from-add first zero n = let e : zero + n ≡ n = omega arith in let d : first ≡ first + zero = omega arith in ap (numbers_from first) e ∙ ap (λ k. numbers_from k n) d
-numbers_from-add first (suc m) n =
-    let e : suc m + n ≡ suc (m + n) = omega arith in
-    let d : first + 1 + m ≡ first + suc m = omega arith in
-    ap (numbers_from first) e ∙ ap (λ l. first ∷ l) (numbers_from-add (first + 1) m n ∙ ap (λ k. numbers_from (first + 1) m ++ numbers_from k n) d)
+-- the entries of parts
+pub length-entries : (l : Listed) (s : Shown) → length (entries l s) ≡ parts_in l s
+length-entries l s = length-map (numbers_from 0 (parts_in l s)) (l.entry s) ∙ length-numbers_from 0 (parts_in l s)
 
--- the lines of the parts up to k begin those of all
-pub part_lines_begin : (f : ℕ → List ℕ) (k n : ℕ) → k < n
-    → (joined (map f (numbers_from 0 k)) ++ line (f k)) ++ joined (map f (numbers_from (0 + (k + 1)) (n - (k + 1)))) ≡ joined (map f (numbers_from 0 n))
-part_lines_begin f k n h =
-    let rest = numbers_from (0 + (k + 1)) (n - (k + 1)) in
-    let whole : k + 1 + (n - (k + 1)) ≡ n = omega arith in
-    ap (λ l. l ++ joined (map f rest)) (part_lines f k) ∙ sym (flat_map-append line (map f (numbers_from 0 (k + 1))) (map f rest)) ∙ ap joined (sym (map-append f (numbers_from 0 (k + 1)) rest))
-    ∙ ap (λ l. joined (map f l)) (sym (numbers_from-add 0 (k + 1) (n - (k + 1)))) ∙ ap (λ j. joined (map f (numbers_from 0 j))) whole
+pub all_entries : (l : Listed) (s : Shown) (n : ℕ) → parts_in l s ≤ n → take n (entries l s) ≡ entries l s
+all_entries l s n h = take_all n (entries l s) (omega (arith, length-entries l s))
+
+pub entries_next : (l : Listed) (s : Shown) (k : ℕ) → k < parts_in l s → joined (take k (entries l s)) ++ line (l.entry s k) ≡ joined (take (k + 1) (entries l s))
+entries_next l s k h =
+    let numbers = numbers_from 0 (parts_in l s) in
+    let within : k < length numbers = omega (arith, length-numbers_from 0 (parts_in l s)) in
+    let inside : k < length (entries l s) = omega (arith, length-entries l s) in
+    let at : get_or numbers k 0 ≡ k = omega (arith, get_or-numbers_from 0 (parts_in l s) k h) in
+    ap (λ x. joined (take k (entries l s)) ++ line x) (sym (get_or-map (l.entry s) numbers k 0 [] within ∙ ap (l.entry s) at)) ∙ lines_next (entries l s) k inside
+
+pub entries_rest : (l : Listed) (s : Shown) (k : ℕ) → k < parts_in l s → (joined (take k (entries l s)) ++ line (l.entry s k)) ++ joined (drop (k + 1) (entries l s)) ≡ joined (entries l s)
+entries_rest l s k h =
+    ap (λ x. x ++ joined (drop (k + 1) (entries l s))) (entries_next l s k h) ∙ sym (flat_map-append line (take (k + 1) (entries l s)) (drop (k + 1) (entries l s))) ∙ ap joined (take-append-drop (k + 1) (entries l s))
+
+-- the documents of a list, of lines that are known another way
+pub whole_lines : (l : Listed) (s : Shown) (b : List ℕ) (n : ℕ) → b ≡ s.base → n ≡ length (l.items s)
+    → ((joined (xml_line ∷ open_line (codes "urlset") ∷ up_line b ∷ []) ++ line (l.bounds s)) ++ item_lines l s 0 n) ++ line (close_line (codes "urlset")) ≡ whole_text l s
+whole_lines l s b n p q = same_document _ _ _ _ (l.bounds s) _ (close_line (codes "urlset")) (ap (λ (x : List ℕ). xml_line ∷ open_line (codes "urlset") ∷ up_line x ∷ []) p) refl (all_items (l.items s) n q)
+
+pub index_lines : (l : Listed) (s : Shown) (b : List ℕ) → b ≡ s.base
+    → ((joined (xml_line ∷ open_line (codes "sitemapindex") ∷ up_line b ∷ []) ++ line (l.bounds s)) ++ joined (entries l s)) ++ line (close_line (codes "sitemapindex")) ≡ index_text l s
+index_lines l s b p = same_document _ _ (entries l s) _ (l.bounds s) _ (close_line (codes "sitemapindex")) (ap (λ (x : List ℕ). xml_line ∷ open_line (codes "sitemapindex") ∷ up_line x ∷ []) p) refl refl
+
+pub part_lines : (l : Listed) (s : Shown) (k limit n to : ℕ) (b path : List ℕ) → b ≡ s.base → path ≡ l.path → limit ≡ s.limit → n ≡ length (l.items s) → to ≡ min n (k * limit + limit)
+    → ((joined (xml_line ∷ open_line (codes "urlset") ∷ up_line b ∷ link_line (codes "index") b path ∷ []) ++ line (l.part_bounds s k)) ++ item_lines l s (k * limit) to) ++ line (close_line (codes "urlset")) ≡ part_text l s k
+part_lines l s k limit n to b path p q u v w =
+    same_document _ _ _ _ (l.part_bounds s k) _ (close_line (codes "urlset"))
+    (ap (λ (x : List ℕ). xml_line ∷ open_line (codes "urlset") ∷ up_line x ∷ link_line (codes "index") x path ∷ []) p ∙ ap (λ (x : List ℕ). xml_line ∷ open_line (codes "urlset") ∷ up_line s.base ∷ link_line (codes "index") s.base x ∷ []) q) refl
+    (part_is (l.items s) k s.limit limit n to u v w)
 
 -- the paths of parts, piece by piece
 pub resource_path_pieces : (base rest : List ℕ) (number k : ℕ)

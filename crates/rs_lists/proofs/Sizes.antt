@@ -1,14 +1,14 @@
 -- How long documents are at most.
-use Rattle.std.proofs.Common.{◌≡◌, ℕ, ◌+◌, ◌*◌, ◌≤◌, ◌<◌, ◌^◌, List, [], ◌∷◌, ◌++◌, length, map, refl, sym, ap, length-append, arith, Option, Some, None}
+use Rattle.std.proofs.Common.{◌≡◌, ℕ, ◌+◌, ◌*◌, ◌≤◌, ◌<◌, ◌^◌, List, [], ◌∷◌, ◌++◌, length, refl, sym, ap, length-append, arith, Option, Some, None}
 use Rattle.std.specs.Prelude.{codes, Result, Ok, Err, OnOk, IfSome}
 use Rattle.rs_time.specs.Moment.{moment_text}
-use Rattle.rs_record.specs.declared.record.Record.{Record}
-use Rattle.rs_record.specs.declared.change.Change.{Change}
 use Rattle.rs_lists.specs.Lawful.{IsSmall}
 use Rattle.std.specs.Option.{option_map}
 use Rattle.rs_lists.specs.Sinks.{CountGrowsBy}
-use Rattle.rs_lists.specs.Shown.{Shown, resource_parts_of, change_parts_of}
-use Rattle.rs_lists.specs.Text.{line, joined, xml_line, open_line, close_line, link_line, up_line, part_links, document, resource_md, change_md, until_parts, resource_line, change_line, resource_list, change_list, resource_index, change_index, resource_entry, change_entry, numbers_from}
+use Rattle.rs_lists.specs.Chunks.{part_at}
+use Rattle.rs_lists.specs.Listed.{Listed, entries, whole_text, part_text, index_text}
+use Rattle.rs_lists.specs.Shown.{Shown}
+use Rattle.rs_lists.specs.Text.{line, joined, xml_line, open_line, close_line, link_line, up_line, part_links, document, resource_md, change_md, until_parts}
 use Rattle.rs_lists.proofs.Bounds.{total_length, length-line}
 use Rattle.rs_lists.proofs.Lengths.{length-moment_text}
 use Rattle.rs_lists.proofs.Lines.{document_lines}
@@ -50,7 +50,7 @@ part_links_small s path h k =
     let none : length (joined []) ≡ 0 = refl in
     omega arith
 
-resource_md_small : (at : ℕ) → length (line (resource_md at)) ≤ 160
+pub resource_md_small : (at : ℕ) → length (line (resource_md at)) ≤ 160
 unfolding total_length
 resource_md_small at =
     let total : length (line (resource_md at)) ≡ 37 + (length (moment_text at) + (3 + 0)) + 1 = length-line (codes "<rs:md capability=\"resourcelist\" at=\"" ∷ moment_text at ∷ codes "\"/>" ∷ []) in
@@ -62,7 +62,7 @@ unfolding total_length
 until_small None = omega arith
 until_small (Some t) = let e = length-moment_text t in let total : total_length (until_parts (Some t) ++ codes "/>" ∷ []) ≡ 8 + (length (moment_text t) + (1 + (2 + 0))) = refl in omega arith
 
-change_md_small : (start : ℕ) (until : Option ℕ) → length (line (change_md start until)) ≤ 160
+pub change_md_small : (start : ℕ) (until : Option ℕ) → length (line (change_md start until)) ≤ 160
 unfolding total_length
 change_md_small start until =
     let total : length (line (change_md start until)) ≡ 37 + (length (moment_text start) + (1 + total_length (until_parts until ++ codes "/>" ∷ []))) + 1 =
@@ -72,33 +72,14 @@ change_md_small start until =
     omega arith
 
 -- a list of at most 4,000 items, and an index of at most 25,000 parts
-pub resource_list_small : (s : Shown) (records : List Record) (n : ℕ) → length s.base ≤ 128 → length (joined (map (resource_line s.base) records)) ≤ 2450 * n → n ≤ 4000
-    → IsSmall (resource_list s (up_line s.base ∷ []) records)
-resource_list_small s records n b h few =
-    document_small (codes "urlset") (up_line s.base ∷ []) (resource_md s.at) (map (resource_line s.base) records) (omega arith) (up_small s.base b) (resource_md_small s.at) (omega arith)
+pub whole_small : (l : Listed) (s : Shown) (n : ℕ) → length s.base ≤ 128 → length (line (l.bounds s)) ≤ 160 → length (joined (l.items s)) ≤ 2450 * n → n ≤ 4000 → IsSmall (whole_text l s)
+whole_small l s n b m h few = document_small (codes "urlset") (up_line s.base ∷ []) (l.bounds s) (l.items s) (omega arith) (up_small s.base b) m (omega arith)
 
-pub resource_part_small : (s : Shown) (path : List ℕ) (records : List Record) (n : ℕ) → length s.base ≤ 128 → length path ≤ 18 → length (joined (map (resource_line s.base) records)) ≤ 2450 * n → n ≤ 4000
-    → IsSmall (resource_list s (part_links s path) records)
-resource_part_small s path records n b k h few =
-    document_small (codes "urlset") (part_links s path) (resource_md s.at) (map (resource_line s.base) records) (omega arith) (part_links_small s path b k) (resource_md_small s.at) (omega arith)
+pub part_small : (l : Listed) (s : Shown) (k n : ℕ) → length s.base ≤ 128 → length l.path ≤ 18 → length (line (l.part_bounds s k)) ≤ 160 → length (joined (part_at k s.limit (l.items s))) ≤ 2450 * n → n ≤ 4000 → IsSmall (part_text l s k)
+part_small l s k n b p m h few = document_small (codes "urlset") (part_links s l.path) (l.part_bounds s k) (part_at k s.limit (l.items s)) (omega arith) (part_links_small s l.path b p) m (omega arith)
 
-pub change_list_small : (s : Shown) (start : ℕ) (until : Option ℕ) (changes : List Change) (n : ℕ) → length s.base ≤ 128 → length (joined (map (change_line s.base) changes)) ≤ 2450 * n → n ≤ 4000
-    → IsSmall (change_list s (up_line s.base ∷ []) start until changes)
-change_list_small s start until changes n b h few =
-    document_small (codes "urlset") (up_line s.base ∷ []) (change_md start until) (map (change_line s.base) changes) (omega arith) (up_small s.base b) (change_md_small start until) (omega arith)
-
-pub change_part_small : (s : Shown) (path : List ℕ) (start : ℕ) (until : Option ℕ) (changes : List Change) (n : ℕ) → length s.base ≤ 128 → length path ≤ 18 → length (joined (map (change_line s.base) changes)) ≤ 2450 * n → n ≤ 4000
-    → IsSmall (change_list s (part_links s path) start until changes)
-change_part_small s path start until changes n b k h few =
-    document_small (codes "urlset") (part_links s path) (change_md start until) (map (change_line s.base) changes) (omega arith) (part_links_small s path b k) (change_md_small start until) (omega arith)
-
-pub resource_index_small : (s : Shown) (n : ℕ) → length s.base ≤ 128 → length (joined (map (resource_entry s) (numbers_from 0 (resource_parts_of s)))) ≤ 276 * n → n ≤ 25000 → IsSmall (resource_index s)
-resource_index_small s n b h few =
-    document_small (codes "sitemapindex") (up_line s.base ∷ []) (resource_md s.at) (map (resource_entry s) (numbers_from 0 (resource_parts_of s))) (omega arith) (up_small s.base b) (resource_md_small s.at) (omega arith)
-
-pub change_index_small : (s : Shown) (n : ℕ) → length s.base ≤ 128 → length (joined (map (change_entry s) (numbers_from 0 (change_parts_of s)))) ≤ 276 * n → n ≤ 25000 → IsSmall (change_index s)
-change_index_small s n b h few =
-    document_small (codes "sitemapindex") (up_line s.base ∷ []) (change_md s.begin None) (map (change_entry s) (numbers_from 0 (change_parts_of s))) (omega arith) (up_small s.base b) (change_md_small s.begin None) (omega arith)
+pub index_small : (l : Listed) (s : Shown) (n : ℕ) → length s.base ≤ 128 → length (line (l.bounds s)) ≤ 160 → length (joined (entries l s)) ≤ 276 * n → n ≤ 25000 → IsSmall (index_text l s)
+index_small l s n b m h few = document_small (codes "sitemapindex") (up_line s.base ∷ []) (l.bounds s) (entries l s) (omega arith) (up_small s.base b) m (omega arith)
 
 -- the same of what a call gives only where it succeeds
 pub on_value : {X E : Type 0} {P : Type 0} (r : Result X E) → P → OnOk r P

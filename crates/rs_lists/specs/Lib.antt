@@ -2,11 +2,12 @@ pub mod Chunks
 pub mod Escape
 pub mod Lawful
 pub mod Laws
-pub mod Lines
+pub mod Listed
 pub mod Meters
 pub mod Parts
 pub mod Piece
 pub mod Root
 pub mod Shown
+pub mod SinkLaws
 pub mod Sinks
 pub mod Text

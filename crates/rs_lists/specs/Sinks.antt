@@ -1,24 +1,18 @@
--- What a meter of texts takes.
-use Rattle.std.specs.Prelude.{◌≡◌, ℕ, ◌+◌, ◌<◌, ◌^◌, List, [], ◌++◌, length}
-use Rattle.std.proofs.Common.{arith, length-append}
+-- What a sink takes, and what a meter of texts takes.
+use Rattle.std.specs.Prelude.{◌≡◌, ℕ, ◌+◌, ◌<◌, ◌^◌, List, [], ◌++◌, length, Result, OnOk, OnErr}
+
+-- Texts in turn are one text: nothing went in, one text and then another, a failure before more was to follow, and one after a text.
+pub record IsSink {S : Type 0} (takes fails : S → S → List ℕ → Type 0) : Type 0 where
+  pub nothing : (a : S) → takes a a []
+  pub more : (a b c : S) (x y : List ℕ) → takes a b x → takes b c y → takes a c (x ++ y)
+  pub sooner : (a b : S) (x y : List ℕ) → fails a b x → fails a b (x ++ y)
+  pub later : (a b c : S) (x y : List ℕ) → takes a b x → fails b c y → fails a c (x ++ y)
+
+-- a call put this text into a sink, or failed within it
+pub record Puts {S X E : Type 0} (takes fails : S → S → List ℕ → Type 0) (old new : S) (result : Result X E) (text : List ℕ) : Type 0 where
+  pub took : OnOk result (takes old new text)
+  pub failed : OnErr result (fails old new text)
 
 -- a count grows by the length of these bytes, where the sum is below 2^64
 pub record CountGrowsBy (before after : ℕ) (bytes : List ℕ) : Type 0 where
   pub exact : before + length bytes < 2 ^ 64 → after ≡ before + length bytes
-
--- nothing counted
-pub counts_nothing : (a : ℕ) → CountGrowsBy a a []
-counts_nothing a = record { exact = λ _. omega arith }
-
--- bytes counted, and then more
-pub counts_more : (a b c : ℕ) (x y : List ℕ) → CountGrowsBy a b x → CountGrowsBy b c y → CountGrowsBy a c (x ++ y)
-counts_more a b c x y first second =
-    let both = length-append x y in
-    record {
-      exact = λ h.
-          let p : a + length x < 2 ^ 64 = omega arith in
-          let e : b ≡ a + length x = first.exact p in
-          let q : b + length y < 2 ^ 64 = omega arith in
-          let d : c ≡ b + length y = second.exact q in
-          omega arith;
-    }

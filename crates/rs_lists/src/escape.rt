@@ -45,7 +45,7 @@ pub fn escaped_length(bytes: &[u8]) -> u64
     total
 }
 
-// The reference that is written in the place of a byte, if it does not stand as it is.
+/// The reference that is written in the place of a byte, if it does not stand as it is.
 fn reference_of(byte: u8) -> Option<&'static [u8]>
     ensures { MatchOption result (escaped byte ≡ byte ∷ [])
         (λ reference. escaped byte ≡ reference.now) }

@@ -3,6 +3,7 @@
 
 ghost use Rattle.std.specs.Prelude.{◌≡◌, ◌≤◌, ◌∷◌, [], length, OnOk, OnErr, codes};
 ghost use Rattle.rs_lists.specs.Root.{tag_of};
+ghost use Rattle.rs_lists.specs.Sinks.{Puts};
 ghost use Rattle.rs_lists.specs.Text.{line, joined, xml_line, open_line, close_line, up_line, link_line};
 
 use crate::Piece;
@@ -12,7 +13,7 @@ use rs_record::Base;
 
 /// The root element of a document (Sitemap 0.9).
 #[derive(Clone, Copy)]
-pub enum Root {
+pub enum RootElement {
     /// Of a list: `urlset`.
     UrlSet,
 
@@ -20,25 +21,23 @@ pub enum Root {
     SitemapIndex,
 }
 
-impl Root {
-    // The name of the element.
+impl RootElement {
+    /// The name of the element.
     fn tag(self) -> &'static [u8]
         ensures { result.now ≡ tag_of self }
     {
         match self {
-            Root::UrlSet => b"urlset",
-            Root::SitemapIndex => b"sitemapindex",
+            RootElement::UrlSet => b"urlset",
+            RootElement::SitemapIndex => b"sitemapindex",
         }
     }
 }
 
 /// Puts the first lines of a document: the XML declaration, the start of its root element and the link
 /// to the Capability List.
-pub fn put_opening<S: Sink>(root: Root, base: &Base, sink: &mut S) -> Result<(), WriteFault>
-    ensures taken { OnOk result (S.takes sink.old sink.new
-        (joined (xml_line ∷ open_line (tag_of root) ∷ up_line base.now ∷ []))) }
-    ensures fault { OnErr result (S.fails sink.old sink.new
-        (joined (xml_line ∷ open_line (tag_of root) ∷ up_line base.now ∷ []))) }
+pub fn put_opening<S: Sink>(root: RootElement, base: &Base, sink: &mut S) -> Result<(), WriteFault>
+    ensures puts { Puts S.takes S.fails sink.old sink.new result
+        (joined (xml_line ∷ open_line (tag_of root) ∷ up_line base.now ∷ [])) }
     ensures base { OnOk result (length base.now ≤ 128) }
 {
     put_line(
@@ -59,29 +58,24 @@ pub fn put_opening<S: Sink>(root: Root, base: &Base, sink: &mut S) -> Result<(),
 
 /// Puts the first lines of a part: those of a list, and the link to its index.
 pub fn put_part_opening<S: Sink>(base: &Base, index: &[u8], sink: &mut S) -> Result<(), WriteFault>
-    ensures taken { OnOk result (S.takes sink.old sink.new
+    ensures puts { Puts S.takes S.fails sink.old sink.new result
         (joined (xml_line ∷ open_line (codes "urlset") ∷ up_line base.now
-        ∷ link_line (codes "index") base.now index.now ∷ []))) }
-    ensures fault { OnErr result (S.fails sink.old sink.new
-        (joined (xml_line ∷ open_line (codes "urlset") ∷ up_line base.now
-        ∷ link_line (codes "index") base.now index.now ∷ []))) }
+        ∷ link_line (codes "index") base.now index.now ∷ [])) }
     ensures base { OnOk result (length base.now ≤ 128) }
 {
-    put_opening(Root::UrlSet, base, sink)?;
+    put_opening(RootElement::UrlSet, base, sink)?;
     put_link(b"index", base, index, sink)
 }
 
-// Puts a link to a path of the source.
+/// Puts a link to a path of the source.
 fn put_link<'a, S: Sink>(
     relation: &'a [u8],
     base: &'a Base,
     path: &'a [u8],
     sink: &mut S,
 ) -> Result<(), WriteFault>
-    ensures taken { OnOk result
-        (S.takes sink.old sink.new (line (link_line relation.now base.now path.now))) }
-    ensures fault { OnErr result
-        (S.fails sink.old sink.new (line (link_line relation.now base.now path.now))) }
+    ensures puts { Puts S.takes S.fails sink.old sink.new result
+        (line (link_line relation.now base.now path.now)) }
     ensures base { length base.now ≤ 128 }
 {
     put_line(
@@ -98,9 +92,8 @@ fn put_link<'a, S: Sink>(
 }
 
 /// Puts the last line of a document: the end of its root element.
-pub fn put_closing<S: Sink>(root: Root, sink: &mut S) -> Result<(), WriteFault>
-    ensures taken { OnOk result (S.takes sink.old sink.new (line (close_line (tag_of root)))) }
-    ensures fault { OnErr result (S.fails sink.old sink.new (line (close_line (tag_of root)))) }
+pub fn put_closing<S: Sink>(root: RootElement, sink: &mut S) -> Result<(), WriteFault>
+    ensures { Puts S.takes S.fails sink.old sink.new result (line (close_line (tag_of root))) }
 {
     put_line(
         &[

@@ -8,6 +8,7 @@ mod escape;
 mod frame;
 mod laws;
 mod length;
+mod listing;
 mod meter;
 mod piece;
 mod resource_list;

@@ -37,19 +37,14 @@ impl Meter {
 
 impl Sink for Meter {
     ghost use Rattle.rs_lists.specs.Meters.{bytes_counted};
-    ghost use Rattle.rs_lists.specs.Sinks.{CountGrowsBy, counts_nothing, counts_more};
+    ghost use Rattle.rs_lists.specs.SinkLaws.{meter_is_sink};
+    ghost use Rattle.rs_lists.specs.Sinks.{CountGrowsBy};
 
     ghost takes = { λ a b bytes. CountGrowsBy (bytes_counted a) (bytes_counted b) bytes };
 
     ghost fails = { λ _ _ _. ⊥ };
 
-    ghost takes_nothing = { λ a. counts_nothing (bytes_counted a) };
-
-    ghost takes_more = { λ a b c x y first second. counts_more _ _ _ x y first second };
-
-    ghost fails_sooner = { λ a b x y never. never };
-
-    ghost fails_later = { λ a b c x y first never. never };
+    ghost laws = { meter_is_sink bytes_counted };
 
     fn put_piece(&mut self, piece: &Piece<'_>) -> Result<(), WriteFault> {
         self.total = self.total.saturating_add(piece_length(piece));
@@ -68,7 +63,7 @@ pub fn pieces_length(pieces: &[Piece<'_>]) -> u64
     total
 }
 
-// How many bytes a piece has, or `u64::MAX` where it has more.
+/// How many bytes a piece has, or `u64::MAX` where it has more.
 fn piece_length(piece: &Piece<'_>) -> u64
     ensures { result ≡ min (length (piece_text piece.now)) (2 ^ 64 - 1) }
 {

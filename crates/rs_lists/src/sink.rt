@@ -2,8 +2,9 @@
 //!
 //! Each document is described once, over any sink, so what is measured is what is written.
 
-ghost use Rattle.std.specs.Prelude.{◌≡◌, ℕ, ◌++◌, List, [], OnOk, OnErr};
+ghost use Rattle.std.specs.Prelude.{◌≡◌, ℕ, List, OnOk, OnErr};
 ghost use Rattle.rs_lists.specs.Piece.{piece_text, pieces_text};
+ghost use Rattle.rs_lists.specs.Sinks.{IsSink, Puts};
 ghost use Rattle.rs_lists.specs.Text.{line};
 
 use crate::Piece;
@@ -25,37 +26,19 @@ pub trait Sink {
         ensures taken { OnOk result (takes self.old self.new (piece_text piece.now)) }
         ensures fault { OnErr result (fails self.old self.new (piece_text piece.now)) };
 
-    /// No byte went in.
-    ghost takes_nothing: { (a : Self) → takes a a [] };
-
-    /// Bytes went in, and then more.
-    ghost takes_more: { (a b c : Self) (x y : List ℕ) → takes a b x → takes b c y →
-        takes a c (x ++ y) };
-
-    /// It failed within bytes, and more were to follow.
-    ghost fails_sooner: { (a b : Self) (x y : List ℕ) → fails a b x → fails a b (x ++ y) };
-
-    /// Bytes went in, and then it failed within more.
-    ghost fails_later: { (a b c : Self) (x y : List ℕ) → takes a b x → fails b c y →
-        fails a c (x ++ y) };
+    /// Texts in turn are one text.
+    ghost laws: { IsSink takes fails };
 }
 
 impl<W: Write> Sink for Watched<W> {
     ghost use Rattle.rs_io.specs.Watch.{FailedWithin, Wrote};
-    ghost use Rattle.rs_io.proofs.Faults.{failed_sooner, failed_later};
-    ghost use Rattle.rs_io.proofs.Growth.{wrote_nothing, wrote_then};
+    ghost use Rattle.rs_lists.specs.SinkLaws.{writer_is_sink};
 
     ghost takes = { λ a b bytes. Wrote W.contents a b bytes };
 
     ghost fails = { λ a b bytes. FailedWithin W.contents a b bytes };
 
-    ghost takes_nothing = { λ a. wrote_nothing W.contents a };
-
-    ghost takes_more = { λ a b c x y first second. wrote_then W.contents a b c x y first second };
-
-    ghost fails_sooner = { λ a b x y fault. failed_sooner W.contents a b x y fault };
-
-    ghost fails_later = { λ a b c x y first fault. failed_later W.contents a b c x y first fault };
+    ghost laws = { writer_is_sink W.contents };
 
     fn put_piece(&mut self, piece: &Piece<'_>) -> Result<(), WriteFault> {
         match piece {
@@ -70,8 +53,7 @@ impl<W: Write> Sink for Watched<W> {
 
 /// Puts pieces in their order.
 pub fn put_all<S: Sink>(pieces: &[Piece<'_>], sink: &mut S) -> Result<(), WriteFault>
-    ensures taken { OnOk result (S.takes sink.old sink.new (pieces_text pieces.now)) }
-    ensures fault { OnErr result (S.fails sink.old sink.new (pieces_text pieces.now)) }
+    ensures { Puts S.takes S.fails sink.old sink.new result (pieces_text pieces.now) }
 {
     for piece in pieces {
         sink.put_piece(piece)?;
@@ -81,8 +63,7 @@ pub fn put_all<S: Sink>(pieces: &[Piece<'_>], sink: &mut S) -> Result<(), WriteF
 
 /// Puts a line of these pieces.
 pub fn put_line<S: Sink>(pieces: &[Piece<'_>], sink: &mut S) -> Result<(), WriteFault>
-    ensures taken { OnOk result (S.takes sink.old sink.new (line (pieces_text pieces.now))) }
-    ensures fault { OnErr result (S.fails sink.old sink.new (line (pieces_text pieces.now))) }
+    ensures { Puts S.takes S.fails sink.old sink.new result (line (pieces_text pieces.now)) }
 {
     put_all(pieces, sink)?;
     sink.put_piece(&Piece::Plain(b"\n"))

@@ -3,6 +3,9 @@
 ghost use Rattle.std.specs.Prelude.{◌≡◌, ◌<◌, ◌≤◌, length, slice_get, Some};
 ghost use Rattle.rs_lists.specs.Shown.{Shown, IsShown, resource_parts_of, change_parts_of};
 
+use crate::change_list::Changes;
+use crate::listing::parts;
+use crate::resource_list::Resources;
 use rs_record::{Base, Change, Record};
 use rs_time::Moment;
 
@@ -69,8 +72,7 @@ pub trait View {
 pub fn resource_parts<V: View>(view: &V) -> u64
     ensures { result ≡ resource_parts_of (V.shown view.now) }
 {
-    let limit = view.limit() as u64;
-    (view.published_len() as u64 + limit - 1) / limit
+    parts::<Resources, V>(view)
 }
 
 /// How many parts the kept changes have, of at most [`View::limit`] changes each.
@@ -79,6 +81,5 @@ pub fn resource_parts<V: View>(view: &V) -> u64
 pub fn change_parts<V: View>(view: &V) -> u64
     ensures { result ≡ change_parts_of (V.shown view.now) }
 {
-    let limit = view.limit() as u64;
-    (view.changes_len() as u64 + limit - 1) / limit
+    parts::<Changes, V>(view)
 }

@@ -3,10 +3,12 @@
 ghost use Rattle.std.specs.Prelude.{◌≡◌, ◌↔◌, None, IfSome, IsSome, is_some, IsErrOf, OnOk, OnErr};
 ghost use Rattle.rs_io.specs.Watch.{EndFailed, FailedWithin, Wrote};
 ghost use Rattle.rs_lists.specs.Lawful.{IsSmall};
+ghost use Rattle.rs_lists.specs.Sinks.{Puts};
 ghost use Rattle.rs_lists.specs.Text.{list_text, is_part};
 
-use crate::change_list::{put_change_head, put_change_part};
-use crate::resource_list::{put_resource_head, put_resource_part};
+use crate::change_list::Changes;
+use crate::listing::{put_head, put_part};
+use crate::resource_list::Resources;
 use crate::sink::Sink;
 use crate::{Doc, View, change_parts, resource_parts};
 use rs_io::{Watched, WriteFault};
@@ -81,7 +83,7 @@ pub fn put_list<V: View, S: Sink>(view: &V, doc: Doc, sink: &mut S) -> Result<()
     Ok(())
 }
 
-// Whether there is such a list, index or part.
+/// Whether there is such a list, index or part.
 fn is_there<V: View>(view: &V, doc: Doc) -> bool
     ensures { result ≡ is_some (list_text (V.shown view.now) doc) }
 {
@@ -95,27 +97,25 @@ fn is_there<V: View>(view: &V, doc: Doc) -> bool
     }
 }
 
-// Whether a number is that of one of several parts.
+/// Whether a number is that of one of several parts.
 fn is_part_of(parts: u64, first: u64, number: u64) -> bool
     ensures { result ≡ is_part parts first number }
 {
     parts > 1 && first <= number && number - first < parts
 }
 
-// Puts a list, an index or a part that is there.
+/// Puts a list, an index or a part that is there.
 fn put_what_is_there<V: View, S: Sink>(view: &V, doc: Doc, sink: &mut S) -> Result<(), WriteFault>
     requires { IsSome (list_text (V.shown view.now) doc) }
-    ensures taken { OnOk result
-        (IfSome (list_text (V.shown view.now) doc) (S.takes sink.old sink.new)) }
-    ensures fault { OnErr result
-        (IfSome (list_text (V.shown view.now) doc) (S.fails sink.old sink.new)) }
+    ensures puts { IfSome (list_text (V.shown view.now) doc)
+        (Puts S.takes S.fails sink.old sink.new result) }
     ensures small { OnOk result (IfSome (list_text (V.shown view.now) doc) IsSmall) }
 {
     match doc {
-        Doc::ResourceHead => put_resource_head(view, sink),
-        Doc::ResourcePart { part, .. } => put_resource_part(view, part, sink),
-        Doc::ChangeHead => put_change_head(view, sink),
-        Doc::ChangePart { part } => put_change_part(view, part - view.first(), sink),
+        Doc::ResourceHead => put_head::<Resources, V, S>(view, sink),
+        Doc::ResourcePart { part, .. } => put_part::<Resources, V, S>(view, part, sink),
+        Doc::ChangeHead => put_head::<Changes, V, S>(view, sink),
+        Doc::ChangePart { part } => { put_part::<Changes, V, S>(view, part - view.first(), sink) },
         Doc::Description | Doc::Capabilities => unreachable!(),
     }
 }

@@ -20,6 +20,10 @@ pub record IsPage {T : Type 0} (format : ItemFormat T) (ref : PageRef) (image : 
   pub digest : (digests (part ref.extent ref.length image)).sha256 ≡ ref.sha256
   pub lawful : ArePageItems format items
 
+-- Bytes of a disk have no page of such items where a reference points to.
+abbrev pub HoldsNoPage : {T : Type 0} → ItemFormat T → PageRef → List ℕ → Type 0
+HoldsNoPage {T} format ref image = (items : List T) → ¬ IsPage format ref image items
+
 -- what the pages of these references hold, one for one
 abbrev pub ArePages : {T : Type 0} → ItemFormat T → List PageRef → List ℕ → List (List T) → Type 0
 ArePages format refs image pages = AllZip (λ ref items. IsPage format ref image items) refs pages

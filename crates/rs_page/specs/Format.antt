@@ -1,5 +1,5 @@
 -- How a page of a list is spelled on the disk.
-use Rattle.std.specs.Prelude.{◌≤◌, ℕ, List, ◌∷◌, ◌++◌, length, flat_map, All}
+use Rattle.std.specs.Prelude.{◌≡◌, ◌≤◌, ℕ, List, ◌∷◌, ◌++◌, length, flat_map, All}
 use Rattle.std.specs.Int.{w32, to_be_bytes}
 use Rattle.rs_record.specs.Limits.{most_items}
 use Rattle.rs_page.specs.declared.kind.PageKind.{PageKind}
@@ -29,3 +29,12 @@ pub record ArePageItems {T : Type 0} (format : ItemFormat T) (items : List T) : 
   pub some : 1 ≤ length items
   pub most : length items ≤ most_items
   pub lawful : All format.IsLawful items
+
+-- Bytes are no page of such items.
+abbrev pub AreNoPage : {T : Type 0} → ItemFormat T → List ℕ → Type 0
+AreNoPage {T} format bytes = (items : List T) → ArePageItems format items → ¬ (bytes ≡ page_bytes format items)
+
+-- Bytes do not begin with so many lawful items.
+abbrev pub BeginWithFewer : {T : Type 0} → ItemFormat T → ℕ → List ℕ → Type 0
+BeginWithFewer {T} format count bytes =
+    (items : List T) (rest : List ℕ) → length items ≡ count → All format.IsLawful items → ¬ (bytes ≡ items_bytes format items ++ rest)

@@ -23,7 +23,7 @@ mod shared;
 pub use fill::Fill;
 pub use item::PageItem;
 pub use kind::PageKind;
-pub use page::load::LoadFault;
+pub use page::load::fault_of_fields;
 pub use page::store::StoreFault;
 pub use page::{Full, Page};
 pub use place::{PageRef, Place};

@@ -1,7 +1,7 @@
 //! A page as it is read.
-ghost use Rattle.std.specs.Prelude.{ℕ, ◌≡◌, ◌<◌, ◌^◌, List, ◌∷◌, ◌++◌, length, All, IfOk, IsErrOf, MatchOption};
+ghost use Rattle.std.specs.Prelude.{◌≡◌, ◌<◌, ◌^◌, ◌∷◌, ◌++◌, length, All, IfOk, IsErrOf, MatchOption};
 ghost use Rattle.std.specs.Int.{w32, to_be_bytes};
-ghost use Rattle.rs_page.specs.Format.{ArePageItems, page_bytes, items_bytes};
+ghost use Rattle.rs_page.specs.Format.{ArePageItems, page_bytes, items_bytes, AreNoPage, BeginWithFewer};
 
 use crate::PageItem;
 use rs_record::{FieldFault, MOST_ITEMS};
@@ -15,10 +15,7 @@ use std::alloc::Global;
 pub(crate) fn read_items<T: PageItem>(alloc: Global, bytes: &[u8]) -> Result<Vec<T>, FieldFault>
     ensures lawful { IfOk result (λ read. ArePageItems T.format read.items) }
     ensures found { IfOk result (λ read. bytes.now ≡ page_bytes T.format read.items) }
-    ensures malformed { IsErrOf result FieldFault.Malformed
-        → (items : List T)
-        → ArePageItems T.format items
-        → ¬ (bytes.now ≡ page_bytes T.format items) }
+    ensures malformed { IsErrOf result FieldFault.Malformed → AreNoPage T.format bytes.now }
 {
     let Some((kind, count, rest)) = head_of(bytes) else {
         return Err(FieldFault::Malformed);
@@ -33,7 +30,7 @@ pub(crate) fn read_items<T: PageItem>(alloc: Global, bytes: &[u8]) -> Result<Vec
     Ok(items)
 }
 
-// The kind and the number of items that the bytes begin with, and the bytes after them.
+/// The kind and the number of items that the bytes begin with, and the bytes after them.
 fn head_of(bytes: &[u8]) -> Option<(u8, usize, &[u8])>
     ensures { MatchOption result (length bytes.now < 5) (λ head. (head.1 < 2 ^ 32)
         × (bytes.now ≡ head.0 ∷ (to_be_bytes w32 head.1 ++ head.2.now))) }
@@ -43,7 +40,7 @@ fn head_of(bytes: &[u8]) -> Option<(u8, usize, &[u8])>
     Some((*kind, u32::from_be_bytes(*count) as usize, rest))
 }
 
-// The first `count` items that the bytes begin with, and the bytes after them.
+/// The first `count` items that the bytes begin with, and the bytes after them.
 fn read_first<T: PageItem>(
     alloc: Global,
     count: usize,
@@ -54,10 +51,7 @@ fn read_first<T: PageItem>(
     ensures found { IfOk result (λ read. bytes.now ≡ items_bytes T.format read.0.items
         ++ read.1.now) }
     ensures malformed { IsErrOf result FieldFault.Malformed
-        → (items : List T) (rest : List ℕ)
-        → length items ≡ count
-        → All T.format.IsLawful items
-        → ¬ (bytes.now ≡ items_bytes T.format items ++ rest) }
+        → BeginWithFewer T.format count bytes.now }
 {
     let mut items = Vec::new(alloc);
     let mut rest = bytes;

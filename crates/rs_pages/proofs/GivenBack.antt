@@ -1,6 +1,6 @@
 -- A page that is placed and taken back is as it was, and so are the used blocks.
-use Rattle.std.proofs.Common.{◌≡◌, inl, inr, ℕ, ◌+◌, ◌<◌, Bool, true, false, List, length, get_or, set, refl, sym, ap, ap₂, ◌∙◌, subst, arith}
-use Rattle.std.specs.Prelude.{IfSome, slice_get}
+use Rattle.std.proofs.Common.{◌≡◌, inl, inr, ℕ, ◌+◌, Bool, true, false, List, length, get_or, set, refl, sym, ap, ap₂, ◌∙◌, subst, arith}
+use Rattle.std.specs.Prelude.{IfSome}
 use Rattle.std.proofs.lemmas.Bool.{cases_lt}
 use Rattle.std.proofs.lemmas.List.{ext_get_or, get_or-set_same, set-set}
 use Rattle.std.proofs.lemmas.Option.{slice_get_read}
@@ -11,8 +11,8 @@ use Rattle.rs_page.specs.declared.place.Place.TheVariants.{Touched, Placed, Stor
 use Rattle.rs_page.specs.Format.{ItemFormat}
 use Rattle.rs_page.specs.Pages.{Page, IsTouched, placed_extent}
 use Rattle.rs_page.specs.Placing.{PlacesOne, TakesLowest, place_taken_back, GivesBack}
-use Rattle.rs_pages.proofs.Placed.{same_page}
-use Rattle.rs_pages.proofs.Writing.{set_itself}
+use Rattle.rs_pages.proofs.Placed.{same_page, PlacesFirst}
+use Rattle.rs_pages.proofs.Writing.{same_at, set_itself}
 
 -- a free extent that is taken and given back
 undone : (u v w : List Bool) (e : Extent) → IsFree u e → Sets u v e true → Sets v w e false → w ≡ u
@@ -29,7 +29,7 @@ taken u v n e lowest takes b above below = (omega (arith, above, below, lowest.i
 
 module _ {T : Type 0} (format : ItemFormat T) where
   -- a page that was placed can be taken back
-  pub can_give : (u v : List Bool) (items : List T) (place : Place) (y : Page T) → IsTouched place → PlacesOne format u (record { items = items; place = place }) v y
+  can_give : (u v : List Bool) (items : List T) (place : Place) (y : Page T) → IsTouched place → PlacesOne format u (record { items = items; place = place }) v y
       → IfSome (placed_extent y.place) (IsTaken v)
   can_give u v items Touched y touched one =
       let takes : TakesLowest format items u v y.place = one.1 in
@@ -38,7 +38,7 @@ module _ {T : Type 0} (format : ItemFormat T) where
   can_give u v items (Stored ref) y touched one = absurd touched
 
   -- and is as it was then
-  pub given_back : (u v w : List Bool) (items : List T) (place : Place) (y z : Page T) → IsTouched place → PlacesOne format u (record { items = items; place = place }) v y
+  given_back : (u v w : List Bool) (items : List T) (place : Place) (y z : Page T) → IsTouched place → PlacesOne format u (record { items = items; place = place }) v y
       → z.items ≡ y.items → z.place ≡ place_taken_back y.place → GivesBack y.place v w → (w ≡ u) × (z ≡ record { items = items; place = place })
   given_back u v w items Touched y z touched one same back gives =
       let takes : TakesLowest format items u v y.place = one.1 in (
@@ -48,30 +48,27 @@ module _ {T : Type 0} (format : ItemFormat T) where
   given_back u v w items (Placed e) y z touched one same back gives = absurd touched
   given_back u v w items (Stored ref) y z touched one same back gives = absurd touched
 
--- an element that was set
-pub at_set : {A : Type 0} (k : ℕ) (old now : List A) (y d : A) → k < length old → now ≡ set old k y → get_or now k d ≡ y
-at_set k old now y d inside made = ap (λ xs. get_or xs k d) made ∙ get_or-set_same old k y d inside
+-- The page at k was placed first.
+module _ {T : Type 0} {format : ItemFormat T} {u v : List Bool} {k : ℕ} {old : List (Page T)} {d page : Page T} (first : PlacesFirst format u v k old d page) {v' : List Bool} {now : List (Page T)} (e : Page T)
+    (made : now ≡ set old k page) (same : v' ≡ v) where
+  is_there : get_or old k d ≡ get_or old k (get_or old k d)
+  is_there = same_at old k d (get_or old k d) first.inside
 
-module _ {T : Type 0} (format : ItemFormat T) where
-  -- the page at k is touched
-  at_touched : (k : ℕ) (old : List (Page T)) (x : Page T) → k < length old → x ≡ get_or old k x → IfSome (slice_get old k) (λ page. IsTouched page.place) → IsTouched x.place
-  at_touched k old x inside is touched = subst (λ o. IfSome o (λ (page : Page T). IsTouched page.place)) (slice_get_read old (length old) k x refl inside is) touched
+  was_touched : IsTouched (get_or old k d).place
+  was_touched = subst (λ o. IfSome o (λ (it : Page T). IsTouched it.place)) (slice_get_read old (length old) k (get_or old k d) refl first.inside is_there) first.touched
 
-  -- it was placed and can be taken back
-  pub can_give_at : (u v v' : List Bool) (k : ℕ) (old now : List (Page T)) (x y d : Page T) → k < length old → x ≡ get_or old k x → IfSome (slice_get old k) (λ page. IsTouched page.place)
-      → PlacesOne format u x v y → now ≡ set old k y → v' ≡ v → IfSome (placed_extent (get_or now k d).place) (IsTaken v')
-  can_give_at u v v' k old now x y d inside is touched one made same =
-      subst (λ (p : Page T). IfSome (placed_extent p.place) (IsTaken v')) (sym (at_set k old now y d inside made))
-      (subst (λ (used : List Bool). IfSome (placed_extent y.place) (IsTaken used)) (sym same) (can_give format u v x.items x.place y (at_touched k old x inside is touched) one))
+  is_page : get_or now k e ≡ page
+  is_page = ap (λ pages. get_or pages k e) made ∙ get_or-set_same old k page e first.inside
+
+  -- it can be taken back
+  pub can_give_at : IfSome (placed_extent (get_or now k e).place) (IsTaken v')
+  can_give_at =
+      subst (λ (it : Page T). IfSome (placed_extent it.place) (IsTaken v')) (sym is_page)
+      (subst (λ (used : List Bool). IfSome (placed_extent page.place) (IsTaken used)) (sym same) (can_give format u v (get_or old k d).items (get_or old k d).place page was_touched first.one))
 
   -- and all is as it was then
-  pub all_back : (u v v' w : List Bool) (k : ℕ) (old now : List (Page T)) (x y d z : Page T) → k < length old → x ≡ get_or old k x → IfSome (slice_get old k) (λ page. IsTouched page.place)
-      → PlacesOne format u x v y → now ≡ set old k y → v' ≡ v → z.items ≡ (get_or now k d).items → z.place ≡ place_taken_back (get_or now k d).place → GivesBack (get_or now k d).place v' w
-      → (w ≡ u) × (set now k z ≡ old)
-  all_back u v v' w k old now x y d z inside is touched one made same items place gives =
-      let at : get_or now k d ≡ y = at_set k old now y d inside made in
-      let back = given_back format u v w x.items x.place y z (at_touched k old x inside is touched) one (items ∙ ap (λ p. p.items) at) (place ∙ ap (λ p. place_taken_back p.place) at)
-      (subst (λ (p : Page T). GivesBack p.place v w) at (subst (λ (used : List Bool). GivesBack (get_or now k d).place used w) same gives)) in (
-        back.0,
-        ap₂ (λ xs p. set xs k p) made back.1 ∙ set-set old k y x ∙ set_itself k old x is,
-      )
+  pub all_back : (w : List Bool) (z : Page T) → z.items ≡ (get_or now k e).items → z.place ≡ place_taken_back (get_or now k e).place → GivesBack (get_or now k e).place v' w → (w ≡ u) × (set now k z ≡ old)
+  all_back w z items place gives =
+      let back = given_back format u v w (get_or old k d).items (get_or old k d).place page z was_touched first.one (items ∙ ap (λ it. it.items) is_page) (place ∙ ap (λ it. place_taken_back it.place) is_page)
+      (subst (λ (it : Page T). GivesBack it.place v w) is_page (subst (λ (used : List Bool). GivesBack (get_or now k e).place used w) same gives)) in
+      (back.0, ap₂ (λ pages it. set pages k it) made back.1 ∙ set-set old k page (get_or old k d) ∙ set_itself k old (get_or old k d) is_there)

@@ -11,6 +11,7 @@ pub mod Placed
 pub mod GivenBack
 pub mod Standing
 pub mod Taken
+pub mod Joined
 pub mod Writing
 pub mod ListedUpTo
 pub mod StoredUpTo
@@ -22,5 +23,4 @@ pub mod Ascending
 pub mod FilledAt
 pub mod FoundEntries
 pub mod ByEntry
-pub mod LoadedBeside
 pub mod Dropped

@@ -1,59 +1,78 @@
--- What holds while pages are read, one after the other.
-use Rattle.std.proofs.Common.{◌≡◌, ℕ, zero, suc, ◌+◌, ◌<◌, ◌≤◌, List, [], ◌∷◌, ◌++◌, length, get_or, take, drop, refl, sym, ap, ◌∙◌, subst, arith, add-one}
-use Rattle.std.specs.Prelude.{map, flat_map, All, IsTrue, IsSome}
-use Rattle.std.proofs.lemmas.List.{append-nil, length-append, length-take, map-append}
-use Rattle.std.proofs.lemmas.List.Elements.{All-nil, All-push, filter_map-append}
+-- What holds while pages are read, one after the other, beside a list that is held.
+use Rattle.std.proofs.Common.{◌≡◌, ℕ, suc, ◌+◌, ◌<◌, ◌≤◌, List, [], ◌∷◌, ◌++◌, length, get_or, take, drop, Some, refl, sym, ap, ◌∙◌, subst, arith, add-one}
+use Rattle.std.specs.Prelude.{flat_map, All, IsTrue, is_some, not, filter}
+use Rattle.std.specs.List.{list_any, cons_option}
+use Rattle.std.proofs.lemmas.List.{append-nil, length-append, map-append, take_all}
+use Rattle.std.proofs.lemmas.List.Elements.{All-nil, All-push, filter-append, filter_map-append}
 use Rattle.rs_disk.specs.Medium.{DiskState, Medium}
-use Rattle.rs_disk.specs.Leaves.{Rests}
-use Rattle.rs_disk.proofs.Steps.{rests, rest_on}
+use Rattle.rs_disk.specs.Runs.{RunsReading}
+use Rattle.rs_disk.proofs.Runs.{reading_none, reading_as, reading_then}
 use Rattle.rs_record.specs.Limits.{most_items}
 use Rattle.rs_page.specs.declared.place.PageRef.{PageRef}
-use Rattle.rs_page.specs.declared.place.Place.{Place}
-use Rattle.rs_page.specs.declared.place.Place.TheVariants.{Stored}
-use Rattle.rs_page.specs.Format.{ItemFormat, ArePageItems}
-use Rattle.rs_page.specs.Pages.{Page, IsStored, items_of, stored_ref, stored_refs}
-use Rattle.rs_page.specs.DiskPages.{IsPage, ArePages}
+use Rattle.rs_page.specs.Format.{ItemFormat}
+use Rattle.rs_page.specs.Pages.{Page, IsStored, same_page, stored_ref, stored_refs}
+use Rattle.rs_page.specs.DiskPages.{IsPage, HoldsNoPage, ArePages, Stands}
 use Rattle.rs_page.proofs.OneList.{AreApart, page_holds_once}
 use Rattle.rs_pages.specs.Rule.{HaveItems}
-use Rattle.rs_pages.specs.Storing.{HoldItems, ReadsPages}
-use Rattle.rs_pages.proofs.Writing.{parted_at, front_at}
+use Rattle.rs_pages.specs.Storing.{items_by_page, AreStoredAt, HoldItems, HoldNoItems, ReadsPages, unshared}
+use Rattle.rs_pages.proofs.Joined.{joined}
+use Rattle.rs_pages.proofs.Writing.{same_at, parted_at, front_at}
 
 -- how many items there are in all
-abbrev pub sum_of : {T : Type 0} → List (List T) → ℕ
+abbrev sum_of : {T : Type 0} → List (List T) → ℕ
 sum_of pages = length (flat_map (λ items. items) pages)
 
--- The pages of the first k references were read, and there is room for so many items more.
-pub record LoadedUpTo {T : Type 0} (format : ItemFormat T) (k room : ℕ) (refs : List PageRef) (loaded : List (Page T)) (old new : DiskState) : Type 0 where
+-- The pages of the first k references are there, and there is room for so many items more. Calls were made for some of these
+-- references, and none failed.
+pub record LoadedUpTo {T : Type 0} (format : ItemFormat T) (called : List PageRef → List PageRef) (k room : ℕ) (refs : List PageRef) (beside loaded : List (Page T)) (old new : DiskState) : Type 0 where
   pub refs_are : stored_refs loaded ≡ take k refs
   pub some : HaveItems loaded
   pub are_stored : All IsStored loaded
-  pub found : IsTrue new.honest → ArePages format (take k refs) new.now.seen (map (λ page. page.items) loaded)
-  pub fits : room + sum_of (map (λ page. page.items) loaded) ≡ most_items
-  pub reads : ReadsPages (take k refs) old new
+  pub found : IsTrue new.honest → All (Stands format new.now.seen) beside → ArePages format (take k refs) new.now.seen (items_by_page loaded)
+  pub fits : room + sum_of (items_by_page loaded) ≡ most_items
+  pub reads : ReadsPages (called (take k refs)) ⊥ old new
 
--- an element that is there, whatever stands for one that is not
-pub same_at : {A : Type 0} (xs : List A) (k : ℕ) (d other : A) → k < length xs → get_or xs k d ≡ get_or xs k other
-same_at [] k d other inside = absurd (omega arith)
-same_at (x ∷ xs) zero d other inside = refl
-same_at (x ∷ xs) (suc k) d other inside = same_at xs k d other (omega arith)
+-- the calls for two lists of references are those for each
+abbrev AreCalled : (List PageRef → List PageRef) → Type 0
+AreCalled called = (refs more : List PageRef) → length (called (refs ++ more)) ≡ length (called refs) + length (called more)
 
-module _ {T : Type 0} (format : ItemFormat T) where
-  pub reads_none : (disk : DiskState) → ReadsPages [] disk disk
-  reads_none disk = record { rests = rests disk; one_each = omega arith }
+-- what stands for the reference where none was read
+pub no_ref : PageRef
+no_ref = record { extent = record { first = 0; blocks = 0 }; length = 0; sha256 = [] }
 
-  pub load_begun : (refs : List PageRef) (disk : DiskState) → LoadedUpTo format 0 most_items refs [] disk disk
-  load_begun refs disk =
+pub all_called : AreCalled (λ refs. refs)
+all_called = length-append
+
+pub unshared_called : (others : List PageRef) → AreCalled (λ refs. unshared refs others)
+unshared_called others refs more =
+    let test = λ (ref : PageRef). not (list_any (same_page ref) others) in
+    ap length (filter-append test refs more) ∙ length-append (filter test refs) (filter test more)
+
+-- a run for some references, in which no call failed, and then one for more; both make no more calls than there are in all
+reads_then : {A B : Type 0} (refs more all : List PageRef) (old mid new : DiskState) → length refs + length more ≤ length all → (A → B) → (B → A) → ReadsPages refs ⊥ old mid → ReadsPages more A mid new → ReadsPages all B old new
+reads_then refs more all old mid new sizes to from one two =
+    record { runs = reading_then old mid new (λ failed. failed) one.runs (reading_as mid new to from two.runs); one_each = omega (arith, sizes, one.one_each, two.one_each) }
+
+module _ {T : Type 0} where
+  sum_push : (loaded : List (Page T)) (page : Page T) → sum_of (items_by_page (loaded ++ page ∷ [])) ≡ sum_of (items_by_page loaded) + length page.items
+  sum_push [] page = omega (arith, ap length (append-nil page.items))
+  sum_push (p ∷ loaded) page =
+      omega (arith, sum_push loaded page, length-append p.items (flat_map (λ items. items) (items_by_page (loaded ++ page ∷ []))), length-append p.items (flat_map (λ items. items) (items_by_page loaded)))
+
+module _ {T : Type 0} {format : ItemFormat T} where
+  pub load_begun : {called : List PageRef → List PageRef} (refs : List PageRef) (beside : List (Page T)) (disk : DiskState) → LoadedUpTo format called 0 most_items refs beside [] disk disk
+  load_begun refs beside disk =
       record {
         refs_are = refl;
         some = All-nil (λ (page : Page T). 1 ≤ length page.items);
         are_stored = All-nil (IsStored {T = T});
-        found = λ honest. tt;
+        found = λ honest stand. tt;
         fits = omega arith;
-        reads = reads_none disk;
+        reads = record { runs = reading_none disk (λ failed. failed); one_each = omega arith };
       }
 
   -- pages and one more
-  pub zip_push : (image : List ℕ) (refs : List PageRef) (pages : List (List T)) (ref : PageRef) (items : List T) → ArePages format refs image pages → IsPage format ref image items
+  zip_push : (image : List ℕ) (refs : List PageRef) (pages : List (List T)) (ref : PageRef) (items : List T) → ArePages format refs image pages → IsPage format ref image items
       → ArePages format (refs ++ ref ∷ []) image (pages ++ items ∷ [])
   zip_push image [] [] ref items are is = (is, tt)
   zip_push image [] (page ∷ pages) ref items are is = absurd are
@@ -67,77 +86,8 @@ module _ {T : Type 0} (format : ItemFormat T) where
   zip_at image (f ∷ front) ref rest [] are = absurd are
   zip_at image (f ∷ front) ref rest (items ∷ pages) are = zip_at image front ref rest pages are.1
 
-  reads_on : (k : ℕ) (refs : List PageRef) (ref : PageRef) (old mid new : DiskState) → k < length refs → ref ≡ get_or refs k ref → ReadsPages (take k refs) old mid
-      → Rests mid new → new.calls ≤ mid.calls + 1 → ReadsPages (take (suc k) refs) old new
-  reads_on k refs ref old mid new inside is reads rest one =
-      record {
-        rests = rest_on old mid new reads.rests rest;
-        one_each = omega (arith, reads.one_each, one, ap length (front_at k refs ref inside is), length-append (take k refs) (ref ∷ []));
-      }
-
-  -- no more than one call for each reference, where the page of one of them was the last
-  pub reads_next : (k : ℕ) (refs : List PageRef) (old mid new : DiskState) → k < length refs → ReadsPages (take k refs) old mid → Rests mid new → new.calls ≤ mid.calls + 1 → ReadsPages refs old new
-  reads_next k refs old mid new inside reads rest one =
-      let sizes = length-take k refs in
-      record { rests = rest_on old mid new reads.rests rest; one_each = omega (arith, reads.one_each, one, inside, sizes) }
-
-  pub refs_push : (loaded : List (Page T)) (page : Page T) (ref : PageRef) → page.place ≡ Stored ref → stored_refs (loaded ++ page ∷ []) ≡ stored_refs loaded ++ ref ∷ []
-  refs_push loaded page ref is =
-      filter_map-append (λ (p : Page T). stored_ref p.place) loaded (page ∷ [])
-      ∙ ap (λ refs. stored_refs loaded ++ refs) (subst (λ (place : Place). stored_refs (record { items = page.items; place = place } ∷ []) ≡ ref ∷ []) (sym is) refl)
-
-  pub sum_push : (loaded : List (Page T)) (page : Page T) → sum_of (map (λ p. p.items) (loaded ++ page ∷ [])) ≡ sum_of (map (λ p. p.items) loaded) + length page.items
-  sum_push [] page = omega (arith, ap length (append-nil page.items))
-  sum_push (p ∷ loaded) page =
-      omega (arith, sum_push loaded page, length-append p.items (flat_map (λ items. items) (map (λ p. p.items) (loaded ++ page ∷ []))), length-append p.items (flat_map (λ items. items) (map (λ p. p.items) loaded)))
-
-  step : (k room left : ℕ) (refs : List PageRef) (loaded now : List (Page T)) (ref : PageRef) (page : Page T) (old mid new : DiskState) → k < length refs → ref ≡ get_or refs k ref
-      → LoadedUpTo format k room refs loaded old mid → left + length page.items ≡ room → now ≡ loaded ++ page ∷ [] → page.place ≡ Stored ref → ArePageItems format page.items
-      → (IsTrue new.honest → IsPage format ref new.now.seen page.items) → Rests mid new → new.calls ≤ mid.calls + 1 → LoadedUpTo format (suc k) left refs now old new
-  step k room left refs loaded now ref page old mid new inside is so_far fits pushed place lawful found rest one =
-      let front : take (suc k) refs ≡ take k refs ++ ref ∷ [] = front_at k refs ref inside is in
-      let seen : new.now.seen ≡ mid.now.seen = ap (λ (m : Medium). m.seen) rest.now in
-      let before : IsTrue new.honest → ArePages format (take k refs) new.now.seen (map (λ p. p.items) loaded) =
-      λ honest. subst (λ (image : List ℕ). ArePages format (take k refs) image (map (λ p. p.items) loaded)) (sym seen) (so_far.found (rest.lasts honest)) in
-      let P : Page T → Type 0 = λ p. 1 ≤ length p.items in
-      let after : LoadedUpTo format (suc k) left refs (loaded ++ page ∷ []) old new =
-      record {
-        refs_are = refs_push loaded page ref place ∙ ap (λ rs. rs ++ ref ∷ []) so_far.refs_are ∙ sym front;
-        some = All-push P loaded page so_far.some lawful.some;
-        are_stored = All-push (IsStored {T = T}) loaded page so_far.are_stored (subst (λ (p : Place). IsSome (stored_ref p)) (sym place) refl);
-        found = λ honest.
-            subst (λ (rs : List PageRef). ArePages format rs new.now.seen (map (λ p. p.items) (loaded ++ page ∷ []))) (sym front)
-            (subst (ArePages format (take k refs ++ ref ∷ []) new.now.seen) (sym (map-append (λ (p : Page T). p.items) loaded (page ∷ [])))
-            (zip_push new.now.seen (take k refs) (map (λ p. p.items) loaded) ref page.items (before honest) (found honest)));
-        fits = omega (arith, so_far.fits, fits, sum_push loaded page);
-        reads = reads_on k refs ref old mid new inside is so_far.reads rest one;
-      } in
-      subst (λ (ps : List (Page T)). LoadedUpTo format (suc k) left refs ps old new) (sym pushed) after
-
-  pub load_step : (k room left : ℕ) (refs : List PageRef) (loaded now : List (Page T)) (d : PageRef) (page : Page T) (old mid new : DiskState) → k < length refs
-      → LoadedUpTo format k room refs loaded old mid → left + length page.items ≡ room → now ≡ loaded ++ page ∷ [] → page.place ≡ Stored (get_or refs k d) → ArePageItems format page.items
-      → (IsTrue new.honest → IsPage format (get_or refs k d) new.now.seen page.items) → Rests mid new → new.calls ≤ mid.calls + 1 → LoadedUpTo format (k + 1) left refs now old new
-  load_step k room left refs loaded now d page old mid new inside so_far fits pushed place lawful found rest one =
-      let ref : PageRef = get_or refs k d in
-      subst (λ (j : ℕ). LoadedUpTo format j left refs now old new) (sym (add-one k))
-      (step k room left refs loaded now ref page old mid new inside (same_at refs k d ref inside) so_far fits pushed place lawful found rest one)
-
-  -- where one page is damaged, there are no such pages
-  pub damaged_at : (k : ℕ) (refs : List PageRef) (d : PageRef) (image : List ℕ) → k < length refs
-      → ((items : List T) → ¬ IsPage format (get_or refs k d) image items) → (pages : List (List T)) → ¬ HoldItems format refs image pages
-  damaged_at k refs d image inside none pages held =
-      let ref : PageRef = get_or refs k d in
-      let is : ref ≡ get_or refs k ref = same_at refs k d ref inside in
-      let found = zip_at image (take k refs) ref (drop (suc k) refs) pages (subst (λ (rs : List PageRef). ArePages format rs image pages) (parted_at k refs ref inside is) held.hold) in
-      none found.0 found.1
-
-  pub sum_is : (pages : List (Page T)) → length (items_of pages) ≡ sum_of (map (λ p. p.items) pages)
-  sum_is [] = refl
-  sum_is (page ∷ pages) =
-      omega (arith, sum_is pages, length-append page.items (items_of pages), length-append page.items (flat_map (λ items. items) (map (λ p. p.items) pages)))
-
   -- pages hold no fewer items than some of them that were read
-  pub sum_within : AreApart format → (image : List ℕ) (front : List PageRef) (ref : PageRef) (rest : List PageRef) (read : List (List T)) (items : List T) (pages : List (List T)) → ArePages format front image read
+  sum_within : AreApart format → (image : List ℕ) (front : List PageRef) (ref : PageRef) (rest : List PageRef) (read : List (List T)) (items : List T) (pages : List (List T)) → ArePages format front image read
       → IsPage format ref image items → ArePages format (front ++ ref ∷ rest) image pages → sum_of read + length items ≤ sum_of pages
   sum_within apart image [] ref rest [] items [] of_read of_items of_pages = absurd of_pages
   sum_within apart image [] ref rest [] items (page ∷ pages) of_read of_items of_pages =
@@ -151,16 +101,83 @@ module _ {T : Type 0} (format : ItemFormat T) where
       let later = sum_within apart image front ref rest read items pages of_read.1 of_items of_pages.1 in
       omega (arith, same, later, length-append r (flat_map (λ items. items) read), length-append page (flat_map (λ items. items) pages))
 
-  -- where there is no room for one page more, there are too many items in all
-  pub too_many : AreApart format → (k room : ℕ) (refs : List PageRef) (loaded : List (Page T)) (d : PageRef) (items : List T) (old mid new : DiskState) → k < length refs → LoadedUpTo format k room refs loaded old mid
-      → room < length items → Rests mid new → IsTrue new.honest → IsPage format (get_or refs k d) new.now.seen items → (pages : List (List T)) → ¬ HoldItems format refs new.now.seen pages
-  too_many apart k room refs loaded d items old mid new inside so_far short rest honest is_page pages held =
+  -- where one page is damaged, there are no such pages
+  pub damaged_at : (k : ℕ) (refs : List PageRef) (d : PageRef) (image : List ℕ) → k < length refs → HoldsNoPage format (get_or refs k d) image → HoldNoItems format refs image
+  damaged_at k refs d image inside none pages held =
       let ref : PageRef = get_or refs k d in
+      let found = zip_at image (take k refs) ref (drop (suc k) refs) pages
+      (subst (λ (rs : List PageRef). ArePages format rs image pages) (parted_at k refs ref inside (same_at refs k d ref inside)) held.hold) in
+      none found.0 found.1
+
+  -- all pages are there, and no call failed
+  pub load_end : {called : List PageRef → List PageRef} {k room : ℕ} {refs : List PageRef} {beside loaded : List (Page T)} {old new : DiskState} → LoadedUpTo format called k room refs beside loaded old new
+      → length refs ≤ k → AreStoredAt refs loaded × ((A : Type 0) → ¬ A → ReadsPages (called refs) A old new)
+      × (IsTrue new.honest → All (Stands format new.now.seen) beside → HoldItems format refs new.now.seen (items_by_page loaded))
+  load_end {called} {k} {room} {refs} {beside} {loaded} {old} {new} so_far past =
+      let all : take k refs ≡ refs = take_all k refs past in (
+        record { named = so_far.refs_are ∙ all; stored = so_far.are_stored; room = omega (arith, ap length (joined loaded), so_far.fits) },
+        λ A well. let reads = subst (λ (rs : List PageRef). ReadsPages (called rs) ⊥ old new) all so_far.reads in record { runs = reading_as old new (λ failed. absurd failed) well reads.runs; one_each = reads.one_each },
+        λ honest stand. record {
+          hold = subst (λ (rs : List PageRef). ArePages format rs new.now.seen (items_by_page loaded)) all (so_far.found honest stand);
+          room = omega (arith, so_far.fits);
+        },
+      )
+
+-- The page of the reference after them is read next. `d` stands for this reference where there is none.
+module _ {T : Type 0} {format : ItemFormat T} {called : List PageRef → List PageRef} {k room : ℕ} {refs : List PageRef} {beside loaded : List (Page T)} {old mid : DiskState} (d : PageRef)
+    (so_far : LoadedUpTo format called k room refs beside loaded old mid) (inside : k < length refs) (counted : AreCalled called) where
+  next_is : get_or refs k d ≡ get_or refs k (get_or refs k d)
+  next_is = same_at refs k d (get_or refs k d) inside
+
+  whole : refs ≡ take k refs ++ get_or refs k d ∷ drop (suc k) refs
+  whole = parted_at k refs (get_or refs k d) inside next_is
+
+  front : take (suc k) refs ≡ take k refs ++ get_or refs k d ∷ []
+  front = front_at k refs (get_or refs k d) inside next_is
+
+  -- what is read of the pages before stays
+  before : {A : Type 0} (new : DiskState) → RunsReading A mid new → IsTrue new.honest → All (Stands format new.now.seen) beside → ArePages format (take k refs) new.now.seen (items_by_page loaded)
+  before new runs honest stand =
+      let seen : new.now.seen ≡ mid.now.seen = ap (λ (m : Medium). m.seen) runs.now in
+      subst (λ (image : List ℕ). ArePages format (take k refs) image (items_by_page loaded)) (sym seen)
+      (so_far.found (runs.runs.lasts honest) (subst (λ (image : List ℕ). All (Stands format image) beside) seen stand))
+
+  -- no more than one call for each reference that is called for, where the page of this one was the last
+  pub reads_next : {A B : Type 0} (new : DiskState) → (A → B) → (B → A) → ReadsPages (called (get_or refs k d ∷ [])) A mid new → ReadsPages (called refs) B old new
+  reads_next new to from one =
+      reads_then (called (take k refs)) (called (get_or refs k d ∷ [])) (called refs) old mid new
+      (omega (arith, ap (λ rs. length (called rs)) whole, counted (take k refs) (get_or refs k d ∷ drop (suc k) refs), counted (get_or refs k d ∷ []) (drop (suc k) refs))) to from so_far.reads one
+
+  pub load_step : {A : Type 0} {left : ℕ} (now : List (Page T)) (page : Page T) (new : DiskState) → ¬ A → left + length page.items ≡ room → now ≡ loaded ++ page ∷ []
+      → stored_ref page.place ≡ Some (get_or refs k d) → 1 ≤ length page.items
+      → (IsTrue new.honest → All (Stands format new.now.seen) beside → IsPage format (get_or refs k d) new.now.seen page.items)
+      → ReadsPages (called (get_or refs k d ∷ [])) A mid new → LoadedUpTo format called (k + 1) left refs beside now old new
+  load_step {A} {left} now page new well fits pushed entry some found one =
+      let ref : PageRef = get_or refs k d in
+      let P : Page T → Type 0 = λ p. 1 ≤ length p.items in
+      let after : LoadedUpTo format called (suc k) left refs beside (loaded ++ page ∷ []) old new =
+      record {
+        refs_are =
+            filter_map-append (λ (p : Page T). stored_ref p.place) loaded (page ∷ [])
+            ∙ ap (λ more. stored_refs loaded ++ cons_option more []) entry ∙ ap (λ rs. rs ++ ref ∷ []) so_far.refs_are ∙ sym front;
+        some = All-push P loaded page so_far.some some;
+        are_stored = All-push (IsStored {T = T}) loaded page so_far.are_stored (ap is_some entry);
+        found = λ honest stand.
+            subst (λ (rs : List PageRef). ArePages format rs new.now.seen (items_by_page (loaded ++ page ∷ []))) (sym front)
+            (subst (ArePages format (take k refs ++ ref ∷ []) new.now.seen) (sym (map-append (λ (p : Page T). p.items) loaded (page ∷ [])))
+            (zip_push new.now.seen (take k refs) (items_by_page loaded) ref page.items (before new one.runs honest stand) (found honest stand)));
+        fits = omega (arith, so_far.fits, fits, sum_push loaded page);
+        reads = reads_then (called (take k refs)) (called (ref ∷ [])) (called (take (suc k) refs)) old mid new
+            (omega (arith, ap (λ rs. length (called rs)) front, counted (take k refs) (ref ∷ []))) well (λ failed. absurd failed) so_far.reads one;
+      } in
+      subst (λ (ps : List (Page T)). LoadedUpTo format called (k + 1) left refs beside ps old new) (sym pushed)
+      (subst (λ (j : ℕ). LoadedUpTo format called j left refs beside (loaded ++ page ∷ []) old new) (sym (add-one k)) after)
+
+  -- where there is no room for one page more, there are too many items in all
+  pub too_many : {A : Type 0} (items : List T) (new : DiskState) → AreApart format → room < length items → RunsReading A mid new → IsTrue new.honest → All (Stands format new.now.seen) beside
+      → IsPage format (get_or refs k d) new.now.seen items → HoldNoItems format refs new.now.seen
+  too_many items new apart short runs honest stand is_page pages held =
       let image : List ℕ = new.now.seen in
-      let seen : image ≡ mid.now.seen = ap (λ (m : Medium). m.seen) rest.now in
-      let read : ArePages format (take k refs) image (map (λ p. p.items) loaded) =
-      subst (λ (image : List ℕ). ArePages format (take k refs) image (map (λ p. p.items) loaded)) (sym seen) (so_far.found (rest.lasts honest)) in
-      let parted = parted_at k refs ref inside (same_at refs k d ref inside) in
-      let most = sum_within apart image (take k refs) ref (drop (suc k) refs) (map (λ p. p.items) loaded) items pages read is_page
-      (subst (λ (rs : List PageRef). ArePages format rs image pages) parted held.hold) in
+      let most = sum_within apart image (take k refs) (get_or refs k d) (drop (suc k) refs) (items_by_page loaded) items pages (before new runs honest stand) is_page
+      (subst (λ (rs : List PageRef). ArePages format rs image pages) whole held.hold) in
       omega (arith, so_far.fits, short, most, held.room)

@@ -1,16 +1,19 @@
 -- Pages that are given blocks, one after the other.
-use Rattle.std.proofs.Common.{◌≡◌, ℕ, zero, suc, ◌+◌, ◌<◌, ◌≤◌, List, [], ◌∷◌, ◌++◌, length, get_or, set, take, drop, map, Bool, refl, sym, ap, ap₂, ◌∙◌, subst, inl, inr, arith, add-one}
-use Rattle.std.specs.Prelude.{All}
+use Rattle.std.proofs.Common.{◌≡◌, ℕ, zero, suc, ◌+◌, ◌<◌, ◌≤◌, List, [], ◌∷◌, ◌++◌, length, get_or, set, take, drop, map, Bool, refl, sym, ap, ap₂, ◌∙◌, subst, inl, inr, arith, add-one, Result, Ok, Err}
+use Rattle.std.specs.Prelude.{All, IfSome, OnOk, OnErr, slice_get}
 use Rattle.std.proofs.lemmas.List.{append-nil, length-map}
 use Rattle.std.proofs.lemmas.List.Elements.{All-cons, All-head, All-tail, All-push}
 use Rattle.std.proofs.Math.Seq.{drop-length, take-length}
+use Rattle.rs_pages.proofs.Joined.{same_joined}
 use Rattle.rs_pages.proofs.Writing.{front_set}
+use Rattle.rs_pages.proofs.Taken.{settled_by}
 use Rattle.rs_pages.specs.Rule.{HaveItems}
 use Rattle.rs_pages.specs.Starts.{AreCounted, starts_of}
+use Rattle.rs_pages.specs.Storing.{items_by_page}
 use Rattle.rs_page.specs.Format.{ItemFormat}
 use Rattle.rs_page.specs.declared.place.Place.{Place}
 use Rattle.rs_page.specs.declared.place.Place.TheVariants.{Touched, Placed, Stored}
-use Rattle.rs_page.specs.Pages.{Page, IsTouched, stored_ref, items_of}
+use Rattle.rs_page.specs.Pages.{Page, IsTouched, stored_ref}
 use Rattle.rs_page.specs.Placing.{PlacesOne, PageHasNoRun, Places, HasNoPlace}
 
 -- pages of the same items at the same place are the same
@@ -37,103 +40,102 @@ module _ {T : Type 0} (format : ItemFormat T) where
       let P : Page T → Type 0 = λ it. ¬ IsTouched it.place in
       (u, leaves u page.items page.place (All-head P page pages settled), places_none u pages (All-tail P page pages settled))
 
-  -- the first touched page is placed, and the others behind it
-  pub places_behind : (u v w : List Bool) (k : ℕ) (old new : List (Page T)) (x y : Page T) → k < length old → x ≡ get_or old k x → All (λ page. ¬ IsTouched page.place) (take k old)
-      → ¬ IsTouched y.place → PlacesOne format u x v y → Places format v (set old k y) w new → Places format u old w new
-  places_behind u v w k [] new x y inside is before settled one places = absurd (omega arith)
-  places_behind u v w zero (o ∷ old) [] x y inside is before settled one places = absurd places
-  places_behind u v w zero (o ∷ old) (n ∷ new) x y inside is before settled one places =
-      let kept = stays v places.0 y.items y.place n settled places.1 in (
-        v,
-        subst (λ (page : Page T). PlacesOne format u page v n) is (subst (λ (page : Page T). PlacesOne format u x v page) (sym kept.1) one),
-        subst (λ (b : List Bool). Places format b old w new) kept.0 places.2,
-      )
-  places_behind u v w (suc k) (o ∷ old) [] x y inside is before settled one places = absurd places
-  places_behind u v w (suc k) (o ∷ old) (n ∷ new) x y inside is before settled one places =
-      let P : Page T → Type 0 = λ it. ¬ IsTouched it.place in
-      let first : ¬ IsTouched o.place = All-head P o (take k old) before in
-      let kept = stays v places.0 o.items o.place n first places.1 in
-      let rest : Places format v (set old k y) w new = subst (λ (b : List Bool). Places format b (set old k y) w new) kept.0 places.2 in (
-        u,
-        subst (λ (page : Page T). PlacesOne format u o u page) (sym kept.1) (leaves u o.items o.place first),
-        places_behind u v w k old new x y (omega arith) is (All-tail P o (take k old) before) settled one rest,
-      )
-
-  -- it has no run ..
-  pub full_at : (u : List Bool) (k : ℕ) (old : List (Page T)) (x : Page T) → k < length old → x ≡ get_or old k x → All (λ page. ¬ IsTouched page.place) (take k old)
-      → PageHasNoRun format u x → HasNoPlace format u old
-  full_at u k [] x inside is before none = absurd (omega arith)
-  full_at u zero (o ∷ old) x inside is before none = inl (subst (λ (page : Page T). PageHasNoRun format u page) is none)
-  full_at u (suc k) (o ∷ old) x inside is before none =
-      let P : Page T → Type 0 = λ it. ¬ IsTouched it.place in
-      inr (u, o, leaves u o.items o.place (All-head P o (take k old) before), full_at u k old x (omega arith) is (All-tail P o (take k old) before) none)
-
   not_full : (u : List Bool) (items : List T) (place : Place) → ¬ IsTouched place → PageHasNoRun format u (record { items = items; place = place }) → ⊥
   not_full u items Touched settled none = settled tt
   not_full u items (Placed e) settled none = none
   not_full u items (Stored ref) settled none = none
 
-  -- .. or one behind it has none
-  pub full_behind : (u v : List Bool) (k : ℕ) (old : List (Page T)) (x y : Page T) → k < length old → x ≡ get_or old k x → All (λ page. ¬ IsTouched page.place) (take k old)
-      → ¬ IsTouched y.place → PlacesOne format u x v y → HasNoPlace format v (set old k y) → HasNoPlace format u old
-  full_behind u v k [] x y inside is before settled one none = absurd (omega arith)
-  full_behind u v zero (o ∷ old) x y inside is before settled one none = elim none [
-    | inl here ↦ absurd (not_full v y.items y.place settled here)
-    | inr there ↦
-        inr (
-          v,
-          y,
-          subst (λ (page : Page T). PlacesOne format u page v y) is one,
-          subst (λ (b : List Bool). HasNoPlace format b old) (stays v there.0 y.items y.place there.1 settled there.2).0 there.3,
-        )
-  ]
-  full_behind u v (suc k) (o ∷ old) x y inside is before settled one none =
+  -- the first touched page has no run
+  pub full_at : (u : List Bool) (k : ℕ) (old : List (Page T)) (d : Page T) → k < length old → All (λ page. ¬ IsTouched page.place) (take k old) → PageHasNoRun format u (get_or old k d) → HasNoPlace format u old
+  full_at u k [] d inside before none = absurd (omega arith)
+  full_at u zero (o ∷ old) d inside before none = inl none
+  full_at u (suc k) (o ∷ old) d inside before none =
       let P : Page T → Type 0 = λ it. ¬ IsTouched it.place in
-      let first : ¬ IsTouched o.place = All-head P o (take k old) before in
+      inr (u, o, leaves u o.items o.place (All-head P o (take k old) before), full_at u k old d (omega arith) (All-tail P o (take k old) before) none)
+
+-- Of these pages the first that is touched is at k, and is placed as this one.
+pub record PlacesFirst {T : Type 0} (format : ItemFormat T) (u v : List Bool) (k : ℕ) (old : List (Page T)) (d page : Page T) : Type 0 where
+  pub inside : k < length old
+  pub before : All (λ it. ¬ IsTouched it.place) (take k old)
+  pub touched : IfSome (slice_get old k) (λ it. IsTouched it.place)
+  pub one : PlacesOne format u (get_or old k d) v page
+
+module _ {T : Type 0} {format : ItemFormat T} {u v : List Bool} where
+  settled_first : {k : ℕ} {old : List (Page T)} {d page : Page T} → PlacesFirst format u v k old d page → ¬ IsTouched page.place
+  settled_first {k} {old} {d} {page} first = settled_by format u v (get_or old k d).items (get_or old k d).place page first.one
+
+  -- behind a page that is not touched it is the first one of the others
+  first_of_rest : (o : Page T) {k : ℕ} {old : List (Page T)} {d page : Page T} → PlacesFirst format u v (suc k) (o ∷ old) d page
+      → (¬ IsTouched o.place) × PlacesFirst format u v k old d page
+  first_of_rest o {k} {old} {d} {page} first =
+      let P : Page T → Type 0 = λ it. ¬ IsTouched it.place in
+      (All-head P o (take k old) first.before, record { inside = omega (arith, first.inside); before = All-tail P o (take k old) first.before; touched = first.touched; one = first.one })
+
+  -- the others are placed behind it
+  pub places_behind : (w : List Bool) (k : ℕ) (old new : List (Page T)) (d page : Page T) → PlacesFirst format u v k old d page → Places format v (set old k page) w new → Places format u old w new
+  places_behind w k [] new d page first places = absurd (omega (arith, first.inside))
+  places_behind w zero (o ∷ old) [] d page first places = absurd places
+  places_behind w zero (o ∷ old) (n ∷ new) d page first places =
+      let kept = stays format v places.0 page.items page.place n (settled_first first) places.1 in (
+        v,
+        subst (λ (it : Page T). PlacesOne format u o v it) (sym kept.1) first.one,
+        subst (λ (b : List Bool). Places format b old w new) kept.0 places.2,
+      )
+  places_behind w (suc k) (o ∷ old) [] d page first places = absurd places
+  places_behind w (suc k) (o ∷ old) (n ∷ new) d page first places =
+      let rest = first_of_rest o first in
+      let kept = stays format v places.0 o.items o.place n rest.0 places.1 in (
+        u,
+        subst (λ (it : Page T). PlacesOne format u o u it) (sym kept.1) (leaves format u o.items o.place rest.0),
+        places_behind w k old new d page rest.1 (subst (λ (b : List Bool). Places format b (set old k page) w new) kept.0 places.2),
+      )
+
+  -- or one behind it has no run
+  pub full_behind : (k : ℕ) (old : List (Page T)) (d page : Page T) → PlacesFirst format u v k old d page → HasNoPlace format v (set old k page) → HasNoPlace format u old
+  full_behind k [] d page first none = absurd (omega (arith, first.inside))
+  full_behind zero (o ∷ old) d page first none = elim none [
+    | inl here ↦ absurd (not_full format v page.items page.place (settled_first first) here)
+    | inr there ↦
+        inr (v, page, first.one, subst (λ (b : List Bool). HasNoPlace format b old) (stays format v there.0 page.items page.place there.1 (settled_first first) there.2).0 there.3)
+  ]
+  full_behind (suc k) (o ∷ old) d page first none =
+      let rest = first_of_rest o first in
       elim none [
-        | inl here ↦ absurd (not_full v o.items o.place first here)
+        | inl here ↦ absurd (not_full format v o.items o.place rest.0 here)
         | inr there ↦
-            let rest : HasNoPlace format v (set old k y) = subst (λ (b : List Bool). HasNoPlace format b (set old k y)) (stays v there.0 o.items o.place there.1 first there.2).0 there.3 in
-            inr (u, o, leaves u o.items o.place first, full_behind u v k old x y (omega arith) is (All-tail P o (take k old) before) settled one rest)
+            let later : HasNoPlace format v (set old k page) = subst (λ (b : List Bool). HasNoPlace format b (set old k page)) (stays format v there.0 o.items o.place there.1 rest.0 there.2).0 there.3 in
+            inr (u, o, leaves format u o.items o.place rest.0, full_behind k old d page rest.1 later)
       ]
 
--- The first page that is touched is not after it was placed, nor is any before it.
-pub settled_behind : {T : Type 0} (k : ℕ) (old : List (Page T)) (y : Page T) → k < length old → All (λ page. ¬ IsTouched page.place) (take k old) → ¬ IsTouched y.place
-    → All (λ page. ¬ IsTouched page.place) (take (k + 1) (set old k y))
-settled_behind {T} k old y inside before settled =
-    subst (λ (pages : List (Page T)). All (λ page. ¬ IsTouched page.place) pages) (sym (ap (λ n. take n (set old k y)) (add-one k) ∙ (front_set k old y inside).0))
-    (All-push (λ (page : Page T). ¬ IsTouched page.place) (take k old) y before settled)
+  -- neither it nor any before it is touched then
+  pub settled_behind : {k : ℕ} {old : List (Page T)} {d page : Page T} → PlacesFirst format u v k old d page → All (λ it. ¬ IsTouched it.place) (take (k + 1) (set old k page))
+  settled_behind {k} {old} {d} {page} first =
+      subst (All {X = Page T} (λ it. ¬ IsTouched it.place)) (sym (ap (λ n. take n (set old k page)) (add-one k) ∙ (front_set k old page first.inside).0))
+      (All-push (λ (it : Page T). ¬ IsTouched it.place) (take k old) page first.before (settled_first first))
 
--- the items stay
-pub same_items : {T : Type 0} (k : ℕ) (now : List (Page T)) (x y : Page T) → x ≡ get_or now k x → y.items ≡ x.items → map (λ p. p.items) (set now k y) ≡ map (λ p. p.items) now
-same_items k [] x y is same = refl
-same_items zero (n ∷ now) x y is same = ap (λ items. items ∷ map (λ p. p.items) now) (same ∙ ap (λ p. p.items) is)
-same_items (suc k) (n ∷ now) x y is same = ap (λ rest. n.items ∷ rest) (same_items k now x y is same)
+module _ {T : Type 0} (format : ItemFormat T) where
+  ref_kept : (used used' : List Bool) (items : List T) (place : Place) (page : Page T) → PlacesOne format used (record { items = items; place = place }) used' page → stored_ref page.place ≡ stored_ref place
+  ref_kept used used' items Touched page one = ap stored_ref one.1.placed
+  ref_kept used used' items (Placed e) page one = ap stored_ref one.1.1
+  ref_kept used used' items (Stored ref) page one = ap stored_ref one.1.1
 
--- so do the references to pages that are on the disk
-pub ref_kept : {T : Type 0} (format : ItemFormat T) (old new : List Bool) (items : List T) (place : Place) (page : Page T) → PlacesOne format old (record { items = items; place = place }) new page
-    → stored_ref page.place ≡ stored_ref place
-ref_kept format old new items Touched page one = ap stored_ref one.1.placed
-ref_kept format old new items (Placed e) page one = ap stored_ref one.1.1
-ref_kept format old new items (Stored ref) page one = ap stored_ref one.1.1
+  places_keep : (used used' : List Bool) (old new : List (Page T)) → Places format used old used' new
+      → (items_by_page new ≡ items_by_page old) × (map (λ it. stored_ref it.place) new ≡ map (λ it. stored_ref it.place) old)
+  places_keep used used' [] [] places = (refl, refl)
+  places_keep used used' [] (n ∷ new) places = absurd places
+  places_keep used used' (o ∷ old) [] places = absurd places
+  places_keep used used' (o ∷ old) (n ∷ new) places =
+      let rest = places_keep places.0 used' old new places.2 in
+      (ap₂ (λ items later. items ∷ later) places.1.0 rest.0, ap₂ (λ ref later. ref ∷ later) (ref_kept used places.0 o.items o.place n places.1) rest.1)
 
-pub same_refs : {T : Type 0} (k : ℕ) (now : List (Page T)) (x y : Page T) → x ≡ get_or now k x → stored_ref y.place ≡ stored_ref x.place
-    → map (λ p. stored_ref p.place) (set now k y) ≡ map (λ p. stored_ref p.place) now
-same_refs k [] x y is same = refl
-same_refs zero (n ∷ now) x y is same = ap (λ ref. ref ∷ map (λ p. stored_ref p.place) now) (same ∙ ap (λ p. stored_ref p.place) is)
-same_refs (suc k) (n ∷ now) x y is same = ap (λ rest. stored_ref n.place ∷ rest) (same_refs k now x y is same)
+  -- the items stay, and the references to pages that are on the disk, whatever the answer
+  pub placed_keep : {A E : Type 0} (used used' : List Bool) (old new : List (Page T)) (r : Result A E) → OnOk r (Places format used old used' new) → OnErr r (new ≡ old)
+      → (items_by_page new ≡ items_by_page old) × (map (λ it. stored_ref it.place) new ≡ map (λ it. stored_ref it.place) old)
+  placed_keep used used' old new (Ok a) ok err = places_keep used used' old new ok
+  placed_keep used used' old new (Err e) ok err = (ap items_by_page err, ap (map (λ it. stored_ref it.place)) err)
 
 -- pages with the same items are counted the same
 module _ {T : Type 0} where
-  items_along : (new old : List (Page T)) → map (λ p. p.items) new ≡ map (λ p. p.items) old → items_of new ≡ items_of old
-  items_along [] [] h = refl
-  items_along [] (o ∷ old) h = cc
-  items_along (n ∷ new) [] h = cc
-  items_along (n ∷ new) (o ∷ old) h =
-      let first : n.items ≡ o.items = cc in
-      let rest : map (λ p. p.items) new ≡ map (λ p. p.items) old = cc in
-      ap (λ xs. xs ++ items_of new) first ∙ ap (λ xs. o.items ++ xs) (items_along new old rest)
-
   starts_along : (m : ℕ) (new old : List (Page T)) → map (λ p. p.items) new ≡ map (λ p. p.items) old → starts_of m new ≡ starts_of m old
   starts_along m [] [] h = refl
   starts_along m [] (o ∷ old) h = cc
@@ -155,7 +157,7 @@ module _ {T : Type 0} where
 
   counted_along : (new old : List (Page T)) (starts : List ℕ) (len : ℕ) → map (λ p. p.items) new ≡ map (λ p. p.items) old → AreCounted old starts len → AreCounted new starts len
   counted_along new old starts len h counted =
-      record { some = have_along new old h counted.some; starts = counted.starts ∙ sym (starts_along 0 new old h); len = counted.len ∙ ap length (sym (items_along new old h)) }
+      record { some = have_along new old h counted.some; starts = counted.starts ∙ sym (starts_along 0 new old h); len = counted.len ∙ ap length (sym (same_joined old new h)) }
 
   -- a slice of all pages was written
   pub slice_whole : (n : ℕ) (new old : List (Page T)) → n ≡ length old → map (λ p. p.items) new ≡ map (λ p. p.items) old → take n (new ++ drop (length new) old) ≡ new

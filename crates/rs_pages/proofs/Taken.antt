@@ -13,6 +13,7 @@ use Rattle.rs_page.specs.declared.place.Place.TheVariants.{Touched, Placed, Stor
 use Rattle.rs_page.specs.Format.{ItemFormat}
 use Rattle.rs_page.specs.Pages.{Page, IsTouched, placed_extent, placed_extents}
 use Rattle.rs_page.specs.Placing.{PlacesOne, Places}
+use Rattle.rs_pages.specs.Storing.{PlacesTouched}
 use Rattle.rs_pages.proofs.Touched.{rest_none}
 
 later_none : (e : Extent) (es : List Extent) (b : ℕ) (r : Bool) → in_some es b ≡ r → in_some (e ∷ es) b ≡ false → in_some es b ≡ false
@@ -103,3 +104,10 @@ settled_places format old new [] (s' ∷ pages') places = absurd places
 settled_places format old new (s ∷ pages) [] places = absurd places
 settled_places {T} format old new (s ∷ pages) (s' ∷ pages') places =
     All-cons (λ (page : Page T). ¬ IsTouched page.place) s' pages' (settled_by format old places.0 s.items s.place s' places.1) (settled_places format places.0 new pages pages' places.2)
+
+-- What placing each touched page leaves, of lists that are these.
+pub places_touched : {T : Type 0} (format : ItemFormat T) (used used' : List Bool) (old new was now : List (Page T)) → old ≡ was → now ≡ new → Places format used old used' new → PlacesTouched format used was used' now
+places_touched {T} format used used' old new was now before after places =
+    subst (λ (pages : List (Page T)). PlacesTouched format used pages used' now) before
+    (subst (λ (pages : List (Page T)). PlacesTouched format used old used' pages) (sym after)
+    (record { places = places; placed = settled_places format used used' old new places; taken = taken_places format used used' old new places }))

@@ -1,25 +1,31 @@
 -- Pages that are written, one after the other.
-use Rattle.std.proofs.Common.{◌≡◌, ℕ, zero, suc, ◌+◌, ◌<◌, ◌≤◌, List, [], ◌∷◌, ◌++◌, length, get_or, set, take, drop, map, Bool, true, false, refl, sym, ap, ap₂, ◌∙◌, subst, inl, inr, arith, Option, Some, None}
-use Rattle.std.specs.Prelude.{IfSome, IsSome, All}
+use Rattle.std.proofs.Common.{◌≡◌, ℕ, zero, suc, ◌<◌, ◌≤◌, List, [], ◌∷◌, ◌++◌, length, get_or, set, take, drop, refl, sym, ap, ap₂, ◌∙◌, subst, inl, inr, arith, Option, Some, None, Result, Ok, Err}
+use Rattle.std.specs.Prelude.{IfSome, IsSome, All, OnOk, OnErr}
 use Rattle.std.specs.List.{AllZip, cons_option}
 use Rattle.std.proofs.lemmas.List.{length-append}
 use Rattle.std.proofs.lemmas.List.Elements.{All-head, All-tail, filter_map-append}
 use Rattle.rs_disk.specs.Medium.{DiskState}
-use Rattle.rs_disk.specs.Leaves.{Advances, HasFailed}
+use Rattle.rs_disk.specs.Runs.{CallsAtMost}
 use Rattle.rs_extent.specs.declared.Extent.{Extent}
-use Rattle.rs_extent.specs.Extents.{within, in_some, IsBeside, AreBeside, AreApart, IsOnDisk, AreOnDisk}
-use Rattle.rs_body.specs.Outside.{WritesOutside}
-use Rattle.rs_extent.proofs.Sets.{some_first, some_rest, some_split, beside_first}
-use Rattle.rs_body.proofs.KeptBlocks.{outside_none, outside_on}
+use Rattle.rs_extent.specs.Extents.{in_some, AreBeside, AreApart, IsOnDisk, AreOnDisk}
+use Rattle.rs_body.specs.Outside.{WritesOnly}
+use Rattle.rs_extent.proofs.Sets.{some_first, some_front, some_behind, beside_front, beside_between}
+use Rattle.rs_body.proofs.Only.{only_none, only_as, only_then}
 use Rattle.rs_page.specs.declared.place.Place.{Place}
 use Rattle.rs_page.specs.declared.place.Place.TheVariants.{Touched, Placed, Stored}
 use Rattle.rs_page.specs.Format.{ItemFormat}
 use Rattle.rs_page.specs.Pages.{Page, IsTouched, placed_extent, placed_extents, stored_ref, stored}
 use Rattle.rs_page.specs.DiskPages.{IsWritten}
 use Rattle.rs_page.proofs.Standing.{written_stay}
-use Rattle.rs_pages.specs.Storing.{StaysOrIsStored, WritesPages}
+use Rattle.rs_pages.specs.Storing.{items_by_page, StaysOrIsStored, StoresTouched, StoresSome, WritesPages}
 
 module _ {A : Type 0} where
+  -- an element that is there, whatever stands for one that is not
+  pub same_at : (xs : List A) (k : ℕ) (d other : A) → k < length xs → get_or xs k d ≡ get_or xs k other
+  same_at [] k d other inside = absurd (omega arith)
+  same_at (x ∷ xs) zero d other inside = refl
+  same_at (x ∷ xs) (suc k) d other inside = same_at xs k d other (omega arith)
+
   -- a list, parted at a place
   pub parted_at : (k : ℕ) (xs : List A) (x : A) → k < length xs → x ≡ get_or xs k x → xs ≡ take k xs ++ x ∷ drop (suc k) xs
   parted_at k [] x inside is = absurd (omega arith)
@@ -75,106 +81,70 @@ module _ {A : Type 0} where
   all_taken (suc k) [] none = refl
   all_taken (suc k) (x ∷ xs) none = ap (λ rest. x ∷ rest) (all_taken k xs none)
 
--- blocks of extents in front of others, and behind them
-in_front : (es fs : List Extent) (b : ℕ) → in_some es b ≡ true → in_some (es ++ fs) b ≡ true
-in_front [] fs b h = cc
-in_front (e ∷ es) fs b h = elim (some_split e es b h) [ inl here ↦ some_first e (es ++ fs) b here | inr later ↦ some_rest e (es ++ fs) b (in_front es fs b later) ]
-
-in_back : (es fs : List Extent) (b : ℕ) → in_some fs b ≡ true → in_some (es ++ fs) b ≡ true
-in_back [] fs b h = h
-in_back (e ∷ es) fs b h = some_rest e (es ++ fs) b (in_back es fs b h)
-
-no_block : (e : Extent) (es : List Extent) (b : ℕ) (r : Bool) → in_some (e ∷ es) b ≡ r → (within e b ≡ true → ⊥) → (in_some es b ≡ true → ⊥) → in_some (e ∷ es) b ≡ false
-no_block e es b false is first rest = is
-no_block e es b true is first rest = absurd (elim (some_split e es b is) [ inl here ↦ first here | inr later ↦ rest later ])
-
--- of extents that are apart, each is beside those before it
-apart_before : (front : List Extent) (e : Extent) (rest : List Extent) → AreApart (front ++ e ∷ rest) → IsBeside (in_some front) e
-apart_before [] e rest apart b h = refl
-apart_before (f ∷ front) e rest apart b h =
-    no_block f front b (in_some (f ∷ front) b) refl
-    (λ first. let none = apart.0 b first in let there : in_some (front ++ e ∷ rest) b ≡ true = in_back front (e ∷ rest) b (some_first e rest b h) in cc)
-    (λ later. let none : in_some front b ≡ false = apart_before front e rest apart.1 b h in cc)
-
-beside_by : (o : Option Extent) (front rest : List Extent) → AreApart (front ++ cons_option o rest) → IfSome o (IsBeside (in_some front))
-beside_by None front rest apart = tt
-beside_by (Some e) front rest apart = apart_before front e rest apart
-
 room_by : (o : Option Extent) (front rest : List Extent) (size : ℕ) → AreOnDisk (front ++ cons_option o rest) size → IfSome o (λ e. IsOnDisk e size)
 room_by None front rest size room = tt
-room_by (Some e) front rest size room = λ b inside. room b (in_back front (e ∷ rest) b (some_first e rest b inside))
+room_by (Some e) front rest size room = λ b inside. room b (some_behind front (e ∷ rest) b (some_first e rest b inside))
 
-one_beside : (kept : ℕ → Bool) (o : Option Extent) → AreBeside kept (cons_option o []) → IfSome o (IsBeside kept)
-one_beside kept None beside = tt
-one_beside kept (Some e) beside = beside_first kept e [] beside
+-- runs that write pages
+module _ {T : Type 0} where
+  placed_parts : (front rest : List (Page T)) → placed_extents (front ++ rest) ≡ placed_extents front ++ placed_extents rest
+  placed_parts front rest = filter_map-append (λ (p : Page T). placed_extent p.place) front rest
 
--- runs, one after the other
-pub advance_on : (old mid new : DiskState) → Advances old mid → Advances mid new → Advances old new
-advance_on old mid new first next =
-    record { size = next.size ∙ first.size; keeps = next.keeps ∙ first.keeps; calls = omega (arith, first.calls, next.calls); faults = omega (arith, first.faults, next.faults) }
+  pub writes_none : {A : Type 0} (disk : DiskState) → ¬ A → WritesPages {T = T} [] A disk disk
+  writes_none disk none = record { writes = only_none [] disk none; one_each = omega arith }
 
-pub failed_on : (old mid new : DiskState) → old.faults ≤ mid.faults → HasFailed mid new → HasFailed old new
-failed_on old mid new first failed = elim failed [ inl more ↦ inl (omega (arith, first, more)) | inr last ↦ inr last ]
+  pub writes_as : {A B : Type 0} (pages : List (Page T)) (old new : DiskState) → (A → B) → (B → A) → WritesPages pages A old new → WritesPages pages B old new
+  writes_as pages old new to from run = record { writes = only_as (placed_extents pages) old new to from run.writes; one_each = run.one_each }
 
-module _ {T : Type 0} (format : ItemFormat T) where
-  pub writes_none : (disk : DiskState) → WritesPages {T = T} [] disk disk
-  writes_none disk =
-      record { outside = λ kept beside. outside_none kept disk; advances = record { size = refl; keeps = refl; calls = omega arith; faults = omega arith }; one_each = omega arith }
+  pub writes_one : {A : Type 0} (items : List T) (place : Place) (old new : DiskState) → ¬ IsTouched place → (IsSome (stored_ref place) → new ≡ old) → CallsAtMost 1 old new
+      → WritesOnly (placed_extents (record { items = items; place = place } ∷ [])) A old new → WritesPages (record { items = items; place = place } ∷ []) A old new
+  writes_one items Touched old new settled same one writes = absurd (settled tt)
+  writes_one items (Placed e) old new settled same one writes = record { writes = writes; one_each = one }
+  writes_one items (Stored ref) old new settled same one writes =
+      let calls : new.calls ≡ old.calls = ap (λ (disk : DiskState). disk.calls) (same refl) in
+      record { writes = writes; one_each = omega (arith, calls) }
 
-  one_call_by : (items : List T) (place : Place) (mid new : DiskState) → ¬ IsTouched place → (IsSome (stored_ref place) → new ≡ mid) → new.calls ≤ mid.calls + 1
-      → new.calls ≤ mid.calls + length (placed_extents (record { items = items; place = place } ∷ []))
-  one_call_by items Touched mid new settled same one = absurd (settled tt)
-  one_call_by items (Placed e) mid new settled same one = one
-  one_call_by items (Stored ref) mid new settled same one = let calls : new.calls ≡ mid.calls = ap (λ (disk : DiskState). disk.calls) (same refl) in omega (arith, calls)
-
-  -- one page more
-  pub writes_on : (front : List (Page T)) (page : Page T) (old mid new : DiskState) → WritesPages front old mid → ¬ IsTouched page.place
-      → ((kept : ℕ → Bool) → IfSome (placed_extent page.place) (IsBeside kept) → WritesOutside kept mid new) → Advances mid new
-      → (IsSome (stored_ref page.place) → new ≡ mid) → new.calls ≤ mid.calls + 1 → WritesPages (front ++ page ∷ []) old new
-  writes_on front page old mid new so_far settled outside advances same one =
-      let both : placed_extents (front ++ page ∷ []) ≡ placed_extents front ++ placed_extents (page ∷ []) = filter_map-append (λ (p : Page T). placed_extent p.place) front (page ∷ []) in
-      let calls : new.calls ≤ mid.calls + length (placed_extents (page ∷ [])) = one_call_by page.items page.place mid new settled same one in
+  -- some pages and then others
+  pub writes_then : {A B : Type 0} (front rest : List (Page T)) (old mid new : DiskState) → ¬ A → WritesPages front A old mid → WritesPages rest B mid new → WritesPages (front ++ rest) B old new
+  writes_then {B = B} front rest old mid new well one two =
+      let xs : List Extent = placed_extents front in
+      let ys : List Extent = placed_extents rest in
       record {
-        outside = λ kept beside.
-            let parts : AreBeside kept (placed_extents front ++ placed_extents (page ∷ [])) = subst (AreBeside kept) both beside in
-            outside_on kept old mid new
-            (so_far.outside kept (λ b h. parts b (in_front (placed_extents front) (placed_extents (page ∷ [])) b h)))
-            (outside kept (one_beside kept (placed_extent page.place) (λ b h. parts b (in_back (placed_extents front) (placed_extents (page ∷ [])) b h))));
-        advances = advance_on old mid new so_far.advances advances;
-        one_each = omega (arith, so_far.one_each, calls, ap length both, length-append (placed_extents front) (placed_extents (page ∷ [])));
+        writes =
+            subst (λ (es : List Extent). WritesOnly es B old new) (sym (placed_parts front rest))
+            (only_then xs ys (xs ++ ys) old mid new (some_front xs ys) (some_behind xs ys) well one.writes two.writes);
+        one_each = omega (arith, one.one_each, two.one_each, ap length (placed_parts front rest), length-append xs ys);
       }
 
   -- what writes some pages writes them and others
-  pub writes_more : (front rest : List (Page T)) (old new : DiskState) → WritesPages front old new → WritesPages (front ++ rest) old new
-  writes_more front rest old new writes =
-      let both : placed_extents (front ++ rest) ≡ placed_extents front ++ placed_extents rest = filter_map-append (λ (p : Page T). placed_extent p.place) front rest in
+  pub writes_more : {A : Type 0} (front rest : List (Page T)) (old new : DiskState) → WritesPages front A old new → WritesPages (front ++ rest) A old new
+  writes_more front rest old new run =
+      let xs : List Extent = placed_extents front in
+      let ys : List Extent = placed_extents rest in
       record {
-        outside = λ kept beside.
-            let parts : AreBeside kept (placed_extents front ++ placed_extents rest) = subst (AreBeside kept) both beside in
-            writes.outside kept (λ b h. parts b (in_front (placed_extents front) (placed_extents rest) b h));
-        advances = writes.advances;
-        one_each = omega (arith, writes.one_each, ap length both, length-append (placed_extents front) (placed_extents rest));
+        writes = record {
+          runs = run.writes.runs;
+          outside = λ kept beside. run.writes.outside kept (beside_front kept xs ys (subst (AreBeside kept) (placed_parts front rest) beside));
+        };
+        one_each = omega (arith, run.one_each, ap length (placed_parts front rest), length-append xs ys);
       }
 
-  placed_parts : (front : List (Page T)) (page : Page T) (rest : List (Page T)) → placed_extents (front ++ page ∷ rest) ≡ placed_extents front ++ cons_option (placed_extent page.place) (placed_extents rest)
-  placed_parts front page rest = filter_map-append (λ (p : Page T). placed_extent p.place) front (page ∷ rest)
-
+module _ {T : Type 0} (format : ItemFormat T) where
   -- the pages before a page stay written
-  pub front_stays : (front : List (Page T)) (page : Page T) (rest : List (Page T)) (mid new : DiskState) → AreApart (placed_extents (front ++ page ∷ rest))
-      → ((kept : ℕ → Bool) → IfSome (placed_extent page.place) (IsBeside kept) → WritesOutside kept mid new)
-      → All (IsWritten format mid.now.seen) front → All (IsWritten format new.now.seen) front
-  front_stays front page rest mid new apart outside written =
-      let kept : ℕ → Bool = in_some (placed_extents front) in
-      let beside : IfSome (placed_extent page.place) (IsBeside kept) =
-      beside_by (placed_extent page.place) (placed_extents front) (placed_extents rest) (subst AreApart (placed_parts front page rest) apart) in
-      written_stay format kept front mid.now.seen new.now.seen (λ b h. h) (outside kept beside).seen written
+  pub front_stays : {A : Type 0} (front : List (Page T)) (page : Page T) (rest : List (Page T)) (mid new : DiskState) → AreApart (placed_extents (front ++ page ∷ rest))
+      → WritesPages (page ∷ []) A mid new → All (IsWritten format mid.now.seen) front → All (IsWritten format new.now.seen) front
+  front_stays front page rest mid new apart one written =
+      let xs : List Extent = placed_extents front in
+      let beside = beside_between xs (placed_extents (page ∷ rest)) (subst AreApart (placed_parts front (page ∷ rest)) apart) in
+      let first = beside_front (in_some xs) (placed_extents (page ∷ [])) (placed_extents rest) (subst (AreBeside (in_some xs)) (placed_parts (page ∷ []) rest) beside) in
+      written_stay format (in_some xs) front mid.now.seen new.now.seen (λ b h. h) (one.writes.outside (in_some xs) first).seen written
 
   -- a page has room where all pages have it
   pub room_at : (pages : List (Page T)) (k : ℕ) (page : Page T) (size : ℕ) → k < length pages → page ≡ get_or pages k page → AreOnDisk (placed_extents pages) size
       → IfSome (placed_extent page.place) (λ e. IsOnDisk e size)
   room_at pages k page size inside is room =
       room_by (placed_extent page.place) (placed_extents (take k pages)) (placed_extents (drop (suc k) pages)) size
-      (subst (λ (es : List Extent). AreOnDisk es size) (ap placed_extents (parted_at k pages page inside is) ∙ placed_parts (take k pages) page (drop (suc k) pages)) room)
+      (subst (λ (es : List Extent). AreOnDisk es size) (ap placed_extents (parted_at k pages page inside is) ∙ placed_parts (take k pages) (page ∷ drop (suc k) pages)) room)
 
   zip_same : (image : List ℕ) (pages : List (Page T)) → AllZip (StaysOrIsStored format image) pages pages
   zip_same image [] = tt
@@ -186,11 +156,11 @@ module _ {T : Type 0} (format : ItemFormat T) where
       (inr (refl, All-head (IsWritten format image) page front written), zip_front image front rest (All-tail (IsWritten format image) page front written))
 
   -- the items stay
-  pub items_stored : (pages : List (Page T)) → map (λ p. p.items) (stored format pages) ≡ map (λ p. p.items) pages
+  items_stored : (pages : List (Page T)) → items_by_page (stored format pages) ≡ items_by_page pages
   items_stored [] = refl
   items_stored (page ∷ pages) = ap (λ rest. page.items ∷ rest) (items_stored pages)
 
-  pub items_zipped : (image : List ℕ) (old new : List (Page T)) → AllZip (StaysOrIsStored format image) old new → map (λ p. p.items) new ≡ map (λ p. p.items) old
+  pub items_zipped : (image : List ℕ) (old new : List (Page T)) → AllZip (StaysOrIsStored format image) old new → items_by_page new ≡ items_by_page old
   items_zipped image [] [] zip = refl
   items_zipped image [] (n ∷ new) zip = absurd zip
   items_zipped image (o ∷ old) [] zip = absurd zip
@@ -198,3 +168,9 @@ module _ {T : Type 0} (format : ItemFormat T) where
       ap₂ (λ items rest. items ∷ rest)
       (elim zip.0 [ inl same ↦ ap (λ (p : Page T). p.items) same | inr next ↦ ap (λ (p : Page T). p.items) next.0 ])
       (items_zipped image old new zip.1)
+
+  -- they stay, whatever the answer
+  pub items_kept : {A E : Type 0} (image : List ℕ) (old new : List (Page T)) (r : Result A E) → OnOk r (StoresTouched format image old new) → OnErr r (StoresSome format image old new)
+      → items_by_page new ≡ items_by_page old
+  items_kept image old new (Ok a) ok err = ap items_by_page ok.pages ∙ items_stored old
+  items_kept image old new (Err e) ok err = err.items

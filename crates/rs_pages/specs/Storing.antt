@@ -1,31 +1,53 @@
--- What reading and writing pages leaves.
-use Rattle.std.specs.Prelude.{◌≡◌, ◌≤◌, ◌+◌, ◌⊎◌, ℕ, Bool, not, List, length, filter, flat_map, All}
-use Rattle.std.specs.List.{list_any}
+-- What placing, writing and reading pages leaves.
+use Rattle.std.specs.Prelude.{◌≡◌, ◌≤◌, ◌⊎◌, ℕ, Bool, not, List, [], length, map, filter, flat_map, All}
+use Rattle.std.specs.List.{AllZip, list_any}
 use Rattle.rs_disk.specs.Medium.{DiskState}
-use Rattle.rs_disk.specs.Leaves.{Advances, Rests}
-use Rattle.rs_extent.specs.Extents.{AreBeside}
-use Rattle.rs_body.specs.Outside.{WritesOutside}
+use Rattle.rs_disk.specs.Runs.{RunsReading, CallsAtMost}
+use Rattle.rs_extent.specs.Extents.{AreTaken}
+use Rattle.rs_body.specs.Outside.{WritesOnly}
 use Rattle.rs_record.specs.Limits.{most_items}
 use Rattle.rs_page.specs.declared.place.PageRef.{PageRef}
 use Rattle.rs_page.specs.Format.{ItemFormat}
-use Rattle.rs_page.specs.Pages.{Page, IsStored, items_of, same_page, placed_extents, page_stored, stored_refs}
+use Rattle.rs_page.specs.Pages.{Page, IsTouched, IsStored, items_of, same_page, placed_extents, page_stored, stored, stored_refs}
+use Rattle.rs_page.specs.Placing.{Places}
 use Rattle.rs_page.specs.DiskPages.{IsWritten, ArePages}
+
+-- the items of each page
+abbrev pub items_by_page : {T : Type 0} → List (Page T) → List (List T)
+items_by_page pages = map (λ page. page.items) pages
+
+-- Each touched page is given the lowest run of free blocks of its size, one page after the other, and no page is touched any more. Where
+-- no page had blocks that are not written to, the blocks that are taken are those that pages have now.
+pub record PlacesTouched {T : Type 0} (format : ItemFormat T) (used : List Bool) (old : List (Page T)) (used' : List Bool) (new : List (Page T)) : Type 0 where
+  pub places : Places format used old used' new
+  pub placed : All (λ page. ¬ IsTouched page.place) new
+  pub taken : placed_extents old ≡ [] → AreTaken used used' (placed_extents new)
+
+-- Each page that was given blocks is stored, and stands in them.
+pub record StoresTouched {T : Type 0} (format : ItemFormat T) (image : List ℕ) (old new : List (Page T)) : Type 0 where
+  pub pages : new ≡ stored format old
+  pub reads : All (IsWritten format image) old
 
 -- a page is as it was, or it is written and stored
 abbrev pub StaysOrIsStored : {T : Type 0} → ItemFormat T → List ℕ → Page T → Page T → Type 0
 StaysOrIsStored format image old new = (new ≡ old) ⊎ ((new ≡ page_stored format old) × IsWritten format image old)
 
--- What a run that writes pages leaves, whatever it answers: each set of blocks beside those that the pages were given stays, and
--- each of the pages costs one call at most.
-pub record WritesPages {T : Type 0} (pages : List (Page T)) (old new : DiskState) : Type 0 where
-  pub outside : (kept : ℕ → Bool) → AreBeside kept (placed_extents pages) → WritesOutside kept old new
-  pub advances : Advances old new
-  pub one_each : new.calls ≤ old.calls + length (placed_extents pages)
+-- Each page has the items that it had, and is as it was, or it is written and stored.
+pub record StoresSome {T : Type 0} (format : ItemFormat T) (image : List ℕ) (old new : List (Page T)) : Type 0 where
+  pub items : items_by_page new ≡ items_by_page old
+  pub each : AllZip (StaysOrIsStored format image) old new
 
--- What a run that reads the pages of references leaves, whatever it answers: nothing changes, and each page costs one call at most.
-pub record ReadsPages (refs : List PageRef) (old new : DiskState) : Type 0 where
-  pub rests : Rests old new
-  pub one_each : new.calls ≤ old.calls + length refs
+-- A run that writes pages: it writes the blocks that they were given alone, whatever its answer tells of the device, and makes one
+-- call a page at most.
+pub record WritesPages {T : Type 0} (pages : List (Page T)) (told : Type 0) (old new : DiskState) : Type 0 where
+  pub writes : WritesOnly (placed_extents pages) told old new
+  pub one_each : CallsAtMost (length (placed_extents pages)) old new
+
+-- A run that reads the pages of references: it changes nothing, whatever its answer tells of the device, and makes one call a page
+-- at most.
+pub record ReadsPages (refs : List PageRef) (told : Type 0) (old new : DiskState) : Type 0 where
+  pub runs : RunsReading told old new
+  pub one_each : CallsAtMost (length refs) old new
 
 -- These pages are on the disk, one for each of these references, which tells where it stands, and they have no more than 50,000 items.
 pub record AreStoredAt {T : Type 0} (refs : List PageRef) (pages : List (Page T)) : Type 0 where
@@ -41,3 +63,7 @@ unshared refs others = filter (λ ref. not (list_any (same_page ref) others)) re
 pub record HoldItems {T : Type 0} (format : ItemFormat T) (refs : List PageRef) (image : List ℕ) (pages : List (List T)) : Type 0 where
   pub hold : ArePages format refs image pages
   pub room : length (flat_map (λ items. items) pages) ≤ most_items
+
+-- the pages of references hold no items
+abbrev pub HoldNoItems : {T : Type 0} → ItemFormat T → List PageRef → List ℕ → Type 0
+HoldNoItems {T} format refs image = (held : List (List T)) → ¬ HoldItems format refs image held

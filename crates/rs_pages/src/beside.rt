@@ -1,17 +1,17 @@
 //! Pages that are read beside a list that is held.
-ghost use Rattle.std.specs.Prelude.{◌≡◌, List, [], ◌∷◌, false, map, All, Some, IfOk, IfSome, IsNone, IsErrOf, IsTrue};
+ghost use Rattle.std.specs.Prelude.{◌≡◌, [], ◌∷◌, false, map, All, Some, IfOk, IfSome, IsNone, IsErrOf, IsTrue};
 ghost use Rattle.std.specs.List.{list_any, Contains};
 ghost use Rattle.std.specs.List.Sorted.{IsSortedByKey};
-ghost use Rattle.rs_disk.specs.Leaves.{TellsFaults};
-ghost use Rattle.rs_page.specs.DiskPages.{IsPage, Stands};
+ghost use Rattle.rs_page.specs.DiskPages.{IsPage, HoldsNoPage, Stands};
 ghost use Rattle.rs_page.specs.Pages.{same_page, stored_ref, stored_refs};
 ghost use Rattle.rs_pages.specs.Beside.{AreEntries};
 ghost use Rattle.rs_pages.specs.Rule.{HaveItems};
-ghost use Rattle.rs_pages.specs.Storing.{AreStoredAt, HoldItems, ReadsPages, unshared};
+ghost use Rattle.rs_pages.specs.Storing.{items_by_page, AreStoredAt, HoldItems, HoldNoItems, ReadsPages, unshared};
 
 use crate::entries::entry_of;
+use rs_body::LoadFault;
 use rs_disk::Disk;
-use rs_page::{LoadFault, Page, PageItem, PageRef};
+use rs_page::{Page, PageItem, PageRef};
 use rs_record::{Duplicate, MOST_ITEMS};
 use std::alloc::{AllocError, Global};
 
@@ -22,7 +22,7 @@ struct EntryAt {
     place: usize,
 }
 
-// The entries of those pages that are on the disk, sorted.
+/// The entries of those pages that are on the disk, sorted.
 fn sorted_entries<T: PageItem>(alloc: Global, pages: &[Page<T>]) -> Result<Vec<EntryAt>, AllocError>
     ensures sorted { IfOk result
         (λ sorted. IsSortedByKey (λ at. at.entry) ⟦<PageRef as Ord>⟧.cmp sorted.items) }
@@ -33,7 +33,7 @@ fn sorted_entries<T: PageItem>(alloc: Global, pages: &[Page<T>]) -> Result<Vec<E
     Ok(entries)
 }
 
-// The entries of those pages that are on the disk, in their order.
+/// The entries of those pages that are on the disk, in their order.
 fn entries_of<T: PageItem>(alloc: Global, pages: &[Page<T>]) -> Result<Vec<EntryAt>, AllocError>
     ensures { IfOk result (λ entries. AreEntries pages.now entries.items) }
 {
@@ -46,8 +46,8 @@ fn entries_of<T: PageItem>(alloc: Global, pages: &[Page<T>]) -> Result<Vec<Entry
     Ok(entries)
 }
 
-// The page on the disk that has this entry, if there is one. It takes as many steps as the number
-// of entries has bits.
+/// The page on the disk that has this entry, if there is one. It takes as many steps as the number
+/// of entries has bits.
 fn page_of_entry<'a, T: PageItem>(
     pages: &'a [Page<T>],
     sorted: &[EntryAt],
@@ -63,7 +63,7 @@ fn page_of_entry<'a, T: PageItem>(
     Some(&pages[place])
 }
 
-// The place that is told with this entry, if there is one.
+/// The place that is told with this entry, if there is one.
 fn place_of_entry(sorted: &[EntryAt], entry: &PageRef) -> Option<usize>
     requires { IsSortedByKey (λ at. at.entry) ⟦<PageRef as Ord>⟧.cmp sorted.now }
     ensures some { IfSome result
@@ -88,18 +88,14 @@ pub(crate) fn load_all_beside<T: PageItem + Duplicate, D: Disk>(
     ensures some { IfOk result (λ loaded. HaveItems loaded.items) }
     ensures found { IfOk result (λ loaded. IsTrue (D.state disk.new).honest
         → All (Stands T.format (D.state disk.new).now.seen) beside.now
-        → HoldItems T.format pages.now (D.state disk.new).now.seen
-        (map (λ page. page.items) loaded.items)) }
+        → HoldItems T.format pages.now (D.state disk.new).now.seen (items_by_page loaded.items)) }
     ensures damaged { IsErrOf result LoadFault.Damaged → IsTrue (D.state disk.new).honest
         → All (Stands T.format (D.state disk.new).now.seen) beside.now
-        → (held : List (List T))
-        → ¬ HoldItems T.format pages.now (D.state disk.new).now.seen held }
-    ensures device { TellsFaults (IsErrOf result LoadFault.Device)
-        (D.state disk.old) (D.state disk.new) }
+        → HoldNoItems T.format pages.now (D.state disk.new).now.seen }
     ensures reads { ReadsPages (unshared pages.now (stored_refs beside.now))
-        (D.state disk.old) (D.state disk.new) }
+        (IsErrOf result LoadFault.Device) (D.state disk.old) (D.state disk.new) }
 {
-    let sorted = sorted_entries(alloc, beside).map_err(|_| LoadFault::NoMemory)?;
+    let sorted = sorted_entries(alloc, beside)?;
     let mut loaded = Vec::new(alloc);
     let mut room = MOST_ITEMS;
     for page in pages {
@@ -113,7 +109,7 @@ pub(crate) fn load_all_beside<T: PageItem + Duplicate, D: Disk>(
     Ok(loaded)
 }
 
-// The page that a reference points to: the one of this list, or else as it is read.
+/// The page that a reference points to: the one of this list, or else as it is read.
 fn load_one_beside<T: PageItem + Duplicate, D: Disk>(
     alloc: Global,
     disk: &mut D,
@@ -129,15 +125,12 @@ fn load_one_beside<T: PageItem + Duplicate, D: Disk>(
         → IsPage T.format page.now (D.state disk.new).now.seen loaded.items) }
     ensures damaged { IsErrOf result LoadFault.Damaged
         → IsTrue (D.state disk.new).honest
-        → (items : List T)
-        → ¬ IsPage T.format page.now (D.state disk.new).now.seen items }
-    ensures device { TellsFaults (IsErrOf result LoadFault.Device)
-        (D.state disk.old) (D.state disk.new) }
+        → HoldsNoPage T.format page.now (D.state disk.new).now.seen }
     ensures reads { ReadsPages (unshared (page.now ∷ []) (stored_refs beside.now))
-        (D.state disk.old) (D.state disk.new) }
+        (IsErrOf result LoadFault.Device) (D.state disk.old) (D.state disk.new) }
 {
     match page_of_entry(beside, sorted, page) {
-        Some(held) => held.copy(alloc).map_err(|_| LoadFault::NoMemory),
+        Some(held) => Ok(held.copy(alloc)?),
         None => Page::load(alloc, disk, page),
     }
 }

@@ -53,7 +53,7 @@ impl<T: PageItem + Duplicate> Pages<T> {
     }
 }
 
-// How many pages lie whole among the first `count` items, and how many items of the next one do.
+/// How many pages lie whole among the first `count` items, and how many items of the next one do.
 fn whole_among<T: PageItem>(pages: &[Page<T>], count: usize) -> (usize, usize)
     ensures within { result.0 ≤ length pages.now }
     ensures dropped { dropped_front count pages.now
@@ -71,7 +71,7 @@ fn whole_among<T: PageItem>(pages: &[Page<T>], count: usize) -> (usize, usize)
     (pages.len(), 0)
 }
 
-// These pages without the first `count` items of the first one, which has more.
+/// These pages without the first `count` items of the first one, which has more.
 fn without_items<T: PageItem + Duplicate>(
     alloc: Global,
     pages: &[Page<T>],
@@ -91,7 +91,7 @@ fn without_items<T: PageItem + Duplicate>(
     Ok(left)
 }
 
-// Appends the full pages that these items are cut into.
+/// Appends the full pages that these items are cut into.
 fn cut_full_into<T: PageItem>(pages: &mut Vec<Page<T>>, items: Vec<T>) -> Result<(), AllocError>
     ensures { OnOk result (pages.new.items ≡ pages.old.items ++ full_pages items.items) }
 {

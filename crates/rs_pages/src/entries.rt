@@ -33,7 +33,7 @@ impl<T: PageItem> Pages<T> {
         }
     }
 
-    // The entry of the page at i, where that page is on the disk.
+    /// The entry of the page at i, where that page is on the disk.
     fn entry_at(&self, i: usize) -> Option<PageRef>
         ensures { result ≡ entry_at i self.now }
     {
@@ -64,7 +64,7 @@ pub(crate) fn entry_of<T: PageItem>(page: &Page<T>) -> Option<PageRef>
     }
 }
 
-// Whether a page is on the disk and has this entry.
+/// Whether a page is on the disk and has this entry.
 fn is_at<T: PageItem>(page: &Page<T>, entry: &PageRef) -> bool
     ensures { result ≡ is_entry entry.now (stored_ref page.now.place) }
 {
@@ -74,7 +74,7 @@ fn is_at<T: PageItem>(page: &Page<T>, entry: &PageRef) -> bool
     }
 }
 
-// Whether one of the pages is on the disk and has this entry.
+/// Whether one of the pages is on the disk and has this entry.
 fn some_is_at<T: PageItem>(pages: &[Page<T>], entry: &PageRef) -> bool
     ensures { result ≡ list_any (λ page. is_entry entry.now (stored_ref page.place)) pages.now }
 {

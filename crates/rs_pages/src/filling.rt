@@ -47,8 +47,8 @@ impl<T: Fill> Pages<T> {
         self.fill_at(k, i, digests);
     }
 
-    // Gives the item at place i of the page at k, both counted from 0, these digests in the place of
-    // its own. That page is not on the disk.
+    /// Gives the item at place i of the page at k, both counted from 0, these digests in the place of
+    /// its own. That page is not on the disk.
     fn fill_at(&mut self, k: usize, i: usize, digests: Digests)
         requires within { i < length (items_at k self.old) }
         requires not_stored { IfSome (slice_get self.old k) IsUnstored }

@@ -1,15 +1,15 @@
 //! Pages that are read.
-ghost use Rattle.std.specs.Prelude.{List, map, All, IfOk, IsErrOf, IsTrue};
-ghost use Rattle.rs_disk.specs.Leaves.{TellsFaults};
+ghost use Rattle.std.specs.Prelude.{All, IfOk, IsErrOf, IsTrue};
 ghost use Rattle.rs_page.specs.DiskPages.{Stands};
 ghost use Rattle.rs_page.specs.Pages.{stored_refs};
 ghost use Rattle.rs_pages.specs.Rule.{HaveItems};
-ghost use Rattle.rs_pages.specs.Storing.{AreStoredAt, HoldItems, ReadsPages, unshared};
+ghost use Rattle.rs_pages.specs.Storing.{items_by_page, AreStoredAt, HoldItems, HoldNoItems, ReadsPages, unshared};
 
 use crate::Pages;
 use crate::beside::load_all_beside;
+use rs_body::LoadFault;
 use rs_disk::Disk;
-use rs_page::{LoadFault, Page, PageItem, PageRef};
+use rs_page::{Page, PageItem, PageRef};
 use rs_record::{Duplicate, MOST_ITEMS};
 use std::alloc::Global;
 
@@ -35,17 +35,14 @@ impl<T: PageItem> Pages<T> {
 
         // What the disk holds is said of a device that has followed the model.
         ensures found { IfOk result (λ loaded. IsTrue (D.state disk.new).honest
-            → HoldItems T.format pages.now (D.state disk.new).now.seen
-            (map (λ page. page.items) loaded)) }
+            → HoldItems T.format pages.now (D.state disk.new).now.seen (items_by_page loaded)) }
         ensures damaged { IsErrOf result LoadFault.Damaged → IsTrue (D.state disk.new).honest
-            → (held : List (List T))
-            → ¬ HoldItems T.format pages.now (D.state disk.new).now.seen held }
-        ensures device { TellsFaults (IsErrOf result LoadFault.Device)
+            → HoldNoItems T.format pages.now (D.state disk.new).now.seen }
+        ensures reads { ReadsPages pages.now (IsErrOf result LoadFault.Device)
             (D.state disk.old) (D.state disk.new) }
-        ensures reads { ReadsPages pages.now (D.state disk.old) (D.state disk.new) }
     {
         let loaded = load_all(alloc, disk, pages)?;
-        Pages::of_pages(alloc, loaded).map_err(|_| LoadFault::NoMemory)
+        Ok(Pages::of_pages(alloc, loaded)?)
     }
 }
 
@@ -74,23 +71,19 @@ impl<T: PageItem + Duplicate> Pages<T> {
         // the list that is held stand.
         ensures found { IfOk result (λ loaded. IsTrue (D.state disk.new).honest
             → All (Stands T.format (D.state disk.new).now.seen) beside.now
-            → HoldItems T.format pages.now (D.state disk.new).now.seen
-            (map (λ page. page.items) loaded)) }
+            → HoldItems T.format pages.now (D.state disk.new).now.seen (items_by_page loaded)) }
         ensures damaged { IsErrOf result LoadFault.Damaged → IsTrue (D.state disk.new).honest
             → All (Stands T.format (D.state disk.new).now.seen) beside.now
-            → (held : List (List T))
-            → ¬ HoldItems T.format pages.now (D.state disk.new).now.seen held }
-        ensures device { TellsFaults (IsErrOf result LoadFault.Device)
-            (D.state disk.old) (D.state disk.new) }
+            → HoldNoItems T.format pages.now (D.state disk.new).now.seen }
         ensures reads { ReadsPages (unshared pages.now (stored_refs beside.now))
-            (D.state disk.old) (D.state disk.new) }
+            (IsErrOf result LoadFault.Device) (D.state disk.old) (D.state disk.new) }
     {
         let found = load_all_beside(alloc, disk, pages, &beside.pages)?;
-        Pages::of_pages(alloc, found).map_err(|_| LoadFault::NoMemory)
+        Ok(Pages::of_pages(alloc, found)?)
     }
 }
 
-// Reads the pages that these references point to, one after the other.
+/// Reads the pages that these references point to, one after the other.
 fn load_all<T: PageItem, D: Disk>(
     alloc: Global,
     disk: &mut D,
@@ -99,14 +92,11 @@ fn load_all<T: PageItem, D: Disk>(
     ensures pages { IfOk result (λ loaded. AreStoredAt pages.now loaded.items) }
     ensures some { IfOk result (λ loaded. HaveItems loaded.items) }
     ensures found { IfOk result (λ loaded. IsTrue (D.state disk.new).honest
-        → HoldItems T.format pages.now (D.state disk.new).now.seen
-        (map (λ page. page.items) loaded.items)) }
+        → HoldItems T.format pages.now (D.state disk.new).now.seen (items_by_page loaded.items)) }
     ensures damaged { IsErrOf result LoadFault.Damaged → IsTrue (D.state disk.new).honest
-        → (held : List (List T))
-        → ¬ HoldItems T.format pages.now (D.state disk.new).now.seen held }
-    ensures device { TellsFaults (IsErrOf result LoadFault.Device)
+        → HoldNoItems T.format pages.now (D.state disk.new).now.seen }
+    ensures reads { ReadsPages pages.now (IsErrOf result LoadFault.Device)
         (D.state disk.old) (D.state disk.new) }
-    ensures reads { ReadsPages pages.now (D.state disk.old) (D.state disk.new) }
 {
     let mut loaded = Vec::new(alloc);
     let mut room = MOST_ITEMS;

@@ -68,7 +68,7 @@ pub(crate) fn copy_in_pages<T: PageItem + Duplicate>(
     add_copy(alloc, pages, rest)
 }
 
-// The first 64 of these items, and those behind them.
+/// The first 64 of these items, and those behind them.
 fn split_off_page<T>(items: &[T]) -> (&[T], &[T])
     requires { 64 ≤ length items.now }
     ensures page { result.0.now ≡ take 64 items.now }
@@ -79,7 +79,7 @@ fn split_off_page<T>(items: &[T]) -> (&[T], &[T])
     items.split_at(MOST)
 }
 
-// Appends a page of copies of these items.
+/// Appends a page of copies of these items.
 fn add_copy<T: PageItem + Duplicate>(
     alloc: Global,
     pages: &mut Vec<Page<T>>,

@@ -77,7 +77,7 @@ impl<T: PageItem> Pages<T> {
         &self.items_at(k)[i - start]
     }
 
-    // The page of the item at place `i`, and how many items are before that page.
+    /// The page of the item at place `i`, and how many items are before that page.
     fn page_of(&self, i: usize) -> (usize, usize)
         requires { i < length (items_of self.now) }
         ensures start { result.1 ≤ i }
@@ -113,7 +113,7 @@ impl<T: PageItem> Pages<T> {
         }
     }
 
-    // The pages after the one at i.
+    /// The pages after the one at i.
     fn after(&self, i: usize) -> &[Page<T>]
         ensures { result.now ≡ drop (i + 1) self.now }
     {
@@ -156,7 +156,7 @@ impl<T: PageItem + Duplicate> Pages<T> {
         Pages::of_pages(alloc, pages)
     }
 
-    // The list with these items in the place of the page at i.
+    /// The list with these items in the place of the page at i.
     fn with_page(&self, alloc: Global, i: usize, items: Vec<T>) -> Result<Pages<T>, AllocError>
         requires { i ≤ length self.now }
         ensures { IfOk result (λ next. next ≡ with_page i items.items self.now) }
@@ -266,7 +266,7 @@ impl<T: Named> Pages<T> {
     }
 }
 
-// Whether the first name of the page is not above this one.
+/// Whether the first name of the page is not above this one.
 fn begins_by<T: Named>(page: &Page<T>, name: &Name) -> bool
     ensures { result ≡ begins_by T.name name.now page.now.items }
 {

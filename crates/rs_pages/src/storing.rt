@@ -1,13 +1,11 @@
 //! Pages on the disk.
 ghost use Rattle.std.specs.Prelude.{◌≡◌, ◌≤◌, ◌<◌, ◌+◌, ◌++◌, [], length, take, map, slice_get, vec_len, vec_capacity, All, IfOk, IfSome, OnOk, OnErr, IsErrOf};
-ghost use Rattle.std.specs.List.{AllZip, cons_option};
-ghost use Rattle.rs_disk.specs.Leaves.{TellsFaults};
-ghost use Rattle.rs_extent.specs.Extents.{AreApart, AreOnDisk, AreTaken};
-ghost use Rattle.rs_page.specs.DiskPages.{IsWritten};
-ghost use Rattle.rs_page.specs.Pages.{IsTouched, placed_extent, placed_extents, stored, stored_ref, stored_refs};
+ghost use Rattle.std.specs.List.{cons_option};
+ghost use Rattle.rs_extent.specs.Extents.{AreApart, AreOnDisk};
+ghost use Rattle.rs_page.specs.Pages.{IsTouched, placed_extent, placed_extents, stored_ref, stored_refs};
 ghost use Rattle.rs_page.specs.Placing.{Places, HasNoPlace};
 ghost use Rattle.rs_pages.specs.Rule.{HaveItems};
-ghost use Rattle.rs_pages.specs.Storing.{StaysOrIsStored, WritesPages};
+ghost use Rattle.rs_pages.specs.Storing.{items_by_page, PlacesTouched, StoresTouched, StoresSome, WritesPages};
 
 use crate::Pages;
 use rs_disk::Disk;
@@ -23,14 +21,11 @@ impl<T: PageItem> Pages<T> {
     ///
     /// [`Full`] where a page has no such run; nothing has changed then.
     pub fn place_touched(&mut self, used: &mut Used) -> Result<(), Full>
-        ensures places { OnOk result (Places T.format used.old self.old used.new self.new) }
-        ensures placed { OnOk result (All (λ page. ¬ IsTouched page.place) self.new) }
-        ensures taken { placed_extents self.old ≡ []
-            → OnOk result (AreTaken used.old used.new (placed_extents self.new)) }
+        ensures ok { OnOk result (PlacesTouched T.format used.old self.old used.new self.new) }
         ensures full { OnErr result (HasNoPlace T.format used.old self.old) }
         ensures used { OnErr result (used.new ≡ used.old) }
         ensures unchanged { OnErr result (self.new ≡ self.old) }
-        ensures items { map (λ page. page.items) self.new ≡ map (λ page. page.items) self.old }
+        ensures items { items_by_page self.new ≡ items_by_page self.old }
         ensures stored { map (λ page. stored_ref page.place) self.new
             ≡ map (λ page. stored_ref page.place) self.old }
     {
@@ -70,15 +65,12 @@ impl<T: PageItem> Pages<T> {
         requires placed { All (λ page. ¬ IsTouched page.place) self.old }
         requires room { AreOnDisk (placed_extents self.old) (D.state disk.old).size }
         requires apart { AreApart (placed_extents self.old) }
-        ensures ok { OnOk result (self.new ≡ stored T.format self.old) }
-        ensures reads { OnOk result
-            (All (IsWritten T.format (D.state disk.new).now.seen) self.old) }
-        ensures places { OnErr result
-            (AllZip (StaysOrIsStored T.format (D.state disk.new).now.seen) self.old self.new) }
-        ensures items { map (λ page. page.items) self.new ≡ map (λ page. page.items) self.old }
-        ensures device { TellsFaults (IsErrOf result StoreFault.Device)
+        ensures ok { OnOk result
+            (StoresTouched T.format (D.state disk.new).now.seen self.old self.new) }
+        ensures err { OnErr result
+            (StoresSome T.format (D.state disk.new).now.seen self.old self.new) }
+        ensures writes { WritesPages self.old (IsErrOf result StoreFault.Device)
             (D.state disk.old) (D.state disk.new) }
-        ensures writes { WritesPages self.old (D.state disk.old) (D.state disk.new) }
     {
         store_all(&mut self.pages, alloc, disk)
     }
@@ -102,8 +94,8 @@ impl<T: PageItem> Pages<T> {
     }
 }
 
-// Gives each touched page the lowest run of free blocks of its size, one page after the other, from
-// the one at `start` on. It goes as deep as there are touched pages.
+/// Gives each touched page the lowest run of free blocks of its size, one page after the other, from
+/// the one at `start` on. It goes as deep as there are touched pages.
 fn place_from<T: PageItem>(pages: &mut [Page<T>], start: usize, used: &mut Used) -> Result<(), Full>
     requires bound { start ≤ length pages.old }
     requires before { All (λ page. ¬ IsTouched page.place) (take start pages.old) }
@@ -111,9 +103,6 @@ fn place_from<T: PageItem>(pages: &mut [Page<T>], start: usize, used: &mut Used)
     ensures full { OnErr result (HasNoPlace T.format used.old pages.old) }
     ensures used { OnErr result (used.new ≡ used.old) }
     ensures unchanged { OnErr result (pages.new ≡ pages.old) }
-    ensures items { map (λ page. page.items) pages.new ≡ map (λ page. page.items) pages.old }
-    ensures stored { map (λ page. stored_ref page.place) pages.new
-        ≡ map (λ page. stored_ref page.place) pages.old }
 {
     let k = next_touched(pages, start);
     if k == pages.len() {
@@ -127,7 +116,7 @@ fn place_from<T: PageItem>(pages: &mut [Page<T>], start: usize, used: &mut Used)
     Ok(())
 }
 
-// The place of the first touched page from `start` on, or the number of pages where there is none.
+/// The place of the first touched page from `start` on, or the number of pages where there is none.
 fn next_touched<T: PageItem>(pages: &[Page<T>], start: usize) -> usize
     requires bound { start ≤ length pages.now }
     requires before { All (λ page. ¬ IsTouched page.place) (take start pages.now) }
@@ -144,7 +133,7 @@ fn next_touched<T: PageItem>(pages: &[Page<T>], start: usize) -> usize
     pages.len()
 }
 
-// Adds the blocks of a place, where a page was given some and is not written yet.
+/// Adds the blocks of a place, where a page was given some and is not written yet.
 fn add_placed(extents: &mut Vec<Extent>, place: Place)
     requires { vec_len extents.old < vec_capacity extents.old }
     ensures items { extents.new.items ≡ extents.old.items ++ cons_option (placed_extent place) [] }
@@ -156,7 +145,7 @@ fn add_placed(extents: &mut Vec<Extent>, place: Place)
     }
 }
 
-// Writes each page that was given blocks, one page after the other.
+/// Writes each page that was given blocks, one page after the other.
 fn store_all<T: PageItem, D: Disk>(
     pages: &mut [Page<T>],
     alloc: Global,
@@ -165,14 +154,12 @@ fn store_all<T: PageItem, D: Disk>(
     requires placed { All (λ page. ¬ IsTouched page.place) pages.old }
     requires room { AreOnDisk (placed_extents pages.old) (D.state disk.old).size }
     requires apart { AreApart (placed_extents pages.old) }
-    ensures ok { OnOk result (pages.new ≡ stored T.format pages.old) }
-    ensures reads { OnOk result (All (IsWritten T.format (D.state disk.new).now.seen) pages.old) }
-    ensures places { OnErr result
-        (AllZip (StaysOrIsStored T.format (D.state disk.new).now.seen) pages.old pages.new) }
-    ensures items { map (λ page. page.items) pages.new ≡ map (λ page. page.items) pages.old }
-    ensures device { TellsFaults (IsErrOf result StoreFault.Device)
+    ensures ok { OnOk result
+        (StoresTouched T.format (D.state disk.new).now.seen pages.old pages.new) }
+    ensures err { OnErr result
+        (StoresSome T.format (D.state disk.new).now.seen pages.old pages.new) }
+    ensures writes { WritesPages pages.old (IsErrOf result StoreFault.Device)
         (D.state disk.old) (D.state disk.new) }
-    ensures writes { WritesPages pages.old (D.state disk.old) (D.state disk.new) }
 {
     for page in pages.iter_mut() {
         page.store(alloc, disk)?;

@@ -1,7 +1,7 @@
 //! Images whose device fails, and roots for whose blocks no device is asked. Each SHA-256 and MD5 is by
 //! Python's `hashlib`.
 
-use rs_catalogue::LoadFault;
+use rs_body::LoadFault;
 use rs_commit::Root;
 use rs_disk::{Disk, MemoryDisk};
 use rs_extent::Extent;

@@ -3,7 +3,8 @@ ghost use Rattle.std.specs.Prelude.{◌≡◌, [], IfOk};
 ghost use Rattle.rs_page.specs.Pages.{placed_extents};
 
 use crate::values::deletion;
-use rs_catalogue::{Catalogue, LoadFault, StoreFault};
+use rs_body::LoadFault;
+use rs_catalogue::{Catalogue, StoreFault};
 use rs_changes::History;
 use rs_disk::{Disk, MemoryDisk};
 use rs_extent::{Extent, Used};

@@ -1,10 +1,10 @@
 //! Pages on a device that fails, and references that no device is asked for.
 
 use crate::values::{SHA256_OF_NOTHING, deletion};
-use rs_body::is_on_disk;
+use rs_body::{LoadFault, is_on_disk};
 use rs_disk::{Disk, MemoryDisk};
 use rs_extent::{Extent, Used};
-use rs_page::{LoadFault, Page, PageItem, PageRef, Place, StoreFault};
+use rs_page::{Page, PageItem, PageRef, Place, StoreFault};
 use rs_record::Change;
 use std::process::Abort;
 use std::test::Fail;

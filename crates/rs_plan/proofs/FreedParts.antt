@@ -1,5 +1,5 @@
 -- What becomes of one part of what a root reaches.
-use Rattle.std.proofs.Common.{true≢false, ◌≡◌, ◌⊎◌, inl, inr, ℕ, Bool, true, false, cond, List, [], ◌∷◌, ◌++◌, Option, Some, None, refl, sym, ◌∙◌, ap, subst}
+use Rattle.std.proofs.Common.{true≢false, ◌≡◌, ◌⊎◌, inl, inr, ℕ, Bool, true, false, cond, List, [], ◌∷◌, ◌++◌, Option, Some, None, refl, sym, ◌∙◌, ap, subst, arith}
 use Rattle.std.specs.Cmp.{first_so, second_so}
 use Rattle.std.specs.List.{cons_option, list_any}
 use Rattle.std.proofs.lemmas.List.{map-append}
@@ -7,7 +7,7 @@ use Rattle.std.proofs.lemmas.Slice.Eq.{bytes_eq-Decides}
 use Rattle.std.specs.Prelude.{◌&&◌, ◌||◌, not, nat_eq, bytes_eq}
 use Rattle.rs_extent.specs.declared.Extent.{Extent}
 use Rattle.rs_extent.specs.Extents.{within, in_some, AreApart, AreDisjoint, IsSubset}
-use Rattle.rs_extent.proofs.Sets.{not_true, not_both, some_first, some_rest, some_split, some_front, some_behind, some_of_both, none_front, apart_front, apart_behind, apart_between}
+use Rattle.rs_extent.proofs.Sets.{not_true, not_both, some_first, some_rest, some_split, some_front, some_behind, some_of_both, none_front, apart_both, apart_front, apart_behind, apart_between, within_is, in_one}
 use Rattle.rs_page.specs.declared.place.PageRef.{PageRef}
 use Rattle.rs_page.specs.Pages.{Page, same_page, stored_refs, extents_of}
 use Rattle.rs_pages.specs.Dropped.{front_pages, ReplacesFront}
@@ -16,6 +16,7 @@ use Rattle.rs_plan.specs.Freed.{extent_of_page}
 use Rattle.rs_plan.proofs.Unshared.{itself, same_extent, same_number, shared_some}
 use Rattle.rs_plan.proofs.Freed.{PartTurns}
 use Rattle.rs_plan.proofs.FreedPages.{LosesOne, refs_both, none_fresh}
+use Rattle.rs_plan.specs.Turned.{no_body}
 
 -- Of a list of extents some are gone, and others stand in their place.
 pub record Replaces (old new gone made : List Extent) : Type 0 where
@@ -63,9 +64,28 @@ replaced old new gone made by apart =
     (subst (λ (n : List Extent). PartTurns (by.front ++ (gone ++ by.back)) gone n made) (sym by.is)
     (part_replaced by.front gone made by.back (subst AreApart by.was apart)))
 
+pub apart_replaced : (old new gone made : List Extent) → Replaces old new gone made → AreApart old → AreApart made → AreDisjoint (in_some made) (in_some old) → AreApart new
+apart_replaced old new gone made by apart alone beside =
+    let front = by.front in
+    let back = by.back in
+    let parts : AreApart (front ++ (gone ++ back)) = subst AreApart by.was apart in
+    let none : AreDisjoint (in_some made) (in_some (front ++ (gone ++ back))) = subst (λ (l : List Extent). AreDisjoint (in_some made) (in_some l)) by.was beside in
+    subst AreApart (sym by.is)
+    (apart_both front (made ++ back) (apart_front front (gone ++ back) parts)
+    (apart_both made back alone (apart_behind gone back (apart_behind front (gone ++ back) parts))
+    (λ k is. not_true (in_some back k) (λ here. not_both (in_some (front ++ (gone ++ back)) k) (some_behind front (gone ++ back) k (some_behind gone back k here)) (none k is))))
+    (λ k is. not_true (in_some (made ++ back) k) (λ here. elim (some_of_both made back k here) [
+      | inl new ↦ not_both (in_some (front ++ (gone ++ back)) k) (some_front front (gone ++ back) k is) (none k new)
+      | inr there ↦ not_both (in_some (gone ++ back) k) (some_behind gone back k there) (apart_between front (gone ++ back) parts k is)
+    ])))
+
 -- no block
 pub none_in : (k : ℕ) (P : Type 0) → in_some [] k ≡ true → P
 none_in k P is = absurd (true≢false (sym is))
+
+-- a body that is not written has no block
+pub nowhere : (k : ℕ) (P : Type 0) → in_some (no_body ∷ []) k ≡ true → P
+nowhere k P is = let at = within_is no_body k (in_one no_body k is) in absurd (omega (arith, at.1))
 
 -- What is kept of a part may be followed by what is written.
 pub grown : (old gone kept after made : List Extent) → PartTurns old gone kept [] → ((k : ℕ) → in_some after k ≡ true → (in_some kept k ≡ true) ⊎ (in_some made k ≡ true))

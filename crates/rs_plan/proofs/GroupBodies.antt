@@ -25,12 +25,10 @@ use Rattle.rs_plan.specs.Freed.{extent_of_body}
 use Rattle.rs_plan.specs.Placed.{record_made}
 use Rattle.rs_plan.specs.Room.{is_named_in, bodies_kept}
 use Rattle.rs_plan.specs.Turned.{no_body, first_of, extent_for, extents_left, lists_after_item, lists_after_items, of_each_item}
-use Rattle.rs_plan.proofs.Bodies.{bodies_bound, bodies_unbound}
 use Rattle.rs_plan.proofs.Freed.{PartTurns}
-use Rattle.rs_plan.proofs.FreedParts.{none_in, replaced}
-use Rattle.rs_plan.proofs.ItemSteps.{bodies_cut, fits_step, made_for, map_after, records_step, body_lost}
+use Rattle.rs_plan.proofs.FreedParts.{none_in, replaced, apart_replaced, nowhere}
+use Rattle.rs_plan.proofs.ItemSteps.{bodies_cut, fits_step, made_by, made_for, map_after, records_step, body_lost}
 use Rattle.rs_plan.proofs.Losing.{turns_both}
-use Rattle.rs_plan.proofs.OneName.{nowhere}
 use Rattle.rs_plan.proofs.Parts.{bodies_in}
 
 -- a record that has a name has its blocks among the bodies
@@ -71,6 +69,15 @@ first_beside : (bodies : List Extent) (other : ℕ → Bool) (t : Bool) → AreD
 first_beside bodies other false beside k is = nowhere k _ is
 first_beside [] other true beside k is = nowhere k _ is
 first_beside (e ∷ bodies) other true beside k is = beside k (some_first e bodies k (in_one e k is))
+
+made_beside : (item : Item) (items : List Item) (bodies : List Extent) (other : ℕ → Bool) → AreDisjoint (in_some bodies) other
+    → AreDisjoint (in_some (made_by item (extent_for item items bodies))) other
+made_beside (single.Put name kind bytes) items bodies other beside k is = first_beside bodies other (not (is_named_in name items)) beside k is
+made_beside (single.Delete name) items bodies other beside k is = none_in k _ is
+
+made_alone : (item : Item) (body : Extent) → AreApart (made_by item body)
+made_alone (single.Put name kind bytes) body = (λ k is. refl, tt)
+made_alone (single.Delete name) body = tt
 
 -- What becomes of the bodies: these go, and those that are written stand in their place, apart from the others.
 pub record BodiesTurn (old gone new made : List Extent) : Type 0 where
@@ -133,17 +140,10 @@ module _ (law : IsPageRuleKept) where
 
   step_apart : (c : Contents) (item : Item) (items : List Item) (moment : ℕ) (bodies : List Extent) → Ascend (λ (r : Record). r.name) c.catalogue → AreApart (bodies_in c)
       → AreDisjoint (in_some bodies) (in_some (bodies_in c)) → AreApart (bodies_in (lists_after_item c item moment (extent_for item items bodies)))
-  step_apart c (single.Put name kind bytes) items moment bodies ordered apart beside =
-      let item : Item = single.Put name kind bytes in
+  step_apart c item items moment bodies ordered apart beside =
       let body = extent_for item items bodies in
-      let next = lists_after_item c item moment body in
-      (bodies_bound name (record_made name kind bytes body moment) (records_of c.catalogue) (records_of next.catalogue)
-      (records_step law item moment body c.catalogue ordered).0).apart apart (first_beside bodies (in_some (bodies_in c)) (not (is_named_in name items)) beside)
-  step_apart c (single.Delete name) items moment bodies ordered apart beside =
-      let item : Item = single.Delete name in
-      let next = lists_after_item c item moment no_body in
-      (bodies_unbound no_body name (records_of c.catalogue) (records_of next.catalogue) (records_step law item moment no_body c.catalogue ordered).0).apart apart
-      (λ k is. nowhere k _ is)
+      apart_replaced (bodies_in c) (bodies_in (lists_after_item c item moment body)) (extent_of_body c (name_of item)) (made_by item body)
+      (body_lost law c item moment body ordered) apart (made_alone item body) (made_beside item items bodies (in_some (bodies_in c)) beside)
 
   abbrev HasBlocks : Extent → List ℕ → Type 0
   HasBlocks extent bytes = IsSized extent (length bytes)

@@ -1,10 +1,10 @@
 -- The pages after the items of a group, and which entries they lose.
-use Rattle.std.proofs.Common.{◌≡◌, ℕ, ◌+◌, List, [], ◌∷◌, ◌++◌, refl, sym, ◌∙◌, ap}
-use Rattle.std.specs.List.{cons_option}
+use Rattle.std.proofs.Common.{◌≡◌, ℕ, ◌+◌, List, [], ◌∷◌, ◌++◌, refl, sym, ◌∙◌, ap, Bool, true, false, cond, Option, Some, None}
+use Rattle.std.specs.List.{cons_option, list_any}
 use Rattle.rs_extent.specs.declared.Extent.{Extent}
 use Rattle.rs_record.specs.declared.record.Record.{Record}
 use Rattle.rs_page.specs.declared.place.PageRef.{PageRef}
-use Rattle.rs_page.specs.Pages.{stored_refs, extents_of}
+use Rattle.rs_page.specs.Pages.{stored_refs, extents_of, same_page}
 use Rattle.rs_page.specs.SharedPages.{KeepsPages, stored_pages}
 use Rattle.rs_pages.specs.Entries.{open_entry}
 use Rattle.rs_pages.specs.Laws.{Ascend}
@@ -13,15 +13,25 @@ use Rattle.rs_model.specs.Grouping.{name_of}
 use Rattle.rs_model.specs.declared.command.Item.{Item}
 use Rattle.rs_image.specs.declared.contents.Contents.{Contents}
 use Rattle.rs_plan.specs.Drafts.{IsPageRuleKept}
-use Rattle.rs_plan.specs.Freed.{entry_of_name, freed_page, freed_history_page}
+use Rattle.rs_plan.specs.Freed.{entry_of_name, freed_page, freed_history_page, unpublished, extent_of_page}
 use Rattle.rs_plan.specs.Placed.{AreUnplaced}
 use Rattle.rs_plan.specs.Turned.{extent_for, extents_left, lists_after_item, lists_after_items, of_each_item, MayDoEach}
-use Rattle.rs_plan.proofs.Bodies.{itself}
+use Rattle.rs_plan.proofs.Sublists.{itself, among}
 use Rattle.rs_plan.proofs.FreedParts.{one_extent}
 use Rattle.rs_plan.proofs.ItemSteps.{records_step, keeps_step, unplaced_step, page_lost, history_page_lost}
 use Rattle.rs_plan.proofs.Losing.{LosesAll, loses_none, loses_more}
-use Rattle.rs_plan.proofs.OneName.{freed_first}
-use Rattle.rs_plan.proofs.Sublists.{among}
+use Rattle.std.specs.Prelude.{not}
+
+-- an entry that no published page has is freed before others
+freed_by_test : (e : PageRef) (t : Bool) (rest : List PageRef)
+    → extents_of (cond (not t) (e ∷ rest) rest) ≡ extent_of_page (cond t None (Some e)) ++ extents_of rest
+freed_by_test e true rest = refl
+freed_by_test e false rest = refl
+
+pub freed_first : (entry : Option PageRef) (rest published : List PageRef)
+    → extents_of (unshared (cons_option entry rest) published) ≡ extent_of_page (unpublished entry published) ++ extents_of (unshared rest published)
+freed_first None rest published = refl
+freed_first (Some e) rest published = freed_by_test e (list_any (same_page e) published) (unshared rest published)
 
 -- the entries that the pages of the catalogue lose, and those of the history
 abbrev pub pages_lost : Contents → List Item → ℕ → List Extent → List PageRef

@@ -1,124 +1,181 @@
--- What a group plans keeps all rules.
-use Rattle.std.proofs.Common.{◌≡◌, inl, ℕ, Bool, List, ◌∷◌, ◌++◌, length, map, sym, ◌∙◌, ap, ap₂, subst, arith}
-use Rattle.std.specs.Prelude.{All}
+-- What a command plans that does items one after another keeps all rules: a put and a delete do one, a group does all of its own.
+use Rattle.std.proofs.Common.{◌≡◌, inl, inr, ℕ, ◌+◌, Bool, List, [], ◌∷◌, ◌++◌, length, map, max, Result, refl, sym, ◌∙◌, ap, ap₂, subst, arith}
+use Rattle.std.specs.Prelude.{All, IfOk, IsErrOf}
 use Rattle.std.specs.List.{AllZip, AllByRecursion}
 use Rattle.std.proofs.lemmas.List.{append-nil}
-use Rattle.rs_time.specs.Moment.{IsMoment}
 use Rattle.rs_body.specs.Blocks.{IsSized}
 use Rattle.rs_extent.specs.declared.Extent.{Extent}
-use Rattle.rs_extent.specs.Extents.{in_some, AreApart, AreDisjoint}
-use Rattle.rs_commit.specs.declared.root.Root.{Root}
+use Rattle.rs_extent.specs.Extents.{in_some, AreApart, AreDisjoint, AreTaken}
 use Rattle.rs_record.specs.declared.record.Record.{Record}
 use Rattle.rs_page.specs.Pages.{stored_refs, extents_of}
 use Rattle.rs_pages.specs.Laws.{Ascend}
 use Rattle.rs_pages.specs.Storing.{unshared}
-use Rattle.rs_catalogue.specs.Catalogue.{records_of, IsCatalogue}
-use Rattle.rs_changes.specs.History.{IsHistory}
+use Rattle.rs_catalogue.specs.Catalogue.{records_of}
 use Rattle.rs_model.specs.declared.command.Item.{Item}
-use Rattle.rs_model.specs.declared.command.Command.TheVariants.{Group}
-use Rattle.rs_model.specs.declared.command.Reply.TheVariants.{Grouped}
-use Rattle.rs_model.specs.Step.{causes}
+use Rattle.rs_model.specs.declared.command.Item.TheVariants as single
+use Rattle.rs_model.specs.declared.command.Command.{Command}
+use Rattle.rs_model.specs.declared.command.Command.TheVariants.{Put, Delete, Group}
+use Rattle.rs_model.specs.declared.command.Reply.{Reply}
+use Rattle.rs_model.specs.Grouping.{name_of}
+use Rattle.rs_model.specs.State.{Source}
+use Rattle.rs_model.specs.Step.{after_put, after_delete, after_items, causes, next_state, reply_to}
 use Rattle.rs_model.proofs.RoomLemmas.{no_causes}
 use Rattle.rs_image.specs.declared.contents.Contents.{Contents}
-use Rattle.rs_image.specs.Rooted.{rooted, AreUsed, IsRooted}
+use Rattle.rs_image.specs.Rooted.{Rooted, AreUsed}
 use Rattle.rs_image.specs.StateOfImage.{held_in, state_in}
 use Rattle.rs_image.specs.Whole.{IsSoundRecord}
 use Rattle.rs_plan.specs.declared.plan.Plan.{Plan}
-use Rattle.rs_plan.specs.Allowed.{MayGroup}
-use Rattle.rs_plan.specs.Drafts.{IsPageRuleKept}
-use Rattle.rs_plan.specs.Freed.{extent_of_body, freed_by_group}
-use Rattle.rs_plan.specs.Placed.{AreUnplaced, HasItsPlaces}
-use Rattle.rs_plan.specs.Plans.{AreChanged, IsNext, IsPlanned, places}
-use Rattle.rs_plan.specs.Room.{TakesEach, bodies_kept, bodies_needed}
+use Rattle.rs_plan.specs.declared.planning.PlanFault.{PlanFault}
+use Rattle.rs_plan.specs.declared.planning.PlanFault.TheVariants.{Full}
+use Rattle.rs_plan.specs.Allowed.{MayDoItem, MayGroup}
+use Rattle.rs_plan.specs.Freed.{extent_of_body, freed_page, freed_history_page, freed_by_change, freed_by_group}
+use Rattle.rs_plan.specs.Placed.{AreUnplaced}
+use Rattle.rs_plan.specs.PlacedFrom.{IsPlacedFrom, HasNoRoomFrom}
+use Rattle.rs_plan.specs.Plans.{AreChanged, ArePagesAfter, IsNext, IsPlanned, LacksRoom}
+use Rattle.rs_plan.specs.Room.{TakesEach, bodies_kept, bodies_needed, bodies_of_command}
 use Rattle.rs_plan.specs.Turned.{lists_after_items, of_each_item, MayDoEach}
-use Rattle.rs_plan.proofs.Following.{all_unplaced}
+use Rattle.rs_plan.proofs.Placing.{all_unplaced, ruled_itself}
 use Rattle.rs_plan.proofs.GivenBack.{Frees}
 use Rattle.rs_plan.proofs.GroupBodies.{bodies_turn}
 use Rattle.rs_plan.proofs.GroupPages.{pages_lost, history_pages_lost, published_after, freed_pages, freed_history_pages, keeps_after, unplaced_after, loses_pages, loses_history_pages}
 use Rattle.rs_plan.proofs.GroupRules.{IsNoCause, may_do_each, rules_after}
 use Rattle.rs_plan.proofs.GroupStates.{entries_held, group_turns, last_grows, start_stays, records_sound}
+use Rattle.rs_plan.proofs.Here.{IsAccepted, answered}
 use Rattle.rs_plan.proofs.Parts.{bodies_in, sized_each}
-use Rattle.rs_plan.proofs.Placing.{ruled_itself}
 use Rattle.rs_plan.proofs.Planned.{planned}
 use Rattle.rs_plan.proofs.Rules.{KeepsRules, rules_of, later_records}
 
-module _ (law : IsPageRuleKept) (size : ℕ) (root : Root) (old : Contents) (sound : IsRooted (rooted size root old)) (lawful : IsCatalogue old.catalogue)
-    (items : List Item) (moment : ℕ) (is_moment : IsMoment moment) (may : MayGroup old items moment) where
+-- A command does these items one after another: its bodies, its step and the pages after it are theirs.
+pub record DoesItems (command : Command) (items : List Item) : Type 0 where
+  pub bodies : bodies_of_command command ≡ bodies_kept items
+  pub turns : (s : Source) (t : ℕ) → max t (s.last + 1) ≡ t → after_items s items t ≡ next_state s command t
+  pub pages : (old c : Contents) (t : ℕ) (bodies : List Extent) → AreChanged (lists_after_items old items t bodies) old c → ArePagesAfter old command t bodies c
+
+pub put_does : (name kind bytes : List ℕ) → DoesItems (Put name kind bytes) (single.Put name kind bytes ∷ [])
+put_does name kind bytes = record { bodies = refl; turns = λ s t is. ap (after_put s name kind bytes) is; pages = λ old c t bodies is. is }
+
+pub delete_does : (name : List ℕ) → DoesItems (Delete name) (single.Delete name ∷ [])
+delete_does name = record { bodies = refl; turns = λ s t is. ap (after_delete s name) is; pages = λ old c t bodies is. is }
+
+pub group_does : (items : List Item) → DoesItems (Group items) items
+group_does items = record { bodies = refl; turns = λ s t is. refl; pages = λ old c t bodies is. is }
+
+-- Each item may be done in the lists before it: one where it may be done alone, and all of a group that is accepted.
+pub may_one : (r : Rooted) (moment : ℕ) → IsAccepted r moment → (item : Item) → MayDoItem r.contents item moment → (bodies : List Extent)
+    → MayDoEach r.contents (item ∷ []) moment bodies
+may_one r moment given item may bodies = (given.is_moment, given.sound.whole.moments, may, tt)
+
+pub may_each : (r : Rooted) (moment : ℕ) → IsAccepted r moment → (items : List Item) → MayGroup r.contents items moment → (bodies : List Extent)
+    → MayDoEach r.contents items moment bodies
+may_each r moment given items may bodies =
+    let none : AllByRecursion IsNoCause (causes (state_in may.image r.contents) (Group items) moment) =
+    no_causes (causes (state_in may.image r.contents) (Group items) moment) may.accepted in
+    may_do_each given.law items r.contents (map (held_in may.image) (records_of r.contents.catalogue)) moment moment bodies given.lawful.held.ordered
+    (entries_held may.image r.contents) (rules_of r.size r.root r.contents given.sound.whole given.sound.listable.header) given.is_moment (omega (arith, given.later)) none.1
+
+-- what one item frees
+pub frees_one : (r : Rooted) (item : Item) (moment : ℕ) (bodies : List Extent) → freed_by_change r (name_of item) ≡ freed_by_group r (item ∷ []) moment bodies
+frees_one r item moment bodies =
+    let name = name_of item in
+    let page = freed_page r.contents name in
+    let history_page = freed_history_page r.contents name in
+    let body = extent_of_body r.contents name in
+    ap₂ (λ (a b : List Extent). r.root.directory ∷ a ++ b ++ body) (sym (append-nil page)) (sym (append-nil history_page))
+    ∙ ap (λ (l : List Extent). r.root.directory ∷ (page ++ []) ++ (history_page ++ []) ++ l) (sym (append-nil body))
+
+module _ (r : Rooted) (moment : ℕ) (given : IsAccepted r moment) (command : Command) (items : List Item) (does : DoesItems command items) (bodies : List Extent)
+    (may : MayDoEach r.contents items moment bodies) where
+  abbrev old : Contents
+  old = r.contents
+
   ordered : Ascend (λ (r : Record). r.name) old.catalogue
-  ordered = lawful.held.ordered
+  ordered = given.lawful.held.ordered
 
-  -- no cause for a refusal is there
-  none : AllByRecursion IsNoCause (causes (state_in may.image old) (Group items) moment)
-  none = no_causes (causes (state_in may.image old) (Group items) moment) may.accepted
+  -- The lists after the items.
+  abbrev final : Contents
+  final = lists_after_items old items moment bodies
 
-  pub may_each : (bodies : List Extent) → MayDoEach old items moment bodies
-  may_each bodies =
-      may_do_each law items old (map (held_in may.image) (records_of old.catalogue)) moment moment bodies ordered (entries_held may.image old)
-      (rules_of size root old sound.whole sound.listable.header) is_moment (omega (arith, may.later)) none.1
+  unplaced : AreUnplaced final
+  unplaced = unplaced_after given.law items old moment bodies (all_unplaced old given.sound.whole.catalogue given.sound.whole.history)
 
-  -- The lists after the group.
-  module _ (bodies : List Extent) where
-    abbrev pub final : Contents
-    final = lists_after_items old items moment bodies
+  changed : AreChanged final old final
+  changed = (
+    ruled_itself final.catalogue unplaced.catalogue,
+    ruled_itself final.history.pages unplaced.history,
+    published_after items old moment bodies,
+  )
 
-    pub group_unplaced : AreUnplaced final
-    group_unplaced = unplaced_after law items old moment bodies (all_unplaced old sound.whole.catalogue sound.whole.history)
+  next : IsNext old command moment bodies final
+  next = record {
+    turns = λ image there. group_turns given.law image old items moment bodies ordered given.later (subst (AllZip _ bodies) does.bodies there)
+        ∙ does.turns (state_in image old) moment (omega (arith, given.later));
+    catalogue = (keeps_after given.law items old moment bodies).0;
+    history = (keeps_after given.law items old moment bodies).1;
+    pages = does.pages old final moment bodies changed;
+  }
 
-    changed : AreChanged final old final
-    changed = (
-      ruled_itself final.catalogue group_unplaced.catalogue,
-      ruled_itself final.history.pages group_unplaced.history,
-      published_after items old moment bodies,
-    )
+  rules : KeepsRules final
+  rules = rules_after given.law items old moment bodies (rules_of r.size r.root old given.sound.whole given.sound.listable.header) may
 
-    pub group_next : IsNext old (Group items) moment bodies final
-    group_next = record {
-      turns = λ image there. group_turns law image old items moment bodies ordered may.later there;
-      catalogue = (keeps_after law items old moment bodies).0;
-      history = (keeps_after law items old moment bodies).1;
-      pages = changed;
+  abbrev AreSized : Type 0
+  AreSized = AllZip (λ extent bytes. IsSized extent (length bytes)) bodies (bodies_kept items)
+
+  records : AreSized → All (IsSoundRecord final.header.start final.header.last) (records_of final.catalogue)
+  records sized =
+      let whole = given.sound.whole in
+      let grows = last_grows items old moment bodies (omega (arith, given.later)) in
+      subst (λ (start : ℕ). All (IsSoundRecord start final.header.last) (records_of final.catalogue)) (sym (start_stays items old moment bodies))
+      (records_sound given.law old.header.start final.header.last items old moment bodies ordered sized may
+      (omega (arith, whole.moments.start, whole.moments.at, given.later)) (omega arith)
+      (later_records old.header.start old.header.last final.header.last (records_of old.catalogue) grows whole.records))
+
+  frees : (freed : List Extent) → freed ≡ freed_by_group r items moment bodies → AreSized → AreApart bodies → AreApart (bodies_in old)
+      → AreDisjoint (in_some bodies) (in_some (bodies_in old)) → Frees r.root.directory old bodies final freed
+  frees freed is sized free apart beside =
+      let gone = of_each_item extent_of_body old items moment bodies in
+      let turn = bodies_turn given.law items old moment bodies ordered sized free apart beside in
+      let both : List Extent =
+      r.root.directory ∷ extents_of (unshared (pages_lost old items moment bodies) (stored_refs old.published)) ++ extents_of (history_pages_lost old items moment bodies) in
+      inl (record {
+        pages = pages_lost old items moment bodies;
+        changes = history_pages_lost old items moment bodies;
+        gone = gone;
+        parts = is ∙ ap₂ (λ (a b : List Extent). r.root.directory ∷ a ++ b ++ gone) (freed_pages items old moment bodies) (freed_history_pages items old moment bodies)
+            ∙ ap (λ (l : List Extent). l ++ gone) (sym (append-nil both));
+        catalogue = loses_pages given.law items old moment bodies ordered may;
+        history = loses_history_pages given.law items old moment bodies;
+        bodies = turn.turns;
+        apart = turn.apart;
+        published = published_after items old moment bodies;
+      })
+
+  -- With the bodies where they were found, there is no room, or a plan.
+  module _ (used : List Bool) (are_used : AreUsed r used)
+      (found : (after : List Bool) → AreTaken used after bodies → TakesEach used (bodies_needed (bodies_of_command command)) bodies after) where
+    pub items_lack : HasNoRoomFrom used bodies final → LacksRoom r command moment
+    items_lack room = record {
+      used = used;
+      are_used = are_used;
+      fails = inr (room.after_bodies, bodies, final, found room.after_bodies room.takes, next, room.fails);
     }
 
-    rules : KeepsRules final
-    rules = rules_after law items old moment bodies (rules_of size root old sound.whole sound.listable.header) (may_each bodies)
+    pub items_planned : (told : Reply) (gone : List Extent) (p : Plan) → ((image : List ℕ) → told ≡ reply_to (state_in image old) command moment)
+        → gone ≡ freed_by_group r items moment bodies → IsPlacedFrom used bodies final told gone p → IsPlanned r command moment p
+    items_planned told gone p reply freed from =
+        let takes = found from.after_bodies from.takes in
+        let sized : AreSized = subst (AllZip (λ extent bytes. IsSized extent (length bytes)) bodies) does.bodies
+        (sized_each (bodies_of_command command) used from.after_bodies bodies takes) in
+        planned r.size r.root old given.sound command moment used from.after_bodies are_used bodies takes final next rules (records sized) unplaced p from.placed
+        (λ image. from.reply ∙ reply image) from.lists (frees p.freed.items (from.freed ∙ freed) sized) from.taken
 
-    records : AllZip (λ extent bytes. IsSized extent (length bytes)) bodies (bodies_kept items)
-        → All (IsSoundRecord final.header.start final.header.last) (records_of final.catalogue)
-    records sized =
-        let grows = last_grows items old moment bodies (omega (arith, may.later)) in
-        subst (λ (start : ℕ). All (IsSoundRecord start final.header.last) (records_of final.catalogue)) (sym (start_stays items old moment bodies))
-        (records_sound law old.header.start final.header.last items old moment bodies ordered sized (may_each bodies)
-        (omega (arith, sound.whole.moments.start, sound.whole.moments.at, may.later)) (omega arith)
-        (later_records old.header.start old.header.last final.header.last (records_of old.catalogue) grows sound.whole.records))
+    -- so the answer of what placed these lists is one of the command
+    pub items_answer : (result : Result Plan PlanFault) (told : Reply) (gone : List Extent) (lists : Contents) → lists ≡ final
+        → ((image : List ℕ) → told ≡ reply_to (state_in image old) command moment) → gone ≡ freed_by_group r items moment bodies
+        → IfOk result (IsPlacedFrom used bodies lists told gone) → (IsErrOf result Full → HasNoRoomFrom used bodies lists)
+        → IfOk result (IsPlanned r command moment) × (IsErrOf result Full → LacksRoom r command moment)
+    items_answer result told gone lists is reply freed placed full =
+        answered (IsPlanned r command moment) (LacksRoom r command moment) result used bodies lists final told gone is (λ p from. items_planned told gone p reply freed from)
+        items_lack placed full
 
-    frees : (freed : List Extent) → freed ≡ freed_by_group (rooted size root old) items moment bodies
-        → AllZip (λ extent bytes. IsSized extent (length bytes)) bodies (bodies_kept items)
-        → AreApart bodies → AreApart (bodies_in old) → AreDisjoint (in_some bodies) (in_some (bodies_in old)) → Frees root.directory old bodies final freed
-    frees freed is sized free apart beside =
-        let gone = of_each_item extent_of_body old items moment bodies in
-        let turn = bodies_turn law items old moment bodies ordered sized free apart beside in
-        let of_pages = freed_pages items old moment bodies in
-        let of_history = freed_history_pages items old moment bodies in
-        let both : List Extent =
-        root.directory ∷ extents_of (unshared (pages_lost old items moment bodies) (stored_refs old.published)) ++ extents_of (history_pages_lost old items moment bodies) in
-        inl (record {
-          pages = pages_lost old items moment bodies;
-          changes = history_pages_lost old items moment bodies;
-          gone = gone;
-          parts = is ∙ ap₂ (λ (a b : List Extent). root.directory ∷ a ++ b ++ gone) of_pages of_history
-              ∙ ap (λ (l : List Extent). l ++ gone) (sym (append-nil both));
-          catalogue = loses_pages law items old moment bodies ordered (may_each bodies);
-          history = loses_history_pages law items old moment bodies;
-          bodies = turn.turns;
-          apart = turn.apart;
-          published = published_after items old moment bodies;
-        })
-
-    pub group_planned : (used after : List Bool) → AreUsed (rooted size root old) used → TakesEach used (bodies_needed (bodies_kept items)) bodies after
-        → (p : Plan) → HasItsPlaces after bodies final p → p.reply ≡ Grouped (length items) moment → IsCatalogue final.catalogue → IsHistory final.history.pages
-        → IsCatalogue final.published → p.taken.items ≡ places p → p.freed.items ≡ freed_by_group (rooted size root old) items moment bodies
-        → IsPlanned (rooted size root old) (Group items) moment p
-    group_planned used after are_used takes p placed reply of_catalogue of_history of_published taken freed =
-        let sized = sized_each (bodies_kept items) used after bodies takes in
-        planned size root old sound (Group items) moment used after are_used bodies takes final group_next rules (records sized) group_unplaced p placed (λ image. reply)
-        of_catalogue of_history of_published (frees p.freed.items freed sized) taken
+  pub items_unplaced : AreUnplaced final
+  items_unplaced = unplaced

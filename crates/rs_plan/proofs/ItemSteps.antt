@@ -1,33 +1,105 @@
--- What one item makes of the lists before it.
-use Rattle.std.proofs.Common.{true≢false, ◌≡◌, ◌≤◌, ℕ, Bool, true, false, not, List, [], ◌∷◌, ◌++◌, if◌then◌else◌, refl}
-use Rattle.std.specs.Prelude.{IfSome}
-use Rattle.std.specs.List.{AllZip}
+-- What one item makes of the lists before it, and which body goes.
+use Rattle.std.proofs.Common.{true≢false, ◌≡◌, ◌≤◌, ℕ, Bool, true, false, not, List, [], ◌∷◌, ◌++◌, if◌then◌else◌, refl, Option, sym, ◌∙◌, ap, Some, None, subst, map}
+use Rattle.std.specs.Prelude.{IfSome, IsSome, is_some}
+use Rattle.std.specs.List.{AllZip, cons_option}
 use Rattle.rs_extent.specs.declared.Extent.{Extent}
 use Rattle.rs_record.specs.declared.record.Record.{Record}
+use Rattle.rs_record.specs.declared.change.Change.{Change}
 use Rattle.rs_record.specs.Limits.{longest_body}
 use Rattle.rs_page.specs.Pages.{Page, stored_refs}
 use Rattle.rs_page.specs.SharedPages.{KeepsPages}
+use Rattle.rs_pages.specs.Rule.{appended_to, items_at, home}
 use Rattle.rs_pages.specs.Entries.{open_entry}
 use Rattle.rs_pages.specs.Laws.{Ascend, TouchesOne}
 use Rattle.rs_pages.proofs.Touched.{touching_keeps}
 use Rattle.rs_catalogue.specs.Catalogue.{records_of}
 use Rattle.rs_catalogue.specs.Named.{named}
 use Rattle.rs_model.specs.Grouping.{name_of}
-use Rattle.rs_model.specs.Names.{Names, bind, unbind}
+use Rattle.rs_model.specs.Names.{Names, bind, unbind, value_of, by_bytes, by_order}
 use Rattle.rs_model.specs.declared.command.Item.{Item}
-use Rattle.rs_model.specs.declared.command.Item.TheVariants as single
 use Rattle.rs_image.specs.declared.contents.Contents.{Contents}
 use Rattle.rs_plan.specs.Allowed.{MayDoItem}
 use Rattle.rs_plan.specs.Drafts.{IsPageRuleKept}
 use Rattle.rs_plan.specs.Freed.{entry_of_name, extent_of_body}
 use Rattle.rs_plan.specs.Placed.{AreUnplaced, record_made}
 use Rattle.rs_plan.specs.Room.{is_named_in, bodies_kept}
-use Rattle.rs_plan.specs.Turned.{no_body, first_of, others_of, change_of_item, catalogue_after, is_written, extent_for, extents_left, lists_after_item}
-use Rattle.rs_plan.proofs.FreedBodies.{body_bound, body_unbound}
+use Rattle.rs_plan.specs.Turned.{no_body, first_of, others_of, change_of_item, catalogue_after, is_written, extent_for, extents_left, lists_with, lists_after_item}
 use Rattle.rs_plan.proofs.FreedPages.{LosesOne, bind_takes, unbind_takes, append_takes}
 use Rattle.rs_plan.proofs.FreedParts.{Replaces}
-use Rattle.rs_plan.proofs.Following.{held_at_home}
 use Rattle.rs_plan.proofs.Parts.{bodies_in}
+use Rattle.rs_pages.specs.Items.{keyed}
+use Rattle.rs_pages.proofs.Flat.{found_at_home}
+use Rattle.std.specs.declared.cmp.Ordering.{Ordering}
+use Rattle.std.specs.declared.cmp.Ordering.TheVariants.{Less, Equal, Greater}
+use Rattle.rs_image.specs.Reach.{bodies_of}
+use Rattle.rs_model.specs.declared.command.Item.TheVariants as single
+
+-- the records of a map
+abbrev pub values : Names Record → List Record
+values m = map (λ e. e.1) m
+
+pub values_named : (records : List Record) → values (named records) ≡ records
+values_named [] = refl
+values_named (r ∷ records) = ap (λ rest. r ∷ rest) (values_named records)
+
+-- the body of a record, if there is one
+abbrev body_of : Option Record → List Extent
+body_of o = bodies_of (cons_option o [])
+
+-- One more extent before all.
+longer : (x : Extent) (old new gone made : List Extent) → Replaces old new gone made → Replaces (x ∷ old) (x ∷ new) gone made
+longer x old new gone made by = record {
+  front = x ∷ by.front;
+  back = by.back;
+  was = ap (λ (l : List Extent). x ∷ l) by.was;
+  is = ap (λ (l : List Extent). x ∷ l) by.is;
+}
+
+-- a name that is bound
+bound_by : (name : List ℕ) (v : Record) (e : List ℕ × Record) (m : Names Record) (r : Ordering)
+    → Replaces (bodies_of (values m)) (bodies_of (values (bind name v m))) (body_of (value_of name m)) (v.extent ∷ [])
+    → Replaces (bodies_of (values (e ∷ m))) (bodies_of (values (by_order r ((name, v) ∷ e ∷ m) ((name, v) ∷ m) (e ∷ bind name v m))))
+    (body_of (by_order r None (Some e.1) (value_of name m))) (v.extent ∷ [])
+bound_by name v e m Less next = record { front = []; back = bodies_of (values (e ∷ m)); was = refl; is = refl }
+bound_by name v e m Equal next = record { front = []; back = bodies_of (values m); was = refl; is = refl }
+bound_by name v e m Greater next =
+    longer e.1.extent (bodies_of (values m)) (bodies_of (values (bind name v m))) (body_of (value_of name m)) (v.extent ∷ []) next
+
+bound_replaces : (name : List ℕ) (v : Record) (m : Names Record)
+    → Replaces (bodies_of (values m)) (bodies_of (values (bind name v m))) (body_of (value_of name m)) (v.extent ∷ [])
+bound_replaces name v [] = record { front = []; back = []; was = refl; is = refl }
+bound_replaces name v (e ∷ m) = bound_by name v e m (by_bytes name e.0) (bound_replaces name v m)
+
+-- a name that is unbound
+unbound_by : (name : List ℕ) (e : List ℕ × Record) (m : Names Record) (r : Ordering)
+    → Replaces (bodies_of (values m)) (bodies_of (values (unbind name m))) (body_of (value_of name m)) []
+    → Replaces (bodies_of (values (e ∷ m))) (bodies_of (values (by_order r (e ∷ m) m (e ∷ unbind name m))))
+    (body_of (by_order r None (Some e.1) (value_of name m))) []
+unbound_by name e m Less next = record { front = []; back = bodies_of (values (e ∷ m)); was = refl; is = refl }
+unbound_by name e m Equal next = record { front = []; back = bodies_of (values m); was = refl; is = refl }
+unbound_by name e m Greater next =
+    longer e.1.extent (bodies_of (values m)) (bodies_of (values (unbind name m))) (body_of (value_of name m)) [] next
+
+unbound_replaces : (name : List ℕ) (m : Names Record) → Replaces (bodies_of (values m)) (bodies_of (values (unbind name m))) (body_of (value_of name m)) []
+unbound_replaces name [] = record { front = []; back = []; was = refl; is = refl }
+unbound_replaces name (e ∷ m) = unbound_by name e m (by_bytes name e.0) (unbound_replaces name m)
+
+-- so for the records of a catalogue
+pub body_bound : (name : List ℕ) (v : Record) (old new : List Record) → named new ≡ bind name v (named old)
+    → Replaces (bodies_of old) (bodies_of new) (bodies_of (cons_option (value_of name (named old)) [])) (v.extent ∷ [])
+body_bound name v old new is =
+    subst (λ (n : List Record). Replaces (bodies_of old) (bodies_of n) (body_of (value_of name (named old))) (v.extent ∷ [])) (values_named new)
+    (subst (λ (m : Names Record). Replaces (bodies_of old) (bodies_of (values m)) (body_of (value_of name (named old))) (v.extent ∷ [])) (sym is)
+    (subst (λ (o : List Record). Replaces (bodies_of o) (bodies_of (values (bind name v (named old)))) (body_of (value_of name (named old))) (v.extent ∷ []))
+    (values_named old) (bound_replaces name v (named old))))
+
+pub body_unbound : (name : List ℕ) (old new : List Record) → named new ≡ unbind name (named old)
+    → Replaces (bodies_of old) (bodies_of new) (bodies_of (cons_option (value_of name (named old)) [])) []
+body_unbound name old new is =
+    subst (λ (n : List Record). Replaces (bodies_of old) (bodies_of n) (body_of (value_of name (named old))) []) (values_named new)
+    (subst (λ (m : Names Record). Replaces (bodies_of old) (bodies_of (values m)) (body_of (value_of name (named old))) []) (sym is)
+    (subst (λ (o : List Record). Replaces (bodies_of o) (bodies_of (values (unbind name (named old)))) (body_of (value_of name (named old))) [])
+    (values_named old) (unbound_replaces name (named old))))
 
 -- the records after an item, by their names
 abbrev pub map_after : Item → ℕ → Extent → Names Record → Names Record
@@ -49,6 +121,11 @@ pub change_short : (c : Contents) (item : Item) (moment : ℕ) → MayDoItem c i
 change_short c (single.Put name kind bytes) moment may = may.body
 change_short c (single.Delete name) moment may = tt
 
+-- a name that is held stands in the page that it goes into
+pub held_at_home : (name : List ℕ) (pages : List (Page Record)) → Ascend (λ (r : Record). r.name) pages → IsSome (value_of name (named (records_of pages)))
+    → is_some (value_of name (keyed (λ (r : Record). r.name) (items_at (home (λ (r : Record). r.name) name pages) pages))) ≡ true
+held_at_home name pages ordered held = ap (λ (o : Option Record). is_some o) (sym (found_at_home (λ (r : Record). r.name) name pages ordered)) ∙ held
+
 module _ (law : IsPageRuleKept) where
   pub records_step : (item : Item) (moment : ℕ) (body : Extent) (pages : List (Page Record)) → Ascend (λ (r : Record). r.name) pages
       → (named (records_of (catalogue_after item moment body pages)) ≡ map_after item moment body (named (records_of pages)))
@@ -68,12 +145,16 @@ module _ (law : IsPageRuleKept) where
     (touching_keeps c.history.pages (lists_after_item c item moment body).history.pages (law.touches_appended (change_of_item c item moment) c.history.pages)).0,
   )
 
-  pub unplaced_step : (c : Contents) (item : Item) (moment : ℕ) (body : Extent) → AreUnplaced c → AreUnplaced (lists_after_item c item moment body)
-  unplaced_step c item moment body none = record {
-    catalogue = (touching_keeps c.catalogue (catalogue_after item moment body c.catalogue) (touches_step item moment body c.catalogue)).1 none.catalogue;
-    history = (touching_keeps c.history.pages (lists_after_item c item moment body).history.pages
-        (law.touches_appended (change_of_item c item moment) c.history.pages)).1 none.history;
+  pub unplaced_with : (c : Contents) (catalogue : List (Page Record)) (change : Change) (moment : ℕ) → TouchesOne c.catalogue catalogue → AreUnplaced c
+      → AreUnplaced (lists_with c catalogue change moment)
+  unplaced_with c catalogue change moment touches none = record {
+    catalogue = (touching_keeps c.catalogue catalogue touches).1 none.catalogue;
+    history = (touching_keeps c.history.pages (appended_to change c.history.pages) (law.touches_appended change c.history.pages)).1 none.history;
   }
+
+  pub unplaced_step : (c : Contents) (item : Item) (moment : ℕ) (body : Extent) → AreUnplaced c → AreUnplaced (lists_after_item c item moment body)
+  unplaced_step c item moment body none =
+      unplaced_with c (catalogue_after item moment body c.catalogue) (change_of_item c item moment) moment (touches_step item moment body c.catalogue) none
 
   -- which entries are lost
   pub page_lost : (c : Contents) (item : Item) (moment : ℕ) (body : Extent) → Ascend (λ (r : Record). r.name) c.catalogue → MayDoItem c item moment

@@ -10,8 +10,7 @@ use Rattle.rs_extent.proofs.Sets.{not_true, not_both, some_front, some_behind, s
 use Rattle.rs_page.specs.declared.place.PageRef.{PageRef}
 use Rattle.rs_page.specs.Pages.{extents_of}
 use Rattle.rs_page.specs.SharedPages.{IsSublist}
-use Rattle.rs_plan.proofs.Bodies.{itself}
-use Rattle.rs_plan.proofs.Sublists.{skipped, mapped, apart_of, among}
+use Rattle.rs_plan.proofs.Sublists.{itself, skipped, mapped, apart_of, among}
 use Rattle.rs_plan.proofs.Freed.{PartTurns}
 use Rattle.rs_plan.proofs.FreedPages.{LosesOne}
 use Rattle.rs_plan.proofs.FreedParts.{none_in, replaced, page_replaced}

@@ -3,7 +3,7 @@ use Rattle.std.proofs.Common.{true≢false, ◌≡◌, ◌⊎◌, inl, inr, ℕ,
 use Rattle.std.specs.Prelude.{All, Bool}
 use Rattle.std.specs.List.{AllZip}
 use Rattle.rs_extent.specs.declared.Extent.{Extent}
-use Rattle.rs_extent.specs.Extents.{in_some, AreApart}
+use Rattle.rs_extent.specs.Extents.{in_some, AreApart, AreDisjoint, IsSubset}
 use Rattle.rs_body.specs.Blocks.{blocks_of, IsSized}
 use Rattle.rs_record.specs.declared.record.Record.{Record}
 use Rattle.rs_record.specs.declared.change.Change.{Change}
@@ -21,7 +21,6 @@ use Rattle.rs_image.specs.Reach.{bodies_of}
 use Rattle.rs_plan.specs.declared.plan.Plan.{Plan}
 use Rattle.rs_plan.specs.Room.{TakesEach, bodies_needed}
 use Rattle.rs_plan.specs.Plans.{MayHavePlaces, ArePagesAfter, once_stored, places}
-use Rattle.rs_extent.specs.Extents.{AreDisjoint, IsSubset}
 use Rattle.rs_extent.proofs.Sets.{some_front, some_behind}
 use Rattle.rs_plan.proofs.Sublists.{filter_mapped}
 use Rattle.rs_plan.proofs.Placing.{places_stored}

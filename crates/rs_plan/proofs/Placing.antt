@@ -13,6 +13,8 @@ use Rattle.rs_page.specs.Placing.{PlacesOne, Places, HasNoPlace, PageHasNoRun as
 use Rattle.rs_page.specs.SharedPages.{stored_pages}
 use Rattle.rs_plan.specs.Room.{HasNoRoom, pages_needed}
 use Rattle.rs_plan.specs.Plans.{MayHavePlace, MayHavePlaces}
+use Rattle.rs_image.specs.declared.contents.Contents.{Contents}
+use Rattle.rs_plan.specs.Placed.{AreUnplaced}
 
 -- a page of these items, at this place
 abbrev at : {T : Type 0} → List T → Place → Page T
@@ -162,3 +164,16 @@ places_same format used used' (x ∷ xs) [] some h = absurd h
 places_same {T} format used used' (x ∷ xs) (y ∷ ys) some h =
     ap₂ (λ (s : Page T) (l : List (Page T)). s ∷ l) (same_one format used h.0 x.items x.place y (All-head IsStored x xs some) h.1)
     (places_same format h.0 used' xs ys (All-tail IsStored x xs some) h.2)
+
+-- no page that is stored was given blocks
+none_one : (place : Place) (rest : List Extent) → IsSome (stored_ref place) → rest ≡ [] → cons_option (placed_extent place) rest ≡ []
+none_one Touched rest h none = none
+none_one (Placed e) rest h none = cc
+none_one (Stored ref) rest h none = none
+
+none_placed : {T : Type 0} (pages : List (Page T)) → All IsStored pages → placed_extents pages ≡ []
+none_placed [] h = refl
+none_placed (page ∷ pages) h = none_one page.place (placed_extents pages) (All-head IsStored page pages h) (none_placed pages (All-tail IsStored page pages h))
+
+pub all_unplaced : (c : Contents) → All IsStored c.catalogue → All IsStored c.history.pages → AreUnplaced c
+all_unplaced c catalogue history = record { catalogue = none_placed c.catalogue catalogue; history = none_placed c.history.pages history }

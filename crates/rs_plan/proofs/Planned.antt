@@ -1,6 +1,6 @@
 -- What a command plans keeps all rules.
-use Rattle.std.proofs.Common.{◌≡◌, ◌⊎◌, inl, inr, ℕ, ◌+◌, ◌<◌, ◌≤◌, Bool, true, false, nat_lt, List, [], ◌∷◌, ◌++◌, length, map, max, refl, sym, ◌∙◌, ap, subst, arith}
-use Rattle.std.specs.Prelude.{All, MatchOption}
+use Rattle.std.proofs.Common.{◌≡◌, ◌⊎◌, inl, inr, ℕ, ◌+◌, ◌<◌, ◌≤◌, Bool, true, false, nat_lt, List, [], ◌∷◌, ◌++◌, length, map, max, refl, sym, ◌∙◌, ap, subst, arith, ◌*◌}
+use Rattle.std.specs.Prelude.{All, MatchOption, flat_map}
 use Rattle.std.specs.List.{AllZip}
 use Rattle.std.proofs.lemmas.Bool.{or_parts, or_right}
 use Rattle.std.proofs.lemmas.Bool.Decides.{nat_tests}
@@ -14,10 +14,10 @@ use Rattle.rs_page.specs.declared.place.PageRef.{PageRef}
 use Rattle.rs_page.specs.Items.{record_format, change_format}
 use Rattle.rs_page.specs.Pages.{Page, IsStored, stored_refs, extents_of, stored}
 use Rattle.rs_page.specs.SharedPages.{IsSublist, stored_pages}
-use Rattle.rs_catalogue.specs.Catalogue.{records_of, IsCatalogue}
-use Rattle.rs_changes.specs.History.{changes_of, last_of, IsHistory}
+use Rattle.rs_catalogue.specs.Catalogue.{records_of}
+use Rattle.rs_changes.specs.History.{changes_of, last_of}
 use Rattle.rs_directory.specs.declared.header.Header.{Header}
-use Rattle.rs_directory.specs.Directory.{directory_length, written_format, IsLawfulHeader, IsLawfulRef, AreLawfulRefs}
+use Rattle.rs_directory.specs.Directory.{directory_length, written_format, IsLawfulHeader, IsLawfulRef, AreLawfulRefs, header_bytes, ref_bytes, count_bytes, directory_bytes}
 use Rattle.rs_model.specs.declared.command.Command.{Command}
 use Rattle.rs_model.specs.Step.{next_state, reply_to}
 use Rattle.rs_model.specs.Listed.{entry_of}
@@ -25,7 +25,7 @@ use Rattle.rs_image.specs.declared.contents.Contents.{Contents}
 use Rattle.rs_pages.specs.Storing.{unshared}
 use Rattle.rs_image.specs.Reach.{blocks_of_disk, bodies_of, reach, is_kept, AreInside}
 use Rattle.rs_image.specs.Whole.{IsWhole, AreMoments, IsSoundRecord, IsSoundChange}
-use Rattle.rs_image.specs.StateOfImage.{held_in, state_in, AreListable, directory_bytes_of}
+use Rattle.rs_image.specs.StateOfImage.{held_in, state_in, AreListable, AreLists, directory_bytes_of}
 use Rattle.rs_plan.specs.declared.plan.Plan.{Plan}
 use Rattle.rs_image.specs.Rooted.{rooted, AreUsed, IsRooted}
 use Rattle.rs_plan.specs.Room.{TakesEach, bodies_needed, bodies_of_command}
@@ -38,13 +38,41 @@ use Rattle.rs_plan.proofs.Sublists.{mapped, all_of, some_of, apart_of}
 use Rattle.rs_plan.proofs.Placing.{places_items, places_length, places_stored, places_fitted, places_same, places_ruled}
 use Rattle.rs_image.proofs.Counts.{few_catalogue, few_history, count_refs}
 use Rattle.rs_plan.proofs.Stored.{stored_items, all_stored, length_stored, same_refs, stored_some, stored_apart, lawful_refs, kept_refs}
-use Rattle.rs_plan.proofs.Listing.{length-directory}
 use Rattle.rs_plan.proofs.Separate.{AreSeparate, separated, apart_again, five_of, a_in, b_in, c_in, e_in, AreNew, separate_next}
 use Rattle.rs_plan.proofs.Unshared.{published_some, unshared_some, unshared_apart, unshared_itself, beside_kept}
 use Rattle.rs_plan.proofs.Turns.{same_state}
 use Rattle.rs_plan.proofs.Rules.{KeepsRules}
 use Rattle.rs_plan.proofs.Parts.{in_bodies, in_catalogue, in_history, in_directory, pages_in, changes_in, shown_in, bodies_in, written, given_pages, given_changes, sized_each, kept_part, IsUnshared, unshared_none, IsPublished, published_is, pages_placed}
 use Rattle.rs_plan.proofs.GivenBack.{Frees, bodies_apart, bodies_come, placed_refs, gives_parts, takes_and_gives}
+use Rattle.std.proofs.lemmas.List.{length-append}
+use Rattle.std.proofs.lemmas.List.Elements.{All-head, All-tail}
+
+-- a header, an entry, and entries
+length-header : (h : Header) → length (header_bytes written_format h) ≡ 51 + length h.base
+length-header h = simp length-append (omega arith)
+
+length-ref : (r : PageRef) → IsLawfulRef r → length (ref_bytes r) ≡ 44
+length-ref r lawful = simp length-append (omega (arith, lawful.sha256))
+
+length-refs : (refs : List PageRef) → All IsLawfulRef refs → length (flat_map ref_bytes refs) ≡ 44 * length refs
+length-refs [] lawful = refl
+length-refs (r ∷ refs) lawful =
+    omega (arith, length-append (ref_bytes r) (flat_map ref_bytes refs), length-ref r (All-head IsLawfulRef r refs lawful), length-refs refs (All-tail IsLawfulRef r refs lawful))
+
+joined : (h c d e x y z : List ℕ) → length (h ++ (c ++ (d ++ (e ++ (x ++ (y ++ (z ++ []))))))) ≡ length h + length c + length d + length e + length x + length y + length z
+joined h c d e x y z = simp length-append (omega arith)
+
+pub length-directory : (h : Header) (a b c : List PageRef) → All IsLawfulRef a → All IsLawfulRef b → All IsLawfulRef c
+    → length (directory_bytes written_format h a b c) ≡ directory_length h (length a + length b + length c)
+length-directory h a b c of_a of_b of_c =
+    omega (
+      arith,
+      joined (header_bytes written_format h) (count_bytes a) (count_bytes b) (count_bytes c) (flat_map ref_bytes a) (flat_map ref_bytes b) (flat_map ref_bytes c),
+      length-header h,
+      length-refs a of_a,
+      length-refs b of_b,
+      length-refs c of_c,
+    )
 
 not_low : (b : ℕ) → nat_lt b 2 ≡ false → 2 ≤ b
 not_low b is = grind (arith, nat_tests)
@@ -54,7 +82,7 @@ module _ (size : ℕ) (root : Root) (old : Contents) (sound : IsRooted (rooted s
     (c : Contents) (next : IsNext old command moment extents c) (rules : KeepsRules c) (records : All (IsSoundRecord c.header.start c.header.last) (records_of c.catalogue))
     (unplaced : AreUnplaced c) (p : Plan) (placed : HasItsPlaces used₁ extents c p)
     (reply : (image : List ℕ) → p.reply ≡ reply_to (state_in image old) command moment)
-    (of_catalogue : IsCatalogue c.catalogue) (of_history : IsHistory c.history.pages) (of_published : IsCatalogue c.published)
+    (lists : AreLists c)
     (frees : AreApart extents → AreApart (bodies_in old) → AreDisjoint (in_some extents) (in_some (bodies_in old)) → Frees root.directory old extents c p.freed.items)
     (taken_is : p.taken.items ≡ places p) where
   whole : IsWhole size root old
@@ -191,8 +219,8 @@ module _ (size : ℕ) (root : Root) (old : Contents) (sound : IsRooted (rooted s
   listable_next : AreListable written_format (written p)
   listable_next = record {
     header = subst (IsLawfulHeader written_format) (sym placed.header) rules.header;
-    catalogue = record { each = lawful_catalogue; count = omega (arith, count_catalogue, few_catalogue c.catalogue of_catalogue) };
-    history = record { each = lawful_history; count = omega (arith, count_history, few_history c.history.pages of_history) };
+    catalogue = record { each = lawful_catalogue; count = omega (arith, count_catalogue, few_catalogue c.catalogue lists.catalogue) };
+    history = record { each = lawful_history; count = omega (arith, count_history, few_history c.history.pages lists.history) };
     published = lawful_published;
   }
 

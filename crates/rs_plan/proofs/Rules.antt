@@ -4,23 +4,17 @@ use Rattle.std.specs.Prelude.{All, MatchOption, IfSome, slice_get}
 use Rattle.std.proofs.lemmas.List.{length-append}
 use Rattle.std.proofs.lemmas.List.Elements.{All-push, All-weaker}
 use Rattle.rs_time.specs.Moment.{IsMoment}
-use Rattle.rs_extent.specs.declared.Extent.{Extent}
-use Rattle.rs_body.specs.Blocks.{IsSized}
 use Rattle.rs_commit.specs.declared.root.Root.{Root}
 use Rattle.rs_record.specs.declared.record.Record.{Record}
 use Rattle.rs_record.specs.declared.change.Change.{Change}
 use Rattle.rs_catalogue.specs.Catalogue.{records_of}
-use Rattle.rs_catalogue.specs.Named.{named}
 use Rattle.rs_changes.specs.History.{changes_of, last_of}
-use Rattle.rs_model.specs.Names.{bind, unbind}
 use Rattle.rs_record.specs.Limits.{longest_body}
 use Rattle.rs_page.specs.Pages.{Page}
 use Rattle.rs_directory.specs.declared.header.Header.{Header}
 use Rattle.rs_directory.specs.Directory.{IsLawfulHeader, written_format}
 use Rattle.rs_image.specs.declared.contents.Contents.{Contents}
 use Rattle.rs_image.specs.Whole.{IsWhole, IsSoundRecord, IsSoundChange, AreMoments}
-use Rattle.rs_plan.specs.Placed.{record_made}
-use Rattle.rs_plan.proofs.Bodies.{all_bound, all_unbound}
 
 -- What lists keep whose records are looked at elsewhere.
 pub record KeepsRules (c : Contents) : Type 0 where
@@ -111,25 +105,3 @@ changed old c change moment rules is later here long header first changes publis
       changes = subst (λ (h : Header). All (IsSoundChange h.begin h.last) (changes_of c.history.pages)) (sym header) all;
       listed = subst (λ (h : Header). All (IsSoundRecord h.start h.at) (records_of c.published)) (sym header) listed;
     }
-
--- the records after a put
-pub put_records : (size : ℕ) (root : Root) (old c : Contents) (name kind bytes : List ℕ) (body : Extent) (moment : ℕ) → IsWhole size root old
-    → old.header.last < moment → length bytes ≤ longest_body → IsSized body (length bytes) → c.header ≡ record old.header { last = moment }
-    → named (records_of c.catalogue) ≡ bind name (record_made name kind bytes body moment) (named (records_of old.catalogue))
-    → All (IsSoundRecord c.header.start c.header.last) (records_of c.catalogue)
-put_records size root old c name kind bytes body moment whole later long sized header records =
-    let made : Record = record_made name kind bytes body moment in
-    let start : old.header.start < moment = omega (arith, whole.moments.start, whole.moments.at) in
-    let sound : IsSoundRecord old.header.start moment made = record { moment = record { after = start; up_to = omega arith }; body = long; sized = sized } in
-    subst (λ (h : Header). All (IsSoundRecord h.start h.last) (records_of c.catalogue)) (sym header)
-    (all_bound (IsSoundRecord old.header.start moment) name made (records_of old.catalogue) (records_of c.catalogue) records sound
-    (later_records old.header.start old.header.last moment (records_of old.catalogue) (omega arith) whole.records))
-
--- and after a delete
-pub delete_records : (size : ℕ) (root : Root) (old c : Contents) (name : List ℕ) (moment : ℕ) → IsWhole size root old
-    → old.header.last < moment → c.header ≡ record old.header { last = moment }
-    → named (records_of c.catalogue) ≡ unbind name (named (records_of old.catalogue)) → All (IsSoundRecord c.header.start c.header.last) (records_of c.catalogue)
-delete_records size root old c name moment whole later header records =
-    subst (λ (h : Header). All (IsSoundRecord h.start h.last) (records_of c.catalogue)) (sym header)
-    (all_unbound (IsSoundRecord old.header.start moment) name (records_of old.catalogue) (records_of c.catalogue) records
-    (later_records old.header.start old.header.last moment (records_of old.catalogue) (omega arith) whole.records))

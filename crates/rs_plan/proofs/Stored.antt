@@ -1,12 +1,12 @@
 -- Pages once they are stored.
-use Rattle.std.proofs.Common.{true≢false, ◌≡◌, ◌⊎◌, inl, inr, ℕ, ◌+◌, ◌-◌, ◌*◌, ◌<◌, ◌≤◌, true, List, [], ◌∷◌, ◌++◌, length, Option, Some, None, refl, sym, ap, arith}
+use Rattle.std.proofs.Common.{true≢false, ◌≡◌, ◌⊎◌, inl, inr, ℕ, ◌+◌, ◌-◌, ◌*◌, ◌<◌, ◌≤◌, true, List, [], ◌∷◌, ◌++◌, length, refl, sym, ap, arith}
 use Rattle.std.specs.Prelude.{All, IfSome, IsSome}
 use Rattle.std.specs.List.{cons_option}
 use Rattle.std.proofs.lemmas.List.Elements.{All-nil, All-cons, All-head, All-tail}
 use Rattle.rs_extent.specs.declared.Extent.{Extent}
 use Rattle.rs_fixity.proofs.DigestBytes.{sha256-bytes}
-use Rattle.rs_extent.specs.Extents.{within, in_some, AreApart}
-use Rattle.rs_extent.proofs.Sets.{within_true, some_first, some_rest, some_split}
+use Rattle.rs_extent.specs.Extents.{within, in_some, AreApart, AreDisjoint}
+use Rattle.rs_extent.proofs.Sets.{within_true, some_first, some_rest, some_split, not_true, not_both}
 use Rattle.rs_page.specs.declared.place.PageRef.{PageRef}
 use Rattle.rs_page.specs.declared.place.Place.{Place}
 use Rattle.rs_page.specs.declared.place.Place.TheVariants.{Touched, Placed, Stored}
@@ -14,8 +14,6 @@ use Rattle.rs_page.specs.Format.{ItemFormat, page_bytes}
 use Rattle.rs_page.specs.Pages.{Page, IsTouched, IsStored, placed_extent, stored_ref, blocks_needed, place_stored, items_of, placed_extents, stored_refs, extents_of, stored, ref_at}
 use Rattle.rs_page.specs.SharedPages.{IsSublist, stored_pages}
 use Rattle.rs_directory.specs.Directory.{IsLawfulRef}
-use Rattle.rs_extent.specs.Extents.{AreDisjoint}
-use Rattle.rs_extent.proofs.Sets.{not_true, not_both}
 use Rattle.rs_plan.proofs.Placing.{IsFitted, needed}
 use Rattle.rs_plan.proofs.Sublists.{skipped}
 

@@ -6,9 +6,13 @@ use Rattle.std.proofs.lemmas.Bool.{or_left, or_right}
 use Rattle.std.proofs.lemmas.List.Elements.{All-nil, All-cons, All-head, All-tail}
 use Rattle.rs_extent.specs.declared.Extent.{Extent}
 use Rattle.rs_extent.specs.Extents.{within, in_some, AreApart}
-use Rattle.rs_extent.proofs.Sets.{some_first, some_rest, some_split}
+use Rattle.rs_extent.proofs.Sets.{some_first, some_rest, some_split, not_true, not_both}
 use Rattle.rs_page.specs.SharedPages.{IsSublist}
-use Rattle.rs_extent.proofs.Sets.{not_true, not_both}
+
+-- a part of a list is one of its sublists
+pub itself : {A : Type 0} (xs : List A) → IsSublist xs xs
+itself [] = tt
+itself (x ∷ xs) = inl (refl, itself xs)
 
 pub skipped : {A : Type 0} (xs ys : List A) (y : A) → IsSublist xs ys → IsSublist xs (y ∷ ys)
 skipped [] ys y h = tt

@@ -7,15 +7,13 @@ use Rattle.std.proofs.lemmas.Bool.{and_from, or_left, or_right}
 use Rattle.std.proofs.lemmas.Bool.Decides.{nat_tests}
 use Rattle.std.proofs.lemmas.Slice.Eq.{bytes_eq-Decides}
 use Rattle.rs_extent.specs.declared.Extent.{Extent}
-use Rattle.rs_extent.specs.Extents.{within, in_some, AreApart}
+use Rattle.rs_extent.specs.Extents.{within, in_some, AreApart, AreDisjoint}
 use Rattle.rs_extent.proofs.Sets.{not_true, not_both, some_first, some_rest, some_split}
 use Rattle.rs_page.specs.declared.place.PageRef.{PageRef}
 use Rattle.rs_page.specs.Pages.{same_page, extents_of}
 use Rattle.rs_page.specs.SharedPages.{IsSublist}
 use Rattle.rs_pages.specs.Storing.{unshared}
-use Rattle.rs_extent.specs.Extents.{AreDisjoint}
-use Rattle.rs_plan.proofs.Sublists.{mapped, filtered, any_of, skipped, some_of, apart_of}
-use Rattle.rs_plan.proofs.Bodies.{itself as itself_all}
+use Rattle.rs_plan.proofs.Sublists.{mapped, filtered, any_of, skipped, some_of, apart_of, itself as itself_all}
 
 pub same_number : (m n : ℕ) → nat_eq m n ≡ true → m ≡ n
 same_number m n h = grind (arith, nat_tests)

@@ -4,7 +4,7 @@ use Rattle.rs_fixity.specs.Digests.{digests}
 use Rattle.rs_fixity.specs.declared.Digests.{Digests}
 use Rattle.rs_record.specs.declared.record.Record.{Record}
 use Rattle.rs_record.specs.declared.change.Change.{Change}
-use Rattle.rs_pages.specs.Laws.{BindsAsOne, UnbindsAsOne, AppendsAsOne, FillingBound, FillingAppended, BindingTouchesOne, UnbindingTouchesOne, AppendingTouchesOne}
+use Rattle.rs_pages.specs.Laws.{BindsAsOne, UnbindsAsOne, AppendsAsOne, FillingBound, FillingAppended, BindingTouchesOne, UnbindingTouchesOne, AppendingTouchesOne, BoundStandsUnstored, AppendedEndsUnstored}
 use Rattle.rs_catalogue.specs.Catalogue.{StandsUnstored}
 use Rattle.rs_catalogue.specs.Filled.{pages_filled}
 use Rattle.rs_changes.specs.History.{EndsUnstored, with_pages}
@@ -46,6 +46,11 @@ pub record AwaitsBody (name : List ℕ) (p : Plan) : Type 0 where
   pub catalogue : StandsUnstored name p.contents.catalogue
   pub history : EndsUnstored p.contents.history.pages
 
+-- A draft of a put of n bytes: its digests can still be filled in, and then it is a plan of the put.
+pub record IsDraft (r : Rooted) (name kind : List ℕ) (n moment : ℕ) (p : Plan) : Type 0 where
+  pub awaits : AwaitsBody name p
+  pub planned : IsDraftOf r name kind n moment p
+
 -- What the page rule keeps of the lists of a draft, and of a group: the item that is bound or appended stands in a page that is not stored, and filling it
 -- gives the pages that have it filled from the start.
 pub record IsPageRuleKept : Type 0 where
@@ -57,3 +62,5 @@ pub record IsPageRuleKept : Type 0 where
   pub touches_bound : BindingTouchesOne (λ (r : Record). r.name)
   pub touches_unbound : UnbindingTouchesOne (λ (r : Record). r.name)
   pub touches_appended : AppendingTouchesOne Change
+  pub stands : BoundStandsUnstored (λ (r : Record). r.name)
+  pub ends : AppendedEndsUnstored Change

@@ -4,6 +4,7 @@ pub mod Room
 pub mod Placed
 pub mod Turned
 pub mod Plans
+pub mod PlacedFrom
 pub mod Published
 pub mod Freed
 pub mod Drafts

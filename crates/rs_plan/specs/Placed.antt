@@ -1,5 +1,5 @@
 -- How the lists after a command are given blocks.
-use Rattle.std.specs.Prelude.{◌≡◌, ℕ, ◌+◌, Bool, List, [], length, All}
+use Rattle.std.specs.Prelude.{◌≡◌, ℕ, Bool, List, [], ◌∷◌, ◌++◌, length, All}
 use Rattle.rs_extent.specs.declared.Extent.{Extent}
 use Rattle.rs_fixity.specs.Digests.{digests}
 use Rattle.rs_fixity.specs.declared.Digests.{Digests}
@@ -13,7 +13,7 @@ use Rattle.rs_extent.specs.Extents.{AreTaken}
 use Rattle.rs_image.specs.declared.contents.Contents.{Contents}
 use Rattle.rs_image.specs.StateOfImage.{directory_bytes_of}
 use Rattle.rs_plan.specs.declared.plan.Plan.{Plan}
-use Rattle.rs_plan.specs.Room.{Takes, HasNoRoom, lists_needed}
+use Rattle.rs_plan.specs.Room.{Takes}
 
 -- the record of a body of n bytes in an extent, with these digests
 abbrev pub record_of_body : List ℕ → List ℕ → ℕ → Digests → Extent → ℕ → Record
@@ -51,6 +51,10 @@ pub record HasItsPlaces (used : List Bool) (bodies : List Extent) (c : Contents)
   pub published : p.contents.published ≡ c.published
   pub bodies_are : p.bodies.items ≡ bodies
 
+-- the places of the pages of these lists, and of this directory
+abbrev pub places_of : Contents → Extent → List Extent
+places_of c directory = placed_extents c.catalogue ++ placed_extents c.history.pages ++ directory ∷ []
+
 -- Touched pages of lists, and then a directory, took blocks of a disk, and nothing else of the lists changed.
 pub record HaveTheirPlaces (used : List Bool) (c placed : Contents) (found : Extent) (after : List Bool) : Type 0 where
   pub after_catalogue : List Bool
@@ -65,15 +69,3 @@ pub record HaveTheirPlaces (used : List Bool) (c placed : Contents) (found : Ext
   pub header : placed.header ≡ c.header
   pub first : placed.history.first ≡ c.history.first
   pub published : placed.published ≡ c.published
-
--- A plan has bodies that are free, and then its pages and its directory take blocks.
-pub record IsPlacedFrom (used : List Bool) (bodies : List Extent) (c : Contents) (p : Plan) : Type 0 where
-  pub after_bodies : List Bool
-  pub takes : AreTaken used after_bodies bodies
-  pub placed : HasItsPlaces after_bodies bodies c p
-
--- With bodies taken that are free, there is no room for lists.
-pub record HasNoRoomFrom (used : List Bool) (bodies : List Extent) (c : Contents) : Type 0 where
-  pub after_bodies : List Bool
-  pub takes : AreTaken used after_bodies bodies
-  pub fails : HasNoRoom after_bodies (lists_needed c)

@@ -18,7 +18,7 @@ use Rattle.rs_image.specs.declared.contents.Contents.{Contents}
 use Rattle.rs_image.specs.Whole.{AreMoments}
 use Rattle.rs_time.specs.Moment.{IsMoment}
 use Rattle.rs_plan.specs.Allowed.{MayDoItem}
-use Rattle.rs_plan.specs.Placed.{record_made}
+use Rattle.rs_plan.specs.Placed.{record_made, facts_of_body}
 use Rattle.rs_plan.specs.Room.{is_named_in}
 
 -- the extent of a body that is not written
@@ -48,15 +48,29 @@ abbrev pub catalogue_after : Item → ℕ → Extent → List (Page Record) → 
 catalogue_after (single.Put name kind bytes) moment body pages = bound_in (λ (r : Record). r.name) (record_made name kind bytes body moment) pages
 catalogue_after (single.Delete name) moment body pages = unbound_in (λ (r : Record). r.name) name pages
 
+-- the lists with these pages of the catalogue, and with a change behind all others, after a command at this moment
+abbrev pub lists_with : Contents → List (Page Record) → Change → ℕ → Contents
+lists_with old catalogue change moment =
+    record {
+      header = record old.header { last = moment };
+      catalogue = catalogue;
+      history = with_pages old.history (appended_to change old.history.pages);
+      published = old.published;
+    }
+
 -- the lists after one item at its moment, whose body stands in an extent
 abbrev pub lists_after_item : Contents → Item → ℕ → Extent → Contents
 lists_after_item old item moment body =
-    record {
-      header = record old.header { last = moment };
-      catalogue = catalogue_after item moment body old.catalogue;
-      history = with_pages old.history (appended_to (change_of_item old item moment) old.history.pages);
-      published = old.published;
-    }
+    lists_with old (catalogue_after item moment body old.catalogue) (change_of_item old item moment) moment
+
+-- the change that binds a record to its name, where these are the lists before it
+abbrev pub change_of_record : Contents → Record → Change
+change_of_record old r =
+    bound r.name (is_some (value_of r.name (named (records_of old.catalogue)))) r.moment (facts_of_body r.kind r.length r.digests)
+
+-- the lists after a put that binds this record to its name, at its moment
+abbrev pub lists_after_put : Contents → Record → Contents
+lists_after_put old r = lists_with old (bound_in (λ (r : Record). r.name) r old.catalogue) (change_of_record old r) r.moment
 
 -- the item has a body that no later item replaces or deletes
 abbrev pub is_written : Item → List Item → Bool

@@ -5,10 +5,12 @@ ghost use Rattle.std.specs.Prelude.{◌≡◌, ℕ, List, length, IfOk, IsErrOf}
 ghost use Rattle.rs_model.specs.declared.command.Command.TheVariants.{Put, Delete, Publish};
 ghost use Rattle.rs_plan.specs.Allowed.{MayPut, MayDelete, MayPublish};
 ghost use Rattle.rs_image.specs.Rooted.{AreUsed};
+ghost use Rattle.rs_image.specs.StateOfImage.{AreLists};
+ghost use Rattle.rs_time.specs.Moment.{IsMoment};
 ghost use Rattle.rs_body.specs.Blocks.{blocks_of};
 ghost use Rattle.rs_plan.specs.Room.{HasNoRun};
 ghost use Rattle.rs_plan.specs.Plans.{IsPlanned, LacksRoom};
-ghost use Rattle.rs_plan.specs.Drafts.{AwaitsBody, IsDraftOf, IsPageRuleKept};
+ghost use Rattle.rs_plan.specs.Drafts.{IsDraft, IsPageRuleKept};
 
 mod dropping;
 mod freeing;
@@ -24,7 +26,7 @@ use lists::{lists_after_delete, lists_after_publish, lists_after_put, reply_told
 use placing::{find_lowest, place_lists};
 use rs_extent::Used;
 use rs_fixity::{Digests, digests_of};
-use rs_image::Rooted;
+use rs_image::{Contents, Rooted};
 use rs_model::Reply;
 use rs_page::Full;
 use rs_pages::laws::{
@@ -88,15 +90,14 @@ pub fn draft_put(
     requires used { AreUsed old.now used.old }
     requires may { MayPut old.now.contents name.now body_length moment }
     ensures same { used.new ≡ used.old }
-    ensures awaits { IfOk result (AwaitsBody name.now) }
-    ensures planned { IfOk result
-        (IsDraftOf old.now name.now kind.now body_length moment) }
+    ensures draft { IfOk result (IsDraft old.now name.now kind.now body_length moment) }
     ensures full { IsErrOf result PlanFault.Full → (bytes : List ℕ) → length bytes ≡ body_length
         → LacksRoom old.now (Put name.now kind.now bytes) moment }
     ensures no_body { HasNoRun used.old (blocks_of body_length) → IsErrOf result PlanFault.Full }
 {
     page_rule_is_kept();
     let contents = old.contents();
+    types_are_kept(contents, moment);
     let Some(body) = find_lowest(used, body_length) else {
         return Err(PlanFault::Full);
     };
@@ -113,11 +114,10 @@ pub fn draft_put(
         moment,
     )?;
     let reply = reply_told(&lists.history);
-    let plan = place_lists(alloc, used, bodies, lists, reply, freed)?;
-    Ok(plan)
+    place_lists(alloc, used, bodies, lists, reply, freed)
 }
 
-// In the place of digests that are not known yet.
+/// In the place of digests that are not known yet.
 const UNKNOWN: Digests = Digests {
     md5: [0; 16],
     sha256: [0; 32],
@@ -177,17 +177,11 @@ pub fn plan_delete(
 {
     page_rule_is_kept();
     let contents = old.contents();
+    types_are_kept(contents, moment);
     let freed = freed_by_change(alloc, old, name)?;
     let lists = lists_after_delete(alloc, contents, name, moment)?;
-    let plan = place_lists(
-        alloc,
-        used,
-        Vec::new(alloc),
-        lists,
-        Reply::Deleted(moment),
-        freed,
-    )?;
-    Ok(plan)
+    let reply = Reply::Deleted(moment);
+    place_lists(alloc, used, Vec::new(alloc), lists, reply, freed)
 }
 
 /// Plans to list all resources that are held, at this moment, and to drop the parts of the changes
@@ -212,14 +206,14 @@ pub fn plan_publish(
 {
     first_items_are_dropped_as_one::<Change>();
     let contents = old.contents();
+    types_are_kept(contents, moment);
     let freed = freed_by_publication(alloc, old)?;
     let lists = lists_after_publish(alloc, contents, moment)?;
     let reply = Reply::Published(lists.header.number, moment);
-    let plan = place_lists(alloc, used, Vec::new(alloc), lists, reply, freed)?;
-    Ok(plan)
+    place_lists(alloc, used, Vec::new(alloc), lists, reply, freed)
 }
 
-// What the page rule keeps of the lists of a draft.
+/// What the page rule keeps of the lists of a draft, and of a group.
 fn page_rule_is_kept()
     ensures { IsPageRuleKept }
 {
@@ -228,4 +222,13 @@ fn page_rule_is_kept()
     one_page_is_touched::<Record>();
     items_are_filled_as_one::<Record>();
     last_items_are_filled::<Change>();
+}
+
+/// What the types of these lists and of this moment keep. Reading them shows it.
+fn types_are_kept(contents: &Contents, moment: Moment)
+    ensures lists { AreLists contents.now }
+    ensures moment { IsMoment moment }
+{
+    contents.page_count();
+    moment.ms();
 }

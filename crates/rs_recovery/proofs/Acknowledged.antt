@@ -20,8 +20,7 @@ all_by {D} device rise old [] (a ∷ acks) new turn = absurd turn
 same_length : {D : Type 0} (device : D → DiskState) (old : Stored D) (cs : Commands) (acks : Acks) (new : Stored D) → InTurn device old cs acks new → length cs ≡ length acks
 same_length {D} device old [] [] new turn = refl
 same_length {D} device old (c ∷ cs) (a ∷ acks) new turn = let more : length cs ≡ length acks = same_length device turn.2 cs acks new turn.5 in omega (arith, more)
-same_length {D} device old [] (a ∷ acks) new turn = absurd turn
-same_length {D} device old (c ∷ cs) [] new turn = absurd turn
+same_length {D} device old cs acks new turn = absurd turn
 
 -- all that were accepted were acknowledged before the end
 pub all_acknowledged : {D : Type 0} (device : D → DiskState) → CallsRise device → (old : Stored D) (cs : Commands) (acks : Acks) (new : Stored D) → InTurn device old cs acks new

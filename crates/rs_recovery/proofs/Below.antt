@@ -1,15 +1,23 @@
 -- What the crates below promise, for the proofs of this one.
-use Rattle.std.proofs.Common.{ℕ, Bool, List, cond}
+use Rattle.std.proofs.Common.{◌≡◌, ℕ, Bool, List, [], ◌∷◌, ◌++◌, cond, Err}
 use Rattle.rs_disk.specs.Medium.{DiskState}
 use Rattle.rs_disk.specs.Leaves.{Leaves}
 use Rattle.rs_model.specs.declared.command.Command.{Command}
+use Rattle.rs_store.specs.declared.refusal.Refusal.TheVariants.{Device}
 use Rattle.rs_store.specs.declared.running.Ack.{Ack}
+use Rattle.rs_store.specs.Counted.{counted_commands}
+use Rattle.rs_store.specs.Laws.{AreClosed, ClosedCountNone}
 
 abbrev pub Commands : Type 0
 Commands = List (Command × ℕ)
 
 abbrev pub Acks : Type 0
 Acks = List Ack
+
+-- where the device failed in a command, that command alone counts of those that follow
+pub counts_alone : ClosedCountNone → (c : Command × ℕ) (cs : Commands) (call : ℕ) (acks : Acks) → AreClosed acks
+    → counted_commands (c ∷ cs) (record { reply = Err Device; at_call = call } ∷ acks) ≡ c ∷ []
+counts_alone none_counts c cs call acks closed = let none = none_counts cs acks closed in λ i. none.0 i ++ c ∷ none.1 i
 
 abbrev pub one : Bool → ℕ
 one b = cond b 1 0

@@ -1,5 +1,5 @@
 -- What a state has behind it, which each accepted command raises, so that an image stands for one number of commands alone.
-use Rattle.std.proofs.Common.{◌≡◌, inl, inr, ⊎_elim, ℕ, zero, suc, ◌+◌, ◌-◌, ◌*◌, ◌<◌, ◌≤◌, Bool, true, false, ◌||◌, List, [], ◌∷◌, ◌++◌, length, take, drop, refl, sym, ◌∙◌, ap, subst, arith, cond, Option, Some, None, Result, Ok, Err, div-mul-le_self}
+use Rattle.std.proofs.Common.{◌≡◌, inl, inr, ℕ, zero, suc, ◌+◌, ◌-◌, ◌*◌, ◌<◌, ◌≤◌, Bool, true, false, ◌||◌, List, [], ◌∷◌, ◌++◌, length, take, drop, refl, sym, ◌∙◌, ap, subst, arith, cond, Option, Some, None, Result, Ok, Err, div-mul-le_self}
 use Rattle.std.specs.Prelude.{nat_le}
 use Rattle.std.proofs.lemmas.Bool.{cases_lt}
 use Rattle.std.proofs.lemmas.List.{length-append, length-drop}
@@ -24,7 +24,7 @@ use Rattle.rs_store.specs.declared.running.Ack.{Ack}
 use Rattle.rs_store.specs.Counted.{is_accepted, is_in_doubt, answered, counted_commands, begun}
 use Rattle.rs_store.specs.Runs.{InTurn}
 use Rattle.rs_recovery.specs.Below.{Below}
-use Rattle.rs_recovery.proofs.Below.{Commands, Acks, one}
+use Rattle.rs_recovery.proofs.Below.{Commands, Acks, one, counts_alone}
 
 -- the changes that were dropped, those that are kept, and the publications
 pub behind : Source → ℕ
@@ -158,8 +158,7 @@ begun_counts {D} device m old (c ∷ cs) (a ∷ acks) new turn =
     let oks = length_answered is_accepted c cs a acks in
     let doubts = length_answered is_in_doubt c cs a acks in
     omega (arith, rest, both, all, oks, doubts, doubt_or_ok a, begun_further (nat_le a.at_call m) (begun m acks))
-begun_counts {D} device m old [] (a ∷ acks) new turn = absurd turn
-begun_counts {D} device m old (c ∷ cs) [] new turn = absurd turn
+begun_counts {D} device m old cs acks new turn = absurd turn
 
 module _ {D : Type 0} (device : D → DiskState) (sound : (disk : D) → IsMedium (device disk).size (device disk).now) (below : Below device) where
   -- a command that was answered Device is one that the model accepts
@@ -183,12 +182,6 @@ module _ {D : Type 0} (device : D → DiskState) (sound : (disk : D) → IsMediu
       counted_with : Result Reply Refusal → Commands
       counted_with reply = counted_commands (c ∷ cs) (record { reply = reply; at_call = a.at_call } ∷ acks)
 
-      alone : (refusal : Refusal) → refusal ≡ Device → Answers device turn.0 turn.2 c.0 c.1 (Err refusal) → counted_with (Err Device) ≡ c ∷ []
-      alone refusal is answers =
-          let here : Answers device turn.0 turn.2 c.0 c.1 (Err Device) = subst (λ (r : Refusal). Answers device turn.0 turn.2 c.0 c.1 (Err r)) is answers in
-          let closed = (below.closed turn.2 cs acks new (here.closes refl) turn.5).2 in
-          λ i. (below.none_counts cs acks closed).0 i ++ c ∷ (below.none_counts cs acks closed).1 i
-
       -- the commands after an accepted one
       further : (t : Source) (reply : Reply) → step s c.0 c.1 ≡ Ok (t, reply) → Rises t (counted_commands cs acks) → Rises s (counted_with (Ok reply))
       further t reply steps rest =
@@ -199,20 +192,12 @@ module _ {D : Type 0} (device : D → DiskState) (sound : (disk : D) → IsMediu
       after : (reply : Result Reply Refusal) → Answers device turn.0 turn.2 c.0 c.1 reply
           → ((t : Source) → Holds device turn.2 t → Rises t (counted_commands cs acks)) → Rises s (counted_with reply)
       after (Ok reply) answers rest = let lead = answers.leads s kept in further lead.0 reply lead.1 (rest lead.0 lead.2)
-      after (Err refusal) answers rest = ⊎_elim
-          (λ is.
-          let here : Answers device turn.0 turn.2 c.0 c.1 (Err Device) = subst (λ (r : Refusal). Answers device turn.0 turn.2 c.0 c.1 (Err r)) is answers in
-          let more = one_more s c.0 c.1 (not_refused turn.0 turn.2 s c.0 c.1 kept here) in
-          let single = one_before s c [] more (none_rise (state_after s (step s c.0 c.1))) in
-          subst (λ (r : Refusal). Rises s (counted_with (Err r))) (sym is) (subst (Rises s) (sym (alone refusal is answers)) single))
-          (λ other.
-          let lead = below.kept turn.0 turn.2 s c.0 c.1 refusal other (answers.leads s kept) in
-          let same : counted_with (Err refusal) ≡ counted_commands cs acks =
-          ap (λ (l : Commands). answered is_accepted cs acks ++ l) (ap (λ (b : Bool). cond b (c ∷ answered is_in_doubt cs acks) (answered is_in_doubt cs acks)) other) in
-          subst (Rises s) (sym same) (rest s lead.0))
-          (below.kinds refusal)
-  counted_rise s old [] (a ∷ acks) new holds turn = absurd turn
-  counted_rise s old (c ∷ cs) [] new holds turn = absurd turn
+      after (Err Device) answers rest =
+          let closed = (below.closed turn.2 cs acks new (answers.closes refl) turn.5).2 in
+          let more = one_more s c.0 c.1 (not_refused turn.0 turn.2 s c.0 c.1 kept answers) in
+          subst (Rises s) (sym (counts_alone below.none_counts c cs a.at_call acks closed)) (one_before s c [] more (none_rise (state_after s (step s c.0 c.1))))
+      after (Err refusal) answers rest = rest s (answers.leads s kept).0
+  counted_rise s old cs acks new holds turn = absurd turn
 
   -- an image stands for one number of a run's counted commands
   pub one_number : (s : Source) (old : Stored D) (cs : Commands) (acks : Acks) (new : Stored D) → Holds device old s → InTurn device old cs acks new → (m : ℕ) (image : List ℕ) (j k : ℕ)

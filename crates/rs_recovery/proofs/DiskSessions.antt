@@ -11,12 +11,12 @@ use Rattle.rs_model.specs.declared.command.Reply.{Reply}
 use Rattle.rs_image.specs.StateOfImage.{StandsFor}
 use Rattle.rs_image.specs.Laws.{StandsOnce}
 use Rattle.rs_store.specs.declared.refusal.Refusal.{Refusal}
-use Rattle.rs_store.specs.declared.refusal.Refusal.TheVariants.{Closed, BadGroup, TooLong, NotHeld, TooManyResources, TooManyChanges, Exhausted, Full, ReadFault, ShortBody, Device, Damaged, NoMemory}
+use Rattle.rs_store.specs.declared.refusal.Refusal.TheVariants.{Device}
 use Rattle.rs_store.specs.declared.running.Ack.{Ack}
 use Rattle.rs_store.specs.Counted.{is_accepted, is_device, is_in_doubt, answered, counted_commands, acknowledged, begun}
 use Rattle.rs_store.specs.Laws.{AreClosed, ClosedCountNone}
 use Rattle.rs_recovery.specs.DiskSessions.{Condition, Holding, InDoubt, StandsIn, after, after_all, condition_after, AreAnswered, DiskSession, IsStopped, AreDiskSessions, commands_left, AreLeft}
-use Rattle.rs_recovery.proofs.Below.{Commands, Acks, one, weaker}
+use Rattle.rs_recovery.proofs.Below.{Commands, Acks, one, weaker, counts_alone}
 
 -- one run of calls, and then another: of the first each moment before its end counts
 join : (old mid new : DiskState) (P Q : ℕ → List ℕ → Type 0) → Leaves old mid P
@@ -59,8 +59,7 @@ calls_rise : (old : DiskState) (is : Condition) (cs : Commands) (acks : Acks) (n
 calls_rise old is [] [] new all = all.later
 calls_rise old is (c ∷ cs) (a ∷ acks) new all =
     omega (arith, all.2.later, all.3.later, calls_rise all.1 (condition_after is c a.reply) cs acks new all.6)
-calls_rise old is [] (a ∷ acks) new all = absurd all
-calls_rise old is (c ∷ cs) [] new all = absurd all
+calls_rise old is cs acks new all = absurd all
 
 -- before the first call nothing was acknowledged
 none_yet : (m : ℕ) (old : DiskState) (is : Condition) (cs : Commands) (acks : Acks) (new : DiskState) → AreAnswered old is cs acks new → m < old.calls → acknowledged m acks ≡ 0
@@ -71,15 +70,13 @@ none_yet m old is (c ∷ cs) (a ∷ acks) new all lt =
     let at : a.at_call ≡ mid.calls = all.5 in
     let here : one (is_accepted a && nat_le a.at_call m) ≡ 0 = ap (λ (b : Bool). one (is_accepted a && b)) (not_yet m a.at_call (omega (arith, early, at))) ∙ and_false (is_accepted a) in
     omega (arith, here, none_yet m mid (condition_after is c a.reply) cs acks new all.6 early, acknowledged_cons m a acks)
-none_yet m old is [] (a ∷ acks) new all lt = absurd all
-none_yet m old is (c ∷ cs) [] new all lt = absurd all
+none_yet m old is cs acks new all lt = absurd all
 
 -- a closed source answers Closed to all, and what stands in doubt stays so
 all_closed : (old : DiskState) (s t : Source) (cs : Commands) (acks : Acks) (new : DiskState) → AreAnswered old (InDoubt s t) cs acks new → AreClosed acks
 all_closed old s t [] [] new all = tt
 all_closed old s t (c ∷ cs) (a ∷ acks) new all = (all.4, all_closed all.1 s t cs acks new all.6)
-all_closed old s t [] (a ∷ acks) new all = absurd all
-all_closed old s t (c ∷ cs) [] new all = absurd all
+all_closed old s t cs acks new all = absurd all
 
 stays_in_doubt : (old : DiskState) (s t : Source) (cs : Commands) (acks : Acks) (new : DiskState) → AreAnswered old (InDoubt s t) cs acks new
     → Leaves old new (λ _. StandsIn (InDoubt s t))
@@ -89,8 +86,7 @@ stays_in_doubt old s t (c ∷ cs) (a ∷ acks) new all =
     let Either : ℕ → List ℕ → Type 0 = λ m image. P m image ⊎ P m image in
     join old all.0 new P P all.2 (λ m image lt stands. stands)
     (join all.0 all.1 new Either P all.3 (λ m image lt either. ⊎_elim (λ x. x) (λ x. x) either) (stays_in_doubt all.1 s t cs acks new all.6))
-stays_in_doubt old s t [] (a ∷ acks) new all = absurd all
-stays_in_doubt old s t (c ∷ cs) [] new all = absurd all
+stays_in_doubt old s t cs acks new all = absurd all
 
 -- An image stands for what the first j counted commands make: all that were acknowledged when m calls were counted, and none that had
 -- not begun.
@@ -168,16 +164,13 @@ module _ (none_counts : ClosedCountNone) where
         none : (m : ℕ) → acknowledged m (ack (Err Device) n ∷ acks) ≡ 0
         none m = omega (arith, acknowledged_cons m (ack (Err Device) n) acks, none_acknowledged m acks closed)
 
-        alone : counted_commands (c ∷ cs) (ack (Err Device) n ∷ acks) ≡ c ∷ []
-        alone = λ i. (none_counts cs acks closed).0 i ++ c ∷ (none_counts cs acks closed).1 i
-
         both : (m : ℕ) (image : List ℕ) → StandsIn (InDoubt s (after s c)) image → Before (Err Device) m image
         both m image (inl stands) = at_first (Err Device) m image (none m) stands
         both m image (inr stands) = record {
           j = 1;
           least = omega (arith, none m);
           most = omega arith;
-          stands = subst (λ (l : Commands). StandsFor image (after_all s (take 1 l))) (sym alone) stands;
+          stands = subst (λ (l : Commands). StandsFor image (after_all s (take 1 l))) (sym (counts_alone none_counts c cs n acks closed)) stands;
         }
 
   -- each image of a run stands for a prefix of its counted commands
@@ -210,20 +203,8 @@ module _ (none_counts : ClosedCountNone) where
           → Leaves old new (IsPrefix s (c ∷ cs) (ack reply a.at_call ∷ acks))
       by (Ok reply) step rest on none = accepted s old mid new c cs acks a.at_call at later none reply (within (Holding (after s c)) step) (on (after s c) rest)
       by (Err Device) step rest on none = failed s old mid new c cs acks a.at_call at later none (within (InDoubt s (after s c)) step) rest
-      by (Err Closed) step rest on none = refused s old mid new c cs acks a.at_call at later none Closed refl (within (Holding s) step) (on s rest)
-      by (Err BadGroup) step rest on none = refused s old mid new c cs acks a.at_call at later none BadGroup refl (within (Holding s) step) (on s rest)
-      by (Err TooLong) step rest on none = refused s old mid new c cs acks a.at_call at later none TooLong refl (within (Holding s) step) (on s rest)
-      by (Err NotHeld) step rest on none = refused s old mid new c cs acks a.at_call at later none NotHeld refl (within (Holding s) step) (on s rest)
-      by (Err TooManyResources) step rest on none = refused s old mid new c cs acks a.at_call at later none TooManyResources refl (within (Holding s) step) (on s rest)
-      by (Err TooManyChanges) step rest on none = refused s old mid new c cs acks a.at_call at later none TooManyChanges refl (within (Holding s) step) (on s rest)
-      by (Err Exhausted) step rest on none = refused s old mid new c cs acks a.at_call at later none Exhausted refl (within (Holding s) step) (on s rest)
-      by (Err Full) step rest on none = refused s old mid new c cs acks a.at_call at later none Full refl (within (Holding s) step) (on s rest)
-      by (Err ReadFault) step rest on none = refused s old mid new c cs acks a.at_call at later none ReadFault refl (within (Holding s) step) (on s rest)
-      by (Err ShortBody) step rest on none = refused s old mid new c cs acks a.at_call at later none ShortBody refl (within (Holding s) step) (on s rest)
-      by (Err Damaged) step rest on none = refused s old mid new c cs acks a.at_call at later none Damaged refl (within (Holding s) step) (on s rest)
-      by (Err NoMemory) step rest on none = refused s old mid new c cs acks a.at_call at later none NoMemory refl (within (Holding s) step) (on s rest)
-  leaves_prefixes s old [] (a ∷ acks) new all = absurd all
-  leaves_prefixes s old (c ∷ cs) [] new all = absurd all
+      by (Err refusal) step rest on none = refused s old mid new c cs acks a.at_call at later none refusal refl (within (Holding s) step) (on s rest)
+  leaves_prefixes s old cs acks new all = absurd all
 
   -- what a stop leaves
   stopped_at : (s : Source) (x : DiskSession) → IsStopped s x → IsPrefix s x.commands x.acks x.stop x.image

@@ -6,7 +6,7 @@ use Rattle.rs_record.specs.Base.{is_base}
 use Rattle.rs_directory.specs.Limit.{IsLimit}
 use Rattle.rs_image.specs.Reach.{blocks_of_disk}
 use Rattle.rs_store.specs.declared.formatting.FormatFault.{FormatFault}
-use Rattle.rs_store.specs.declared.formatting.FormatFault.TheVariants.{BadBase, BadLimit, TooSmall, Device, NoMemory}
+use Rattle.rs_store.specs.declared.formatting.FormatFault.TheVariants.{BadBase, BadLimit, TooSmall}
 use Rattle.rs_store.specs.Source.{Stored}
 use Rattle.rs_recovery.specs.declared.surviving.Halt.TheVariants.{Formatting}
 use Rattle.rs_recovery.specs.Surviving.{MayFormat, HasHalted}
@@ -51,7 +51,5 @@ module _ {D : Type 0} (base : List ℕ) (limit size : ℕ) (disk : D) where
   format_halted BadBase bad_base bad_limit too_small = bad_base.0 refl
   format_halted BadLimit bad_base bad_limit too_small = bad_limit.0 refl
   format_halted TooSmall bad_base bad_limit too_small = too_small.0 refl
-  format_halted Device bad_base bad_limit too_small =
-      may_format {D = D} base limit size (Err (disk, Device)) bad_base bad_limit too_small (λ is. absurd cc) (λ is. absurd cc) (λ is. absurd cc)
-  format_halted NoMemory bad_base bad_limit too_small =
-      may_format {D = D} base limit size (Err (disk, NoMemory)) bad_base bad_limit too_small (λ is. absurd cc) (λ is. absurd cc) (λ is. absurd cc)
+  format_halted fault bad_base bad_limit too_small =
+      may_format {D = D} base limit size (Err (disk, fault)) bad_base bad_limit too_small (λ is. absurd cc) (λ is. absurd cc) (λ is. absurd cc)

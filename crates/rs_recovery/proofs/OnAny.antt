@@ -6,7 +6,7 @@ use Rattle.rs_model.specs.State.{Source}
 use Rattle.rs_model.specs.declared.command.Command.{Command}
 use Rattle.rs_model.specs.declared.command.Reply.{Reply}
 use Rattle.rs_store.specs.declared.refusal.Refusal.{Refusal}
-use Rattle.rs_store.specs.declared.refusal.Refusal.TheVariants.{Closed, BadGroup, TooLong, NotHeld, TooManyResources, TooManyChanges, Exhausted, Full, ReadFault, ShortBody, Device, Damaged, NoMemory}
+use Rattle.rs_store.specs.declared.refusal.Refusal.TheVariants.{Device}
 use Rattle.rs_store.specs.Source.{Stored, Holds}
 use Rattle.rs_store.specs.Commands.{Leads}
 use Rattle.rs_store.specs.Answered.{Answers, IsCarriedOut, IsUnchanged}
@@ -40,18 +40,7 @@ module _ {D : Type 0} (device : D → DiskState) (sound : AreSound device) where
       → Leads device old new s command now result → Leads state_of_any (as_any old) (as_any new) s command now result
   leads_on old new s command now (Ok reply) lead = (lead.0, lead.1, holds_on new lead.0 lead.2, lead.3)
   leads_on old new s command now (Err Device) lead = lead
-  leads_on old new s command now (Err Closed) lead = (holds_on new s lead.0, lead.1)
-  leads_on old new s command now (Err BadGroup) lead = (holds_on new s lead.0, lead.1)
-  leads_on old new s command now (Err TooLong) lead = (holds_on new s lead.0, lead.1)
-  leads_on old new s command now (Err NotHeld) lead = (holds_on new s lead.0, lead.1)
-  leads_on old new s command now (Err TooManyResources) lead = (holds_on new s lead.0, lead.1)
-  leads_on old new s command now (Err TooManyChanges) lead = (holds_on new s lead.0, lead.1)
-  leads_on old new s command now (Err Exhausted) lead = (holds_on new s lead.0, lead.1)
-  leads_on old new s command now (Err Full) lead = (holds_on new s lead.0, lead.1)
-  leads_on old new s command now (Err ReadFault) lead = (holds_on new s lead.0, lead.1)
-  leads_on old new s command now (Err ShortBody) lead = (holds_on new s lead.0, lead.1)
-  leads_on old new s command now (Err Damaged) lead = (holds_on new s lead.0, lead.1)
-  leads_on old new s command now (Err NoMemory) lead = (holds_on new s lead.0, lead.1)
+  leads_on old new s command now (Err refusal) lead = (holds_on new s lead.0, lead.1)
 
   carried_on : (old new : Stored D) (command : Command) (now : ℕ) (result : Result Reply Refusal)
       → IfOk result (λ _. IsCarriedOut device old new command now) → IfOk result (λ _. IsCarriedOut state_of_any (as_any old) (as_any new) command now)
@@ -72,11 +61,10 @@ module _ {D : Type 0} (device : D → DiskState) (sound : AreSound device) where
     generation = answers.generation;
     version = answers.version;
     leads = λ s holds. leads_on old new s command now result (answers.leads s (holds_off old s holds));
-    told = answers.told;
+    runs = answers.runs;
     closes = answers.closes;
     stays_open = answers.stays_open;
     unchanged = λ r is other. unchanged_on old new (answers.unchanged r is other);
-    goes_on = answers.goes_on;
   }
 
   pub turn_on : (old : Stored D) (cs : Commands) (acks : Acks) (new : Stored D) → InTurn device old cs acks new → InTurn state_of_any (as_any old) cs acks (as_any new)
@@ -89,8 +77,7 @@ module _ {D : Type 0} (device : D → DiskState) (sound : AreSound device) where
     turn.4,
     turn_on turn.2 cs acks new turn.5,
   )
-  turn_on old [] (a ∷ acks) new turn = absurd turn
-  turn_on old (c ∷ cs) [] new turn = absurd turn
+  turn_on old cs acks new turn = absurd turn
 
 pub holds_the_same : {D : Type 0} (device : D → DiskState) → HoldsTheSame device
 holds_the_same device sound source s = (holds_on device sound source s, holds_off device sound source s)
@@ -112,7 +99,7 @@ runs_are_sessions device sound first last commands acks stop image turn stopped 
 
 pub asked_are_sessions : {D : Type 0} (device : D → DiskState) → AskedAreSessions device
 asked_are_sessions device sound first last commands stop image run stopped = (
-  session_of device sound first run.asked run.acks last stop image,
+  session_of (on_any device sound first) run.asked run.acks (on_any device sound last) stop image,
   record {
     is_session = runs_are_sessions device sound first last run.asked run.acks stop image run.turn stopped;
     begins = refl;

@@ -11,7 +11,7 @@ use Rattle.rs_store.specs.Source.{Stored, Holds}
 use Rattle.rs_recovery.specs.declared.surviving.Halt.TheVariants.{Opening}
 use Rattle.rs_store.specs.Counted.{counted_commands}
 use Rattle.rs_store.specs.Runs.{InTurn}
-use Rattle.rs_recovery.specs.AnyDisk.{state_of_any}
+use Rattle.rs_recovery.specs.AnyDisk.{state_of_any, on_any}
 use Rattle.rs_recovery.specs.AsSessions.{session_of}
 use Rattle.rs_recovery.specs.Sessions.{Session, IsStoppedSession, AreStanding, commands_standing}
 use Rattle.rs_recovery.specs.Recovered.{YieldsHeld, GivesBackSessions}
@@ -27,7 +27,7 @@ module _ (rise : CallsRise memory_state) (base : List ℕ) (limit moment : ℕ) 
     (is_image : IsImage (memory_state last.disk).now image) (bytes : (memory_state disk).now ≡ resting image) where
   -- the one session
   abbrev session : Session
-  session = session_of memory_state sound first cs acks last (memory_state last.disk).calls image
+  session = session_of (on_any memory_state sound first) cs acks (on_any memory_state sound last) (memory_state last.disk).calls image
 
   stopped : IsStoppedSession session
   stopped = runs_are_sessions memory_state sound first last cs acks (memory_state last.disk).calls image turn (record {

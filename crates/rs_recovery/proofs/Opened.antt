@@ -38,7 +38,5 @@ opened_on device disk (Err refused) opened = tt
 pub given : {D : Type 0} (device : D → DiskState) → AreSound device → (disk : D) (result : Result (Stored D) (D × OpenFault)) (s : Source)
     → HandsBack device disk result s → GivesBack device disk result s
 given device sound disk (Ok source) s holds = (holds.is_open, (holds.told (device source.disk).now.seen (sound source.disk).image).state)
-given device sound disk (Err (back, NotASource)) s excuse = excuse
-given device sound disk (Err (back, Damaged)) s excuse = excuse
-given device sound disk (Err (back, Device)) s excuse = excuse
 given device sound disk (Err (back, NoMemory)) s excuse = tt
+given device sound disk (Err (back, fault)) s excuse = excuse

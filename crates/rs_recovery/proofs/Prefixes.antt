@@ -8,7 +8,7 @@ use Rattle.rs_model.specs.State.{Source}
 use Rattle.rs_model.specs.declared.command.Command.{Command}
 use Rattle.rs_model.specs.declared.command.Reply.{Reply}
 use Rattle.rs_store.specs.declared.refusal.Refusal.{Refusal}
-use Rattle.rs_store.specs.declared.refusal.Refusal.TheVariants.{Closed, BadGroup, TooLong, NotHeld, TooManyResources, TooManyChanges, Exhausted, Full, ReadFault, ShortBody, Device, Damaged, NoMemory}
+use Rattle.rs_store.specs.declared.refusal.Refusal.TheVariants.{Device}
 use Rattle.rs_store.specs.declared.running.Ack.{Ack}
 use Rattle.rs_store.specs.Source.{Stored, Holds}
 use Rattle.rs_store.specs.Answered.{Answers}
@@ -47,39 +47,12 @@ one_begun false false true rest done le none = omega arith
 one_begun true false false rest done le none = omega (arith, le)
 one_begun false false false rest done le none = omega arith
 
--- a refusal that leaves no doubt counts nothing
-none_counted : (command : Command) (now : ℕ) (refusal : Refusal) → is_device (Err refusal) ≡ false → counted_as command now (Err refusal) ≡ []
-none_counted command now Closed other = refl
-none_counted command now BadGroup other = refl
-none_counted command now TooLong other = refl
-none_counted command now NotHeld other = refl
-none_counted command now TooManyResources other = refl
-none_counted command now TooManyChanges other = refl
-none_counted command now Exhausted other = refl
-none_counted command now Full other = refl
-none_counted command now ReadFault other = refl
-none_counted command now ShortBody other = refl
-none_counted command now Device other = absurd cc
-none_counted command now Damaged other = refl
-none_counted command now NoMemory other = refl
-
 -- the commands of one ack
 alone_counted : (command : Command) (now : ℕ) (reply : Result Reply Refusal) (call : ℕ)
     → counted_commands ((command, now) ∷ []) (record { reply = reply; at_call = call } ∷ []) ≡ counted_as command now reply
 alone_counted command now (Ok reply) call = refl
-alone_counted command now (Err Closed) call = refl
-alone_counted command now (Err BadGroup) call = refl
-alone_counted command now (Err TooLong) call = refl
-alone_counted command now (Err NotHeld) call = refl
-alone_counted command now (Err TooManyResources) call = refl
-alone_counted command now (Err TooManyChanges) call = refl
-alone_counted command now (Err Exhausted) call = refl
-alone_counted command now (Err Full) call = refl
-alone_counted command now (Err ReadFault) call = refl
-alone_counted command now (Err ShortBody) call = refl
 alone_counted command now (Err Device) call = refl
-alone_counted command now (Err Damaged) call = refl
-alone_counted command now (Err NoMemory) call = refl
+alone_counted command now (Err refusal) call = refl
 
 -- two runs' answers that pass a test
 answered_append : (test : Ack → Bool) {D : Type 0} (device : D → DiskState) (old mid : Stored D) (cs more : Commands) (acks late : Acks) → InTurn device old cs acks mid
@@ -92,19 +65,14 @@ answered_append test {D} device old mid (c ∷ cs) more (a ∷ acks) late turn =
       | true ↦ ap (λ (l : Commands). c ∷ l) rest
       | false ↦ rest
     ]
-answered_append test {D} device old mid [] more (a ∷ acks) late turn = absurd turn
-answered_append test {D} device old mid (c ∷ cs) more [] late turn = absurd turn
+answered_append test {D} device old mid cs more acks late turn = absurd turn
 
 module _ {D : Type 0} (device : D → DiskState) (below : Below device) where
   -- an answer that leaves doubt closes the source
-  doubt_is_device : (reply : Result Reply Refusal) → is_device reply ≡ true → reply ≡ Err Device
-  doubt_is_device (Ok reply) is = absurd cc
-  doubt_is_device (Err refusal) is = ⊎_elim (λ (e : refusal ≡ Device). ap (λ (r : Refusal). Err r) e) (λ (other : is_device (Err refusal) ≡ false). absurd cc) (below.kinds refusal)
-
   closed_by_doubt : (old new : Stored D) (command : Command) (now : ℕ) (reply : Result Reply Refusal) → Answers device old new command now reply → is_device reply ≡ true → new.is_closed ≡ true
-  closed_by_doubt old new command now reply answers is =
-      let here : Answers device old new command now (Err Device) = subst (λ (r : Result Reply Refusal). Answers device old new command now r) (doubt_is_device reply is) answers in
-      here.closes refl
+  closed_by_doubt old new command now (Ok reply) answers is = absurd cc
+  closed_by_doubt old new command now (Err Device) answers is = answers.closes refl
+  closed_by_doubt old new command now (Err refusal) answers is = absurd cc
 
   -- of a closed source nothing counts
   none_count : (old new : Stored D) (cs : Commands) (acks : Acks) → old.is_closed ≡ true → InTurn device old cs acks new
@@ -125,8 +93,7 @@ module _ {D : Type 0} (device : D → DiskState) (below : Below device) where
       one_begun (nat_le a.at_call m) (is_accepted a) (is_in_doubt a) (begun m acks) (acknowledged m acks)
       (few_begun m turn.2 new cs acks turn.5)
       (λ doubt. none_begun m turn.2 new cs acks (closed_by_doubt turn.0 turn.2 c.0 c.1 a.reply turn.3 doubt) turn.5)
-  few_begun m old new [] (a ∷ acks) turn = absurd turn
-  few_begun m old new (c ∷ cs) [] turn = absurd turn
+  few_begun m old new cs acks turn = absurd turn
 
   -- no answer leaves doubt, or one does, and the source is closed
   pub few_doubts : (old new : Stored D) (cs : Commands) (acks : Acks) → InTurn device old cs acks new
@@ -142,8 +109,7 @@ module _ {D : Type 0} (device : D → DiskState) (below : Below device) where
             inr (length_is, (below.closed turn.2 cs acks new shut turn.5).0)
         | false ↦ λ sure. few_doubts turn.2 new cs acks turn.5
       ] refl
-  few_doubts old new [] (a ∷ acks) turn = absurd turn
-  few_doubts old new (c ∷ cs) [] turn = absurd turn
+  few_doubts old new cs acks turn = absurd turn
 
   join_counted : (old mid new : Stored D) (cs more : Commands) (acks late : Acks) → InTurn device old cs acks mid → InTurn device mid more late new
       → counted_commands (cs ++ more) (acks ++ late) ≡ counted_commands cs acks ++ counted_commands more late

@@ -12,7 +12,7 @@ use Rattle.rs_store.specs.Source.{Stored, Holds}
 use Rattle.rs_store.specs.declared.opening.OpenFault.{OpenFault}
 use Rattle.rs_recovery.specs.declared.surviving.Halt.{Halt}
 use Rattle.rs_recovery.specs.declared.surviving.Halt.TheVariants.{Opening}
-use Rattle.rs_recovery.specs.AnyDisk.{AreSound}
+use Rattle.rs_recovery.specs.AnyDisk.{AreSound, on_any}
 use Rattle.rs_recovery.specs.AsSessions.{session_of}
 use Rattle.rs_recovery.specs.Sessions.{Session, AreSessions, AreStanding, commands_standing}
 use Rattle.rs_recovery.specs.Recovered.{IsExcuse, YieldsHeld, GivesBackSessions}
@@ -23,10 +23,9 @@ use Rattle.rs_recovery.proofs.OnAny.{holds_on, opened_on_the_same, runs_are_sess
 
 -- what is an excuse is no loss
 pub not_lost : (before after : DiskState) (fault : OpenFault) → IsExcuse before after fault → IsLost (Opening fault) → ⊥
-not_lost before after openings.NotASource excuse lost = absurd excuse
-not_lost before after openings.Damaged excuse lost = absurd excuse
-not_lost before after openings.Device excuse lost = absurd lost
-not_lost before after openings.NoMemory excuse lost = absurd lost
+not_lost before after openings.NotASource excuse lost = excuse
+not_lost before after openings.Damaged excuse lost = excuse
+not_lost before after fault excuse lost = lost
 
 module _ {A B C : Type 0} (one : A → DiskState) (two : B → DiskState) (three : C → DiskState) (sound_one : AreSound one) (sound_two : AreSound two)
     {Gives : A → B → Type 0} (base : List ℕ) (limit moment : ℕ) (cs : Commands) (acks : Acks) (more : Commands) (answers : Acks) (left : B)
@@ -35,10 +34,10 @@ module _ {A B C : Type 0} (one : A → DiskState) (two : B → DiskState) (three
   start = start_of base limit moment
 
   abbrev earlier : Session
-  earlier = session_of one sound_one ran.run.first cs acks ran.run.last m (two ran.second).now.seen
+  earlier = session_of (on_any one sound_one ran.run.first) cs acks (on_any one sound_one ran.run.last) m (two ran.second).now.seen
 
   abbrev later : Session
-  later = session_of two sound_two ran.run_on.first more answers ran.run_on.last n (three third).now.seen
+  later = session_of (on_any two sound_two ran.run_on.first) more answers (on_any two sound_two ran.run_on.last) n (three third).now.seen
 
   abbrev sessions : List Session
   sessions = later ∷ earlier ∷ []

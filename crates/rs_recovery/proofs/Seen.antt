@@ -1,26 +1,26 @@
 -- Sessions of a source, as their disks saw them.
-use Rattle.std.proofs.Common.{◌≡◌, ◌⊎◌, inl, inr, ⊎_elim, ℕ, Bool, true, false, List, [], ◌∷◌, ◌++◌, map, refl, sym, ◌∙◌, ap, subst, arith, cond, Option, Some, None, Result, Ok, Err}
+use Rattle.std.proofs.Common.{◌≡◌, ◌⊎◌, inl, inr, ℕ, Bool, true, List, [], ◌∷◌, refl, sym, ◌∙◌, ap, subst, arith, cond, Some, Result, Ok, Err}
 use Rattle.rs_disk.specs.Medium.{Medium, DiskState, IsImage}
-use Rattle.rs_disk.specs.Leaves.{Leaves, Rests}
+use Rattle.rs_disk.specs.Leaves.{Leaves}
+use Rattle.rs_disk.specs.Runs.{Rests}
 use Rattle.rs_model.specs.State.{Source}
-use Rattle.rs_model.specs.Step.{step, state_after, fold_of, refusal_of}
+use Rattle.rs_model.specs.Step.{state_after, fold_of, refusal_of}
 use Rattle.rs_model.specs.declared.command.Command.{Command}
 use Rattle.rs_model.specs.declared.command.Reply.{Reply}
 use Rattle.rs_image.specs.StateOfImage.{StandsFor}
 use Rattle.rs_store.specs.declared.refusal.Refusal.{Refusal}
-use Rattle.rs_store.specs.declared.refusal.Refusal.TheVariants.{Closed, BadGroup, TooLong, NotHeld, TooManyResources, TooManyChanges, Exhausted, Full, ReadFault, ShortBody, Device, Damaged, NoMemory}
+use Rattle.rs_store.specs.declared.refusal.Refusal.TheVariants.{Closed, Device}
 use Rattle.rs_store.specs.Source.{Stored, Holds, state_of}
 use Rattle.rs_store.specs.Refusals.{decided, or_spent, is_spent}
 use Rattle.rs_store.specs.Answered.{Answers}
 use Rattle.rs_store.specs.declared.running.Ack.{Ack}
-use Rattle.rs_store.specs.Counted.{is_accepted, is_device, is_in_doubt, answered, counted_commands}
+use Rattle.rs_store.specs.Counted.{counted_commands}
 use Rattle.rs_store.specs.Runs.{InTurn}
 use Rattle.rs_recovery.specs.AnyDisk.{state_of_any, AreSound}
-use Rattle.rs_recovery.specs.Sessions.{Session, AreSessions}
-use Rattle.rs_recovery.specs.DiskSessions.{Condition, Holding, InDoubt, StandsIn, after, after_all, condition_after, AreAnswered}
-use Rattle.rs_recovery.specs.Seen.{RunsAreSeen, CountedAreMade, SessionsAreSeen, disk_session}
+use Rattle.rs_recovery.specs.DiskSessions.{Holding, InDoubt, StandsIn, after, after_all, condition_after, AreAnswered}
+use Rattle.rs_recovery.specs.Seen.{RunsAreSeen, CountedAreMade, SessionsAreSeen}
 use Rattle.rs_recovery.specs.Below.{Below}
-use Rattle.rs_recovery.proofs.Below.{Commands, Acks, weaker}
+use Rattle.rs_recovery.proofs.Below.{Commands, Acks, weaker, counts_alone}
 use Rattle.rs_recovery.proofs.Counts.{not_refused}
 use Rattle.rs_recovery.proofs.Made.{step_made, step_is}
 use Rattle.rs_recovery.proofs.Sessions.{any_is_sound}
@@ -69,109 +69,73 @@ module _ {D : Type 0} (device : D → DiskState) (sound : AreSound device) (belo
         turn.4,
         closed_seen s t mid cs acks new (ap (λ (x : Stored D). x.is_closed) same ∙ still) then turn.5,
       )
-  closed_seen s t old [] (a ∷ acks) new shut all turn = absurd turn
-  closed_seen s t old (c ∷ cs) [] new shut all turn = absurd turn
+  closed_seen s t old cs acks new shut all turn = absurd turn
+
+  -- a turn of a source that holds a state: the source as the command came, and after it
+  module _ (s : Source) (old : Stored D) (c : Command × ℕ) (cs : Commands) (a : Ack) (acks : Acks) (new : Stored D)
+      (holds : Holds device old s) (turn : InTurn device old (c ∷ cs) (a ∷ acks) new) where
+    abbrev ready : Stored D
+    ready = turn.0
+
+    abbrev mid : Stored D
+    mid = turn.2
+
+    kept : Holds device ready s
+    kept = (turn.1.holds s holds).0
+
+    -- what its disk saw of it
+    seen_by : (reply : Result Reply Refusal) → Answers device ready mid c.0 c.1 reply
+        → ((t : Source) → Holds device mid t → AreAnswered (device mid.disk) (Holding t) cs acks (device new.disk))
+        → Leaves (device ready.disk) (device mid.disk) (λ _ image. StandsFor image s ⊎ StandsIn (condition_after (Holding s) c reply) image)
+        × AreAnswered (device mid.disk) (condition_after (Holding s) c reply) cs acks (device new.disk)
+    seen_by (Ok reply) answers rest =
+        let lead = answers.leads s kept in
+        let same : lead.0 ≡ after s c = step_is s c lead.0 reply lead.1 in
+        subst (λ (t : Source). Leaves (device ready.disk) (device mid.disk) (λ _ image. StandsFor image s ⊎ StandsFor image t) × AreAnswered (device mid.disk) (Holding t) cs acks (device new.disk)) same
+        (lead.3, rest lead.0 lead.2)
+    seen_by (Err Device) answers rest =
+        let none = not_refused device sound below ready mid s c.0 c.1 kept answers in
+        let within : Leaves (device ready.disk) (device mid.disk) (λ _. StandsIn (InDoubt s (after s c))) =
+        subst (λ (t : Source). Leaves (device ready.disk) (device mid.disk) (λ _. StandsIn (InDoubt s t))) (step_made s c none) (answers.leads s kept) in (
+          weaker (device ready.disk) (device mid.disk) (λ _. StandsIn (InDoubt s (after s c))) (λ _ image. StandsFor image s ⊎ StandsIn (InDoubt s (after s c)) image) (λ m image stands. inr stands) within,
+          closed_seen s (after s c) mid cs acks new (answers.closes refl) (exit_in (device ready.disk) (device mid.disk) (λ _. StandsIn (InDoubt s (after s c))) within) turn.5,
+        )
+    seen_by (Err refusal) answers rest =
+        let lead = answers.leads s kept in
+        (weaker (device ready.disk) (device mid.disk) (λ _ image. StandsFor image s) (λ _ image. StandsFor image s ⊎ StandsFor image s) (λ m image stands. inl stands) lead.1, rest s lead.0)
+
+    abbrev IsMade : Source → Commands → Type 0
+    IsMade t made = after_all t made ≡ fold_of t made
+
+    -- what counts of it
+    made_by : (reply : Result Reply Refusal) → Answers device ready mid c.0 c.1 reply → ((t : Source) → Holds device mid t → IsMade t (counted_commands cs acks))
+        → IsMade s (counted_commands (c ∷ cs) (record { reply = reply; at_call = a.at_call } ∷ acks))
+    made_by (Ok reply) answers rest =
+        let lead = answers.leads s kept in
+        ap (λ (t : Source). after_all t (counted_commands cs acks)) (sym (step_is s c lead.0 reply lead.1)) ∙ rest lead.0 lead.2
+        ∙ ap (λ (t : Source). fold_of t (counted_commands cs acks)) (sym (ap (state_after s) lead.1))
+    made_by (Err Device) answers rest =
+        let closed = (below.closed mid cs acks new (answers.closes refl) turn.5).2 in
+        let one : IsMade s (c ∷ []) = sym (step_made s c (not_refused device sound below ready mid s c.0 c.1 kept answers)) in
+        subst (IsMade s) (sym (counts_alone below.none_counts c cs a.at_call acks closed)) one
+    made_by (Err refusal) answers rest = rest s (answers.leads s kept).0
 
   -- what a run leaves, as its disk saw it
   pub seen : (s : Source) (old : Stored D) (cs : Commands) (acks : Acks) (new : Stored D) → Holds device old s → InTurn device old cs acks new
       → AreAnswered (device old.disk) (Holding s) cs acks (device new.disk)
   seen s old [] [] new holds turn = (turn.holds s holds).1
   seen s old (c ∷ cs) (a ∷ acks) new holds turn =
-      let next = by a.reply turn.3 (λ t held. seen t mid cs acks new held turn.5) in
-      (device ready.disk, device mid.disk, (turn.1.holds s holds).1, next.0, tt, turn.4, next.1)
-    where
-      ready : Stored D
-      ready = turn.0
-
-      mid : Stored D
-      mid = turn.2
-
-      kept : Holds device ready s
-      kept = (turn.1.holds s holds).0
-
-      Goes : Result Reply Refusal → Type 0
-      Goes reply =
-          Leaves (device ready.disk) (device mid.disk) (λ _ image. StandsFor image s ⊎ StandsIn (condition_after (Holding s) c reply) image)
-          × AreAnswered (device mid.disk) (condition_after (Holding s) c reply) cs acks (device new.disk)
-
-      undone : (refusal : Refusal) → is_device (Err refusal) ≡ false → Answers device ready mid c.0 c.1 (Err refusal)
-          → ((t : Source) → Holds device mid t → AreAnswered (device mid.disk) (Holding t) cs acks (device new.disk))
-          → Leaves (device ready.disk) (device mid.disk) (λ _ image. StandsFor image s ⊎ StandsFor image s) × AreAnswered (device mid.disk) (Holding s) cs acks (device new.disk)
-      undone refusal other answers rest =
-          let lead = below.kept ready mid s c.0 c.1 refusal other (answers.leads s kept) in
-          (weaker (device ready.disk) (device mid.disk) (λ _ image. StandsFor image s) (λ _ image. StandsFor image s ⊎ StandsFor image s) (λ m image stands. inl stands) lead.1, rest s lead.0)
-
-      by : (reply : Result Reply Refusal) → Answers device ready mid c.0 c.1 reply
-          → ((t : Source) → Holds device mid t → AreAnswered (device mid.disk) (Holding t) cs acks (device new.disk)) → Goes reply
-      by (Ok reply) answers rest =
-          let lead = answers.leads s kept in
-          let same : lead.0 ≡ after s c = step_is s c lead.0 reply lead.1 in
-          subst (λ (t : Source). Leaves (device ready.disk) (device mid.disk) (λ _ image. StandsFor image s ⊎ StandsFor image t) × AreAnswered (device mid.disk) (Holding t) cs acks (device new.disk)) same
-          (lead.3, rest lead.0 lead.2)
-      by (Err Device) answers rest =
-          let none = not_refused device sound below ready mid s c.0 c.1 kept answers in
-          let within : Leaves (device ready.disk) (device mid.disk) (λ _. StandsIn (InDoubt s (after s c))) =
-          subst (λ (t : Source). Leaves (device ready.disk) (device mid.disk) (λ _. StandsIn (InDoubt s t))) (step_made s c none) (answers.leads s kept) in (
-            weaker (device ready.disk) (device mid.disk) (λ _. StandsIn (InDoubt s (after s c))) (λ _ image. StandsFor image s ⊎ StandsIn (InDoubt s (after s c)) image) (λ m image stands. inr stands) within,
-            closed_seen s (after s c) mid cs acks new (answers.closes refl) (exit_in (device ready.disk) (device mid.disk) (λ _. StandsIn (InDoubt s (after s c))) within) turn.5,
-          )
-      by (Err Closed) answers rest = undone Closed refl answers rest
-      by (Err BadGroup) answers rest = undone BadGroup refl answers rest
-      by (Err TooLong) answers rest = undone TooLong refl answers rest
-      by (Err NotHeld) answers rest = undone NotHeld refl answers rest
-      by (Err TooManyResources) answers rest = undone TooManyResources refl answers rest
-      by (Err TooManyChanges) answers rest = undone TooManyChanges refl answers rest
-      by (Err Exhausted) answers rest = undone Exhausted refl answers rest
-      by (Err Full) answers rest = undone Full refl answers rest
-      by (Err ReadFault) answers rest = undone ReadFault refl answers rest
-      by (Err ShortBody) answers rest = undone ShortBody refl answers rest
-      by (Err Damaged) answers rest = undone Damaged refl answers rest
-      by (Err NoMemory) answers rest = undone NoMemory refl answers rest
-  seen s old [] (a ∷ acks) new holds turn = absurd turn
-  seen s old (c ∷ cs) [] new holds turn = absurd turn
+      let next = seen_by s old c cs a acks new holds turn a.reply turn.3 (λ t held. seen t turn.2 cs acks new held turn.5) in
+      (device turn.0.disk, device turn.2.disk, (turn.1.holds s holds).1, next.0, tt, turn.4, next.1)
+  seen s old cs acks new holds turn = absurd turn
 
   -- the model accepts what counts, in its turn
   pub counted_made : (s : Source) (old : Stored D) (cs : Commands) (acks : Acks) (new : Stored D) → Holds device old s → InTurn device old cs acks new
       → after_all s (counted_commands cs acks) ≡ fold_of s (counted_commands cs acks)
   counted_made s old [] [] new holds turn = refl
-  counted_made s old (c ∷ cs) (a ∷ acks) new holds turn = by a.reply turn.3 (λ t held. counted_made t mid cs acks new held turn.5)
-    where
-      ready : Stored D
-      ready = turn.0
-
-      mid : Stored D
-      mid = turn.2
-
-      kept : Holds device ready s
-      kept = (turn.1.holds s holds).0
-
-      counted_with : Result Reply Refusal → Commands
-      counted_with reply = counted_commands (c ∷ cs) (record { reply = reply; at_call = a.at_call } ∷ acks)
-
-      IsMade : Commands → Type 0
-      IsMade made = after_all s made ≡ fold_of s made
-
-      by : (reply : Result Reply Refusal) → Answers device ready mid c.0 c.1 reply
-          → ((t : Source) → Holds device mid t → after_all t (counted_commands cs acks) ≡ fold_of t (counted_commands cs acks)) → IsMade (counted_with reply)
-      by (Ok reply) answers rest =
-          let lead = answers.leads s kept in
-          ap (λ (t : Source). after_all t (counted_commands cs acks)) (sym (step_is s c lead.0 reply lead.1)) ∙ rest lead.0 lead.2
-          ∙ ap (λ (t : Source). fold_of t (counted_commands cs acks)) (sym (ap (state_after s) lead.1))
-      by (Err refusal) answers rest = ⊎_elim
-          (λ is.
-          let here : Answers device ready mid c.0 c.1 (Err Device) = subst (λ (r : Refusal). Answers device ready mid c.0 c.1 (Err r)) is answers in
-          let closed = (below.closed mid cs acks new (here.closes refl) turn.5).2 in
-          let alone : counted_with (Err Device) ≡ c ∷ [] = λ i. (below.none_counts cs acks closed).0 i ++ c ∷ (below.none_counts cs acks closed).1 i in
-          let one : IsMade (c ∷ []) = sym (step_made s c (not_refused device sound below ready mid s c.0 c.1 kept here)) in
-          subst (λ (r : Refusal). IsMade (counted_with (Err r))) (sym is) (subst IsMade (sym alone) one))
-          (λ other.
-          let lead = below.kept ready mid s c.0 c.1 refusal other (answers.leads s kept) in
-          let same : counted_with (Err refusal) ≡ counted_commands cs acks =
-          ap (λ (l : Commands). answered is_accepted cs acks ++ l) (ap (λ (b : Bool). cond b (c ∷ answered is_in_doubt cs acks) (answered is_in_doubt cs acks)) other) in
-          subst IsMade (sym same) (rest s lead.0))
-          (below.kinds refusal)
-  counted_made s old [] (a ∷ acks) new holds turn = absurd turn
-  counted_made s old (c ∷ cs) [] new holds turn = absurd turn
+  counted_made s old (c ∷ cs) (a ∷ acks) new holds turn =
+      made_by s old c cs a acks new holds turn a.reply turn.3 (λ t held. counted_made t turn.2 cs acks new held turn.5)
+  counted_made s old cs acks new holds turn = absurd turn
 
 pub runs_are_seen : {D : Type 0} (device : D → DiskState) → Below device → RunsAreSeen device
 runs_are_seen device below sound old new s commands acks holds turn = seen device sound below s old commands acks new holds turn

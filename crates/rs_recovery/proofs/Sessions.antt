@@ -92,15 +92,9 @@ module _ (below : Below state_of_any) where
       after : (reply : Result Reply Refusal) → Answers state_of_any turn.0 turn.2 c.0 c.1 reply → answered is_in_doubt cs acks ≡ []
           → cond (is_device reply) (c ∷ answered is_in_doubt cs acks) (answered is_in_doubt cs acks) ≡ []
       after (Ok reply) answers rest = rest
-      after (Err refusal) answers rest = ⊎_elim
-          (λ is.
-          let here : Answers state_of_any turn.0 turn.2 c.0 c.1 (Err Device) = subst (λ (r : Refusal). Answers state_of_any turn.0 turn.2 c.0 c.1 (Err r)) is answers in
-          let shut : turn.2.is_closed ≡ true = here.closes refl in
-          absurd (true≢false (sym (below.closed turn.2 cs acks new shut turn.5).0 ∙ open_then)))
-          (λ other. ap (λ (b : Bool). cond b (c ∷ answered is_in_doubt cs acks) (answered is_in_doubt cs acks)) other ∙ rest)
-          (below.kinds refusal)
-  none_in_doubt old [] (a ∷ acks) new turn open_then = absurd turn
-  none_in_doubt old (c ∷ cs) [] new turn open_then = absurd turn
+      after (Err Device) answers rest = absurd (true≢false (sym (below.closed turn.2 cs acks new (answers.closes refl) turn.5).0 ∙ open_then))
+      after (Err refusal) answers rest = rest
+  none_in_doubt old cs acks new turn open_then = absurd turn
 
   -- what a stop of a session leaves, where its source held a state
   stopped_at : (s : Source) (x : Session) → Holds state_of_any x.first s → IsStoppedSession x → StandsForPrefix s x.commands x.acks x.stop x.image
@@ -253,9 +247,9 @@ openings_stop_too start x past before after are as_left opening =
 -- what the latest stop left, of any sessions
 pub left_standing : (start : Source) (sessions : List Session) (standing : List ℕ) → AreSessions start sessions → AreStanding start sessions standing
     → StandsFor (last_image sessions) (fold_of start (commands_standing sessions standing))
-left_standing start [] standing are stands = absurd are
-left_standing start (x ∷ past) [] are stands = absurd stands
 left_standing start (x ∷ past) (j ∷ standing) are stands = stands.2
+left_standing start (x ∷ past) [] are stands = absurd stands
+left_standing start [] standing are stands = absurd are
 
 -- what a regular state yields
 pub yields_held : (t : Source) → IsRegular t → YieldsHeld t

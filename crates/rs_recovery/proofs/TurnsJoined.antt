@@ -57,7 +57,7 @@ module _ {D : Type 0} (device : D → DiskState) (images_stand : HeldStands devi
     is_closed = cut.left.is_closed;
     holds = cut.left.holds;
     rests = λ shut. absurd (cut_open old new name kind n now came cut shut);
-    calls = cut.left.goes_on.calls;
+    calls = cut.left.runs.runs.calls;
   }
 
   pub cut_puts_idle : CutPutsIdle device

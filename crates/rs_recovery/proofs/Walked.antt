@@ -17,7 +17,7 @@ use Rattle.rs_store.specs.Laws.{HeldStands}
 use Rattle.rs_store.specs.Refusals.{named_as, is_spent, or_spent, decided}
 use Rattle.rs_store.specs.Source.{Stored, Holds, state_of}
 use Rattle.rs_store.specs.declared.refusal.Refusal.{Refusal}
-use Rattle.rs_store.specs.declared.refusal.Refusal.TheVariants.{Closed, BadGroup, TooLong, NotHeld, TooManyResources, TooManyChanges, Exhausted, Full, ReadFault, ShortBody, Device, Damaged, NoMemory}
+use Rattle.rs_store.specs.declared.refusal.Refusal.TheVariants.{Closed, Device}
 use Rattle.rs_recovery.specs.Walked.{ModelRefuses, RefusalEvents, CommandEvents, LeavesWalk, CommandsMakeWalks, ClosedCommandsAreRefused}
 
 abbrev Kind : Type 1
@@ -109,18 +109,7 @@ module _ {D : Type 0} (device : D → DiskState) (sound : (disk : D) → IsMediu
         let lead = answers.leads s holds in
         walked device stands s (CommandEvents s command now (Ok reply)) new (Tried command now ∷ []) refl (subst (Holds device new) (sym (ap (state_after s) lead.1)) lead.2)
     by_answer (Err Device) answers = stopped answers
-    by_answer (Err Closed) answers = refused Closed answers (answers.leads s holds).0
-    by_answer (Err BadGroup) answers = refused BadGroup answers (answers.leads s holds).0
-    by_answer (Err TooLong) answers = refused TooLong answers (answers.leads s holds).0
-    by_answer (Err NotHeld) answers = refused NotHeld answers (answers.leads s holds).0
-    by_answer (Err TooManyResources) answers = refused TooManyResources answers (answers.leads s holds).0
-    by_answer (Err TooManyChanges) answers = refused TooManyChanges answers (answers.leads s holds).0
-    by_answer (Err Exhausted) answers = refused Exhausted answers (answers.leads s holds).0
-    by_answer (Err Full) answers = refused Full answers (answers.leads s holds).0
-    by_answer (Err ReadFault) answers = refused ReadFault answers (answers.leads s holds).0
-    by_answer (Err ShortBody) answers = refused ShortBody answers (answers.leads s holds).0
-    by_answer (Err Damaged) answers = refused Damaged answers (answers.leads s holds).0
-    by_answer (Err NoMemory) answers = refused NoMemory answers (answers.leads s holds).0
+    by_answer (Err refusal) answers = refused refusal answers (answers.leads s holds).0
 
   pub commands_walk : CommandsMakeWalks device
   commands_walk old new s command now result holds answers = by_answer old new s command now holds result answers
@@ -128,11 +117,7 @@ module _ {D : Type 0} (device : D → DiskState) (sound : (disk : D) → IsMediu
 -- the model closes no source
 never_closed : (reason : model.Refusal) → named_as reason ≡ Closed → ⊥
 never_closed decides.BadGroup is = cc
-never_closed decides.TooLong is = cc
-never_closed decides.NotHeld is = cc
-never_closed decides.TooManyResources is = cc
-never_closed decides.TooManyChanges is = cc
-never_closed decides.Exhausted is = cc
+never_closed reason is = cc
 
 closed_events : (s : Source) (command : Command) (now : ℕ) (result : Result Reply Refusal) → result ≡ Err Closed → CommandEvents s command now result (Refused command ∷ [])
 closed_events s command now result is =

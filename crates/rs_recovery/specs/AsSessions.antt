@@ -7,7 +7,7 @@ use Rattle.rs_store.specs.declared.running.Ack.{Ack}
 use Rattle.rs_store.specs.Source.{Stored, Holds}
 use Rattle.rs_store.specs.Counted.{counted_commands}
 use Rattle.rs_store.specs.Runs.{InTurn}
-use Rattle.rs_recovery.specs.AnyDisk.{state_of_any, AreSound, on_any}
+use Rattle.rs_recovery.specs.AnyDisk.{AnyDisk, state_of_any, AreSound, on_any}
 use Rattle.rs_recovery.specs.Prefixes.{IsRunOf}
 use Rattle.rs_recovery.specs.Sessions.{Session, IsStoppedSession, IsOpenedOn}
 
@@ -32,12 +32,12 @@ pub record IsStopOf {D : Type 0} (device : D → DiskState) (first last : Stored
   pub left : IsImageAt (device last.disk) stop image
 
 -- this run of a source and this stop, as a session
-abbrev pub session_of : {D : Type 0} (device : D → DiskState) → AreSound device → Stored D → List (Command × ℕ) → List Ack → Stored D → ℕ → List ℕ → Session
-session_of device sound first commands acks last stop image = record {
-  first = on_any device sound first;
+abbrev pub session_of : Stored AnyDisk → List (Command × ℕ) → List Ack → Stored AnyDisk → ℕ → List ℕ → Session
+session_of first commands acks last stop image = record {
+  first = first;
   commands = commands;
   acks = acks;
-  last = on_any device sound last;
+  last = last;
   stop = stop;
   image = image;
 }
@@ -46,14 +46,13 @@ session_of device sound first commands acks last stop image = record {
 abbrev pub RunsAreSessions : {D : Type 0} → (D → DiskState) → Type 0
 RunsAreSessions {D} device = (sound : AreSound device) (first last : Stored D) (commands : List (Command × ℕ)) (acks : List Ack) (stop : ℕ) (image : List ℕ)
     → InTurn device first commands acks last → IsStopOf device first last stop image
-    → IsStoppedSession (session_of device sound first commands acks last stop image)
+    → IsStoppedSession (session_of (on_any device sound first) commands acks (on_any device sound last) stop image)
 
 -- A session of a source that was asked commands one by one: these of its commands count.
-pub record IsSessionOf {D : Type 0} (device : D → DiskState) (sound : AreSound device) (first : Stored D) (commands : List (Command × ℕ)) (last : Stored D)
-    (stop : ℕ) (image : List ℕ) (x : Session) : Type 0 where
+pub record IsSessionOf (first : Stored AnyDisk) (commands : List (Command × ℕ)) (last : Stored AnyDisk) (stop : ℕ) (image : List ℕ) (x : Session) : Type 0 where
   pub is_session : IsStoppedSession x
-  pub begins : x.first ≡ on_any device sound first
-  pub ends : x.last ≡ on_any device sound last
+  pub begins : x.first ≡ first
+  pub ends : x.last ≡ last
   pub stops : x.stop ≡ stop
   pub leaves : x.image ≡ image
   pub count : counted_commands x.commands x.acks ≡ commands
@@ -62,4 +61,4 @@ pub record IsSessionOf {D : Type 0} (device : D → DiskState) (sound : AreSound
 abbrev pub AskedAreSessions : {D : Type 0} → (D → DiskState) → Type 0
 AskedAreSessions {D} device = (sound : AreSound device) (first last : Stored D) (commands : List (Command × ℕ)) (stop : ℕ) (image : List ℕ)
     → IsRunOf device first commands last → IsStopOf device first last stop image
-    → (x : Session) × IsSessionOf device sound first commands last stop image x
+    → (x : Session) × IsSessionOf (on_any device sound first) commands (on_any device sound last) stop image x

@@ -10,9 +10,10 @@ use Rattle.rs_store.specs.declared.opening.OpenFault.{OpenFault}
 use Rattle.rs_store.specs.declared.opening.OpenFault.TheVariants.{NotASource, Damaged, Device, NoMemory}
 use Rattle.rs_store.specs.Source.{Stored, Holds, state_of}
 use Rattle.rs_store.specs.declared.running.Ack.{Ack}
-use Rattle.rs_disk.specs.Leaves.{HasFailed}
+use Rattle.rs_disk.specs.Runs.{HasFailed}
 use Rattle.rs_store.specs.Opening.{disk_of}
 use Rattle.rs_store.specs.Counted.{counted_commands, acknowledged, begun}
+use Rattle.rs_store.specs.Runs.{StandsForPrefix}
 use Rattle.rs_recovery.specs.Sessions.{Session, AreSessions, last_image, commands_standing}
 use Rattle.rs_recovery.specs.Served.{CommandsStand}
 use Rattle.rs_recovery.specs.DiskSessions.{DiskSession, after_all, AreDiskSessions, commands_left, AreLeft}
@@ -29,14 +30,19 @@ abbrev pub HandsBack : {D : Type 0} → (D → DiskState) → D → Result (Stor
 HandsBack device disk (Ok source) s = Holds device source s
 HandsBack device disk (Err refused) s = IsExcuse (device disk) (device refused.0) refused.1
 
--- After a stop of one run, when m calls were counted, an opening gives back the state after the first j counted commands, for
--- some j: no command that was acknowledged by then is left out, and none is in that had not begun.
-pub record HandsBackPrefix {D : Type 0} (device : D → DiskState) (disk : D) (result : Result (Stored D) (D × OpenFault))
-    (s : Source) (commands : List (Command × ℕ)) (acks : List Ack) (m : ℕ) : Type 0 where
+-- Of a run that was stopped when m calls were counted, the state after the first j counted commands is given back, for some j: no
+-- command that was acknowledged by then is left out, and none is in that had not begun.
+pub record HandsBackPrefix (IsGivenBack : Source → Type 0) (s : Source) (commands : List (Command × ℕ)) (acks : List Ack) (m : ℕ) : Type 0 where
   pub j : ℕ
   pub least : acknowledged m acks ≤ j
   pub most : j ≤ begun m acks
-  pub state : HandsBack device disk result (fold_of s (take j (counted_commands commands acks)))
+  pub state : IsGivenBack (fold_of s (take j (counted_commands commands acks)))
+
+-- After a stop of one run, whenever it came, an opening gives back such a state.
+abbrev pub GivesBackRun : {D : Type 0} → (D → DiskState) → D → Result (Stored D) (D × OpenFault) → Type 0
+GivesBackRun device disk result = (s : Source) (commands : List (Command × ℕ)) (acks : List Ack) (m : ℕ)
+    → StandsForPrefix s commands acks m (device disk).now.seen
+    → IsTrue (device (disk_of result)).honest → HandsBackPrefix (HandsBack device disk result) s commands acks m
 
 -- The latest Resource List, followed by the changes recorded after its at-moment in their order, yields exactly the resources
 -- held; and the length, the hashes and the type of each are those of its bytes.

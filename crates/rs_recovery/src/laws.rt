@@ -25,9 +25,7 @@ use rs_caps::laws::served::blocks_are_not_shown;
 use rs_disk::Disk;
 use rs_image::laws::stands_once;
 use rs_model::fold_is_regular;
-use rs_store::laws::{
-    closed_sources_stay, held_sources_rest, refused_is_not_done, runs_leave_prefixes, turns_go_on,
-};
+use rs_store::laws::{closed_sources_stay, held_sources_rest, runs_leave_prefixes, turns_go_on};
 
 /// What else is asked of a source joins a run: one run and then another are one run; one command is a run of its own; and a source
 /// that only reads, as for a body or for the damaged ones, or is asked for a put whose body does not come whole, idles.
@@ -56,17 +54,16 @@ pub fn runs_recover<D: Disk>()
     runs_go_on::<D>();
 }
 
-// What sessions rest on of the crates below.
+/// What sessions rest on of the crates below.
 fn laws_below<D: Disk>()
     ensures { Below D.state }
 {
     stands_once();
     closed_sources_stay::<D>();
-    refused_is_not_done::<D>();
     runs_leave_prefixes::<D>();
 }
 
-// The same of sources on any disk.
+/// The same of sources on any disk.
 pub(crate) fn laws_of_any()
     ensures { Below state_of_any }
 {

@@ -1,15 +1,12 @@
 //! What is recovered after a stop.
 
-ghost use Rattle.std.specs.Prelude.{◌≡◌, ◌+◌, ◌<◌, ℕ, List, IfOk, IfErr, IsErrAnd, IsTrue};
-ghost use Rattle.rs_disk.specs.Leaves.{WritesNothing, TellsFaults};
+ghost use Rattle.std.specs.Prelude.{◌≡◌, ◌+◌, ◌<◌, IfOk, IfErr, IsErrAnd, IsTrue};
+ghost use Rattle.rs_disk.specs.Runs.{WritesNothing};
 ghost use Rattle.rs_model.specs.State.{Source as State};
-ghost use Rattle.rs_model.specs.declared.command.Command.{Command};
 ghost use Rattle.rs_image.specs.StateOfImage.{StandsFor};
 ghost use Rattle.rs_store.specs.Opening.{disk_of, IsOpened, IsNotOpened, ArePagesPlaced};
-ghost use Rattle.rs_store.specs.declared.running.Ack.{Ack};
-ghost use Rattle.rs_store.specs.Runs.{StandsForPrefix};
 ghost use Rattle.rs_recovery.specs.Sessions.{IsOpenedOn};
-ghost use Rattle.rs_recovery.specs.Recovered.{HandsBack, HandsBackPrefix, GivesBackSessions, Headline};
+ghost use Rattle.rs_recovery.specs.Recovered.{HandsBack, GivesBackRun, GivesBackSessions, Headline};
 
 use crate::laws::{laws_of_any, sessions_stand};
 use rs_disk::Disk;
@@ -44,24 +41,21 @@ pub fn recover<D: Disk>(alloc: Global, disk: D) -> Result<Source<D>, (D, OpenFau
         → IsOpenedOn D.state (D.state disk).now.seen source) }
 
     // After a stop of one run, and after those of any number of sessions.
-    ensures after_a_run { IsTrue (D.state (disk_of result)).honest
-        → (s : State) (commands : List (Command × ℕ)) (acks : List Ack) (m : ℕ)
-        → StandsForPrefix s commands acks m (D.state disk).now.seen
-        → HandsBackPrefix D.state disk result s commands acks m }
+    ensures after_a_run { GivesBackRun D.state disk result }
     ensures headline { Headline D.state disk result }
     ensures sessions { GivesBackSessions D.state disk result }
 
-    // Why no source was opened, and what the answer tells of the device, whatever the disk held.
+    // Why no source was opened, whatever the disk held.
     ensures refused { IfErr result (λ e. IsNotOpened (D.state disk) (D.state e.0) e.1) }
-    ensures told { TellsFaults (IsErrAnd result (λ e. e.1 ≡ OpenFault.Device))
-        (D.state disk) (D.state (disk_of result)) }
     ensures no_memory_behind { IfErr result (λ e. e.1 ≡ OpenFault.NoMemory
         → IsTrue (D.state e.0).honest → (D.state disk).calls + 3 < (D.state e.0).calls
         → ArePagesPlaced (D.state disk).size (D.state disk).now.seen) }
 
-    // What a read gives is as it was; a stop within it leaves an image of its entry; and a device that has followed the model
-    // then had followed it before.
-    ensures writes_nothing { WritesNothing (D.state disk) (D.state (disk_of result)) }
+    // What a read gives is as it was, and a stop within it leaves an image of its entry. A device that has followed the model then
+    // had followed it before. The answer is Device only where a call of it failed or the calls stand at their last value, and any
+    // other only where none failed.
+    ensures runs { WritesNothing (IsErrAnd result (λ e. e.1 ≡ OpenFault.Device))
+        (D.state disk) (D.state (disk_of result)) }
 {
     laws_of_any();
     sessions_stand();

@@ -15,7 +15,7 @@ use rs_store::{Ack, Source};
 use rs_time::Moment;
 use std::alloc::Global;
 
-// Recovers the source on a disk and runs commands on it. It gives the answers, and the disk that the run left.
+/// Recovers the source on a disk and runs commands on it. It gives the answers, and the disk that the run left.
 fn recover_and_run<D: Disk + Drop>(
     alloc: Global,
     disk: D,
@@ -70,12 +70,10 @@ where
     requires second { F.IsAlwaysCallable second }
     requires third { G.IsAlwaysCallable third }
     ensures survives { IfOk result (λ x. SurvivesTwice A.state B.state C.state
-        (λ left given. F.post second left (Some given))
-        (λ left given. G.post third left (Some given))
+        (λ left it. F.post second left (Some it)) (λ left it. G.post third left (Some it))
         (start_of base.now limit now) commands.now x.0.items more.now x.1.items x.2) }
     ensures found { IfErr result (LosesNone A.state B.state C.state
-        (λ left given. F.post second left (Some given))
-        (λ left given. G.post third left (Some given))
+        (λ left it. F.post second left (Some it)) (λ left it. G.post third left (Some it))
         (start_of base.now limit now) commands.now more.now) }
     ensures halted { IfErr result (HasHalted base.now limit (A.state disk).size) }
 {

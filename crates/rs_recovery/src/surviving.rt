@@ -27,7 +27,7 @@ pub enum Halt {
     Opening(OpenFault),
 }
 
-// A disk with the image of this choice of bytes that a crash of the disk `left` may leave, all settled.
+/// A disk with the image of this choice of bytes that a crash of the disk `left` may leave, all settled.
 fn image_disk(alloc: Global, left: &MemoryDisk, choice: &[u8]) -> Result<MemoryDisk, AllocError>
     ensures image { IfOk result (λ disk. IsImage (memory_state left.now).now
         (image_of choice.now (memory_state left.now).now)) }
@@ -37,7 +37,7 @@ fn image_disk(alloc: Global, left: &MemoryDisk, choice: &[u8]) -> Result<MemoryD
     MemoryDisk::from_bytes(alloc, &left.image(choice)?)
 }
 
-// Formats a disk and runs commands on the source. It gives the answers, and the disk that the run left.
+/// Formats a disk and runs commands on the source. It gives the answers, and the disk that the run left.
 pub(crate) fn format_and_run<D: Disk + Drop>(
     alloc: Global,
     disk: D,

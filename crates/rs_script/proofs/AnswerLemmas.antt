@@ -1,7 +1,7 @@
 -- The answer to each kind of request.
 use Rattle.std.proofs.Common.{◌≡◌, ℕ, List, [], Option, Some, None, Result, Ok, Err, Vec, Global, Bool, true, false, ◌⊎◌, ◌<◌, ◌≤◌, length, refl, inl, inr, ap, sym, subst, ◌∙◌, ◌-◌, if◌then◌else◌, ◌↔◌, IsErrOf, IsTrue, option_map, codes, decimal, ◌++◌, ◌∷◌}
 use Rattle.rs_disk.specs.Medium.{DiskState}
-use Rattle.rs_disk.proofs.Steps.{rests}
+use Rattle.rs_disk.proofs.Runs.{reading_none, rests}
 use Rattle.rs_model.specs.declared.command.Command.{Command}
 use Rattle.rs_model.specs.declared.command.Reply.{Reply}
 use Rattle.rs_lists.specs.declared.doc.Doc.{Doc}
@@ -24,45 +24,36 @@ use Rattle.rs_script.specs.declared.request.Request.TheVariants.{At, Run, Docume
 use Rattle.rs_script.specs.Answers.{outcome_text, shown_text, verified_text}
 use Rattle.rs_store.specs.AnswersBody.{AnswersBody}
 use Rattle.rs_store.specs.Verified.{AnswersVerify}
-use Rattle.rs_script.specs.Outcomes.{outcome_of_reply, shown_as, verified_as, RequestGives}
+use Rattle.rs_script.specs.Outcomes.{outcome_of_reply, shown_as, verified_as, RequestGives, AnswerGives, LineGives}
 use Rattle.rs_script.specs.Lines.{line_limit}
 use Rattle.rs_script.specs.Model.{shown_or}
-use Rattle.rs_script.specs.Progress.{RequestAnswers, AskedAnswers, LineAnswers}
+use Rattle.rs_script.specs.Progress.{IsAnswered}
 use Rattle.rs_script.specs.Requests.{request_of}
 use Rattle.rs_script.specs.Room.{TakesRoom}
-use Rattle.rs_script.specs.Session.{ScriptState, script_state, LineOutcome, moment_set, counted, refused, unchanged}
+use Rattle.rs_script.specs.Session.{ScriptState, script_state, LineOutcome, moment_set, counted, refused, Answer, unchanged}
+
+-- this is the answer, and the session after it is its own
+abbrev was : {S : Type 0} {Gives : Answer S → Type 0} {P : List ℕ → Type 0} (answer : Answer S) → Gives answer → P (outcome_text answer.outcome) → IsAnswered Gives answer.session P
+was answer gives w = record { answer = answer; gives = gives; session_is = refl; written = w }
 
 -- a command was asked of the source
 pub ran : {D : Type 0} (device : D → DiskState) (old new : Stored D) (command : Command) (now : ℕ) (result : Result Reply denials.Refusal) (P : List ℕ → Type 0)
     → stored.Answers device old new command now result → P (outcome_text (outcome_of_reply result))
-    → RequestAnswers device (script_state old now) (Ok (Run command)) (script_state new now) P
-ran device old new command now result P a w = record {
-  answer = record { outcome = outcome_of_reply result; commands = counted_as command now result; session = script_state new now };
-  gives = record { result = result; answers = a; outcome = refl; commands = refl; now = refl };
-  session_is = refl;
-  written = w;
-}
+    → IsAnswered (RequestGives device (script_state old now) (Ok (Run command))) (script_state new now) P
+ran device old new command now result P a w =
+    was (record { outcome = outcome_of_reply result; commands = counted_as command now result; session = script_state new now }) (record { result = result; answers = a; outcome = refl; commands = refl; now = refl }) w
 
 -- a body was asked of the source
 pub was_read : {D : Type 0} (device : D → DiskState) (old new : Stored D) (name : List ℕ) (now : ℕ) (result : Result (Vec ℕ Global) denials.Refusal) (P : List ℕ → Type 0)
     → AnswersBody device old new name result → P (outcome_text (shown_as result))
-    → RequestAnswers device (script_state old now) (Ok (Body name)) (script_state new now) P
-was_read device old new name now result P a w = record {
-  answer = record { outcome = shown_as result; commands = []; session = script_state new now };
-  gives = record { result = result; answers = a; outcome = refl; commands = refl; now = refl };
-  session_is = refl;
-  written = w;
-}
+    → IsAnswered (RequestGives device (script_state old now) (Ok (Body name))) (script_state new now) P
+was_read device old new name now result P a w =
+    was (record { outcome = shown_as result; commands = []; session = script_state new now }) (record { result = result; answers = a; outcome = refl; commands = refl; now = refl }) w
 
 -- the moment is set
 pub moment_answered : {D : Type 0} (device : D → DiskState) (s : Stored D) (now t : ℕ) (P : List ℕ → Type 0)
-    → P (outcome_text moment_set) → RequestAnswers device (script_state s now) (Ok (At t)) (script_state s t) P
-moment_answered device s now t P w = record {
-  answer = record { outcome = moment_set; commands = []; session = script_state s t };
-  gives = refl;
-  session_is = refl;
-  written = w;
-}
+    → P (outcome_text moment_set) → IsAnswered (RequestGives device (script_state s now) (Ok (At t))) (script_state s t) P
+moment_answered device s now t P w = was (record { outcome = moment_set; commands = []; session = script_state s t }) refl w
 
 -- an open source answers
 when_open : (closed : Bool) (outcome : LineOutcome) → closed ≡ false → (if closed then refused (Source Closed) else outcome) ≡ outcome
@@ -71,66 +62,45 @@ when_open closed outcome opened = ap (λ b. if b then refused (Source Closed) el
 -- a document is shown, or there is none
 pub document_answered : DocumentsAreOfTheState → {D : Type 0} (device : D → DiskState) (s : Stored D) (now : ℕ) (doc : Doc) (view : Shown) (outcome : LineOutcome) (P : List ℕ → Type 0)
     → s.is_closed ≡ false → view ≡ views.shown_in s.contents → shown_or NoSuchDocument (document_text view doc) ≡ outcome
-    → P (outcome_text outcome) → RequestAnswers device (script_state s now) (Ok (Document doc)) (script_state s now) P
+    → P (outcome_text outcome) → IsAnswered (RequestGives device (script_state s now) (Ok (Document doc))) (script_state s now) P
 document_answered one_text device s now doc view outcome P opened is e w =
     let text = ap (λ v. document_text v doc) is ∙ one_text (device s.disk).now.seen s.contents doc in
     let found = sym e ∙ ap (shown_or NoSuchDocument) text in
-    record {
-      answer = unchanged (script_state s now) outcome;
-      gives = ap (unchanged (script_state s now)) (found ∙ sym (when_open s.is_closed (shown_or NoSuchDocument (document_text (shown_of (state_of device s)) doc)) opened));
-      session_is = refl;
-      written = w;
-    }
+    was (unchanged (script_state s now) outcome) (ap (unchanged (script_state s now)) (found ∙ sym (when_open s.is_closed (shown_or NoSuchDocument (document_text (shown_of (state_of device s)) doc)) opened))) w
 
 -- a closed source shows no document
 pub document_closed : {D : Type 0} (device : D → DiskState) (s : Stored D) (now : ℕ) (doc : Doc) (refusal : denials.Refusal) (P : List ℕ → Type 0)
     → refusal ≡ Closed → s.is_closed ≡ true → P (outcome_text (refused (Source refusal)))
-    → RequestAnswers device (script_state s now) (Ok (Document doc)) (script_state s now) P
-document_closed device s now doc refusal P same closed w = record {
-  answer = unchanged (script_state s now) (refused (Source Closed));
-  gives = rw closed refl;
-  session_is = refl;
-  written = subst (λ r. P (outcome_text (refused (Source r)))) same w;
-}
+    → IsAnswered (RequestGives device (script_state s now) (Ok (Document doc))) (script_state s now) P
+document_closed device s now doc refusal P same closed w =
+    was (unchanged (script_state s now) (refused (Source Closed))) (rw closed refl) (subst (λ r. P (outcome_text (refused (Source r)))) same w)
 
 -- what is held is counted
 pub counted_answered : {D : Type 0} (device : D → DiskState) (s : Stored D) (now : ℕ) (status : counts.Status) (P : List ℕ → Type 0)
     → s.is_closed ≡ false → status ≡ status_of (state_of device s) → P (outcome_text (counted status))
-    → RequestAnswers device (script_state s now) (Ok Status) (script_state s now) P
-counted_answered device s now status P opened e w = record {
-  answer = unchanged (script_state s now) (counted status);
-  gives = ap (unchanged (script_state s now)) (ap counted e ∙ sym (when_open s.is_closed (counted (status_of (state_of device s))) opened));
-  session_is = refl;
-  written = w;
-}
+    → IsAnswered (RequestGives device (script_state s now) (Ok Status)) (script_state s now) P
+counted_answered device s now status P opened e w =
+    was (unchanged (script_state s now) (counted status)) (ap (unchanged (script_state s now)) (ap counted e ∙ sym (when_open s.is_closed (counted (status_of (state_of device s))) opened))) w
 
 -- and nothing of a closed source
 pub counted_closed : {D : Type 0} (device : D → DiskState) (s : Stored D) (now : ℕ) (refusal : denials.Refusal) (P : List ℕ → Type 0)
     → refusal ≡ Closed → s.is_closed ≡ true → P (outcome_text (refused (Source refusal)))
-    → RequestAnswers device (script_state s now) (Ok Status) (script_state s now) P
-counted_closed device s now refusal P same closed w = record {
-  answer = unchanged (script_state s now) (refused (Source Closed));
-  gives = rw closed refl;
-  session_is = refl;
-  written = subst (λ r. P (outcome_text (refused (Source r)))) same w;
-}
+    → IsAnswered (RequestGives device (script_state s now) (Ok Status)) (script_state s now) P
+counted_closed device s now refusal P same closed w =
+    was (unchanged (script_state s now) (refused (Source Closed))) (rw closed refl) (subst (λ r. P (outcome_text (refused (Source r)))) same w)
 
 -- the damaged bodies were asked of the source
 pub was_verified : {D : Type 0} (device : D → DiskState) (old new : Stored D) (now : ℕ) (result : Result (Vec (List ℕ) Global) denials.Refusal) (P : List ℕ → Type 0)
     → AnswersVerify device old new result → P (outcome_text (verified_as (length (state_of device old).held) result))
-    → RequestAnswers device (script_state old now) (Ok Verify) (script_state new now) P
-was_verified device old new now result P a w = record {
-  answer = record { outcome = verified_as (length (state_of device old).held) result; commands = []; session = script_state new now };
-  gives = record { result = result; answers = a; outcome = refl; commands = refl; now = refl };
-  session_is = refl;
-  written = w;
-}
+    → IsAnswered (RequestGives device (script_state old now) (Ok Verify)) (script_state new now) P
+was_verified device old new now result P a w =
+    was (record { outcome = verified_as (length (state_of device old).held) result; commands = []; session = script_state new now }) (record { result = result; answers = a; outcome = refl; commands = refl; now = refl }) w
 
 -- and are told, with the number of the sound ones
 pub damaged_told : {D : Type 0} (device : D → DiskState) (old new : Stored D) (now : ℕ) (names : Vec (List ℕ) Global) (written : List (List ℕ)) (sound : ℕ) (status : counts.Status) (P : List ℕ → Type 0)
     → AnswersVerify device old new (Ok names) → written ≡ names.items → status ≡ status_of (state_of device old)
     → sound ≡ status.resources - length names.items → P (verified_text written sound)
-    → RequestAnswers device (script_state old now) (Ok Verify) (script_state new now) P
+    → IsAnswered (RequestGives device (script_state old now) (Ok Verify)) (script_state new now) P
 damaged_told device old new now names written sound status P a same e is w =
     let number : sound ≡ length (state_of device old).held - length names.items = is ∙ ap (λ (s : counts.Status). s.resources - length names.items) e in
     was_verified device old new now (Ok names) P a (subst (λ n. P (verified_text names.items n)) number (subst (λ l. P (verified_text l sound)) same w))
@@ -138,15 +108,15 @@ damaged_told device old new now names written sound status P a same e is w =
 -- no body of a closed source is looked at
 pub verified_closed : {D : Type 0} (device : D → DiskState) (s : Stored D) (now : ℕ) (refusal : denials.Refusal) (P : List ℕ → Type 0)
     → refusal ≡ Closed → s.is_closed ≡ true → P (outcome_text (refused (Source refusal)))
-    → RequestAnswers device (script_state s now) (Ok Verify) (script_state s now) P
+    → IsAnswered (RequestGives device (script_state s now) (Ok Verify)) (script_state s now) P
 verified_closed device s now refusal P same closed w =
     was_verified device s s now (Err Closed) P (record {
       names = tt;
       few = tt;
       closed = (λ _. closed, λ _. refl);
-      told = record { failed = λ e. absurd cc; sound = λ _. refl };
+      runs = reading_none (device s.disk) (λ e. absurd cc);
       others = tt;
-      reads_only = record { slots = refl; contents = refl; is_closed = refl; rests = rests (device s.disk) };
+      reads_only = record { slots = refl; contents = refl; is_closed = refl; rests = rests (device s.disk) (device s.disk) (reading_none {A = ⊥} (device s.disk) (λ none. none)) };
     }) (subst (λ r. P (outcome_text (refused (Source r)))) same w)
 
 -- no request
@@ -155,26 +125,17 @@ denied refusal = Err refusal
 
 -- the line asks for nothing, or room for what it asks was refused
 pub refused_answered : {D : Type 0} (device : D → DiskState) (s : ScriptState (Stored D)) (found : Result Request Refusal) (Room : Type 0) (refusal : Refusal) (P : List ℕ → Type 0)
-    → (Err refusal ≡ found) ⊎ ((denied refusal ≡ denied NoMemory) × Room) → P (outcome_text (refused refusal)) → AskedAnswers device s found Room s P
-refused_answered device s found Room refusal P (inl e) w = record {
-  answer = unchanged s (refused refusal);
-  gives = inl (rw (sym e) refl);
-  session_is = refl;
-  written = w;
-}
-refused_answered device s found Room refusal P (inr (e, room)) w = record {
-  answer = unchanged s (refused refusal);
-  gives = inr (room, let same : refusal ≡ NoMemory = cc in rw same refl);
-  session_is = refl;
-  written = w;
-}
+    → (Err refusal ≡ found) ⊎ ((denied refusal ≡ denied NoMemory) × Room) → P (outcome_text (refused refusal)) → IsAnswered (AnswerGives device s found Room) s P
+refused_answered device s found Room refusal P (inl e) w = was (unchanged s (refused refusal)) (inl (rw (sym e) refl)) w
+refused_answered device s found Room refusal P (inr (e, room)) w =
+    was (unchanged s (refused refusal)) (inr (room, let same : refusal ≡ NoMemory = cc in rw same refl)) w
 
 abbrev asked : Request → Result Request Refusal
 asked request = Ok request
 
 -- the line asks for something
 pub understood : {D : Type 0} (device : D → DiskState) (s new : ScriptState (Stored D)) (found : Result Request Refusal) (Room : Type 0) (request : Request) (P : List ℕ → Type 0)
-    → (Ok request ≡ found) ⊎ ((asked request ≡ denied NoMemory) × Room) → RequestAnswers device s (Ok request) new P → AskedAnswers device s found Room new P
+    → (Ok request ≡ found) ⊎ ((asked request ≡ denied NoMemory) × Room) → IsAnswered (RequestGives device s (Ok request)) new P → IsAnswered (AnswerGives device s found Room) new P
 understood device s new found Room request P (inl e) given = record {
   answer = given.answer;
   gives = inl (subst (λ r. RequestGives device s r given.answer) e given.gives);
@@ -185,38 +146,23 @@ understood device s new found Room request P (inr (e, room)) given = absurd cc
 
 -- a line that asks for nothing
 pub foreign_answered : {D : Type 0} (device : D → DiskState) (s : ScriptState (Stored D)) (line : List ℕ) (P : List ℕ → Type 0)
-    → (length line ≤ line_limit) × (request_of line ≡ Err BadLine) → P (outcome_text (refused BadLine)) → LineAnswers device s line s P
-foreign_answered device s line P h w = record {
-  answer = unchanged s (refused BadLine);
-  gives = inr (h.0, inl (rw h.1 refl));
-  session_is = refl;
-  written = w;
-}
+    → (length line ≤ line_limit) × (request_of line ≡ Err BadLine) → P (outcome_text (refused BadLine)) → IsAnswered (LineGives device s line) s P
+foreign_answered device s line P h w = was (unchanged s (refused BadLine)) (inr (h.0, inl (rw h.1 refl))) w
 
 -- a line past the limit
 pub long_answered : {D : Type 0} (device : D → DiskState) (s : ScriptState (Stored D)) (line : List ℕ) (P : List ℕ → Type 0)
-    → line_limit < length line → P (outcome_text (refused LongLine)) → LineAnswers device s line s P
-long_answered device s line P h w = record {
-  answer = unchanged s (refused LongLine);
-  gives = inl (h, refl);
-  session_is = refl;
-  written = w;
-}
+    → line_limit < length line → P (outcome_text (refused LongLine)) → IsAnswered (LineGives device s line) s P
+long_answered device s line P h w = was (unchanged s (refused LongLine)) (inl (h, refl)) w
 
 -- room for a line was refused
 pub no_room_for_line : {D : Type 0} (device : D → DiskState) (s : ScriptState (Stored D)) (line : List ℕ) (P : List ℕ → Type 0)
-    → (length line ≤ line_limit) × (9 ≤ length line) → P (outcome_text (refused NoMemory)) → LineAnswers device s line s P
-no_room_for_line device s line P h w = record {
-  answer = unchanged s (refused NoMemory);
-  gives = inr (h.0, inr (inl h.1, refl));
-  session_is = refl;
-  written = w;
-}
+    → (length line ≤ line_limit) × (9 ≤ length line) → P (outcome_text (refused NoMemory)) → IsAnswered (LineGives device s line) s P
+no_room_for_line device s line P h w = was (unchanged s (refused NoMemory)) (inr (h.0, inr (inl h.1, refl))) w
 
 -- a line of these bytes
 pub bytes_answered : {D : Type 0} (device : D → DiskState) (s new : ScriptState (Stored D)) (bytes line : List ℕ) (P : List ℕ → Type 0)
     → (bytes ≡ line) × (length line ≤ line_limit)
-    → AskedAnswers device s (request_of bytes) (TakesRoom bytes) new P → LineAnswers device s line new P
+    → IsAnswered (AnswerGives device s (request_of bytes) (TakesRoom bytes)) new P → IsAnswered (LineGives device s line) new P
 bytes_answered device s new bytes line P h given = record {
   answer = given.answer;
   gives = inr (h.1, rw (sym h.0) given.gives);
@@ -227,7 +173,7 @@ bytes_answered device s new bytes line P h given = record {
 -- the body that was asked of the source is shown
 pub body_shown : {D : Type 0} (device : D → DiskState) (old new : Stored D) (name : List ℕ) (now : ℕ) (bytes : Vec ℕ Global) (written : List ℕ) (P : List ℕ → Type 0)
     → AnswersBody device old new name (Ok bytes) → written ≡ bytes.items → P (shown_text written)
-    → RequestAnswers device (script_state old now) (Ok (Body name)) (script_state new now) P
+    → IsAnswered (RequestGives device (script_state old now) (Ok (Body name))) (script_state new now) P
 body_shown device old new name now bytes written P a same w = was_read device old new name now (Ok bytes) P a (subst (λ b. P (shown_text b)) same w)
 
 -- a source that refuses nothing is open

@@ -47,7 +47,7 @@ module _ {D : Type 0} (device : D → DiskState) (old : Stored D) where
       → Follows device old new commands
   refused_follows new command now r commands other none a holds =
       rw none record {
-        lasts = λ h. subst IsTrue a.goes_on.keeps h;
+        lasts = λ h. subst IsTrue a.runs.keeps h;
         opened = λ h. sym (a.stays_open (λ (is : _). let same : r ≡ Device = cc in other same)) ∙ h;
         folds = λ _. (a.unchanged r refl other).state;
         holds = λ s held free. holds s held;
@@ -58,7 +58,7 @@ module _ {D : Type 0} (device : D → DiskState) (old : Stored D) where
       → commands ≡ counted_as command now result → Answers device old new command now result → Follows device old new commands
   run_follows new command now (Ok reply) commands is a =
       rw is record {
-        lasts = λ h. subst IsTrue a.goes_on.keeps h;
+        lasts = λ h. subst IsTrue a.runs.keeps h;
         opened = λ h. sym (a.stays_open (λ e. absurd cc)) ∙ h;
         folds = λ _. sym (ap (state_after (state_of device old)) a.accepted);
         holds = λ s held free.
@@ -68,7 +68,7 @@ module _ {D : Type 0} (device : D → DiskState) (old : Stored D) where
   run_follows new command now (Err Device) commands is a =
       let shut : new.is_closed ≡ true = a.closes refl in
       record {
-        lasts = λ h. subst IsTrue a.goes_on.keeps h;
+        lasts = λ h. subst IsTrue a.runs.keeps h;
         opened = λ h. absurd cc;
         folds = λ h. absurd cc;
         holds = λ s held h. absurd cc;
@@ -90,7 +90,7 @@ module _ {D : Type 0} (device : D → DiskState) (old : Stored D) where
   read_follows : (new : Stored D) (commands : List (Command × ℕ)) → commands ≡ [] → OnlyReads device old new → Follows device old new commands
   read_follows new commands none a =
       rw none record {
-        lasts = a.rests.lasts;
+        lasts = a.rests.runs.lasts;
         opened = λ h. sym a.is_closed ∙ h;
         folds = λ _. ap (λ (held : Medium). state_in held.seen new.contents) a.rests.now ∙ ap (state_in (device old.disk).now.seen) a.contents;
         holds = λ s held free. record {

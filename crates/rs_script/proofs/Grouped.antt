@@ -10,6 +10,11 @@ use Rattle.rs_script.specs.Statements.{Statement, single, grouped, cut_off, grou
 use Rattle.rs_script.specs.Taken.{KeepsGroup}
 use Rattle.rs_script.proofs.Cut.{Splits-once}
 
+-- of no group nothing is kept
+pub none_kept : (group : Option Taking) (part : List (List ℕ)) → group ≡ None → KeepsGroup group part → part ≡ []
+none_kept None part is k = k
+none_kept (Some taking) part is k = absurd cc
+
 -- what is kept of a group is a part of one
 pub kept_part : (group : Option Taking) (part : List (List ℕ)) → KeepsGroup group part → IsPart part
 kept_part None part k = subst IsPart (sym k) tt

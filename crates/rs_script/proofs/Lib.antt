@@ -5,6 +5,7 @@ pub mod Cut
 pub mod Grouped
 pub mod Steps
 pub mod Endings
+pub mod Turns
 pub mod ReaderCalls
 pub mod RoomLemmas
 pub mod GroupItems
@@ -12,7 +13,6 @@ pub mod LineTaking
 pub mod Models
 pub mod Chains
 pub mod Transcripts
-pub mod Known
 pub mod Runs
 pub mod NamedDocuments
 pub mod Walks

@@ -1,8 +1,8 @@
 -- What calls of an end that may have failed before make of its counts.
 use Rattle.std.proofs.Common.{◌≡◌, ℕ, ◌+◌, ◌≤◌, ◌==◌, Bool, true, false, not, Result, Ok, IsTrue, refl, sym, ap, ◌∙◌, inl, inr, arith}
-use Rattle.std.specs.Prelude.{is_err, IsErr}
+use Rattle.std.specs.Prelude.{is_err}
 use Rattle.rs_io.specs.declared.watch.Watched.{Watched}
-use Rattle.rs_io.specs.Watch.{watched, calls, failures, is_broken, IsCalledOnce, IsRefused}
+use Rattle.rs_io.specs.Watch.{calls, failures, is_broken, IsCalledOnce, IsRefused}
 use Rattle.rs_script.specs.Progress.{IsCalled}
 
 is_false : (b : Bool) → (IsTrue b → ⊥) → b ≡ false
@@ -31,26 +31,3 @@ one_more a b c n (inr full) (inr (same, last)) = inr (omega (arith, same, last))
 pub calls_more : {T : Type 0} (a b c : Watched T) (n : ℕ) → calls b ≤ calls a + n → IsCalledOnce b c → calls c ≤ calls a + (n + 1)
 calls_more a b c n le (inl once) = omega (arith, le, once)
 calls_more a b c n le (inr (same, last)) = omega (arith, le, same)
-
--- a call that may be refused
-pub calls_or_none : {T X E : Type 0} (r : Result X E) (a b c : Watched T) (n m : ℕ) → calls b ≤ calls a + n → n + 1 ≤ m → (IsTrue (is_broken b) → IsRefused b c r) → (is_broken b ≡ false → IsCalledOnce b c)
-    → calls c ≤ calls a + m
-calls_or_none r a b c n m le lt refused called = by_state (is_broken b) refl
-  where
-    by_state : (state : Bool) → is_broken b ≡ state → calls c ≤ calls a + m
-    by_state true e = omega (arith, le, lt, (refused e).not_called)
-    by_state false e = omega (arith, lt, calls_more a b c n le (called e))
-
--- one call failed at most
-pub fails_once : {T : Type 0} (a b c : Watched T) → failures b ≡ failures a → (failures c).all ≤ (failures b).all + 1 → (failures c).all ≤ (failures a).all + 1
-fails_once a b c same once = omega (arith, ap (λ f. f.all) same, once)
-
-pub fails_never : {T : Type 0} (a b : Watched T) → failures b ≡ failures a → (failures b).all ≤ (failures a).all + 1
-fails_never a b same = omega (arith, ap (λ f. f.all) same)
-
--- a call on an end that had failed is refused
-pub refused_still : {T X E Y F : Type 0} (r : Result X E) (whole : Result Y F) (a b c : Watched T) → b ≡ a → IsTrue (is_broken a) → (IsTrue (is_broken b) → IsRefused b c r) → IsErr whole
-    → IsRefused a c whole
-refused_still r whole a b c same h refused failed =
-    let r = refused (ap is_broken same ∙ h) in
-    record { failed = failed; untouched = r.untouched ∙ ap watched same; not_called = r.not_called ∙ ap calls same }

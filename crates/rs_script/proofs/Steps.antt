@@ -1,5 +1,5 @@
 -- One more run of bytes, one more line, and what has come when no more is read.
-use Rattle.std.proofs.Common.{◌≡◌, ◌≢◌, ℕ, ◌+◌, ◌*◌, ◌≤◌, ◌^◌, ◌⊎◌, List, [], ◌∷◌, ◌++◌, length, take, drop, map, Option, Some, None, refl, ap, sym, ◌∙◌, append_assoc, append-nil, arith, subst, inl, inr, length-append, length-take}
+use Rattle.std.proofs.Common.{◌≡◌, ◌≢◌, ℕ, ◌+◌, ◌*◌, ◌≤◌, List, [], ◌∷◌, ◌++◌, length, take, drop, map, Option, None, refl, ap, sym, ◌∙◌, append_assoc, append-nil, arith, subst, inl, inr, length-append, length-take}
 use Rattle.std.proofs.lemmas.Grind.{common_steps, flat_map-append}
 use Rattle.std.proofs.lemmas.List.{map-append, take-map, drop-map, take-append-drop}
 use Rattle.std.proofs.lemmas.List.Elements.{All-append, All-take, All-drop}
@@ -21,10 +21,10 @@ use Rattle.rs_script.specs.PartialLine.{KeepsLine}
 use Rattle.rs_script.specs.declared.group.Taking.{Taking}
 use Rattle.rs_script.specs.Lines.{Splits, HasNoBreak, with_break}
 use Rattle.rs_items.specs.Lines.{cut_return}
-use Rattle.rs_script.specs.Progress.{LineTaken, Progress, Gave, ComesTo, StopsBy, GaveStatements}
-use Rattle.rs_script.specs.Statements.{Statement, statement_lines, IsWholeStatement, IsPart, Groups}
+use Rattle.rs_script.specs.Progress.{Between, LinesTaken, TakesLine, Beginning, Stand, stand, between_at, Progress, Gave, ComesTo, StopsBy}
+use Rattle.rs_script.specs.Statements.{Statement, statement_lines, IsWholeStatement, AreWholeStatements, IsUnfinished, IsPart, Groups}
 use Rattle.rs_script.specs.Taken.{KeepsGroup}
-use Rattle.rs_script.proofs.Grouped.{kept_part, more_lines, whole_lines, whole_script}
+use Rattle.rs_script.proofs.Grouped.{kept_part, none_kept, more_lines, whole_lines, whole_script}
 use Rattle.rs_script.specs.Broken.{BreaksWithin, BreaksAfter}
 use Rattle.rs_script.specs.Script.{Transcript, ScriptGives, Ran, ScriptsRecover, ScriptsMakeWalks}
 use Rattle.rs_script.specs.Session.{ScriptState, script_state, LineOutcome}
@@ -70,23 +70,50 @@ Splits-break input raws rest run h s =
       partial = grind (arith, common_steps);
     }
 
+-- the answers to more statements are written behind those before
+pub wrote_more : {W : Type 0} (contents : W → Option (List ℕ)) (a b c : Watched W) (outcomes more : List LineOutcome)
+    → Wrote contents a b (output_of outcomes) → Wrote contents b c (output_of more) → Wrote contents a c (output_of (outcomes ++ more))
+wrote_more contents a b c outcomes more first second =
+    subst (λ (text : List ℕ). Wrote contents a c text) (sym (output-append outcomes more)) (wrote_then contents a b c (output_of outcomes) (output_of more) first second)
+
+-- the same lines were taken, spelled otherwise
+abbrev pub lines_as : {D : Type 0} (device : D → DiskState) (start : ScriptState (Stored D)) (lines all : List (List ℕ)) (here : Between D) → all ≡ lines
+    → LinesTaken device start lines here → LinesTaken device start all here
+lines_as device start lines all here is t = record {
+  whole = t.whole;
+  part = t.part;
+  outcomes = t.outcomes;
+  commands = t.commands;
+  lines_are = is ∙ t.lines_are;
+  each = t.each;
+  kept = t.kept;
+  answered = t.answered;
+}
+
+-- and then one more line
+abbrev pub lines_then : {D : Type 0} (device : D → DiskState) (start : ScriptState (Stored D)) (lines all : List (List ℕ)) (line : List ℕ) (mid here : Between D) → all ≡ lines ++ line ∷ []
+    → (t : LinesTaken device start lines mid) → LinesTaken device mid.session (t.part ++ line ∷ []) here → LinesTaken device start all here
+lines_then device start lines all line mid here is t e = record {
+  whole = t.whole ++ e.whole;
+  part = e.part;
+  outcomes = t.outcomes ++ e.outcomes;
+  commands = t.commands ++ e.commands;
+  lines_are = is ∙ more_lines lines t.part e.part line t.whole e.whole t.lines_are e.lines_are;
+  each = All-append IsWholeStatement t.whole e.whole t.each e.each;
+  kept = e.kept;
+  answered = Transcript-append device t.whole e.whole start t.outcomes t.commands mid.session e.outcomes e.commands here.session t.answered e.answered;
+}
+
 -- more bytes of the line
-pub Progress-run : {D W : Type 0} (device : D → DiskState) (contents : W → Option (List ℕ)) (start : ScriptState (Stored D)) (before : Watched W) (input : List ℕ) (line : Line) (group : Option Taking) (c : Watched W) (now : ScriptState (Stored D))
-    (run : List ℕ) (next : Line) → HasNoBreak run → ((raw : List ℕ) → KeepsLine line raw → KeepsLine next (raw ++ run))
-    → Progress device contents start before input line group c now → Progress device contents start before (input ++ run) next group c now
-Progress-run device contents start before input line group c now run next h k p = record {
+pub Progress-run : {D W : Type 0} (device : D → DiskState) (contents : W → Option (List ℕ)) (begin : Beginning D W) (input : List ℕ) (here : Stand D W) (run : List ℕ) (next : Line)
+    → HasNoBreak run → ((raw : List ℕ) → KeepsLine here.pending.line raw → KeepsLine next (raw ++ run)) → Progress device contents begin input here
+    → Progress device contents begin (input ++ run) (stand (record { now = here.pending.now; group = here.pending.group; line = next }) here.source here.writer)
+Progress-run device contents begin input here run next h k p = record {
   raws = p.raws;
   rest = p.rest ++ run;
-  whole = p.whole;
-  part = p.part;
-  outcomes = p.outcomes;
-  commands = p.commands;
   splits = Splits-run input p.raws p.rest run h p.splits;
   kept = k p.rest p.kept;
-  lines_are = p.lines_are;
-  each = p.each;
   taken = p.taken;
-  answered = p.answered;
   written = p.written;
 }
 
@@ -94,42 +121,27 @@ pub on_err : {T E P : Type 0} (r : Result T E) → P → OnErr r P
 on_err (Ok x) p = tt
 on_err (Err e) p = p
 
--- a line was taken
-unfoldable pub Takes : {T E D W : Type 0} → (D → DiskState) → (W → Option (List ℕ)) → Result T E → Line → (List ℕ → List ℕ) → Option Taking → Option Taking
-    → ScriptState (Stored D) → ScriptState (Stored D) → Watched W → Watched W → Type 0
-Takes device contents r line cut group next old new c d =
-    (raw : List ℕ) (begun : List (List ℕ)) → KeepsLine line raw → KeepsGroup group begun
-    → LineTaken device old begun (cut raw) next new (λ text. WritesOut contents c d r text)
+-- a line was taken of the bytes that are kept of it
+abbrev pub Takes : {T E D W : Type 0} → (D → DiskState) → (W → Option (List ℕ)) → Result T E → Line → (List ℕ → List ℕ) → Stand D W → Stand D W → Type 0
+Takes device contents r line cut old new =
+    (raw : List ℕ) → KeepsLine line raw → TakesLine device (between_at old) (cut raw) (between_at new) (λ text. WritesOut contents old.writer new.writer r text)
 
 -- a line feed has come, and what is answered is written
-pub take_ok : {T E D W : Type 0} (device : D → DiskState) (contents : W → Option (List ℕ)) (r : Result T E) (line mid next : Line) (group after : Option Taking) (now new : ScriptState (Stored D)) (c d : Watched W) (run : List ℕ)
-    → ((raw : List ℕ) → KeepsLine line raw → KeepsLine mid (raw ++ run))
-    → Takes device contents r mid cut_return group after now new c d
-    → KeepsLine next []
-    → OnOk r (HasNoBreak run → ComesTo device contents (record { line = line; group = group; writer = c; session = now })
-    (record { line = next; group = after; writer = d; session = new }) (with_break run))
-unfolding Takes
-take_ok device contents (Err e) line mid next group after now new c d run k given fresh = tt
-take_ok device contents (Ok x) line mid next group after now new c d run k given fresh = λ h start before input p.
+pub take_ok : {T E D W : Type 0} (device : D → DiskState) (contents : W → Option (List ℕ)) (r : Result T E) (mid : Line) (old new : Stand D W) (run : List ℕ)
+    → ((raw : List ℕ) → KeepsLine old.pending.line raw → KeepsLine mid (raw ++ run)) → Takes device contents r mid cut_return old new
+    → KeepsLine new.pending.line [] → OnOk r (HasNoBreak run → ComesTo device contents old new (with_break run))
+take_ok device contents (Err e) mid old new run k given fresh = tt
+take_ok device contents (Ok x) mid old new run k given fresh = λ h begin input p.
     let raw = p.rest ++ run in
-    let e = given raw p.part (k p.rest p.kept) p.taken in
-    let Q : List ℕ → Type 0 = λ text. Wrote contents before d text in
+    let e = given raw (k p.rest p.kept) p.taken.part p.taken.kept in
     record {
       raws = p.raws ++ raw ∷ [];
       rest = [];
-      whole = p.whole ++ e.whole;
-      part = e.part;
-      outcomes = p.outcomes ++ e.outcomes;
-      commands = p.commands ++ e.commands;
       splits = Splits-break input p.raws p.rest run h p.splits;
       kept = fresh;
-      lines_are = map-append cut_return p.raws (raw ∷ [])
-          ∙ more_lines (map cut_return p.raws) p.part e.part (cut_return raw) p.whole e.whole p.lines_are e.lines_are;
-      each = All-append IsWholeStatement p.whole e.whole p.each e.each;
-      taken = e.taken;
-      answered = Transcript-append device p.whole e.whole start p.outcomes p.commands now e.outcomes e.commands new p.answered e.answered;
-      written = subst Q (sym (output-append p.outcomes e.outcomes))
-          (wrote_then contents before c d (output_of p.outcomes) (output_of e.outcomes) p.written e.written);
+      taken = lines_then device begin.session (map cut_return p.raws) (map cut_return (p.raws ++ raw ∷ [])) (cut_return raw) (between_at old) (between_at new)
+          (map-append cut_return p.raws (raw ∷ [])) p.taken e.0;
+      written = wrote_more contents begin.writer old.writer new.writer p.taken.outcomes e.0.outcomes p.written e.2;
     }
 
 -- all answers but the last were taken whole, and a put of that one failed
@@ -174,85 +186,70 @@ one_answered device begun line (statement ∷ whole) part old outcomes commands 
     no_others first (second ∷ more) few = absurd (omega (arith, few))
 
 -- and the writer failed within its answer
-pub broke_line : {D W : Type 0} (device : D → DiskState) (contents : W → Option (List ℕ)) (begun : List (List ℕ)) (line : List ℕ) (whole : List Statement) (part : List (List ℕ)) (old : ScriptState (Stored D)) (more : List LineOutcome)
-    (commands : List (Command × ℕ)) (new : ScriptState (Stored D)) (a b c : Watched W) (outcomes : List LineOutcome) → begun ++ line ∷ [] ≡ flat_map statement_lines whole ++ part → part ≡ []
-    → Transcript device old whole more commands new → length more ≤ 1 → Wrote contents a b (output_of outcomes) → FailedWithin contents b c (output_of more)
-    → BreaksWithin contents a c (outcomes ++ more)
-broke_line device contents begun line whole part old more commands new a b c outcomes lines none answered few wrote failed =
-    let one = one_answered device begun line whole part old more commands new lines none answered few in
+pub broke_line : {D W : Type 0} (device : D → DiskState) (contents : W → Option (List ℕ)) (begun : List (List ℕ)) (line : List ℕ) (old : ScriptState (Stored D)) (here : Between D) (a b c : Watched W)
+    (outcomes : List LineOutcome) → (e : LinesTaken device old (begun ++ line ∷ []) here) → e.part ≡ [] → length e.outcomes ≤ 1 → Wrote contents a b (output_of outcomes)
+    → FailedWithin contents b c (output_of e.outcomes) → BreaksWithin contents a c (outcomes ++ e.outcomes)
+broke_line device contents begun line old here a b c outcomes e none few wrote failed =
+    let one = one_answered device begun line e.whole e.part old e.outcomes e.commands here.session e.lines_are none e.answered few in
     let P : List LineOutcome → Type 0 = λ l. BreaksWithin contents a c (outcomes ++ l) in
-    let text : output_of more ≡ outcome_text one.0 = ap output_of one.1 ∙ append-nil (outcome_text one.0) in
-    subst P (sym one.1) (broke_within contents a b c outcomes one.0 wrote (failed_same contents b c (output_of more) (outcome_text one.0) failed text))
-
--- of no group nothing is kept
-pub none_kept : (group : Option Taking) (part : List (List ℕ)) → group ≡ None → KeepsGroup group part → part ≡ []
-none_kept None part is k = k
-none_kept (Some taking) part is k = absurd cc
+    let text : output_of e.outcomes ≡ outcome_text one.0 = ap output_of one.1 ∙ append-nil (outcome_text one.0) in
+    subst P (sym one.1) (broke_within contents a b c outcomes one.0 wrote (failed_same contents b c (output_of e.outcomes) (outcome_text one.0) failed text))
 
 -- and the answer is not written
-pub take_err : {T E D W : Type 0} (device : D → DiskState) (contents : W → Option (List ℕ)) (r : Result T E) (line mid : Line) (group after : Option Taking) (now new : ScriptState (Stored D)) (c d : Watched W) (run : List ℕ)
-    → ((raw : List ℕ) → KeepsLine line raw → KeepsLine mid (raw ++ run))
-    → Takes device contents r mid cut_return group after now new c d → OnErr r (after ≡ None)
-    → OnErr r (HasNoBreak run → StopsBy device contents (record { line = line; group = group; writer = c; session = now }) (with_break run) d new)
-unfolding Takes
-take_err device contents (Ok x) line mid group after now new c d run k given stopped = tt
-take_err device contents (Err e) line mid group after now new c d run k given stopped = λ h start before input p.
+pub take_err : {T E D W : Type 0} (device : D → DiskState) (contents : W → Option (List ℕ)) (r : Result T E) (mid : Line) (old new : Stand D W) (run : List ℕ)
+    → ((raw : List ℕ) → KeepsLine old.pending.line raw → KeepsLine mid (raw ++ run)) → Takes device contents r mid cut_return old new
+    → OnErr r (new.pending.group ≡ None) → OnErr r (HasNoBreak run → StopsBy device contents old new (with_break run))
+take_err device contents (Ok x) mid old new run k given stopped = tt
+take_err device contents (Err e) mid old new run k given stopped = λ h begin input p.
     let raw = p.rest ++ run in
-    let e = given raw p.part (k p.rest p.kept) p.taken in
+    let e = given raw (k p.rest p.kept) p.taken.part p.taken.kept in
+    let raws = p.raws ++ raw ∷ [] in
+    let none = none_kept new.pending.group e.0.part stopped e.0.kept in
+    let all = lines_then device begin.session (map cut_return p.raws) (map cut_return raws) (cut_return raw) (between_at old) (between_at new) (map-append cut_return p.raws (raw ∷ [])) p.taken e.0 in
     let splits = Splits-break input p.raws p.rest run h p.splits in
-    let lines = map-append cut_return p.raws (raw ∷ [])
-    ∙ more_lines (map cut_return p.raws) p.part e.part (cut_return raw) p.whole e.whole p.lines_are e.lines_are in
-    let groups = whole_lines (p.raws ++ raw ∷ []) (p.whole ++ e.whole) e.part lines (none_kept after e.part stopped e.taken)
-    (All-append IsWholeStatement p.whole e.whole p.each e.each) in (
+    let groups = whole_lines raws all.whole all.part all.lines_are none all.each in (
       (
-        p.outcomes ++ e.outcomes,
-        p.commands ++ e.commands,
-        (
-          p.whole ++ e.whole,
-          whole_script (input ++ with_break run) (p.raws ++ raw ∷ []) (p.whole ++ e.whole) splits groups,
-          Transcript-append device p.whole e.whole start p.outcomes p.commands now e.outcomes e.commands new p.answered e.answered,
-        ),
-        broke_line device contents p.part (cut_return raw) e.whole e.part now e.outcomes e.commands new before c d p.outcomes e.lines_are (none_kept after e.part stopped e.taken) e.answered e.few p.written e.written,
+        all.outcomes,
+        all.commands,
+        (all.whole, whole_script (input ++ with_break run) raws all.whole splits groups, all.answered),
+        broke_line device contents p.taken.part (cut_return raw) (between_at old).session (between_at new) begin.writer old.writer new.writer p.taken.outcomes e.0 none e.1 p.written e.2,
       ),
-      (p.raws ++ raw ∷ [], p.whole ++ e.whole, splits, groups),
+      (raws, all.whole, splits, groups),
     )
 
 -- nothing has come, and nothing was written
-pub Progress-none : {D W : Type 0} (device : D → DiskState) (contents : W → Option (List ℕ)) (start : ScriptState (Stored D)) (a : Watched W) (line : Line) → KeepsLine line [] → Progress device contents start a [] line None a start
-Progress-none device contents start a line k = record {
+pub Progress-none : {D W : Type 0} (device : D → DiskState) (contents : W → Option (List ℕ)) (here : Stand D W) (source : Stored D) → here.source ≡ source → here.pending.now ≡ 0
+    → here.pending.group ≡ None → KeepsLine here.pending.line [] → Progress device contents (record { session = script_state source 0; writer = here.writer }) [] here
+Progress-none device contents here source same now none k = record {
   raws = [];
   rest = [];
-  whole = [];
-  part = [];
-  outcomes = [];
-  commands = [];
   splits = record { whole = refl; each = grind (arith, common_steps); partial = grind (arith, common_steps) };
   kept = k;
-  lines_are = refl;
-  each = grind (arith, common_steps);
-  taken = refl;
-  answered = (refl, refl, refl);
-  written = wrote_nothing contents a;
+  taken = record {
+    whole = [];
+    part = [];
+    outcomes = [];
+    commands = [];
+    lines_are = refl;
+    each = grind (arith, common_steps);
+    kept = subst (λ (g : Option Taking). KeepsGroup g []) (sym none) refl;
+    answered = (refl, refl, ap (λ s. script_state s here.pending.now) same ∙ ap (script_state source) now);
+  };
+  written = wrote_nothing contents here.writer;
 }
 
 -- the writer was flushed
-pub Progress-kept : {D W : Type 0} (device : D → DiskState) (contents : W → Option (List ℕ)) (start : ScriptState (Stored D)) (before : Watched W) (input : List ℕ) (line : Line) (group : Option Taking) (c d : Watched W) (now : ScriptState (Stored D))
-    → KnownKeeps (contents (watched c)) (contents (watched d)) → failures d ≡ failures c → Progress device contents start before input line group c now → Progress device contents start before input line group d now
-Progress-kept device contents start before input line group c d now k sound p = record {
+pub Progress-kept : {D W : Type 0} (device : D → DiskState) (contents : W → Option (List ℕ)) (begin : Beginning D W) (input : List ℕ) (here : Stand D W) (writer : Watched W)
+    → KnownKeeps (contents (watched here.writer)) (contents (watched writer)) → failures writer ≡ failures here.writer → Progress device contents begin input here
+    → Progress device contents begin input (stand here.pending here.source writer)
+Progress-kept device contents begin input here writer k sound p = record {
   raws = p.raws;
   rest = p.rest;
-  whole = p.whole;
-  part = p.part;
-  outcomes = p.outcomes;
-  commands = p.commands;
   splits = p.splits;
   kept = p.kept;
-  lines_are = p.lines_are;
-  each = p.each;
   taken = p.taken;
-  answered = p.answered;
   written = (
-    Appends-kept (contents (watched before)) (contents (watched c)) (contents (watched d)) (output_of p.outcomes) p.written.0 k,
+    Appends-kept (contents (watched begin.writer)) (contents (watched here.writer)) (contents (watched writer)) (output_of p.taken.outcomes) p.written.0 k,
     sound ∙ p.written.1,
   );
 }
@@ -281,36 +278,34 @@ raws_whole : (raws : List (List ℕ)) → All HasNoBreak raws → Splits (flat_m
 raws_whole raws each = record { whole = sym (append-nil (flat_map with_break raws)); each = each; partial = grind (arith, common_steps) }
 
 -- the whole statements of what came, and the part of one after them
-pub Progress-whole : {D R W : Type 0} (device : D → DiskState) (contents : W → Option (List ℕ)) (remaining : R → Option (List ℕ)) (start : Stored D) (before : Watched W)
-    (input : List ℕ) (line : Line) (group : Option Taking) (c : Watched W) (now : Stored D) (moment : ℕ) (r s : Watched R) (F C : Type 0)
-    → ScriptsRecover device × ScriptsMakeWalks device → F ⊎ (C × (2 ^ 40 ≤ length input)) → Consumes (remaining (watched r)) (remaining (watched s)) input
-    → Progress device contents (script_state start 0) before input line group c (script_state now moment)
-    → (ran : Ran device start now) × (part : List ℕ) × GaveStatements remaining r s ran.input part
-    × Wrote contents before c (output_of ran.outcomes) × (F ⊎ (C × (2 ^ 40 ≤ length (ran.input ++ part))))
-Progress-whole device contents remaining start before input line group c now moment r s F C laws why gave p =
-    let n = length (flat_map statement_lines p.whole) in
+pub Progress-whole : {D W : Type 0} (device : D → DiskState) (contents : W → Option (List ℕ)) → ScriptsRecover device × ScriptsMakeWalks device → (start : Stored D) (before : Watched W)
+    (input : List ℕ) (here : Stand D W) → Progress device contents (record { session = script_state start 0; writer = before }) input here
+    → (ran : Ran device start here.source) × (part : List ℕ) × (input ≡ ran.input ++ part) × AreWholeStatements ran.input × IsUnfinished part
+    × Wrote contents before here.writer (output_of ran.outcomes)
+Progress-whole device contents laws start before input here p =
+    let t = p.taken in
+    let n = length (flat_map statement_lines t.whole) in
     let raws = take n p.raws in
     let behind = drop n p.raws in
-    let here = flat_map with_break raws in
+    let front = flat_map with_break raws in
     let part = flat_map with_break behind ++ p.rest in
-    let cut : input ≡ here ++ part =
+    let cut : input ≡ front ++ part =
     p.splits.whole ∙ ap (λ l. flat_map with_break l ++ p.rest) (sym (take-append-drop n p.raws))
-    ∙ ap (λ z. z ++ p.rest) (flat_map-append with_break raws behind) ∙ append_assoc here (flat_map with_break behind) p.rest in
-    let Q : List ℕ → Type 0 = λ bytes. Consumes (remaining (watched r)) (remaining (watched s)) bytes in
-    let T : List ℕ → Type 0 = λ bytes. F ⊎ (C × (2 ^ 40 ≤ length bytes)) in
-    let splits : Splits here raws [] = raws_whole raws (All-take HasNoBreak n p.raws p.splits.each) in
-    let groups : Groups (map cut_return raws) p.whole [] =
-    whole_lines raws p.whole [] (first_lines p.raws (flat_map statement_lines p.whole) p.part p.lines_are ∙ sym (append-nil (flat_map statement_lines p.whole))) refl p.each in
-    let gives : ScriptGives device (script_state start 0) here p.outcomes p.commands (script_state now moment) =
-    (p.whole, whole_script here raws p.whole splits groups, p.answered) in
+    ∙ ap (λ z. z ++ p.rest) (flat_map-append with_break raws behind) ∙ append_assoc front (flat_map with_break behind) p.rest in
+    let splits : Splits front raws [] = raws_whole raws (All-take HasNoBreak n p.raws p.splits.each) in
+    let groups : Groups (map cut_return raws) t.whole [] =
+    whole_lines raws t.whole [] (first_lines p.raws (flat_map statement_lines t.whole) t.part t.lines_are ∙ sym (append-nil (flat_map statement_lines t.whole))) refl t.each in
+    let gives : ScriptGives device (script_state start 0) front t.outcomes t.commands (script_state here.source here.pending.now) =
+    (t.whole, whole_script front raws t.whole splits groups, t.answered) in
     let rest : Splits part behind p.rest = record { whole = refl; each = All-drop HasNoBreak n p.raws p.splits.each; partial = p.splits.partial } in
     let unfinished : IsPart (map cut_return behind) =
-    subst IsPart (sym (last_lines p.raws (flat_map statement_lines p.whole) p.part p.lines_are)) (kept_part group p.part p.taken) in (
-      ran_of device laws start now here p.outcomes p.commands moment gives,
+    subst IsPart (sym (last_lines p.raws (flat_map statement_lines t.whole) t.part t.lines_are)) (kept_part here.pending.group t.part t.kept) in (
+      ran_of device laws start here.source front t.outcomes t.commands here.pending.now gives,
       part,
-      (subst Q cut gave, (raws, p.whole, splits, groups), (behind, p.rest, rest, unfinished)),
+      cut,
+      (raws, t.whole, splits, groups),
+      (behind, p.rest, rest, unfinished),
       p.written,
-      subst T cut why,
     )
 
 -- the last read gave no byte

@@ -8,8 +8,8 @@ use Rattle.rs_model.specs.Step.{step, state_after, fold_of}
 use Rattle.rs_model.specs.declared.command.Command.{Command}
 use Rattle.rs_store.specs.Source.{Stored, Holds, state_of}
 use Rattle.rs_script.specs.Model.{statement_answer, answers_of}
-use Rattle.rs_script.specs.Statements.{Statement, IsScript}
-use Rattle.rs_script.specs.Script.{Transcript, ScriptGives, IsMachine, AreDecided, told}
+use Rattle.rs_script.specs.Statements.{Statement}
+use Rattle.rs_script.specs.Script.{Transcript, ScriptsFollowTheModel, ScriptsTellTheFold, ScriptsHoldTheFold, IsMachine, AreDecided, told}
 use Rattle.rs_script.specs.Session.{ScriptState, LineOutcome, Answer}
 use Rattle.rs_script.proofs.Chains.{statement_follows, statement_rises}
 use Rattle.rs_script.proofs.Grouped.{IsScript-once}
@@ -65,11 +65,7 @@ module _ {D : Type 0} (device : D → DiskState) where
       )
 
   -- where the model decides each outcome, a script does what the model does
-  pub script_same : (old new : ScriptState (Stored D)) (input : List ℕ) (outcomes : List LineOutcome) (commands : List (Command × ℕ)) (statements : List Statement)
-      → ScriptGives device old input outcomes commands new → AreDecided outcomes
-      → IsTrue (device new.source.disk).honest → new.source.slots.root.generation + 1 < 2 ^ 64 → IsScript input statements
-      → (outcomes ≡ outcomes_in (answers_of (told device old) statements))
-      × (commands ≡ commands_in (answers_of (told device old) statements))
+  pub script_same : ScriptsFollowTheModel device
   script_same old new input outcomes commands statements s h honest left is =
       let same = IsScript-once input s.0 statements s.1 is in
       let P : List Statement → Type 0 = λ l. Transcript device old l outcomes commands new in
@@ -93,9 +89,7 @@ module _ {D : Type 0} (device : D → DiskState) where
       ∙ sym (fold_of-append (state_of device old.source) t.0.commands t.2) ∙ sym (ap (fold_of (state_of device old.source)) t.5)
 
   -- the commands of a script make the state that it leaves
-  pub script_folds : (old new : ScriptState (Stored D)) (input : List ℕ) (outcomes : List LineOutcome) (commands : List (Command × ℕ))
-      → ScriptGives device old input outcomes commands new → new.source.is_closed ≡ false
-      → state_of device new.source ≡ fold_of (state_of device old.source) commands
+  pub script_folds : ScriptsTellTheFold device
   script_folds old new input outcomes commands s free = statements_fold s.0 old outcomes commands new s.2 free
 
   statements_hold : (statements : List Statement) (old : ScriptState (Stored D)) (outcomes : List LineOutcome) (commands : List (Command × ℕ)) (new : ScriptState (Stored D)) (s : Source)
@@ -110,7 +104,5 @@ module _ {D : Type 0} (device : D → DiskState) where
       subst (Holds device new.source) (sym (fold_of-append s t.0.commands t.2) ∙ sym (ap (fold_of s) t.5)) last
 
   -- and the state that is held then
-  pub script_holds : (old new : ScriptState (Stored D)) (input : List ℕ) (outcomes : List LineOutcome) (commands : List (Command × ℕ)) (s : Source)
-      → ScriptGives device old input outcomes commands new → Holds device old.source s → new.source.is_closed ≡ false
-      → Holds device new.source (fold_of s commands)
+  pub script_holds : ScriptsHoldTheFold device
   script_holds old new input outcomes commands s given held free = statements_hold given.0 old outcomes commands new s given.2 held free

@@ -11,4 +11,5 @@ pub mod PartialLine
 pub mod Taken
 pub mod Broken
 pub mod Progress
+pub mod Finished
 pub mod Walked

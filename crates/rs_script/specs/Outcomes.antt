@@ -22,7 +22,7 @@ use Rattle.rs_script.specs.Lines.{line_limit}
 use Rattle.rs_script.specs.Model.{shown_or}
 use Rattle.rs_script.specs.Requests.{request_of}
 use Rattle.rs_script.specs.Room.{TakesRoom, GroupTakesRoom}
-use Rattle.rs_script.specs.Statements.{Statement, single, grouped, cut_off, request_by}
+use Rattle.rs_script.specs.Statements.{Statement, single, grouped, cut_off, request_by, items_of_group, group_request}
 use Rattle.rs_script.specs.Session.{ScriptState, LineOutcome, moment_set, replied, shown, counted, verified, refused, Answer, unchanged}
 
 -- what comes of an answer to a command
@@ -90,8 +90,12 @@ LineGives device old line answer =
     ((line_limit < length line) × (answer ≡ unchanged old (refused refusals.LongLine)))
     ⊎ ((length line ≤ line_limit) × AnswerGives device old (request_of line) (TakesRoom line) answer)
 
+-- what may come of a group of these lines
+abbrev pub GroupGives : {D : Type 0} → (D → DiskState) → ScriptState (Stored D) → List (List ℕ) → Answer (Stored D) → Type 0
+GroupGives device old lines answer = AnswerGives device old (group_request (items_of_group lines)) (GroupTakesRoom lines) answer
+
 -- what may come of a statement: a group that is cut off by the end of the input is refused as such
 abbrev pub StatementGives : {D : Type 0} → (D → DiskState) → ScriptState (Stored D) → Statement → Answer (Stored D) → Type 0
 StatementGives device old (single line) answer = LineGives device old line answer
-StatementGives device old (grouped first lines) answer = AnswerGives device old (request_by (grouped first lines)) (GroupTakesRoom lines) answer
+StatementGives device old (grouped first lines) answer = GroupGives device old lines answer
 StatementGives device old cut_off answer = RequestGives device old (request_by cut_off) answer

@@ -1,5 +1,5 @@
 -- How far a script has come.
-use Rattle.std.specs.Prelude.{◌≡◌, ◌≤◌, ◌+◌, ◌^◌, ℕ, ◌⊎◌, true, List, [], ◌∷◌, ◌++◌, length, map, flat_map, All, Option, Result}
+use Rattle.std.specs.Prelude.{◌≡◌, ◌≤◌, ◌+◌, ◌^◌, ℕ, ◌⊎◌, true, List, [], ◌∷◌, ◌++◌, length, map, flat_map, All, Option}
 use Rattle.std.specs.Io.KnownBytes.{Consumes, IsAtEnd}
 use Rattle.rs_disk.specs.Medium.{DiskState}
 use Rattle.rs_io.specs.declared.watch.Watched.{Watched}
@@ -7,141 +7,120 @@ use Rattle.rs_io.specs.Watch.{watched, calls, is_flushed, EndFailed, Took, Wrote
 use Rattle.rs_script.specs.Broken.{BreaksWithin}
 use Rattle.rs_model.specs.declared.command.Command.{Command}
 use Rattle.rs_store.specs.Source.{Stored}
-use Rattle.rs_script.specs.declared.refusal.Refusal.{Refusal}
-use Rattle.rs_script.specs.declared.request.Request.{Request}
 use Rattle.rs_script.specs.declared.group.Taking.{Taking}
-use Rattle.rs_script.specs.declared.line.Line.{Line}
+use Rattle.rs_script.specs.declared.pending.Pending.{Pending}
 use Rattle.rs_script.specs.Answers.{outcome_text, output_of}
 use Rattle.rs_script.specs.PartialLine.{KeepsLine}
 use Rattle.rs_script.specs.Taken.{KeepsGroup}
 use Rattle.rs_script.specs.Lines.{Splits, script_lines}
 use Rattle.rs_items.specs.Lines.{cut_return}
 use Rattle.rs_script.specs.Statements.{Statement, statement_lines, IsWholeStatement, AreWholeStatements, IsUnfinished}
-use Rattle.rs_script.specs.Outcomes.{RequestGives, AnswerGives, LineGives}
 use Rattle.rs_script.specs.Script.{Transcript, ScriptGives}
 use Rattle.rs_script.specs.Session.{ScriptState, script_state, Answer, LineOutcome}
 
--- a request was answered, the session is the one after it, and this holds of the answer's text
-pub record RequestAnswers {D : Type 0} (device : D → DiskState) (old : ScriptState (Stored D)) (request : Result Request Refusal) (new : ScriptState (Stored D)) (Written : List ℕ → Type 0) : Type 0 where
-  pub answer : Answer (Stored D)
-  pub gives : RequestGives device old request answer
+-- It was answered as it may be, the session is the one after that, and this holds of the answer's text.
+pub record IsAnswered {S : Type 0} (Gives : Answer S → Type 0) (new : ScriptState S) (Written : List ℕ → Type 0) : Type 0 where
+  pub answer : Answer S
+  pub gives : Gives answer
   pub session_is : answer.session ≡ new
   pub written : Written (outcome_text answer.outcome)
 
--- the same of a statement that asks this, where room that it takes may have been refused
-pub record AskedAnswers {D : Type 0} (device : D → DiskState) (old : ScriptState (Stored D)) (request : Result Request Refusal) (Room : Type 0) (new : ScriptState (Stored D)) (Written : List ℕ → Type 0) : Type 0 where
-  pub answer : Answer (Stored D)
-  pub gives : AnswerGives device old request Room answer
-  pub session_is : answer.session ≡ new
-  pub written : Written (outcome_text answer.outcome)
+-- where a script stands between two lines: its session, and what is kept of a group
+pub record Between (D : Type 0) : Type 0 where
+  pub session : ScriptState (Stored D)
+  pub group : Option Taking
 
--- a line was answered, the session is the one after it, and this holds of the answer's text
-pub record LineAnswers {D : Type 0} (device : D → DiskState) (old : ScriptState (Stored D)) (line : List ℕ) (new : ScriptState (Stored D)) (Written : List ℕ → Type 0) : Type 0 where
-  pub answer : Answer (Stored D)
-  pub gives : LineGives device old line answer
-  pub session_is : answer.session ≡ new
-  pub written : Written (outcome_text answer.outcome)
+abbrev pub between : {D : Type 0} → Stored D → ℕ → Option Taking → Between D
+between source now group = record { session = script_state source now; group = group }
 
--- One more line was taken, after these lines of a group: a statement of it was answered, or none, and then these lines of a group
--- have come. The session is the one after it, and this holds of the answer's text.
-pub record LineTaken {D : Type 0} (device : D → DiskState) (old : ScriptState (Stored D)) (begun : List (List ℕ)) (line : List ℕ)
-    (group : Option Taking) (new : ScriptState (Stored D)) (Written : List ℕ → Type 0) : Type 0 where
+-- From this session on these lines were taken: whole statements, which were answered, and then those that are kept of a group.
+pub record LinesTaken {D : Type 0} (device : D → DiskState) (start : ScriptState (Stored D)) (lines : List (List ℕ)) (here : Between D) : Type 0 where
   pub whole : List Statement
   pub part : List (List ℕ)
   pub outcomes : List LineOutcome
   pub commands : List (Command × ℕ)
-  pub lines_are : begun ++ line ∷ [] ≡ flat_map statement_lines whole ++ part
+  pub lines_are : lines ≡ flat_map statement_lines whole ++ part
   pub each : All IsWholeStatement whole
-  pub taken : KeepsGroup group part
-  pub answered : Transcript device old whole outcomes commands new
-  pub few : length outcomes ≤ 1
-  pub written : Written (output_of outcomes)
+  pub kept : KeepsGroup here.group part
+  pub answered : Transcript device start whole outcomes commands here.session
+
+-- One more line was taken, after those that are kept of a group: one statement was answered, or none, and this holds of the answer's text.
+abbrev pub TakesLine : {D : Type 0} → (D → DiskState) → Between D → List ℕ → Between D → (List ℕ → Type 0) → Type 0
+TakesLine device old line new Written =
+    (begun : List (List ℕ)) → KeepsGroup old.group begun
+    → (taken : LinesTaken device old.session (begun ++ line ∷ []) new) × (length taken.outcomes ≤ 1) × Written (output_of taken.outcomes)
+
+-- where a script began: its session and its writer
+pub record Beginning (D W : Type 0) : Type 0 where
+  pub session : ScriptState (Stored D)
+  pub writer : Watched W
+
+-- where a script stands: what is kept of its input, the source, and the writer
+pub record Stand (D W : Type 0) : Type 0 where
+  pub pending : Pending
+  pub source : Stored D
+  pub writer : Watched W
+
+abbrev pub stand : {D W : Type 0} → Pending → Stored D → Watched W → Stand D W
+stand pending source writer = record { pending = pending; source = source; writer = writer }
+
+abbrev pub session_at : {D W : Type 0} → Stand D W → ScriptState (Stored D)
+session_at here = script_state here.source here.pending.now
+
+abbrev pub between_at : {D W : Type 0} → Stand D W → Between D
+between_at here = between here.source here.pending.now here.pending.group
 
 -- these bytes came: whole statements, whose answers were written, and then what is kept of the next
-pub record Progress {D W : Type 0} (device : D → DiskState) (contents : W → Option (List ℕ))
-    (start : ScriptState (Stored D)) (before : Watched W) (input : List ℕ) (line : Line) (group : Option Taking)
-    (after : Watched W) (now : ScriptState (Stored D)) : Type 0 where
+pub record Progress {D W : Type 0} (device : D → DiskState) (contents : W → Option (List ℕ)) (begin : Beginning D W) (input : List ℕ) (here : Stand D W) : Type 0 where
   pub raws : List (List ℕ)
   pub rest : List ℕ
-  pub whole : List Statement
-  pub part : List (List ℕ)
-  pub outcomes : List LineOutcome
-  pub commands : List (Command × ℕ)
   pub splits : Splits input raws rest
-  pub kept : KeepsLine line rest
-  pub lines_are : map cut_return raws ≡ flat_map statement_lines whole ++ part
-  pub each : All IsWholeStatement whole
-  pub taken : KeepsGroup group part
-  pub answered : Transcript device start whole outcomes commands now
-  pub written : Wrote contents before after (output_of outcomes)
+  pub kept : KeepsLine here.pending.line rest
+  pub taken : LinesTaken device begin.session (map cut_return raws) (between_at here)
+  pub written : Wrote contents begin.writer here.writer (output_of taken.outcomes)
 
 -- this whole input came: all its statements are answered but for a group that it ends within
-pub record Ended {D W : Type 0} (device : D → DiskState) (contents : W → Option (List ℕ))
-    (start : ScriptState (Stored D)) (before : Watched W) (input : List ℕ) (group : Option Taking)
-    (after : Watched W) (now : ScriptState (Stored D)) : Type 0 where
+pub record Ended {D W : Type 0} (device : D → DiskState) (contents : W → Option (List ℕ)) (begin : Beginning D W) (input : List ℕ) (here : Stand D W) : Type 0 where
   pub raws : List (List ℕ)
   pub rest : List ℕ
-  pub whole : List Statement
-  pub part : List (List ℕ)
-  pub outcomes : List LineOutcome
-  pub commands : List (Command × ℕ)
   pub splits : Splits input raws rest
-  pub lines_are : script_lines raws rest ≡ flat_map statement_lines whole ++ part
-  pub each : All IsWholeStatement whole
-  pub taken : KeepsGroup group part
-  pub answered : Transcript device start whole outcomes commands now
-  pub written : Wrote contents before after (output_of outcomes)
+  pub taken : LinesTaken device begin.session (script_lines raws rest) (between_at here)
+  pub written : Wrote contents begin.writer here.writer (output_of taken.outcomes)
 
 -- the statements of this input were answered, and a put failed within the last answer
-abbrev pub Answered : {D W : Type 0} → (D → DiskState) → (W → Option (List ℕ)) → ScriptState (Stored D) → Watched W → List ℕ → Watched W → ScriptState (Stored D) → Type 0
-Answered device contents start before input after now = (outcomes : List LineOutcome) × (commands : List (Command × ℕ))
-    × ScriptGives device start input outcomes commands now × BreaksWithin contents before after outcomes
-
--- where a script stands: what is kept of a line and of a group, the writer, and the session
-pub record Stand (D W : Type 0) : Type 0 where
-  pub line : Line
-  pub group : Option Taking
-  pub writer : Watched W
-  pub session : ScriptState (Stored D)
-
-abbrev pub stand : {D W : Type 0} → Line → Option Taking → Watched W → Stored D → ℕ → Stand D W
-stand line group writer source now = record { line = line; group = group; writer = writer; session = script_state source now }
+abbrev pub Answered : {D W : Type 0} → (D → DiskState) → (W → Option (List ℕ)) → Beginning D W → List ℕ → Stand D W → Type 0
+Answered device contents begin input here = (outcomes : List LineOutcome) × (commands : List (Command × ℕ))
+    × ScriptGives device begin.session input outcomes commands (session_at here) × BreaksWithin contents begin.writer here.writer outcomes
 
 -- a script that had come to the one stand has come to the other with these bytes more
 abbrev pub ComesTo : {D W : Type 0} → (D → DiskState) → (W → Option (List ℕ)) → Stand D W → Stand D W → List ℕ → Type 0
 ComesTo {D} {W} device contents old new bytes =
-    (start : ScriptState (Stored D)) (before : Watched W) (input : List ℕ)
-    → Progress device contents start before input old.line old.group old.writer old.session
-    → Progress device contents start before (input ++ bytes) new.line new.group new.writer new.session
+    (begin : Beginning D W) (input : List ℕ) → Progress device contents begin input old → Progress device contents begin (input ++ bytes) new
 
--- of a script that had come to this stand, the statements up to these bytes more are answered, and they are whole; a put of the last
--- answer failed
-abbrev pub StopsBy : {D W : Type 0} → (D → DiskState) → (W → Option (List ℕ)) → Stand D W → List ℕ → Watched W → ScriptState (Stored D) → Type 0
-StopsBy {D} {W} device contents old bytes after now =
-    (start : ScriptState (Stored D)) (before : Watched W) (input : List ℕ)
-    → Progress device contents start before input old.line old.group old.writer old.session
-    → Answered device contents start before (input ++ bytes) after now × AreWholeStatements (input ++ bytes)
+-- of a script that had come to the one stand, the statements up to these bytes more are answered, and they are whole; a put of the last
+-- answer failed at the other
+abbrev pub StopsBy : {D W : Type 0} → (D → DiskState) → (W → Option (List ℕ)) → Stand D W → Stand D W → List ℕ → Type 0
+StopsBy {D} {W} device contents old new bytes =
+    (begin : Beginning D W) (input : List ℕ) → Progress device contents begin input old
+    → Answered device contents begin (input ++ bytes) new × AreWholeStatements (input ++ bytes)
 
 -- a script that had come to the one stand has taken its last line, and stands at the other
 abbrev pub EndsLine : {D W : Type 0} → (D → DiskState) → (W → Option (List ℕ)) → Stand D W → Stand D W → Type 0
 EndsLine {D} {W} device contents old new =
-    (start : ScriptState (Stored D)) (before : Watched W) (input : List ℕ)
-    → Progress device contents start before input old.line old.group old.writer old.session
-    → Ended device contents start before input new.group new.writer new.session
+    (begin : Beginning D W) (input : List ℕ) → Progress device contents begin input old → Ended device contents begin input new
 
 -- a script that had come to the one stand has ended at the other: all its statements are answered, and the answers written
 abbrev pub EndsAt : {D W : Type 0} → (D → DiskState) → (W → Option (List ℕ)) → Stand D W → Stand D W → Type 0
 EndsAt {D} {W} device contents old new =
-    (start : ScriptState (Stored D)) (before : Watched W) (input : List ℕ)
-    → Progress device contents start before input old.line old.group old.writer old.session
+    (begin : Beginning D W) (input : List ℕ) → Progress device contents begin input old
     → (outcomes : List LineOutcome) × (commands : List (Command × ℕ))
-    × ScriptGives device start input outcomes commands new.session × Wrote contents before new.writer (output_of outcomes)
+    × ScriptGives device begin.session input outcomes commands (session_at new) × Wrote contents begin.writer new.writer (output_of outcomes)
 
--- of a script that had come to this stand, and whose input ended there, all statements are answered; a put of the last answer failed
-abbrev pub StopsAt : {D W : Type 0} → (D → DiskState) → (W → Option (List ℕ)) → Stand D W → Watched W → ScriptState (Stored D) → Type 0
-StopsAt {D} {W} device contents old after now =
-    (start : ScriptState (Stored D)) (before : Watched W) (input : List ℕ)
-    → Progress device contents start before input old.line old.group old.writer old.session → Answered device contents start before input after now
+-- of a script that had come to the one stand, and whose input ended there, all statements are answered; a put of the last answer failed at
+-- the other
+abbrev pub StopsAt : {D W : Type 0} → (D → DiskState) → (W → Option (List ℕ)) → Stand D W → Stand D W → Type 0
+StopsAt {D} {W} device contents old new =
+    (begin : Beginning D W) (input : List ℕ) → Progress device contents begin input old → Answered device contents begin input new
 
 -- the reader gave this input, and then a tail that was not looked at
 abbrev pub Gave : Option (List ℕ) → Option (List ℕ) → List ℕ → Type 0

@@ -1,13 +1,15 @@
 -- A script: each statement is answered in turn.
-use Rattle.std.specs.Prelude.{◌≡◌, ℕ, List, [], ◌∷◌, ◌++◌, All}
+use Rattle.std.specs.Prelude.{◌≡◌, ◌<◌, ◌+◌, ◌^◌, ℕ, false, List, [], ◌∷◌, ◌++◌, All, map, flat_map, IsTrue}
 use Rattle.rs_disk.specs.Medium.{DiskState}
 use Rattle.rs_model.specs.State.{Source}
 use Rattle.rs_model.specs.declared.command.Command.{Command}
-use Rattle.rs_store.specs.Source.{Stored, state_of}
+use Rattle.rs_model.specs.Step.{fold_of}
+use Rattle.rs_store.specs.Source.{Stored, Holds, state_of}
 use Rattle.rs_recovery.specs.Prefixes.{IsRunOf, Recovers}
 use Rattle.rs_store.specs.declared.refusal.Refusal as stored
 use Rattle.rs_store.specs.declared.refusal.Refusal.TheVariants as machine
 use Rattle.rs_script.specs.declared.refusal.Refusal.TheVariants as refusals
+use Rattle.rs_script.specs.Model.{answers_of}
 use Rattle.rs_script.specs.Outcomes.{StatementGives}
 use Rattle.rs_script.specs.Statements.{Statement, IsScript}
 use Rattle.rs_script.specs.Walked.{MakesWalk}
@@ -75,3 +77,22 @@ AreDecided outcomes = All (λ outcome. ¬ IsMachine outcome) outcomes
 -- the script_state as the model sees it: the state that the source tells
 abbrev pub told : {D : Type 0} → (D → DiskState) → ScriptState (Stored D) → ScriptState Source
 told device s = script_state (state_of device s.source) s.now
+
+-- Where no refusal is the machine's, generations are left and the device has followed the model, each statement of a script is answered as
+-- the model answers it.
+abbrev pub ScriptsFollowTheModel : {D : Type 0} → (D → DiskState) → Type 0
+ScriptsFollowTheModel {D} device = (old new : ScriptState (Stored D)) (input : List ℕ) (outcomes : List LineOutcome) (commands : List (Command × ℕ))
+    (statements : List Statement) → ScriptGives device old input outcomes commands new → AreDecided outcomes → IsTrue (device new.source.disk).honest
+    → new.source.slots.root.generation + 1 < 2 ^ 64 → IsScript input statements
+    → (outcomes ≡ map (λ a. a.outcome) (answers_of (told device old) statements))
+    × (commands ≡ flat_map (λ a. a.commands) (answers_of (told device old) statements))
+
+-- The commands that a script counts make the state that its source tells, unless that is closed.
+abbrev pub ScriptsTellTheFold : {D : Type 0} → (D → DiskState) → Type 0
+ScriptsTellTheFold {D} device = (old new : ScriptState (Stored D)) (input : List ℕ) (outcomes : List LineOutcome) (commands : List (Command × ℕ))
+    → ScriptGives device old input outcomes commands new → new.source.is_closed ≡ false → state_of device new.source ≡ fold_of (state_of device old.source) commands
+
+-- And so they do of a state that it held.
+abbrev pub ScriptsHoldTheFold : {D : Type 0} → (D → DiskState) → Type 0
+ScriptsHoldTheFold {D} device = (old new : ScriptState (Stored D)) (input : List ℕ) (outcomes : List LineOutcome) (commands : List (Command × ℕ)) (s : Source)
+    → ScriptGives device old input outcomes commands new → Holds device old.source s → new.source.is_closed ≡ false → Holds device new.source (fold_of s commands)

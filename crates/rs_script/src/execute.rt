@@ -2,12 +2,11 @@
 
 ghost use Rattle.std.specs.Prelude.{◌≡◌, ℕ, List, Ok, OnOk, OnErr};
 ghost use Rattle.rs_io.specs.Watch.{failures, EndFailed, WritesOut};
-ghost use Rattle.rs_store.specs.Answered.{Answers};
-ghost use Rattle.rs_script.specs.Progress.{RequestAnswers, AskedAnswers};
+ghost use Rattle.rs_script.specs.Progress.{IsAnswered};
+ghost use Rattle.rs_script.specs.Outcomes.{RequestGives, AnswerGives, GroupGives};
 ghost use Rattle.rs_script.specs.Requests.{request_of};
-ghost use Rattle.rs_script.specs.Room.{TakesRoom, GroupTakesRoom};
+ghost use Rattle.rs_script.specs.Room.{TakesRoom};
 ghost use Rattle.rs_script.specs.Session.{script_state};
-ghost use Rattle.rs_script.specs.Statements.{items_of_group, group_request};
 ghost use Rattle.rs_script.specs.Taken.{KeepsItems};
 ghost use Rattle.rs_script.specs.declared.request.Request.TheVariants.{Run, Document, Body as Shown, Status as Counted, Verify as Verified};
 
@@ -19,29 +18,13 @@ use rs_caps::document_length;
 use rs_disk::Disk;
 use rs_io::{Watched, WriteFault};
 use rs_lists::Doc;
-use rs_model::{Command, Group, Item, Reply};
+use rs_model::{Command, Group, Item};
 use rs_record::Name;
 use rs_recovery::laws::documents_are_of_the_state;
 use rs_store::Source;
 use rs_time::Moment;
 use std::alloc::Global;
 use std::io::Write;
-
-/// Asks a command of the source.
-fn ask<D: Disk>(
-    source: &mut Source<D>,
-    command: &Command,
-    now: Moment,
-) -> Result<Reply, rs_store::Refusal>
-    ensures { Answers D.state source.old source.new command.now now result }
-{
-    match command {
-        Command::Put { name, kind, bytes } => source.put(name, kind, bytes.bytes(), now),
-        Command::Delete { name } => source.delete(name, now),
-        Command::Publish => source.publish(now),
-        Command::Group(group) => source.group(group.items(), now),
-    }
-}
 
 /// Answers `put`, `delete`, `publish` or a group.
 fn run_command<D: Disk, W: Write>(
@@ -50,12 +33,12 @@ fn run_command<D: Disk, W: Write>(
     now: Moment,
     writer: &mut Watched<W>,
 ) -> Result<(), WriteFault>
-    ensures answered { RequestAnswers D.state
-        (script_state source.old now) (Ok (Run command.now)) (script_state source.new now)
-        (WritesOut W.contents writer.old writer.new result) }
+    ensures answered { IsAnswered
+        (RequestGives D.state (script_state source.old now) (Ok (Run command.now)))
+        (script_state source.new now) (WritesOut W.contents writer.old writer.new result) }
     ensures failed { OnErr result (EndFailed writer.old writer.new) }
 {
-    match ask(source, command, now) {
+    match source.command(command, now) {
         Ok(reply) => write_reply(reply, writer),
         Err(refusal) => write_refusal(Refusal::Source(refusal), writer),
     }
@@ -73,9 +56,8 @@ pub fn answer_group<D: Disk, W: Write>(
     writer: &mut Watched<W>,
 ) -> Result<(), WriteFault>
     ensures answered { (lines : List (List ℕ)) → KeepsItems items lines
-        → AskedAnswers D.state (script_state source.old now)
-        (group_request (items_of_group lines)) (GroupTakesRoom lines) (script_state source.new now)
-        (WritesOut W.contents writer.old writer.new result) }
+        → IsAnswered (GroupGives D.state (script_state source.old now) lines)
+        (script_state source.new now) (WritesOut W.contents writer.old writer.new result) }
     ensures sound { OnOk result (failures writer.new ≡ failures writer.old) }
     ensures failed { OnErr result (EndFailed writer.old writer.new) }
 {
@@ -95,9 +77,9 @@ fn show_document<D: Disk, W: Write>(
     now: Moment,
     writer: &mut Watched<W>,
 ) -> Result<(), WriteFault>
-    ensures answered { RequestAnswers D.state
-        (script_state source.now now) (Ok (Document doc)) (script_state source.now now)
-        (WritesOut W.contents writer.old writer.new result) }
+    ensures answered { IsAnswered
+        (RequestGives D.state (script_state source.now now) (Ok (Document doc)))
+        (script_state source.now now) (WritesOut W.contents writer.old writer.new result) }
     ensures failed { OnErr result (EndFailed writer.old writer.new) }
 {
     documents_are_of_the_state();
@@ -118,9 +100,9 @@ fn show_body<D: Disk, W: Write>(
     now: Moment,
     writer: &mut Watched<W>,
 ) -> Result<(), WriteFault>
-    ensures answered { RequestAnswers D.state
-        (script_state source.old now) (Ok (Shown name.now)) (script_state source.new now)
-        (WritesOut W.contents writer.old writer.new result) }
+    ensures answered { IsAnswered
+        (RequestGives D.state (script_state source.old now) (Ok (Shown name.now)))
+        (script_state source.new now) (WritesOut W.contents writer.old writer.new result) }
     ensures failed { OnErr result (EndFailed writer.old writer.new) }
 {
     match source.body(name) {
@@ -135,9 +117,9 @@ fn show_status<D: Disk, W: Write>(
     now: Moment,
     writer: &mut Watched<W>,
 ) -> Result<(), WriteFault>
-    ensures answered { RequestAnswers D.state
-        (script_state source.now now) (Ok Counted) (script_state source.now now)
-        (WritesOut W.contents writer.old writer.new result) }
+    ensures answered { IsAnswered
+        (RequestGives D.state (script_state source.now now) (Ok Counted))
+        (script_state source.now now) (WritesOut W.contents writer.old writer.new result) }
     ensures failed { OnErr result (EndFailed writer.old writer.new) }
 {
     match source.status() {
@@ -152,9 +134,9 @@ fn show_verified<D: Disk, W: Write>(
     now: Moment,
     writer: &mut Watched<W>,
 ) -> Result<(), WriteFault>
-    ensures answered { RequestAnswers D.state
-        (script_state source.old now) (Ok Verified) (script_state source.new now)
-        (WritesOut W.contents writer.old writer.new result) }
+    ensures answered { IsAnswered
+        (RequestGives D.state (script_state source.old now) (Ok Verified))
+        (script_state source.new now) (WritesOut W.contents writer.old writer.new result) }
     ensures failed { OnErr result (EndFailed writer.old writer.new) }
 {
     let held = match source.status() {
@@ -174,9 +156,9 @@ fn answer_request<D: Disk, W: Write>(
     request: Request,
     writer: &mut Watched<W>,
 ) -> Result<(), WriteFault>
-    ensures answered { RequestAnswers D.state
-        (script_state source.old now.old) (Ok request) (script_state source.new now.new)
-        (WritesOut W.contents writer.old writer.new result) }
+    ensures answered { IsAnswered
+        (RequestGives D.state (script_state source.old now.old) (Ok request))
+        (script_state source.new now.new) (WritesOut W.contents writer.old writer.new result) }
     ensures failed { OnErr result (EndFailed writer.old writer.new) }
 {
     match request {
@@ -205,9 +187,9 @@ pub fn answer_line<D: Disk, W: Write>(
     line: &[u8],
     writer: &mut Watched<W>,
 ) -> Result<(), WriteFault>
-    ensures answered { AskedAnswers D.state (script_state source.old now.old)
-        (request_of line.now) (TakesRoom line.now) (script_state source.new now.new)
-        (WritesOut W.contents writer.old writer.new result) }
+    ensures answered { IsAnswered (AnswerGives D.state
+        (script_state source.old now.old) (request_of line.now) (TakesRoom line.now))
+        (script_state source.new now.new) (WritesOut W.contents writer.old writer.new result) }
     ensures failed { OnErr result (EndFailed writer.old writer.new) }
 {
     match parse_request(alloc, line) {

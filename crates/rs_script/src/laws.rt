@@ -1,15 +1,9 @@
 //! Laws of the definitions: what a script does is what the model does, and its commands make the state
 //! that it leaves.
 
-ghost use Rattle.std.specs.Prelude.{◌≡◌, ◌<◌, ◌+◌, ◌^◌, ℕ, List, map, flat_map, false, IsTrue};
-ghost use Rattle.rs_model.specs.State.{Source};
-ghost use Rattle.rs_model.specs.Step.{fold_of};
-ghost use Rattle.rs_model.specs.declared.command.Command.{Command};
-ghost use Rattle.rs_store.specs.Source.{Stored, Holds, state_of};
+ghost use Rattle.std.specs.Prelude.{◌≡◌, ℕ, List};
 ghost use Rattle.rs_script.specs.Lines.{Splits};
-ghost use Rattle.rs_script.specs.Model.{answers_of};
-ghost use Rattle.rs_script.specs.Script.{ScriptGives, ScriptsAreRuns, ScriptsRecover, ScriptsMakeWalks, AreDecided, told};
-ghost use Rattle.rs_script.specs.Session.{ScriptState, LineOutcome};
+ghost use Rattle.rs_script.specs.Script.{ScriptsAreRuns, ScriptsRecover, ScriptsMakeWalks, ScriptsFollowTheModel, ScriptsTellTheFold, ScriptsHoldTheFold};
 ghost use Rattle.rs_script.specs.Statements.{Statement, IsScript};
 
 use rs_caps::laws::answered::paths_are_answered;
@@ -34,29 +28,14 @@ pub fn one_script()
 /// comes of a script is a function of its input and of the state and the moment at which it begins:
 /// each statement is answered as the model answers it.
 pub fn one_transcript<D: Disk>()
-    ensures { (old new : ScriptState (Stored D)) (input : List ℕ)
-        (outcomes : List LineOutcome) (commands : List (Command × ℕ))
-        (statements : List Statement)
-        → ScriptGives D.state old input outcomes commands new → AreDecided outcomes
-        → IsTrue (D.state new.source.disk).honest
-        → new.source.slots.root.generation + 1 < 2 ^ 64 → IsScript input statements
-        → (outcomes ≡ map (λ a. a.outcome) (answers_of (told D.state old) statements))
-        × (commands
-        ≡ flat_map (λ a. a.commands) (answers_of (told D.state old) statements)) }
+    ensures { ScriptsFollowTheModel D.state }
 {}
 
 /// The commands that a script counts, each at its moment, make the state that it leaves, unless the
 /// device failed and the source is closed.
 pub fn transcript_folds<D: Disk>()
-    ensures told { (old new : ScriptState (Stored D)) (input : List ℕ)
-        (outcomes : List LineOutcome) (commands : List (Command × ℕ))
-        → ScriptGives D.state old input outcomes commands new → new.source.is_closed ≡ false
-        → state_of D.state new.source ≡ fold_of (state_of D.state old.source) commands }
-    ensures held { (old new : ScriptState (Stored D)) (input : List ℕ)
-        (outcomes : List LineOutcome) (commands : List (Command × ℕ)) (s : Source)
-        → ScriptGives D.state old input outcomes commands new
-        → Holds D.state old.source s → new.source.is_closed ≡ false
-        → Holds D.state new.source (fold_of s commands) }
+    ensures told { ScriptsTellTheFold D.state }
+    ensures held { ScriptsHoldTheFold D.state }
 {}
 
 /// What a script asks of its source is a run: its commands are asked in turn, and those that count are the

@@ -12,6 +12,7 @@ mod group;
 pub mod laws;
 mod line;
 mod memory;
+mod pending;
 mod refusal;
 mod request;
 mod show;

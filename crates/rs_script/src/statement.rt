@@ -2,8 +2,9 @@
 
 ghost use Rattle.std.specs.Prelude.{◌≡◌, ◌≤◌, ◌∷◌, [], ℕ, List, Some, None, OnOk, OnErr};
 ghost use Rattle.rs_io.specs.Watch.{failures, EndFailed, WritesOut};
+ghost use Rattle.rs_script.specs.Outcomes.{LineGives};
 ghost use Rattle.rs_script.specs.PartialLine.{IsContent};
-ghost use Rattle.rs_script.specs.Progress.{LineAnswers, LineTaken};
+ghost use Rattle.rs_script.specs.Progress.{IsAnswered, between, TakesLine};
 ghost use Rattle.rs_script.specs.Session.{script_state};
 ghost use Rattle.rs_script.specs.Statements.{group_size as size_of};
 ghost use Rattle.rs_script.specs.Taken.{KeepsGroup};
@@ -28,9 +29,9 @@ fn answer_content<D: Disk, W: Write>(
     content: Content<'_>,
     writer: &mut Watched<W>,
 ) -> Result<(), WriteFault>
-    ensures answered { (line : List ℕ) → IsContent content.entry line → LineAnswers D.state
-        (script_state source.old now.old) line (script_state source.new now.new)
-        (WritesOut W.contents writer.old writer.new result) }
+    ensures answered { (line : List ℕ) → IsContent content.entry line → IsAnswered
+        (LineGives D.state (script_state source.old now.old) line)
+        (script_state source.new now.new) (WritesOut W.contents writer.old writer.new result) }
     ensures sound { OnOk result (failures writer.new ≡ failures writer.old) }
     ensures failed { OnErr result (EndFailed writer.old writer.new) }
 {
@@ -64,8 +65,8 @@ fn take_first<D: Disk, W: Write>(
     writer: &mut Watched<W>,
 ) -> Result<(), WriteFault>
     requires none { group.old ≡ None }
-    ensures taken { (line : List ℕ) → IsContent content.entry line → LineTaken D.state
-        (script_state source.old now.old) [] line group.new (script_state source.new now.new)
+    ensures taken { (line : List ℕ) → IsContent content.entry line → TakesLine D.state
+        (between source.old now.old group.old) line (between source.new now.new group.new)
         (WritesOut W.contents writer.old writer.new result) }
     ensures stopped { OnErr result (group.new ≡ None) }
     ensures sound { OnOk result (failures writer.new ≡ failures writer.old) }
@@ -94,9 +95,8 @@ pub fn take_content<D: Disk, W: Write>(
     content: Content<'_>,
     writer: &mut Watched<W>,
 ) -> Result<(), WriteFault>
-    ensures taken { (line : List ℕ) (begun : List (List ℕ))
-        → IsContent content.entry line → KeepsGroup group.old begun → LineTaken D.state
-        (script_state source.old now.old) begun line group.new (script_state source.new now.new)
+    ensures taken { (line : List ℕ) → IsContent content.entry line → TakesLine D.state
+        (between source.old now.old group.old) line (between source.new now.new group.new)
         (WritesOut W.contents writer.old writer.new result) }
     ensures stopped { OnErr result (group.new ≡ None) }
     ensures sound { OnOk result (failures writer.new ≡ failures writer.old) }

@@ -1,7 +1,8 @@
 -- What a request on a connection does, and what connections make of the state that is held.
-use Rattle.std.proofs.Common.{◌≡◌, ◌≤◌, ◌+◌, ℕ, zero, suc, List, [], ◌∷◌, ◌++◌, length, length-append, Option, Result, Ok, Err, false, refl, ap, sym, ◌∙◌, subst, inl, inr, arith}
+use Rattle.std.proofs.Common.{◌≡◌, ◌≤◌, ◌+◌, ℕ, zero, suc, List, [], ◌∷◌, ◌++◌, length, length-append, Result, Ok, Err, false, refl, ap, sym, ◌∙◌, subst, inl, inr, arith}
 use Rattle.std.specs.Prelude.{IfOk, IsErrOf}
 use Rattle.rs_disk.specs.Medium.{DiskState}
+use Rattle.rs_io.specs.Watch.{Ends}
 use Rattle.rs_model.specs.State.{Source}
 use Rattle.rs_model.specs.Step.{step, state_after, fold_of}
 use Rattle.rs_model.specs.declared.command.Command.{Command}
@@ -10,7 +11,8 @@ use Rattle.rs_http.specs.declared.fault.FrontFault.{FrontFault}
 use Rattle.rs_http.specs.declared.fault.FrontFault.TheVariants.{Read, Write}
 use Rattle.rs_http.specs.declared.serve.Served.{Served}
 use Rattle.rs_store.specs.Advancing.{GoesOnBy, GoesOnOnce}
-use Rattle.rs_http.specs.Serving.{Output, Serves, Breaks, Halts}
+use Rattle.rs_http.specs.Turn.{turn}
+use Rattle.rs_http.specs.Serving.{Serves, Breaks, Halts}
 use Rattle.rs_source.specs.Serving.{Connects, Connections}
 
 fold_of-append : (s : Source) (commands more : List (Command × ℕ)) → fold_of s (commands ++ more) ≡ fold_of (fold_of s commands) more
@@ -19,16 +21,12 @@ fold_of-append s (c ∷ commands) more = fold_of-append (state_after s (step s c
 
 module _ {D : Type 0} (device : D → DiskState) (old new : Stored D) where
   -- whatever came of a request
-  pub request_connects : (now : ℕ) (left rest : Option (List ℕ)) (before after : Output) (Took Came Wrote : List ℕ → Type 0) (Broken Stuck : Type 0) (result : Result Served FrontFault)
-      → IfOk result (λ served. (input : List ℕ) × (output : List ℕ) × Took input × Wrote output × Serves device old now left input rest output served new)
-      → (IsErrOf result Read → Broken × (input : List ℕ) × (output : List ℕ) × Came input × Wrote output × Breaks device old now left input rest output new)
-      → (IsErrOf result Write → Stuck × (input : List ℕ) × Took input × Halts device old now left input rest before after new)
+  pub request_connects : (now : ℕ) (ends : Ends) (result : Result Served FrontFault) → IfOk result (Serves (turn device old now new) ends)
+      → (IsErrOf result Read → Breaks (turn device old now new) ends) → (IsErrOf result Write → Halts (turn device old now new) ends)
       → GoesOnOnce device old now new → Connects device old new
-  request_connects now left rest before after Took Came Wrote Broken Stuck (Ok served) ok read write on = inr (now, left, ok.0, rest, inl (ok.1, served, ok.4), on)
-  request_connects now left rest before after Took Came Wrote Broken Stuck (Err Read) ok read write on =
-      let r = read refl in inr (now, left, r.1, rest, inr (inl (r.2, r.5)), on)
-  request_connects now left rest before after Took Came Wrote Broken Stuck (Err Write) ok read write on =
-      let w = write refl in inr (now, left, w.1, rest, inr (inr (before, after, w.3)), on)
+  request_connects now ends (Ok served) ok read write on = inr (now, ends, inl (served, ok), on)
+  request_connects now ends (Err Read) ok read write on = inr (now, ends, inr (inl (read refl)), on)
+  request_connects now ends (Err Write) ok read write on = inr (now, ends, inr (inr (write refl)), on)
 
 module _ {D : Type 0} (device : D → DiskState) where
   -- a source that nothing was asked of
@@ -50,7 +48,7 @@ module _ {D : Type 0} (device : D → DiskState) where
 
   connection_goes : (old new : Stored D) → Connects device old new → (commands : List (Command × ℕ)) × (length commands ≤ 1) × GoesOnBy device old new commands
   connection_goes old new (inl same) = ([], omega arith, stays old new same)
-  connection_goes old new (inr came) = (came.5.commands, came.5.few, came.5.goes_on)
+  connection_goes old new (inr came) = (came.3.commands, came.3.few, came.3.goes_on)
 
   -- so many commands at most make the state that is held after so many connections
   pub connections_go : (count : ℕ) (old new : Stored D) → Connections device old count new

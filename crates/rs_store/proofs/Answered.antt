@@ -1,8 +1,10 @@
 -- What a source answers, by how far a command came.
-use Rattle.std.proofs.Common.{◌≡◌, ◌⊎◌, inl, inr, ℕ, Bool, true, false, List, length, refl, sym, ◌∙◌, ap, ap₂, subst, arith, Option, Some, None, Result, Ok, Err, if◌then◌else◌}
+use Rattle.std.proofs.Common.{◌≡◌, ◌⊎◌, inl, inr, ℕ, Bool, true, false, List, length, refl, sym, ◌∙◌, ap, ap₂, subst, Option, Some, None, Result, Ok, Err, if◌then◌else◌}
 use Rattle.rs_disk.specs.Medium.{Medium, DiskState, IsImage, IsMedium, resting}
-use Rattle.rs_disk.specs.Leaves.{Advances, Leaves, HasFailed}
+use Rattle.rs_disk.specs.Leaves.{Leaves}
+use Rattle.rs_disk.specs.Runs.{Advances, HasFailed, RunsWriting}
 use Rattle.rs_disk.proofs.Steps.{started, goes_on, weaker}
+use Rattle.rs_disk.proofs.Runs.{writing_none, writing_as}
 use Rattle.rs_disk.proofs.Images.{resting_image}
 use Rattle.rs_body.specs.Outside.{WritesOutside}
 use Rattle.rs_commit.specs.declared.root.Root.{Root}
@@ -22,7 +24,7 @@ use Rattle.rs_plan.specs.declared.plan.Plan.{Plan}
 use Rattle.rs_plan.specs.declared.planning.PlanFault.{PlanFault}
 use Rattle.rs_plan.specs.declared.planning.PlanFault.TheVariants.{Full as NoRoom, NoMemory as NoPlanMemory}
 use Rattle.rs_store.specs.declared.refusal.Refusal.{Refusal}
-use Rattle.rs_store.specs.declared.refusal.Refusal.TheVariants.{Closed, BadGroup, TooLong, NotHeld, TooManyResources, TooManyChanges, Exhausted, Full, ReadFault, ShortBody, Device, Damaged, NoMemory}
+use Rattle.rs_store.specs.declared.refusal.Refusal.TheVariants.{Closed, Exhausted, Full, ReadFault, ShortBody, Device, Damaged, NoMemory}
 use Rattle.rs_image.specs.Rooted.{Rooted}
 use Rattle.rs_store.specs.Source.{Stored, Holds, rooted_in, state_of}
 use Rattle.rs_store.specs.Refusals.{named_as, or_spent, is_spent, decided}
@@ -103,35 +105,18 @@ not_device r is same = subst IsEarly same is
 module _ {D : Type 0} (device : D → DiskState) (medium : (disk : D) → IsMedium (device disk).size (device disk).now) (old : Stored D) (command : Command) (now : ℕ) where
   early_cause : (new : Stored D) (r : Refusal) → IsEarly r → decided old (state_of device old) command now ≡ Some r → IsCause device old new command now r
   unfolding IsEarly
-  early_cause new Closed is given = given
-  early_cause new BadGroup is given = given
-  early_cause new TooLong is given = given
-  early_cause new NotHeld is given = given
-  early_cause new TooManyResources is given = given
-  early_cause new TooManyChanges is given = given
-  early_cause new Exhausted is given = given
   early_cause new Full is given = absurd is
   early_cause new Device is given = absurd is
   early_cause new Damaged is given = absurd is
   early_cause new ReadFault is given = absurd is
   early_cause new ShortBody is given = absurd is
   early_cause new NoMemory is given = absurd is
+  early_cause new refusal is given = given
 
   kept_leads : (new : Stored D) (s : Source) (r : Refusal) → (r ≡ Device → ⊥) → Holds device new s → Leaves (device old.disk) (device new.disk) (λ _ image. StandsFor image s)
       → Leads device old new s command now (Err r)
-  kept_leads new s Closed other holds leaves = (holds, leaves)
-  kept_leads new s BadGroup other holds leaves = (holds, leaves)
-  kept_leads new s TooLong other holds leaves = (holds, leaves)
-  kept_leads new s NotHeld other holds leaves = (holds, leaves)
-  kept_leads new s TooManyResources other holds leaves = (holds, leaves)
-  kept_leads new s TooManyChanges other holds leaves = (holds, leaves)
-  kept_leads new s Exhausted other holds leaves = (holds, leaves)
-  kept_leads new s Full other holds leaves = (holds, leaves)
   kept_leads new s Device other holds leaves = absurd (other refl)
-  kept_leads new s Damaged other holds leaves = (holds, leaves)
-  kept_leads new s ReadFault other holds leaves = (holds, leaves)
-  kept_leads new s ShortBody other holds leaves = (holds, leaves)
-  kept_leads new s NoMemory other holds leaves = (holds, leaves)
+  kept_leads new s refusal other holds leaves = (holds, leaves)
 
   -- the state that is held is the one that the lists tell
   tells_state : (s : Source) → Holds device old s → state_of device old ≡ s
@@ -142,8 +127,8 @@ module _ {D : Type 0} (device : D → DiskState) (medium : (disk : D) → IsMedi
       → ((q : Refusal) → decided old (state_of device old) command now ≡ Some q → (r ≡ q) × (new ≡ old))
       → new.is_closed ≡ old.is_closed → IsUnchanged device old new
       → ((s : Source) → Holds device old s → Holds device new s × Leaves (device old.disk) (device new.disk) (λ _ image. StandsFor image s))
-      → Advances (device old.disk) (device new.disk) → (device new.disk).faults ≡ (device old.disk).faults → Answers device old new command now (Err r)
-  kept_answers new r cause other full given closed same leads goes unmet =
+      → RunsWriting ⊥ (device old.disk) (device new.disk) → Answers device old new command now (Err r)
+  kept_answers new r cause other full given closed same leads runs =
       record {
         decides = λ q is. ap refusing (given q is).0;
         untouched = λ q is. (given q is).1;
@@ -154,18 +139,17 @@ module _ {D : Type 0} (device : D → DiskState) (medium : (disk : D) → IsMedi
         generation = tt;
         version = tt;
         leads = λ s holds. kept_leads new s r other (leads s holds).0 (leads s holds).1;
-        told = record { failed = λ is. let here : r ≡ Device = cc in absurd (other here); sound = λ _. unmet };
+        runs = writing_as (device old.disk) (device new.disk) (λ none. absurd none) (λ is. let here : r ≡ Device = cc in absurd (other here)) runs;
         closes = λ is. let here : r ≡ Device = cc in absurd (other here);
         stays_open = λ _. closed;
         unchanged = λ q is not_it. same;
-        goes_on = goes;
       }
 
   nothing_done : IsUnchanged device old old
   nothing_done = record { slots = refl; contents = refl; state = refl }
 
-  no_call : Advances (device old.disk) (device old.disk)
-  no_call = record { size = refl; keeps = refl; calls = omega arith; faults = omega arith }
+  no_call : RunsWriting ⊥ (device old.disk) (device old.disk)
+  no_call = writing_none (device old.disk) (λ none. none)
 
   at_rest : (s : Source) → Holds device old s → Holds device old s × Leaves (device old.disk) (device old.disk) (λ _ image. StandsFor image s)
   at_rest s holds =
@@ -175,16 +159,16 @@ module _ {D : Type 0} (device : D → DiskState) (medium : (disk : D) → IsMedi
   pub at_once : (r : Refusal) → decided old (state_of device old) command now ≡ Some r → Answers device old old command now (Err r)
   at_once r is =
       let of_early : IsEarly r = early old.is_closed (refusal_of (state_of device old) command now) (is_spent old) r is in
-      kept_answers old r (early_cause old r of_early is) (not_device r of_early) (λ _. refl) (λ q other. let same : r ≡ q = cc in (same, refl)) refl nothing_done at_rest no_call refl
+      kept_answers old r (early_cause old r of_early is) (not_device r of_early) (λ _. refl) (λ q other. let same : r ≡ q = cc in (same, refl)) refl nothing_done at_rest no_call
 
   -- without a plan
   pub unplanned : (fault : PlanFault) → decided old (state_of device old) command now ≡ None
       → (fault ≡ NoRoom → LacksRoom (rooted_in device old) command (moment_at (state_of device old) now))
       → Answers device old old command now (Err (of_plan fault))
   unplanned NoRoom is room =
-      kept_answers old Full (is, room refl) (λ (same : Full ≡ Device). absurd cc) (λ _. refl) (λ q other. absurd cc) refl nothing_done at_rest no_call refl
+      kept_answers old Full (is, room refl) (λ (same : Full ≡ Device). absurd cc) (λ _. refl) (λ q other. absurd cc) refl nothing_done at_rest no_call
   unplanned NoPlanMemory is room =
-      kept_answers old NoMemory is (λ (same : NoMemory ≡ Device). absurd cc) (λ _. refl) (λ q other. absurd cc) refl nothing_done at_rest no_call refl
+      kept_answers old NoMemory is (λ (same : NoMemory ≡ Device). absurd cc) (λ _. refl) (λ q other. absurd cc) refl nothing_done at_rest no_call
 
   -- with a plan
   module _ (p : Plan) (bodies : List (List ℕ)) (whole : IsWhole (device old.disk).size old.slots.root old.contents)
@@ -197,9 +181,9 @@ module _ {D : Type 0} (device : D → DiskState) (medium : (disk : D) → IsMedi
         (reach_kept old.slots.root old.contents) run.seen
 
     -- memory was refused
-    pub stopped : Advances (device old.disk) (device mid) → (device mid).faults ≡ (device old.disk).faults
+    pub stopped : RunsWriting ⊥ (device old.disk) (device mid)
         → Answers device old (record { disk = mid; slots = old.slots; contents = old.contents; is_closed = old.is_closed }) command now (Err NoMemory)
-    stopped goes unmet =
+    stopped runs =
         kept_answers (record { disk = mid; slots = old.slots; contents = old.contents; is_closed = old.is_closed }) NoMemory free
         (λ (is : NoMemory ≡ Device). absurd (no_device is)) (λ (is : NoMemory ≡ Full). absurd (no_full is)) (λ q other. absurd (none_some (decided old (state_of device old) command now) q free other)) refl
         (record { slots = refl; contents = refl; state = kept_state })
@@ -211,7 +195,7 @@ module _ {D : Type 0} (device : D → DiskState) (medium : (disk : D) → IsMedi
           },
           stands_meanwhile old.slots old.contents s (device old.disk) (medium old.disk) holds.ready holds.told (device mid) run,
         ))
-        goes unmet
+        runs
 
     next : Source → Source
     next s = next_state s command (moment_at s now)
@@ -242,11 +226,10 @@ module _ {D : Type 0} (device : D → DiskState) (medium : (disk : D) → IsMedi
           version = tt;
           leads = λ s holds. subst (λ (t : Source). Leaves (device old.disk) (device new.disk) (λ _ image. StandsFor image s ⊎ StandsFor image t))
               (sym (after_step s holds)) (leaves s holds);
-          told = record { failed = λ _. failed; sound = λ is. absurd (is refl) };
+          runs = writing_as (device old.disk) (device new.disk) (λ _. refl) (λ _. failed) goes;
           closes = λ _. closed;
           stays_open = λ is. absurd (is refl);
           unchanged = λ q is other. let here : q ≡ Device = cc in absurd (other here);
-          goes_on = goes;
         }
 
     early_leaves : (t : Source → Source) (s : Source) → Holds device old s → Leaves (device old.disk) (device mid) (λ _ image. StandsFor image s ⊎ StandsFor image (t s))
@@ -325,9 +308,9 @@ module _ {D : Type 0} (device : D → DiskState) (medium : (disk : D) → IsMedi
           → (IsReady old.slots (device mid).now → IsReady new.slots (device new.disk).now)
           → SameBehind (device new.disk).now.seen (device mid).now.seen → (device new.disk).now ≡ resting settled
           → reply ≡ reply_to (state_of device old) command (moment_at (state_of device old) now)
-          → Advances (device old.disk) (device new.disk) → (device new.disk).faults ≡ (device old.disk).faults → Answers device old new command now (Ok reply)
+          → RunsWriting ⊥ (device old.disk) (device new.disk) → Answers device old new command now (Ok reply)
       unfolding next
-      committed new reply settled any at contents closed ready same rests replied goes unmet =
+      committed new reply settled any at contents closed ready same rests replied runs =
           let moment = moment_at (state_of device old) now in
           let seen = (device mid).now.seen in
           let last = (device new.disk).now.seen in
@@ -368,11 +351,10 @@ module _ {D : Type 0} (device : D → DiskState) (medium : (disk : D) → IsMedi
                   },
                   subst (λ (x : Source). Leaves (device old.disk) (device new.disk) (λ _ image. StandsFor image s ⊎ StandsFor image x)) t (meanwhile new.disk any s holds),
                 );
-            told = record { failed = λ is. absurd cc; sound = λ _. unmet };
+            runs = writing_as (device old.disk) (device new.disk) (λ none. absurd none) (λ is. absurd cc) runs;
             closes = λ other. absurd cc;
             stays_open = λ _. closed;
             unchanged = λ q other. absurd cc;
-            goes_on = goes;
           }
 
 -- what is said of a root with its lists, as they were taken from a source, is said of the source

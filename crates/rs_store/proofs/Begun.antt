@@ -1,13 +1,14 @@
 -- What a source is once it has written the bodies of a plan, or has stopped at them.
-use Rattle.std.proofs.Common.{◌≡◌, ◌<◌, ℕ, Bool, true, false, true≢false, List, [], ◌∷◌, length, get_or, refl, sym, ap, subst, arith, None, Result, Ok, Err}
+use Rattle.std.proofs.Common.{◌≡◌, ◌<◌, ℕ, true, false, true≢false, List, [], ◌∷◌, length, get_or, refl, sym, ap, subst, arith, None, Result, Ok, Err}
 use Rattle.std.specs.Prelude.{is_err, OnOk, OnErr}
 use Rattle.rs_disk.specs.Medium.{DiskState, IsMedium}
-use Rattle.rs_disk.specs.Leaves.{Advances, HasFailed}
+use Rattle.rs_disk.specs.Runs.{RunsWriting}
+use Rattle.rs_disk.proofs.Runs.{writing_none, writing_as, advances}
 use Rattle.rs_extent.specs.declared.Extent.{Extent}
-use Rattle.rs_extent.specs.Extents.{IsBeside, AreBeside, IsOnDisk, AreOnDisk}
-use Rattle.rs_extent.proofs.Sets.{beside_first, some_first}
+use Rattle.rs_extent.specs.Extents.{AreBeside, IsOnDisk, AreOnDisk}
+use Rattle.rs_extent.proofs.Sets.{some_first}
 use Rattle.rs_body.specs.Blocks.{part, IsSized}
-use Rattle.rs_body.specs.Outside.{WritesOutside}
+use Rattle.rs_body.specs.Outside.{WritesOutside, WritesOnly}
 use Rattle.rs_body.proofs.KeptBlocks.{outside_none}
 use Rattle.rs_model.specs.Step.{moment_at}
 use Rattle.rs_model.specs.declared.command.Command.{Command}
@@ -50,9 +51,8 @@ some_extent [] bytes sized = absurd sized
 some_extent (x ∷ xs) bytes sized = omega arith
 
 -- .. what is written beside it is written beside all, and the bodies stand where this one does.
-pub beside_one : (extents : List Extent) (e : Extent) (old new : DiskState) → extents ≡ e ∷ [] → ((kept : ℕ → Bool) → IsBeside kept e → WritesOutside kept old new)
-    → (kept : ℕ → Bool) → AreBeside kept extents → WritesOutside kept old new
-beside_one extents e old new alone run kept beside = run kept (beside_first kept e [] (subst (λ (es : List Extent). AreBeside kept es) alone beside))
+pub only_one : {A : Type 0} (extents : List Extent) (e : Extent) (old new : DiskState) → extents ≡ e ∷ [] → WritesOnly (e ∷ []) A old new → WritesOnly extents A old new
+only_one {A} extents e old new alone run = subst (λ (es : List Extent). WritesOnly es A old new) (sym alone) run
 
 pub stand_one : (extents : List Extent) (e : Extent) (bytes image : List ℕ) → extents ≡ e ∷ [] → part e (length bytes) image ≡ bytes → AreBodies image extents (bytes ∷ [])
 stand_one extents e bytes image alone stands = subst (λ (es : List Extent). AreBodies image es (bytes ∷ [])) (sym alone) (stands, tt)
@@ -72,34 +72,32 @@ begun_with_none {D} device start o p same none =
       contents = refl;
       is_closed = refl;
       outside = outside_none (is_kept o.slots.root o.contents) (device o.disk);
-      advances = record { size = refl; keeps = refl; calls = omega arith; faults = omega arith };
-      sound = refl;
+      runs = writing_none (device o.disk) (λ none. none);
       stand = stand_none (device o.disk).now.seen p.bodies.items none;
     })
 
 module _ {D : Type 0} (device : D → DiskState) (medium : (disk : D) → IsMedium (device disk).size (device disk).now) (start o : Stored D) (same : o ≡ start) (p : Plan) (mid : D)
-    (run : (kept : ℕ → Bool) → AreBeside kept p.bodies.items → WritesOutside kept (device o.disk) (device mid)) (goes : Advances (device o.disk) (device mid)) where
+    (A : Type 0) (writes : WritesOnly p.bodies.items A (device o.disk) (device mid)) where
   outside : AreBeside (is_kept start.slots.root start.contents) (places p) → WritesOutside (is_kept start.slots.root start.contents) (device start.disk) (device mid)
   outside free =
       subst (λ (s : Stored D). WritesOutside (is_kept start.slots.root start.contents) (device s.disk) (device mid)) same
-      (run (is_kept start.slots.root start.contents) (beside_each (is_kept start.slots.root start.contents) p free).bodies)
+      (writes.outside (is_kept start.slots.root start.contents) (beside_each (is_kept start.slots.root start.contents) p free).bodies)
 
-  went : Advances (device start.disk) (device mid)
-  went = subst (λ (s : Stored D). Advances (device s.disk) (device mid)) same goes
+  went : RunsWriting A (device start.disk) (device mid)
+  went = subst (λ (s : Stored D). RunsWriting A (device s.disk) (device mid)) same writes.runs
 
-  unmet : (device mid).faults ≡ (device o.disk).faults → (device mid).faults ≡ (device start.disk).faults
-  unmet sound = subst (λ (s : Stored D). (device mid).faults ≡ (device s.disk).faults) same sound
+  unmet : ¬ A → RunsWriting ⊥ (device start.disk) (device mid)
+  unmet well = writing_as (device start.disk) (device mid) well (λ none. absurd none) went
 
   -- the bodies stand
-  pub begun : (device mid).faults ≡ (device o.disk).faults → (bodies : List (List ℕ)) → AreBeside (is_kept start.slots.root start.contents) (places p) → AreBodies (device mid).now.seen p.bodies.items bodies
+  pub begun : ¬ A → (bodies : List (List ℕ)) → AreBeside (is_kept start.slots.root start.contents) (places p) → AreBodies (device mid).now.seen p.bodies.items bodies
       → HasWrittenBodies device start (record { disk = mid; slots = o.slots; contents = o.contents; is_closed = o.is_closed }) p bodies
-  begun sound bodies free stand = record {
+  begun well bodies free stand = record {
     slots = ap (λ (s : Stored D). s.slots) same;
     contents = ap (λ (s : Stored D). s.contents) same;
     is_closed = ap (λ (s : Stored D). s.is_closed) same;
     outside = outside free;
-    advances = went;
-    sound = unmet sound;
+    runs = unmet well;
     stand = stand;
   }
 
@@ -110,17 +108,17 @@ module _ {D : Type 0} (device : D → DiskState) (medium : (disk : D) → IsMedi
     was_whole = subst (λ (s : Stored D). IsWhole (device s.disk).size s.slots.root s.contents) same whole
 
     -- the device failed
-    pub broken_body : HasFailed (device o.disk) (device mid)
+    pub broken_body : A
         → Answers device start (record { disk = mid; slots = o.slots; contents = o.contents; is_closed = true }) command now (Err Device)
     broken_body failed =
         broken_off device medium start command now p (bodies_of_command command) was_whole free refl planned mid (outside planned.free)
         (record { disk = mid; slots = o.slots; contents = o.contents; is_closed = true }) refl refl
-        (subst (λ (s : Stored D). HasFailed (device s.disk) (device mid)) same failed) went
+        (went.runs.failed failed) (advances (device start.disk) (device mid) went)
 
     -- it stopped for another cause, as where memory was refused
-    pub stopped_body : (device mid).faults ≡ (device o.disk).faults
+    pub stopped_body : ¬ A
         → Answers device start (record { disk = mid; slots = o.slots; contents = o.contents; is_closed = o.is_closed }) command now (Err NoMemory)
-    stopped_body sound =
+    stopped_body well =
         let left : Stored D → Stored D = λ s. record { disk = mid; slots = s.slots; contents = s.contents; is_closed = s.is_closed } in
         subst (λ (s : Stored D). Answers device start s command now (Err NoMemory)) (ap left (sym same))
-        (stopped device medium start command now p (bodies_of_command command) was_whole free refl planned mid (outside planned.free) went (unmet sound))
+        (stopped device medium start command now p (bodies_of_command command) was_whole free refl planned mid (outside planned.free) (unmet well))

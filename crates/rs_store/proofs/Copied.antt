@@ -1,9 +1,9 @@
 -- What a source answers that is copied, by what the copy of its root leaves.
-use Rattle.std.proofs.Common.{true≢false, ◌≡◌, ◌⊎◌, inl, inr, ⊎_elim, ℕ, true, false, List, [], ◌∷◌, map, refl, sym, ◌∙◌, ap, arith, Result, Ok, Err}
+use Rattle.std.proofs.Common.{true≢false, ◌≡◌, ◌⊎◌, inl, inr, ⊎_elim, ℕ, true, false, List, [], ◌∷◌, map, refl, sym, ◌∙◌, ap, Result, Ok, Err}
 use Rattle.std.specs.Prelude.{All}
 use Rattle.std.proofs.lemmas.List.Elements.{All-nil, All-cons, All-head, All-tail}
 use Rattle.rs_disk.specs.Medium.{DiskState, IsMedium}
-use Rattle.rs_disk.proofs.Steps.{rests}
+use Rattle.rs_disk.proofs.Runs.{reading_none, writing_none, rests, advances}
 use Rattle.rs_record.specs.declared.record.Record.{Record}
 use Rattle.rs_catalogue.specs.Catalogue.{records_of}
 use Rattle.rs_model.specs.declared.value.Held.{Held}
@@ -77,8 +77,8 @@ module _ {D E : Type 0} (device : D → DiskState) (other : E → DiskState) (ol
   -- a closed source is not copied
   pub closed_uncopied : old.is_closed ≡ true → AnswersCopy device other old old to (Err (to, Closed))
   closed_uncopied shut = record {
-    reads_only = record { slots = refl; contents = refl; is_closed = refl; rests = rests (device old.disk) };
-    advances = record { size = refl; keeps = refl; calls = omega arith; faults = omega arith };
+    reads_only = record { slots = refl; contents = refl; is_closed = refl; rests = rests (device old.disk) (device old.disk) (reading_none {A = ⊥} (device old.disk) (λ none. none)) };
+    advances = advances (other to) (other to) (writing_none {A = ⊥} (other to) (λ none. none));
     closed = (λ _. shut, λ _. refl);
     too_small = (λ is. absurd cc, λ is. absurd (true≢false (sym shut ∙ is.0)));
     full = λ is. absurd cc;

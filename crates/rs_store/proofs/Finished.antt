@@ -1,9 +1,10 @@
 -- What a source answers once the bodies of a plan stand, by how far the rest came. It counts from the moment before the bodies were written.
-use Rattle.std.proofs.Common.{◌≡◌, ℕ, Bool, true, List, refl, sym, ◌∙◌, ap, subst, arith, None, Ok, Err, Result}
+use Rattle.std.proofs.Common.{◌≡◌, ℕ, true, List, refl, sym, ◌∙◌, ap, subst, None, Ok, Err, Result}
 use Rattle.rs_disk.specs.Medium.{DiskState, IsMedium, resting}
-use Rattle.rs_disk.specs.Leaves.{Advances, Leaves, HasFailed}
-use Rattle.rs_extent.specs.Extents.{AreBeside}
-use Rattle.rs_body.specs.Outside.{WritesOutside}
+use Rattle.rs_disk.specs.Leaves.{Leaves}
+use Rattle.rs_disk.specs.Runs.{Advances, HasFailed, RunsWriting}
+use Rattle.rs_disk.proofs.Runs.{writing_on, advances, advances_on}
+use Rattle.rs_body.specs.Outside.{WritesOutside, WritesOnly}
 use Rattle.rs_body.proofs.KeptBlocks.{outside_on}
 use Rattle.rs_commit.specs.declared.root.Root.{Root}
 use Rattle.rs_commit.specs.Slots.{Standing}
@@ -34,56 +35,49 @@ Promised {D} device p new result now =
     → IsPlanned (rooted_in device start) command (moment_at (state_of device start) moment) p
     → Answers device start new command moment result
 
--- one run and then another go on as one
-pub advances_on : (old mid new : DiskState) → Advances old mid → Advances mid new → Advances old new
-advances_on old mid new one two = record {
-  size = two.size ∙ one.size;
-  keeps = two.keeps ∙ one.keeps;
-  calls = omega (arith, one.calls, two.calls);
-  faults = omega (arith, one.faults, two.faults);
-}
-
 module _ {D : Type 0} (device : D → DiskState) (medium : (disk : D) → IsMedium (device disk).size (device disk).now) (now : Stored D) (p : Plan)
     (whole : IsWhole (device now.disk).size now.slots.root now.contents)
-    (mid : D) (run : (kept : ℕ → Bool) → AreBeside kept (places p) → WritesOutside kept (device now.disk) (device mid)) (goes : Advances (device now.disk) (device mid)) where
+    (mid : D) (A : Type 0) (writes : WritesOnly (places p) A (device now.disk) (device mid)) where
   module _ (start : Stored D) (command : Command) (moment : ℕ) (begun : HasWrittenBodies device start now p (bodies_of_command command))
       (free : decided start (state_of device start) command moment ≡ None)
       (planned : IsPlanned (rooted_in device start) command (moment_at (state_of device start) moment) p) where
     all_outside : WritesOutside (is_kept start.slots.root start.contents) (device start.disk) (device mid)
     all_outside =
         outside_on (is_kept start.slots.root start.contents) (device start.disk) (device now.disk) (device mid) begun.outside
-        (run (is_kept start.slots.root start.contents) planned.free)
+        (writes.outside (is_kept start.slots.root start.contents) planned.free)
 
     all_goes : Advances (device start.disk) (device mid)
-    all_goes = advances_on (device start.disk) (device now.disk) (device mid) begun.advances goes
+    all_goes =
+        advances_on (device start.disk) (device now.disk) (device mid) (advances (device start.disk) (device now.disk) begun.runs)
+        (advances (device now.disk) (device mid) writes.runs)
 
-    all_unmet : (device mid).faults ≡ (device now.disk).faults → (device mid).faults ≡ (device start.disk).faults
-    all_unmet unmet = unmet ∙ begun.sound
+    all_unmet : ¬ A → RunsWriting ⊥ (device start.disk) (device mid)
+    all_unmet well = writing_on (device start.disk) (device now.disk) (device mid) (λ none. none) well (λ none. absurd none) begun.runs writes.runs
 
     was_whole : IsWhole (device start.disk).size start.slots.root start.contents
     was_whole =
-        subst (λ (n : ℕ). IsWhole n start.slots.root start.contents) begun.advances.size
+        subst (λ (n : ℕ). IsWhole n start.slots.root start.contents) begun.runs.runs.size
         (subst (λ (s : Standing). IsWhole (device now.disk).size s.root start.contents) begun.slots
         (subst (λ (c : Contents). IsWhole (device now.disk).size now.slots.root c) begun.contents whole))
 
-    stopped_so : (device mid).faults ≡ (device now.disk).faults
+    stopped_so : ¬ A
         → Answers device start (record { disk = mid; slots = now.slots; contents = now.contents; is_closed = now.is_closed }) command moment (Err NoMemory)
     stopped_so unmet =
         let left : Stored D = record { disk = mid; slots = now.slots; contents = now.contents; is_closed = now.is_closed } in
         let was : Stored D = record { disk = mid; slots = start.slots; contents = start.contents; is_closed = start.is_closed } in
         let same : was ≡ left = λ i. record { disk = mid; slots = sym begun.slots i; contents = sym begun.contents i; is_closed = sym begun.is_closed i } in
         subst (λ (new : Stored D). Answers device start new command moment (Err NoMemory)) same
-        (stopped device medium start command moment p (bodies_of_command command) was_whole free refl planned mid all_outside all_goes (all_unmet unmet))
+        (stopped device medium start command moment p (bodies_of_command command) was_whole free refl planned mid all_outside (all_unmet unmet))
 
-    broken_so : (new : Stored D) → new.disk ≡ mid → new.is_closed ≡ true → HasFailed (device now.disk) (device mid) → Answers device start new command moment (Err Device)
+    broken_so : (new : Stored D) → new.disk ≡ mid → new.is_closed ≡ true → A → Answers device start new command moment (Err Device)
     broken_so new disk closed failed =
         broken_off device medium start command moment p (bodies_of_command command) was_whole free refl planned mid all_outside new disk closed
-        (subst (λ (d : D). HasFailed (device start.disk) (device d)) (sym disk) (failed_behind (device start.disk) (device now.disk) (device mid) begun.advances.faults failed))
+        (subst (λ (d : D). HasFailed (device start.disk) (device d)) (sym disk) (failed_behind (device start.disk) (device now.disk) (device mid) begun.runs.runs.faults (writes.runs.runs.failed failed)))
         (subst (λ (d : D). Advances (device start.disk) (device d)) (sym disk) all_goes)
 
     module _ (p' : Plan) (stored : AreStoredLists p p' (device now.disk).now.seen (device mid).now.seen) (root : Root) (root_is : root ≡ planned_root now.slots.root p)
         (new : Stored D) (any : IsReady now.slots (device mid).now → Leaves (device mid) (device new.disk) (λ _. OldOrNew (device mid).now now.slots.root root))
-        (further : Advances (device mid) (device new.disk)) where
+        (B : Type 0) (further : RunsWriting B (device mid) (device new.disk)) where
       was_any : IsReady start.slots (device mid).now → Leaves (device mid) (device new.disk) (λ _. OldOrNew (device mid).now start.slots.root root)
       was_any =
           subst (λ (s : Standing). IsReady s (device mid).now → Leaves (device mid) (device new.disk) (λ _. OldOrNew (device mid).now s.root root)) begun.slots any
@@ -91,47 +85,46 @@ module _ {D : Type 0} (device : D → DiskState) (medium : (disk : D) → IsMedi
       was_next : root ≡ planned_root start.slots.root p
       was_next = root_is ∙ ap (λ (s : Standing). planned_root s.root p) begun.slots
 
-      not_committed_so : new.is_closed ≡ true → HasFailed (device mid) (device new.disk) → Answers device start new command moment (Err Device)
+      not_committed_so : new.is_closed ≡ true → B → Answers device start new command moment (Err Device)
       not_committed_so closed failed =
           not_committed device medium start command moment p (bodies_of_command command) was_whole free refl planned mid all_outside
-          (stored.reads (bodies_of_command command) planned.bodies begun.stand) stored.lists all_goes.size root was_next new was_any closed
-          (failed_behind (device start.disk) (device mid) (device new.disk) all_goes.faults failed)
-          (advances_on (device start.disk) (device mid) (device new.disk) all_goes further)
+          (stored.reads (bodies_of_command command) planned.bodies begun.stand) stored.lists all_goes.runs.size root was_next new was_any closed
+          (failed_behind (device start.disk) (device mid) (device new.disk) all_goes.runs.faults (further.runs.failed failed))
+          (advances_on (device start.disk) (device mid) (device new.disk) all_goes (advances (device mid) (device new.disk) further))
 
       committed_so : (reply : Reply) (settled : List ℕ) → new.slots.root ≡ root → new.contents ≡ once_stored p.contents → new.is_closed ≡ now.is_closed
           → (IsReady now.slots (device mid).now → IsReady new.slots (device new.disk).now)
           → SameBehind (device new.disk).now.seen (device mid).now.seen → (device new.disk).now ≡ resting settled → reply ≡ p.reply
-          → (device mid).faults ≡ (device now.disk).faults → (device new.disk).faults ≡ (device mid).faults
+          → ¬ A → ¬ B
           → Answers device start new command moment (Ok reply)
       committed_so reply settled at lists closed ready behind rests replied unmet further_unmet =
           committed device medium start command moment p (bodies_of_command command) was_whole free refl planned mid all_outside
-          (stored.reads (bodies_of_command command) planned.bodies begun.stand) stored.lists all_goes.size root was_next new reply settled was_any at lists
+          (stored.reads (bodies_of_command command) planned.bodies begun.stand) stored.lists all_goes.runs.size root was_next new reply settled was_any at lists
           (closed ∙ begun.is_closed) (subst (λ (s : Standing). IsReady s (device mid).now → IsReady new.slots (device new.disk).now) begun.slots ready)
           behind rests (replied ∙ planned.reply (device start.disk).now.seen)
-          (advances_on (device start.disk) (device mid) (device new.disk) all_goes further)
-          (further_unmet ∙ all_unmet unmet)
+          (writing_on (device start.disk) (device mid) (device new.disk) (λ none. none) further_unmet (λ none. absurd none) (all_unmet unmet) further)
 
   -- memory was refused
-  pub stopped_behind : (device mid).faults ≡ (device now.disk).faults
+  pub stopped_behind : ¬ A
       → Promised device p (record { disk = mid; slots = now.slots; contents = now.contents; is_closed = now.is_closed }) (Err NoMemory) now
   stopped_behind unmet start command moment begun free planned = stopped_so start command moment begun free planned unmet
 
   -- the device failed
-  pub broken_behind : (new : Stored D) → new.disk ≡ mid → new.is_closed ≡ true → HasFailed (device now.disk) (device mid) → Promised device p new (Err Device) now
+  pub broken_behind : (new : Stored D) → new.disk ≡ mid → new.is_closed ≡ true → A → Promised device p new (Err Device) now
   broken_behind new disk closed failed start command moment begun free planned = broken_so start command moment begun free planned new disk closed failed
 
   -- all was written, and the root was to change
   module _ (p' : Plan) (stored : AreStoredLists p p' (device now.disk).now.seen (device mid).now.seen) (root : Root) (root_is : root ≡ planned_root now.slots.root p)
       (new : Stored D) (any : IsReady now.slots (device mid).now → Leaves (device mid) (device new.disk) (λ _. OldOrNew (device mid).now now.slots.root root))
-      (further : Advances (device mid) (device new.disk)) where
-    pub not_committed_behind : new.is_closed ≡ true → HasFailed (device mid) (device new.disk) → Promised device p new (Err Device) now
+      (B : Type 0) (further : RunsWriting B (device mid) (device new.disk)) where
+    pub not_committed_behind : new.is_closed ≡ true → B → Promised device p new (Err Device) now
     not_committed_behind closed failed start command moment begun free planned =
-        not_committed_so start command moment begun free planned p' stored root root_is new any further closed failed
+        not_committed_so start command moment begun free planned p' stored root root_is new any B further closed failed
 
     pub committed_behind : (reply : Reply) (settled : List ℕ) → new.slots.root ≡ root → new.contents ≡ once_stored p.contents → new.is_closed ≡ now.is_closed
         → (IsReady now.slots (device mid).now → IsReady new.slots (device new.disk).now)
         → SameBehind (device new.disk).now.seen (device mid).now.seen → (device new.disk).now ≡ resting settled → reply ≡ p.reply
-        → (device mid).faults ≡ (device now.disk).faults → (device new.disk).faults ≡ (device mid).faults
+        → ¬ A → ¬ B
         → Promised device p new (Ok reply) now
     committed_behind reply settled at lists closed ready behind rests replied unmet further_unmet start command moment begun free planned =
-        committed_so start command moment begun free planned p' stored root root_is new any further reply settled at lists closed ready behind rests replied unmet further_unmet
+        committed_so start command moment begun free planned p' stored root root_is new any B further reply settled at lists closed ready behind rests replied unmet further_unmet

@@ -22,8 +22,8 @@ use Rattle.rs_image.specs.Reach.{bodies_of, blocks_of_disk}
 use Rattle.rs_image.specs.Whole.{IsWhole, IsSoundRecord}
 use Rattle.rs_model.specs.State.{entries}
 use Rattle.rs_model.specs.Listed.{entry_of}
-use Rattle.rs_body.specs.declared.read.BodyFault.{BodyFault}
-use Rattle.rs_body.specs.declared.read.BodyFault.TheVariants as faults
+use Rattle.rs_body.specs.declared.read.LoadFault.{LoadFault}
+use Rattle.rs_body.specs.declared.read.LoadFault.TheVariants as faults
 use Rattle.rs_store.specs.declared.refusal.Refusal.TheVariants.{NotHeld, Damaged}
 use Rattle.rs_store.specs.Bodies.{refusal_of_body}
 use Rattle.rs_image.specs.StateOfImage.{held_in}
@@ -94,13 +94,13 @@ entries_held image [] = refl
 entries_held image (r ∷ rs) = ap (λ (l : List (List ℕ × Entry)). entry_of r ∷ l) (entries_held image rs)
 
 -- a fault of a body is never that the name is not held
-pub never_not_held : (fault : BodyFault) → refusal_of_body fault ≡ NotHeld → ⊥
+pub never_not_held : (fault : LoadFault) → refusal_of_body fault ≡ NotHeld → ⊥
 never_not_held faults.Device e = cc
 never_not_held faults.Damaged e = cc
 never_not_held faults.NoMemory e = cc
 
 -- and is answered as Damaged where it is that alone
-pub damaged_body : (fault : BodyFault) → refusal_of_body fault ≡ Damaged → fault ≡ faults.Damaged
+pub damaged_body : (fault : LoadFault) → refusal_of_body fault ≡ Damaged → fault ≡ faults.Damaged
 damaged_body faults.Damaged e = refl
 damaged_body faults.Device e = cc
 damaged_body faults.NoMemory e = cc

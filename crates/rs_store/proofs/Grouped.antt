@@ -1,10 +1,10 @@
 -- How the bodies of a group are written one after the other.
-use Rattle.std.proofs.Common.{◌≡◌, ℕ, suc, zero, ◌+◌, ◌-◌, ◌<◌, ◌≤◌, Bool, List, [], ◌∷◌, ◌++◌, length, take, drop, get_or, refl, sym, ◌∙◌, ap, subst, arith, Option}
+use Rattle.std.proofs.Common.{◌≡◌, ℕ, suc, zero, ◌+◌, ◌-◌, ◌<◌, ◌≤◌, true, List, [], ◌∷◌, ◌++◌, length, take, drop, get_or, refl, sym, ◌∙◌, ap, subst, arith, Option}
 use Rattle.std.specs.List.{AllZip, cons_option}
 use Rattle.std.proofs.lemmas.List.{take-append-drop, take_more, drop_more, length-drop, take_all, drop-drop}
 use Rattle.rs_extent.specs.declared.Extent.{Extent}
-use Rattle.rs_extent.specs.Extents.{in_some, IsOnDisk, IsBeside, AreBeside, AreApart, AreOnDisk}
-use Rattle.rs_extent.proofs.Sets.{some_first, some_behind, beside_first, beside_behind, beside_between}
+use Rattle.rs_extent.specs.Extents.{in_some, IsOnDisk, IsBeside, IsSubset, AreApart, AreOnDisk}
+use Rattle.rs_extent.proofs.Sets.{some_first, some_behind, in_one, beside_first, beside_between}
 use Rattle.rs_body.specs.Blocks.{part, IsSized}
 use Rattle.rs_body.specs.Outside.{Keeps}
 use Rattle.rs_model.specs.declared.command.Item.{Item}
@@ -71,10 +71,10 @@ module _ (extents : List Extent) (bodies : List (List ℕ)) (sized : AreSized ex
         ap (λ (x : Extent). take n extents ++ x ∷ drop (n + 1) extents) (sym is)
         ∙ ap (λ (l : List Extent). take n extents ++ l) (sym (drop_more extents n d has_extent)) ∙ take-append-drop n extents
 
-    pub beside_at : (kept : ℕ → Bool) → AreBeside kept extents → IsBeside kept e
-    beside_at kept beside =
-        beside_first kept e (drop (n + 1) extents)
-        (beside_behind kept (take n extents) (e ∷ drop (n + 1) extents) (subst (λ (l : List Extent). AreBeside kept l) (sym split) beside))
+    pub among_all : IsSubset (in_some (e ∷ [])) (in_some extents)
+    among_all b here =
+        subst (λ (l : List Extent). in_some l b ≡ true) split
+        (some_behind (take n extents) (e ∷ drop (n + 1) extents) b (some_first e (drop (n + 1) extents) b (in_one e b here)))
 
     pub inside_at : (size : ℕ) → AreOnDisk extents size → IsOnDisk e size
     inside_at size inside b here =

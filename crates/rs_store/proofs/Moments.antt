@@ -3,7 +3,8 @@ use Rattle.std.proofs.Common.{◌≡◌, ◌⊎◌, inl, inr, ⊎_elim, ℕ, suc
 use Rattle.std.specs.Prelude.{nat_le}
 use Rattle.std.specs.List.{AllByRecursion}
 use Rattle.rs_disk.specs.Medium.{DiskState, IsMedium, IsImage}
-use Rattle.rs_disk.specs.Leaves.{Leaves, Rests}
+use Rattle.rs_disk.specs.Leaves.{Leaves}
+use Rattle.rs_disk.specs.Runs.{Rests}
 use Rattle.rs_disk.proofs.Steps.{goes_on, goes_further, weaker, exit_images}
 use Rattle.rs_model.specs.State.{Source}
 use Rattle.rs_model.specs.Step.{step, state_after, fold_of}
@@ -11,7 +12,7 @@ use Rattle.rs_model.specs.declared.command.Command.{Command}
 use Rattle.rs_model.specs.declared.command.Reply.{Reply}
 use Rattle.rs_image.specs.StateOfImage.{StandsFor}
 use Rattle.rs_store.specs.declared.refusal.Refusal.{Refusal}
-use Rattle.rs_store.specs.declared.refusal.Refusal.TheVariants.{Closed, BadGroup, TooLong, NotHeld, TooManyResources, TooManyChanges, Exhausted, Full, ReadFault, ShortBody, Device, Damaged, NoMemory}
+use Rattle.rs_store.specs.declared.refusal.Refusal.TheVariants.{Device}
 use Rattle.rs_store.specs.Source.{Stored, Holds}
 use Rattle.rs_store.specs.Commands.{Leads}
 use Rattle.rs_store.specs.Answered.{Answers}
@@ -24,35 +25,13 @@ use Rattle.rs_store.proofs.Turns.{idle_at, Commands, Acks, IsClosed, one, one_at
 pub not_done : {D : Type 0} (device : D → DiskState) (old new : Stored D) (s : Source) (command : Command) (now : ℕ) (refusal : Refusal)
     → is_device (Err refusal) ≡ false → Leads device old new s command now (Err refusal)
     → Holds device new s × Leaves (device old.disk) (device new.disk) (λ _ image. StandsFor image s)
-not_done {D} device old new s command now Closed other lead = lead
-not_done {D} device old new s command now BadGroup other lead = lead
-not_done {D} device old new s command now TooLong other lead = lead
-not_done {D} device old new s command now NotHeld other lead = lead
-not_done {D} device old new s command now TooManyResources other lead = lead
-not_done {D} device old new s command now TooManyChanges other lead = lead
-not_done {D} device old new s command now Exhausted other lead = lead
-not_done {D} device old new s command now Full other lead = lead
-not_done {D} device old new s command now ReadFault other lead = lead
-not_done {D} device old new s command now ShortBody other lead = lead
-not_done {D} device old new s command now Damaged other lead = lead
-not_done {D} device old new s command now NoMemory other lead = lead
 not_done {D} device old new s command now Device other lead = absurd (true≢false other)
+not_done {D} device old new s command now refusal other lead = lead
 
 -- a refusal is Device or it is not
 pub is_device_or_not : (refusal : Refusal) → (refusal ≡ Device) ⊎ (is_device (Err refusal) ≡ false)
-is_device_or_not Closed = inr refl
-is_device_or_not BadGroup = inr refl
-is_device_or_not TooLong = inr refl
-is_device_or_not NotHeld = inr refl
-is_device_or_not TooManyResources = inr refl
-is_device_or_not TooManyChanges = inr refl
-is_device_or_not Exhausted = inr refl
-is_device_or_not Full = inr refl
-is_device_or_not ReadFault = inr refl
-is_device_or_not ShortBody = inr refl
-is_device_or_not Damaged = inr refl
-is_device_or_not NoMemory = inr refl
 is_device_or_not Device = inl refl
+is_device_or_not refusal = inr refl
 
 module _ {D : Type 0} (device : D → DiskState) (sound : (disk : D) → IsMedium (device disk).size (device disk).now) where
   abbrev ack : Result Reply Refusal → ℕ → Ack
@@ -152,7 +131,7 @@ module _ {D : Type 0} (device : D → DiskState) (sound : (disk : D) → IsMediu
       subst (λ (r : Refusal). Leaves (device old.disk) (device new.disk) (StandsForPrefix s (c ∷ cs) (ack (Err r) n ∷ acks))) (sym is)
       (let here : Answers device old mid c.0 c.1 (Err Device) = subst (λ (r : Refusal). Answers device old mid c.0 c.1 (Err r)) is answers in
       let after = closed_run device mid cs acks new (here.closes refl) turn in
-      in_doubt s old mid new c cs acks n at turn here.goes_on.calls after.1 after.2 (here.leads s holds))
+      in_doubt s old mid new c cs acks n at turn here.runs.runs.calls after.1 after.2 (here.leads s holds))
 
   answer_then : (s : Source) (old mid new : Stored D) (c : Command × ℕ) (cs : Commands) (acks : Acks) (n : ℕ) (reply : Result Reply Refusal) → n ≡ (device mid.disk).calls
       → Holds device old s → Answers device old mid c.0 c.1 reply → InTurn device mid cs acks new
@@ -160,11 +139,11 @@ module _ {D : Type 0} (device : D → DiskState) (sound : (disk : D) → IsMediu
       → Leaves (device old.disk) (device new.disk) (StandsForPrefix s (c ∷ cs) (ack reply n ∷ acks))
   answer_then s old mid new c cs acks n (Ok reply) at holds answers turn rest =
       let lead = answers.leads s holds in
-      accepted s old mid new c cs acks n at turn answers.goes_on.calls lead.0 reply lead.1 lead.3 (rest lead.0 lead.2)
+      accepted s old mid new c cs acks n at turn answers.runs.runs.calls lead.0 reply lead.1 lead.3 (rest lead.0 lead.2)
   answer_then s old mid new c cs acks n (Err refusal) at holds answers turn rest = ⊎_elim
       (λ is. failed s old mid new c cs acks n refusal is at holds answers turn)
       (λ other. let lead = not_done device old mid s c.0 c.1 refusal other (answers.leads s holds) in
-      refused s old mid new c cs acks n at turn answers.goes_on.calls refusal other lead.1 (rest s lead.0))
+      refused s old mid new c cs acks n at turn answers.runs.runs.calls refusal other lead.1 (rest s lead.0))
       (is_device_or_not refusal)
 
   -- at each moment of a run each image stands for a prefix of the counted commands

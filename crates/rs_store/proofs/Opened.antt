@@ -6,7 +6,7 @@ use Rattle.std.proofs.lemmas.List.{length-append, length-take}
 use Rattle.rs_extent.specs.declared.Extent.{Extent}
 use Rattle.rs_disk.specs.Medium.{Medium, DiskState, IsImage, resting}
 use Rattle.rs_disk.specs.Calls.{CountsCall}
-use Rattle.rs_disk.specs.Leaves.{HasFailed}
+use Rattle.rs_disk.specs.Runs.{HasFailed}
 use Rattle.rs_disk.proofs.Images.{resting_image}
 use Rattle.rs_body.specs.Blocks.{part, IsSized}
 use Rattle.rs_extent.proofs.Sets.{within_true, some_first}
@@ -18,8 +18,8 @@ use Rattle.rs_image.specs.declared.contents.Contents.{Contents}
 use Rattle.rs_image.specs.Reach.{AreInside}
 use Rattle.rs_image.specs.StateOfImage.{Tells, StandsFor, listing, state_in}
 use Rattle.rs_image.specs.Loading.{IsDirectoryPlaced}
-use Rattle.rs_page.specs.declared.page.load.LoadFault.{LoadFault}
-use Rattle.rs_page.specs.declared.page.load.LoadFault.TheVariants as lists
+use Rattle.rs_body.specs.declared.read.LoadFault.{LoadFault}
+use Rattle.rs_body.specs.declared.read.LoadFault.TheVariants as lists
 use Rattle.rs_store.specs.declared.opening.OpenFault.{OpenFault}
 use Rattle.rs_store.specs.declared.opening.OpenFault.TheVariants.{NotASource, Damaged, Device, NoMemory}
 use Rattle.rs_store.specs.Opening.{of_lists, IsNotOpened, MayAskForMemory}

@@ -4,10 +4,11 @@ use Rattle.std.specs.Prelude.{replicate, IfErr, IsErrOf}
 use Rattle.std.proofs.Math.Seq.{take-length}
 use Rattle.std.proofs.lemmas.List.{length-append, length-replicate}
 use Rattle.rs_disk.specs.Medium.{DiskState}
+use Rattle.rs_disk.proofs.Runs.{writing_as}
 use Rattle.rs_model.specs.declared.command.Command.TheVariants.{Put}
 use Rattle.rs_model.specs.declared.command.Reply.{Reply}
 use Rattle.rs_store.specs.declared.refusal.Refusal.{Refusal}
-use Rattle.rs_store.specs.declared.refusal.Refusal.TheVariants.{Closed, BadGroup, TooLong, NotHeld, TooManyResources, TooManyChanges, Exhausted, Full, ReadFault, ShortBody, Device, Damaged, NoMemory}
+use Rattle.rs_store.specs.declared.refusal.Refusal.TheVariants.{ReadFault, ShortBody, Device, NoMemory}
 use Rattle.rs_store.specs.Source.{Stored}
 use Rattle.rs_store.specs.Answered.{Answers}
 use Rattle.rs_store.specs.Received.{IsBodyOf, IsLeft, IsCutShort, IsCut, IsStopped, IsLate, MayHaveCome, AnswersFrom}
@@ -20,53 +21,23 @@ same_body n came body whole h =
 
 -- nothing may have come with any refusal
 pub nothing_came : (n : ℕ) (r : Refusal) → MayHaveCome n [] r
-nothing_came n Closed = refl
-nothing_came n BadGroup = refl
-nothing_came n TooLong = refl
-nothing_came n NotHeld = refl
-nothing_came n TooManyResources = refl
-nothing_came n TooManyChanges = refl
-nothing_came n Exhausted = refl
-nothing_came n Full = refl
-nothing_came n ReadFault = refl
-nothing_came n ShortBody = refl
 nothing_came n Device = omega arith
-nothing_came n Damaged = refl
 nothing_came n NoMemory = inl refl
+nothing_came n refusal = refl
 
 -- and all of it with a late one
 come_late : (n : ℕ) (came : List ℕ) (r : Refusal) → IsLate r → length came ≡ n → MayHaveCome n came r
-come_late n came Closed late whole = absurd late
-come_late n came BadGroup late whole = absurd late
-come_late n came TooLong late whole = absurd late
-come_late n came NotHeld late whole = absurd late
-come_late n came TooManyResources late whole = absurd late
-come_late n came TooManyChanges late whole = absurd late
-come_late n came Exhausted late whole = absurd late
-come_late n came Full late whole = absurd late
-come_late n came ReadFault late whole = absurd late
-come_late n came ShortBody late whole = absurd late
 come_late n came Device late whole = omega (arith, whole)
-come_late n came Damaged late whole = absurd late
 come_late n came NoMemory late whole = inr whole
+come_late n came refusal late whole = absurd late
 
 module _ {D : Type 0} (device : D → DiskState) (old new : Stored D) (name kind : List ℕ) (n now : ℕ) (came : List ℕ) where
   -- a refusal that no reader gives
   pub refused_from : (r : Refusal) → (r ≡ ReadFault → ⊥) → (r ≡ ShortBody → ⊥) → MayHaveCome n came r → ((body : List ℕ) → IsBodyOf n came body → Answers device old new (Put name kind body) now (Err r))
       → AnswersFrom device old new name kind n now came (Err r)
-  refused_from Closed a b fits all = (fits, all)
-  refused_from BadGroup a b fits all = (fits, all)
-  refused_from TooLong a b fits all = (fits, all)
-  refused_from NotHeld a b fits all = (fits, all)
-  refused_from TooManyResources a b fits all = (fits, all)
-  refused_from TooManyChanges a b fits all = (fits, all)
-  refused_from Exhausted a b fits all = (fits, all)
-  refused_from Full a b fits all = (fits, all)
   refused_from ReadFault a b fits all = absurd (a refl)
   refused_from ShortBody a b fits all = absurd (b refl)
-  refused_from Device a b fits all = (fits, all)
-  refused_from Damaged a b fits all = (fits, all)
-  refused_from NoMemory a b fits all = (fits, all)
+  refused_from refusal a b fits all = (fits, all)
 
   -- the same where one body is answered so
   pub refused_as : (r : Refusal) (body : List ℕ) → IsBodyOf n came body → MayHaveCome n came r → ((body : List ℕ) → IsBodyOf n came body → Answers device old new (Put name kind body) now (Err r))
@@ -94,27 +65,17 @@ left_by device old new name kind body now a = record {
   unchanged = a.unchanged NoMemory refl (λ (is : NoMemory ≡ Device). absurd cc);
   is_closed = a.stays_open (λ is. absurd cc);
   holds = λ s holds. a.leads s holds;
-  sound = a.told.sound (λ is. absurd cc);
-  goes_on = a.goes_on;
+  runs = writing_as (device old.disk) (device new.disk) (λ is. absurd cc) (λ none. absurd none) a.runs;
 }
 
 -- Not all of the body came.
 module _ {D : Type 0} (device : D → DiskState) (old new : Stored D) (name kind : List ℕ) (n now : ℕ) (came : List ℕ) (rest : Option (List ℕ)) where
   pub cut_from : (r : Refusal) → (r ≡ Device → ⊥) → IsStopped n rest came r → (length came < n → IsCutShort device old new name kind n now came)
       → AnswersFrom device old new name kind n now came (Err r)
-  cut_from Closed other cut short = absurd cut
-  cut_from BadGroup other cut short = absurd cut
-  cut_from TooLong other cut short = absurd cut
-  cut_from NotHeld other cut short = absurd cut
-  cut_from TooManyResources other cut short = absurd cut
-  cut_from TooManyChanges other cut short = absurd cut
-  cut_from Exhausted other cut short = absurd cut
-  cut_from Full other cut short = absurd cut
   cut_from ReadFault other cut short = short cut
   cut_from ShortBody other cut short = short cut.0
   cut_from Device other cut short = absurd (other refl)
-  cut_from Damaged other cut short = absurd cut
-  cut_from NoMemory other cut short = absurd cut
+  cut_from refusal other cut short = absurd cut
 
 -- what cuts the reading stops the receiving
 pub cut_stops : (n : ℕ) (rest : Option (List ℕ)) (came : List ℕ) (r : Refusal) → IsCut n rest came r → IsStopped n rest came r

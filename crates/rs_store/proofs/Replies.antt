@@ -10,7 +10,7 @@ use Rattle.rs_model.specs.declared.command.Command.{Command}
 use Rattle.rs_model.specs.declared.command.Reply.{Reply}
 use Rattle.rs_model.specs.declared.command.Refusal as model
 use Rattle.rs_store.specs.declared.refusal.Refusal.{Refusal}
-use Rattle.rs_store.specs.declared.refusal.Refusal.TheVariants.{Closed, BadGroup, TooLong, NotHeld, TooManyResources, TooManyChanges, Exhausted, Full, ReadFault, ShortBody, Device, Damaged, NoMemory}
+use Rattle.rs_store.specs.declared.refusal.Refusal.TheVariants.{Closed, Exhausted, Full, ReadFault, ShortBody, Device, Damaged, NoMemory}
 use Rattle.rs_store.specs.Source.{Stored, Holds, state_of}
 use Rattle.rs_store.specs.Refusals.{decided, named_as, is_spent, or_spent}
 use Rattle.rs_store.specs.Commands.{IsCause}
@@ -47,15 +47,10 @@ module _ {D : Type 0} (device : D → DiskState) (sound : (disk : D) → IsMediu
     of_machine none Full cause = tt
     of_machine none Device cause = tt
     of_machine none NoMemory cause = tt
-    of_machine none Closed cause = spent_alone (is_spent old) Closed (sym (decides None none) ∙ cause)
-    of_machine none BadGroup cause = spent_alone (is_spent old) BadGroup (sym (decides None none) ∙ cause)
-    of_machine none TooLong cause = spent_alone (is_spent old) TooLong (sym (decides None none) ∙ cause)
-    of_machine none NotHeld cause = spent_alone (is_spent old) NotHeld (sym (decides None none) ∙ cause)
-    of_machine none TooManyResources cause = spent_alone (is_spent old) TooManyResources (sym (decides None none) ∙ cause)
-    of_machine none TooManyChanges cause = spent_alone (is_spent old) TooManyChanges (sym (decides None none) ∙ cause)
     of_machine none ReadFault cause = absurd cause
     of_machine none ShortBody cause = absurd cause
     of_machine none Damaged cause = absurd cause
+    of_machine none refusal cause = spent_alone (is_spent old) refusal (sym (decides None none) ∙ cause)
 
     by_model : (refusal : Refusal) → Answers device old new command now (Err refusal) → (x : Option model.Refusal) → refusal_of s command now ≡ x
         → MatchOption x (IsBeyondModel refusal) (λ r. refusal ≡ named_as r)

@@ -4,8 +4,9 @@ use Rattle.std.specs.Prelude.{nat_le, is_ok, Some}
 use Rattle.std.specs.List.{AllByRecursion}
 use Rattle.std.proofs.lemmas.Bool.Decides.{nat_tests}
 use Rattle.rs_disk.specs.Medium.{DiskState, IsImage, IsMedium}
-use Rattle.rs_disk.specs.Leaves.{Rests}
-use Rattle.rs_disk.proofs.Steps.{started, goes_on, rests, rest_on}
+use Rattle.rs_disk.specs.Runs.{Rests}
+use Rattle.rs_disk.proofs.Steps.{started, goes_on}
+use Rattle.rs_disk.proofs.Runs.{reading_none, rests, rests_on}
 use Rattle.rs_commit.proofs.Ready.{ready_opens}
 use Rattle.rs_model.specs.State.{Source}
 use Rattle.rs_model.specs.Step.{refusal_of}
@@ -38,7 +39,7 @@ module _ {D : Type 0} (device : D → DiskState) (sound : (disk : D) → IsMediu
   idle_at source = record {
     is_closed = refl;
     holds = λ s holds. (holds, started (device source.disk) (λ _ image. StandsFor image s) (images_stand source s holds));
-    rests = λ _. rests (device source.disk);
+    rests = λ _. rests (device source.disk) (device source.disk) (reading_none {A = ⊥} (device source.disk) (λ none. none));
     calls = omega arith;
   }
 
@@ -58,7 +59,7 @@ idle_on device old mid new first then = record {
       let one = first.holds s holds in
       let two = then.holds s one.0 in
       (two.0, goes_on (device old.disk) (device mid.disk) (device new.disk) (λ _ image. StandsFor image s) one.1 two.1);
-  rests = λ shut. rest_on (device old.disk) (device mid.disk) (device new.disk) (first.rests shut) (then.rests (first.is_closed ∙ shut));
+  rests = λ shut. rests_on (device old.disk) (device mid.disk) (device new.disk) (first.rests shut) (then.rests (first.is_closed ∙ shut));
   calls = omega (arith, first.calls, then.calls);
 }
 
@@ -77,7 +78,7 @@ in_turn_on {D} device old mid new (c ∷ cs) ds [] late turn then = absurd turn
 pub calls_rise : {D : Type 0} (device : D → DiskState) (old : Stored D) (cs : Commands) (acks : Acks) (new : Stored D)
     → InTurn device old cs acks new → (device old.disk).calls ≤ (device new.disk).calls
 calls_rise {D} device old [] [] new turn = turn.calls
-calls_rise {D} device old (c ∷ cs) (a ∷ acks) new turn = omega (arith, turn.1.calls, turn.3.goes_on.calls, calls_rise device turn.2 cs acks new turn.5)
+calls_rise {D} device old (c ∷ cs) (a ∷ acks) new turn = omega (arith, turn.1.calls, turn.3.runs.runs.calls, calls_rise device turn.2 cs acks new turn.5)
 calls_rise {D} device old [] (a ∷ acks) new turn = absurd turn
 calls_rise {D} device old (c ∷ cs) [] new turn = absurd turn
 
@@ -106,9 +107,9 @@ pub none_yet : {D : Type 0} (device : D → DiskState) (old : Stored D) (cs : Co
     → InTurn device old cs acks new → m < (device old.disk).calls → acknowledged m acks ≡ 0
 none_yet {D} device old [] [] new m turn lt = refl
 none_yet {D} device old (c ∷ cs) (a ∷ acks) new m turn lt =
-    let late : m < a.at_call = omega (arith, lt, turn.4, turn.3.goes_on.calls, turn.1.calls) in
+    let late : m < a.at_call = omega (arith, lt, turn.4, turn.3.runs.runs.calls, turn.1.calls) in
     let here : one (is_accepted a && nat_le a.at_call m) ≡ 0 = ap (λ (b : Bool). one (is_accepted a && b)) (not_yet m a.at_call late) ∙ and_false (is_accepted a) in
-    let rest : acknowledged m acks ≡ 0 = none_yet device turn.2 cs acks new m turn.5 (omega (arith, lt, turn.3.goes_on.calls, turn.1.calls)) in
+    let rest : acknowledged m acks ≡ 0 = none_yet device turn.2 cs acks new m turn.5 (omega (arith, lt, turn.3.runs.runs.calls, turn.1.calls)) in
     omega (arith, here, rest, acknowledged_cons m a acks)
 none_yet {D} device old [] (a ∷ acks) new m turn lt = absurd turn
 none_yet {D} device old (c ∷ cs) [] new m turn lt = absurd turn
@@ -128,7 +129,7 @@ closed_run {D} device old (c ∷ cs) (a ∷ acks) new shut turn =
     let same : mid ≡ ready = turn.3.untouched Closed refused in
     let rest = closed_run device mid cs acks new (ap (λ (x : Stored D). x.is_closed) same ∙ still) turn.5 in
     let behind : Rests (device ready.disk) (device new.disk) = subst (λ (x : Stored D). Rests (device x.disk) (device new.disk)) same rest.1 in
-    (rest.0, rest_on (device old.disk) (device ready.disk) (device new.disk) (turn.1.rests shut) behind, (turn.3.decides Closed refused, rest.2))
+    (rest.0, rests_on (device old.disk) (device ready.disk) (device new.disk) (turn.1.rests shut) behind, (turn.3.decides Closed refused, rest.2))
 closed_run {D} device old [] (a ∷ acks) new shut turn = absurd turn
 closed_run {D} device old (c ∷ cs) [] new shut turn = absurd turn
 

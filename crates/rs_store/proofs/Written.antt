@@ -1,24 +1,23 @@
 -- The places of a plan, and what was written into them one after the other.
-use Rattle.std.proofs.Common.{◌≡◌, ℕ, ◌+◌, ◌*◌, ◌<◌, ◌≤◌, Bool, true, List, [], ◌∷◌, ◌++◌, length, ◌∙◌, subst, arith, Result, Ok, Err, OnOk}
-use Rattle.std.specs.Prelude.{All}
+use Rattle.std.proofs.Common.{◌≡◌, ℕ, ◌+◌, ◌*◌, ◌<◌, ◌≤◌, Bool, true, List, [], ◌∷◌, ◌++◌, length, sym, ◌∙◌, subst, arith, Result, Ok, Err, OnOk}
 use Rattle.std.specs.List.{AllZip}
 use Rattle.std.proofs.lemmas.List.{append_assoc}
 use Rattle.rs_disk.specs.Medium.{DiskState}
 use Rattle.rs_extent.specs.declared.Extent.{Extent}
-use Rattle.rs_extent.specs.Extents.{in_some, IsOnDisk, IsBeside, AreBeside, AreApart, AreOnDisk}
+use Rattle.rs_extent.specs.Extents.{in_some, IsOnDisk, IsBeside, IsSubset, AreBeside, AreApart, AreOnDisk}
 use Rattle.rs_body.specs.Blocks.{part, IsSized}
-use Rattle.rs_body.specs.Outside.{Keeps, WritesOutside}
+use Rattle.rs_body.specs.Outside.{Keeps, WritesOnly}
 use Rattle.rs_body.proofs.KeptBlocks.{part_kept, outside_on}
-use Rattle.rs_extent.proofs.Sets.{some_first, some_rest, beside_first}
+use Rattle.rs_extent.proofs.Sets.{some_first, some_rest, beside_first, in_one}
 use Rattle.rs_body.proofs.Sets.{fits_sized}
 use Rattle.rs_page.specs.Items.{record_format, change_format}
 use Rattle.rs_page.specs.Pages.{placed_extents}
-use Rattle.rs_page.specs.DiskPages.{IsWritten}
 use Rattle.rs_page.proofs.Standing.{written_stay}
 use Rattle.rs_image.specs.Reach.{AreInside, blocks_of_disk}
 use Rattle.rs_extent.proofs.Sets.{some_front, some_behind}
 use Rattle.rs_plan.specs.declared.plan.Plan.{Plan}
 use Rattle.rs_plan.specs.Plans.{AreBodies, places, planned_listing, AreWritten}
+use Rattle.rs_store.specs.Writing.{AreWrittenPages}
 use Rattle.rs_extent.proofs.Sets.{beside_front, beside_behind, apart_front, apart_behind, beside_between}
 
 pub on_ok : {T E : Type 0} {P Q : Type 0} (result : Result T E) → (P → Q) → OnOk result P → OnOk result Q
@@ -73,6 +72,17 @@ apart_each p apart =
       pages_directory = beside_first (in_some (pages_of p)) p.directory [] (beside_between (pages_of p) (p.directory ∷ []) behind);
     }
 
+-- The blocks of its pages are among them, and so are those of its directory.
+pub pages_among : (p : Plan) → IsSubset (in_some (pages_of p)) (in_some (places p))
+pages_among p b is =
+    subst (λ (es : List Extent). in_some es b ≡ true) (sym (places_are p))
+    (some_behind p.bodies.items (behind_bodies p) b (some_front (pages_of p) (p.directory ∷ []) b is))
+
+pub directory_among : (p : Plan) → IsSubset (in_some (p.directory ∷ [])) (in_some (places p))
+directory_among p b is =
+    subst (λ (es : List Extent). in_some es b ≡ true) (sym (places_are p))
+    (some_behind p.bodies.items (behind_bodies p) b (some_behind (pages_of p) (p.directory ∷ []) b is))
+
 -- They lie on the disk.
 on_disk : (size b : ℕ) → b < blocks_of_disk size → 512 * b + 512 ≤ size
 on_disk size b lt = omega arith
@@ -109,23 +119,25 @@ bodies_kept_so kept (e ∷ es) (bytes ∷ bodies) sized all old new keeps stand 
   bodies_kept_so kept es bodies sized.1 (λ b is. all b (some_rest e es b is)) old new keeps stand.1,
 )
 
+-- what is written to these extents alone, and not to others, by a set that they are beside
+beside_alone : (kept : ℕ → Bool) (e : Extent) → IsBeside kept e → AreBeside kept (e ∷ [])
+beside_alone kept e beside b is = beside b (in_one e b is)
+
 -- The bodies, then the pages, then the directory: all of them stand there at the end.
-pub all_written : (p : Plan) (bodies : List (List ℕ)) (first mid new : DiskState) → AreApart (places p) → AreSized p.bodies.items bodies
-    → AreBodies first.now.seen p.bodies.items bodies
-    → ((kept : ℕ → Bool) → AreBeside kept (pages_of p) → WritesOutside kept first mid)
-    → All (IsWritten record_format mid.now.seen) p.contents.catalogue → All (IsWritten change_format mid.now.seen) p.contents.history.pages
-    → ((kept : ℕ → Bool) → IsBeside kept p.directory → WritesOutside kept mid new)
+pub all_written : {A B : Type 0} (p : Plan) (bodies : List (List ℕ)) (first mid new : DiskState) → AreApart (places p) → AreSized p.bodies.items bodies
+    → AreBodies first.now.seen p.bodies.items bodies → WritesOnly (pages_of p) A first mid → AreWrittenPages mid.now.seen p.contents → WritesOnly (p.directory ∷ []) B mid new
     → part p.directory (length (planned_listing p)) new.now.seen ≡ planned_listing p → AreWritten p bodies new.now.seen
-all_written p bodies first mid new apart sized stand pages catalogue history last directory =
+all_written p bodies first mid new apart sized stand pages written last directory =
     let each = apart_each p apart in
     let cat = placed_extents p.contents.catalogue in
     let hist = placed_extents p.contents.history.pages in
     let of_bodies = in_some p.bodies.items in
-    let after = outside_on of_bodies first mid new (pages of_bodies each.bodies_pages) (last of_bodies each.bodies_directory) in
-    let kept = last (in_some (pages_of p)) each.pages_directory in
+    let after = outside_on of_bodies first mid new (pages.outside of_bodies each.bodies_pages)
+    (last.outside of_bodies (beside_alone of_bodies p.directory each.bodies_directory)) in
+    let kept = last.outside (in_some (pages_of p)) (beside_alone (in_some (pages_of p)) p.directory each.pages_directory) in
     record {
       bodies = bodies_kept_so of_bodies p.bodies.items bodies sized (λ b is. is) first.now.seen new.now.seen after.seen stand;
-      catalogue = written_stay record_format (in_some (pages_of p)) p.contents.catalogue mid.now.seen new.now.seen (λ b is. some_front cat hist b is) kept.seen catalogue;
-      history = written_stay change_format (in_some (pages_of p)) p.contents.history.pages mid.now.seen new.now.seen (λ b is. some_behind cat hist b is) kept.seen history;
+      catalogue = written_stay record_format (in_some (pages_of p)) p.contents.catalogue mid.now.seen new.now.seen (λ b is. some_front cat hist b is) kept.seen written.catalogue;
+      history = written_stay change_format (in_some (pages_of p)) p.contents.history.pages mid.now.seen new.now.seen (λ b is. some_behind cat hist b is) kept.seen written.history;
       directory = directory;
     }

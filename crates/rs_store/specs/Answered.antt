@@ -1,6 +1,6 @@
 -- What a source answers to a command.
 use Rattle.std.specs.Prelude.{◌≡◌, ◌+◌, ℕ, true, Option, Some, None, Result, Ok, Err, IfOk, IsErrOf}
-use Rattle.rs_disk.specs.Leaves.{Advances, TellsFaults}
+use Rattle.rs_disk.specs.Runs.{RunsWriting}
 use Rattle.rs_disk.specs.Medium.{DiskState}
 use Rattle.rs_commit.specs.Slots.{written_version}
 use Rattle.rs_model.specs.State.{Source}
@@ -42,10 +42,10 @@ pub record IsCarriedOut {D : Type 0} (device : D → DiskState) (old new : Store
 -- `planned`: what is accepted is carried out by its plan, so that the pages and the places are the ones that the rules give.
 -- `generation`, `version`: each accepted command takes one generation of the root, which has the version that is written then.
 -- `leads`: of a source that holds a state, what is held then, and what each image of a crash meanwhile stands for.
--- `told`: it answers Device only where a device call failed, and where it answers anything else none did.
+-- `runs`: it answers Device only where a device call failed, and where it answers anything else none did; whatever the answer, the
+-- disk has its size, and its counts do not fall.
 -- `closes`, `stays_open`: Device closes it, and nothing else does.
 -- `unchanged`: any other refusal leaves what was in memory.
--- `goes_on`: whatever the answer, the disk has its size, and its counts do not fall.
 pub record Answers {D : Type 0} (device : D → DiskState) (old new : Stored D) (command : Command) (now : ℕ) (result : Result Reply Refusal) : Type 0 where
   pub decides : (r : Refusal) → decided old (state_of device old) command now ≡ Some r → result ≡ Err r
   pub untouched : (r : Refusal) → decided old (state_of device old) command now ≡ Some r → new ≡ old
@@ -56,8 +56,7 @@ pub record Answers {D : Type 0} (device : D → DiskState) (old new : Stored D) 
   pub generation : IfOk result (λ _. new.slots.root.generation ≡ old.slots.root.generation + 1)
   pub version : IfOk result (λ _. new.slots.root.version ≡ written_version)
   pub leads : (s : Source) → Holds device old s → Leads device old new s command now result
-  pub told : TellsFaults (IsErrOf result Device) (device old.disk) (device new.disk)
+  pub runs : RunsWriting (IsErrOf result Device) (device old.disk) (device new.disk)
   pub closes : IsErrOf result Device → new.is_closed ≡ true
   pub stays_open : (IsErrOf result Device → ⊥) → new.is_closed ≡ old.is_closed
   pub unchanged : (r : Refusal) → IsErrOf result r → (r ≡ Device → ⊥) → IsUnchanged device old new
-  pub goes_on : Advances (device old.disk) (device new.disk)

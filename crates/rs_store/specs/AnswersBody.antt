@@ -2,7 +2,7 @@
 use Rattle.std.specs.Prelude.{◌≡◌, ◌↔◌, ℕ, false, List, Some, Result, Vec, IfOk, IfErr, IfSome, IsErrOf, IsTrue}
 use Rattle.std.specs.Global.{Global}
 use Rattle.rs_disk.specs.Medium.{DiskState}
-use Rattle.rs_disk.specs.Leaves.{TellsFaults}
+use Rattle.rs_disk.specs.Runs.{RunsReading}
 use Rattle.rs_model.specs.Names.{value_of}
 use Rattle.rs_model.specs.State.{body_of}
 use Rattle.rs_model.specs.Step.{is_held}
@@ -15,7 +15,7 @@ use Rattle.rs_store.specs.Source.{Stored, state_of}
 -- What a source answers to the question for a body, and what it is then.
 -- `reads`, `recorded`: bytes are the body, of a device that has followed the model; of every device they are as recorded.
 -- `closed`, `not_held`: a refusal that needs no device comes exactly where its cause is there.
--- `damaged`, `others`: the causes of the others, want of memory apart; `told`: Device comes only where a device call failed, and
+-- `damaged`, `others`: the causes of the others, want of memory apart; `runs`: Device comes only where a device call failed, and
 -- where another answer comes none did.
 -- `reads_only`: nothing changes but what the disk counts, and the source stays open, also after Device.
 pub record AnswersBody {D : Type 0} (device : D → DiskState) (old new : Stored D) (name : List ℕ) (result : Result (Vec ℕ Global) Refusal) : Type 0 where
@@ -24,6 +24,6 @@ pub record AnswersBody {D : Type 0} (device : D → DiskState) (old new : Stored
   pub closed : IsErrOf result Closed ↔ IsTrue old.is_closed
   pub not_held : IsErrOf result NotHeld ↔ ((old.is_closed ≡ false) × (is_held (state_of device old) name ≡ false))
   pub damaged : IsErrOf result Damaged → IsTrue (device new.disk).honest → IfSome (value_of name (state_of device old).held) (λ held. ¬ HasItsDigest held)
-  pub told : TellsFaults (IsErrOf result Device) (device old.disk) (device new.disk)
+  pub runs : RunsReading (IsErrOf result Device) (device old.disk) (device new.disk)
   pub others : IfErr result IsOfBody
   pub reads_only : OnlyReads device old new

@@ -1,7 +1,8 @@
 -- What a source answers where it is copied to another disk.
 use Rattle.std.specs.Prelude.{◌≡◌, ◌⊎◌, ◌↔◌, ◌<◌, ◌≤◌, ◌+◌, ℕ, Bool, false, List, All, None, Result, IfOk, IsErrAnd, IsTrue}
 use Rattle.rs_disk.specs.Medium.{DiskState}
-use Rattle.rs_disk.specs.Leaves.{Advances, HasFailed, Leaves}
+use Rattle.rs_disk.specs.Leaves.{Leaves}
+use Rattle.rs_disk.specs.Runs.{Advances, HasFailed}
 use Rattle.rs_commit.specs.Slots.{current, written_version}
 use Rattle.rs_commit.specs.Commit.{IsReady}
 use Rattle.rs_commit.specs.Format.{fresh}

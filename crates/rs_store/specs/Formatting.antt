@@ -1,17 +1,36 @@
 -- What a formatting writes.
-use Rattle.std.specs.Prelude.{◌≡◌, ◌≤◌, ℕ, List, [], length, Result, Ok, Err}
+use Rattle.std.specs.Prelude.{◌≡◌, ◌↔◌, ◌<◌, ◌≤◌, ◌*◌, ℕ, false, List, [], length, take, IsTrue}
 use Rattle.rs_fixity.specs.Digests.{digests}
-use Rattle.rs_body.specs.Blocks.{blocks_of}
+use Rattle.rs_disk.specs.Medium.{Medium, resting}
+use Rattle.rs_extent.specs.Blocks.{block_size}
+use Rattle.rs_extent.specs.Extents.{IsOnDisk}
+use Rattle.rs_body.specs.Blocks.{part, blocks_of}
 use Rattle.rs_commit.specs.declared.root.Root.{Root}
 use Rattle.rs_commit.specs.Slots.{written_version}
+use Rattle.rs_commit.specs.Commit.{IsReady}
+use Rattle.rs_commit.specs.Format.{formatted, fresh}
+use Rattle.rs_record.specs.Base.{is_base}
+use Rattle.rs_directory.specs.Limit.{IsLimit}
 use Rattle.rs_directory.specs.declared.header.Header.{Header}
 use Rattle.rs_directory.specs.Directory.{written_format, IsLawfulHeader}
+use Rattle.rs_image.specs.Reach.{blocks_of_disk}
 use Rattle.rs_image.specs.declared.contents.Contents.{Contents}
 use Rattle.rs_image.specs.StateOfImage.{listing}
 use Rattle.rs_store.specs.declared.formatting.Blank.{Blank}
 use Rattle.rs_store.specs.declared.formatting.FormatFault.{FormatFault}
-use Rattle.rs_store.specs.declared.formatting.FormatFault.TheVariants.{Device}
-use Rattle.rs_store.specs.Source.{Stored}
+use Rattle.rs_store.specs.declared.formatting.FormatFault.TheVariants.{BadBase, BadLimit, TooSmall}
+
+-- A source of this base and limit can be made on a disk of so many bytes.
+pub record MayMake (size : ℕ) (base : List ℕ) (limit : ℕ) : Type 0 where
+  pub room : 16 ≤ blocks_of_disk size
+  pub limit_is : IsLimit limit
+  pub base_is : IsTrue (is_base base)
+
+-- The causes of these refusals: each is told exactly where its cause is there, and none before it.
+pub record HasCauses (size : ℕ) (base : List ℕ) (limit : ℕ) (told : FormatFault → Type 0) : Type 0 where
+  pub bad_base : told BadBase ↔ (is_base base ≡ false)
+  pub bad_limit : told BadLimit ↔ (IsTrue (is_base base) × (¬ IsLimit limit))
+  pub too_small : told TooSmall ↔ (IsTrue (is_base base) × IsLimit limit × (blocks_of_disk size < 16))
 
 -- the header of a source that is formatted at this moment
 abbrev pub first_header : List ℕ → ℕ → ℕ → Header
@@ -42,7 +61,18 @@ pub record IsBlank (base : List ℕ) (limit moment : ℕ) (b : Blank) : Type 0 w
   pub directory : b.directory.items ≡ listing written_format b.contents
   pub small : length (listing written_format b.contents) ≤ 512
 
--- what the device had to do with a formatting: a refusal of the source's own is no failed call
-abbrev pub device_in_format : {D : Type 0} → Result (Stored D) (D × FormatFault) → Result (Unit {0}) FormatFault
-device_in_format (Err (disk, Device)) = Err Device
-device_in_format answer = Ok tt
+-- What is written of it fits a disk of this many bytes: the slots, and behind them its directory, which its root says where to find.
+pub record FitsDisk (size : ℕ) (b : Blank) : Type 0 where
+  pub slots : 1024 ≤ size
+  pub version : b.root.version ≡ written_version
+  pub behind : b.root.directory.first ≡ 2
+  pub room : IsOnDisk b.root.directory size
+  pub fits : length b.directory.items ≤ block_size * b.root.directory.blocks
+
+-- It was written to a disk, which is settled: the first slot is open and tells its root, the second is closed, and its directory
+-- stands where the root says.
+pub record IsMade (b : Blank) (m : Medium) : Type 0 where
+  pub front : take 1024 m.seen ≡ formatted b.root
+  pub ready : IsReady (fresh b.root) m
+  pub resting : m ≡ resting m.seen
+  pub reads : part b.root.directory (length b.directory.items) m.seen ≡ b.directory.items

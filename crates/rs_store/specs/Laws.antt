@@ -2,7 +2,8 @@
 use Rattle.std.specs.Prelude.{◌≡◌, ◌⊎◌, ℕ, ◌<◌, ◌≤◌, true, false, List, [], ◌++◌, length, Err}
 use Rattle.std.specs.List.{AllByRecursion}
 use Rattle.rs_disk.specs.Medium.{DiskState, IsImage}
-use Rattle.rs_disk.specs.Leaves.{Leaves, Rests}
+use Rattle.rs_disk.specs.Leaves.{Leaves}
+use Rattle.rs_disk.specs.Runs.{Rests}
 use Rattle.rs_model.specs.State.{Source}
 use Rattle.rs_model.specs.Step.{fold_of}
 use Rattle.rs_model.specs.declared.command.Command.{Command}

@@ -1,7 +1,7 @@
 -- What a source is after a call that only reads.
 use Rattle.std.specs.Prelude.{◌≡◌}
 use Rattle.rs_disk.specs.Medium.{DiskState}
-use Rattle.rs_disk.specs.Leaves.{Rests}
+use Rattle.rs_disk.specs.Runs.{Rests}
 use Rattle.rs_store.specs.Source.{Stored}
 
 -- What is in memory is as it was, the source is as open or closed as it was, and nothing changes but what the disk counts.

@@ -1,13 +1,13 @@
 -- What an opening or a formatting hands back.
 use Rattle.std.specs.Prelude.{◌≡◌, ℕ, List, false, None, Some, IsSome, IsTrue, Result, Ok, Err}
-use Rattle.rs_disk.specs.Leaves.{HasFailed}
+use Rattle.rs_disk.specs.Runs.{HasFailed}
 use Rattle.rs_disk.specs.Medium.{Medium, DiskState}
 use Rattle.rs_commit.specs.Slots.{Standing, current}
 use Rattle.rs_commit.specs.Commit.{IsReady}
 use Rattle.rs_commit.specs.declared.faults.SlotFault.{SlotFault}
 use Rattle.rs_commit.specs.declared.faults.SlotFault.TheVariants as slots
-use Rattle.rs_page.specs.declared.page.load.LoadFault.{LoadFault}
-use Rattle.rs_page.specs.declared.page.load.LoadFault.TheVariants as lists
+use Rattle.rs_body.specs.declared.read.LoadFault.{LoadFault}
+use Rattle.rs_body.specs.declared.read.LoadFault.TheVariants as lists
 use Rattle.rs_store.specs.declared.opening.OpenFault.{OpenFault}
 use Rattle.rs_store.specs.declared.opening.OpenFault.TheVariants.{NotASource, Damaged, Device, NoMemory}
 use Rattle.rs_image.specs.declared.contents.Contents.{Contents}

@@ -2,7 +2,8 @@
 use Rattle.std.specs.Prelude.{◌≡◌, ◌⊎◌, ◌<◌, ◌≤◌, ℕ, List, [], length, take, Option, None, Result, Ok, Err}
 use Rattle.std.specs.Io.KnownBytes.{IsAtEnd}
 use Rattle.rs_disk.specs.Medium.{DiskState}
-use Rattle.rs_disk.specs.Leaves.{Advances, Leaves}
+use Rattle.rs_disk.specs.Leaves.{Leaves}
+use Rattle.rs_disk.specs.Runs.{RunsWriting}
 use Rattle.rs_model.specs.State.{Source}
 use Rattle.rs_model.specs.Step.{moment_at}
 use Rattle.rs_model.specs.declared.command.Command.TheVariants.{Put}
@@ -27,8 +28,7 @@ pub record IsLeft {D : Type 0} (device : D → DiskState) (old new : Stored D) :
   pub unchanged : IsUnchanged device old new
   pub is_closed : new.is_closed ≡ old.is_closed
   pub holds : (s : Source) → Holds device old s → Holds device new s × Leaves (device old.disk) (device new.disk) (λ _ image. StandsFor image s)
-  pub sound : (device new.disk).faults ≡ (device old.disk).faults
-  pub goes_on : Advances (device old.disk) (device new.disk)
+  pub runs : RunsWriting ⊥ (device old.disk) (device new.disk)
 
 -- The body of a put did not come whole: fewer bytes came, and the put is not done. No refusal before this one is met: none is
 -- decided of a body of that length, and each has a plan.

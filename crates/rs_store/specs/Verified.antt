@@ -4,7 +4,7 @@ use Rattle.std.specs.List.{filter}
 use Rattle.std.specs.Cmp.Lexicographic.{pointwise}
 use Rattle.std.specs.Global.{Global}
 use Rattle.rs_disk.specs.Medium.{DiskState}
-use Rattle.rs_disk.specs.Leaves.{TellsFaults}
+use Rattle.rs_disk.specs.Runs.{RunsReading}
 use Rattle.rs_fixity.specs.Digests.{digests}
 use Rattle.rs_extent.specs.Blocks.{block_size}
 use Rattle.rs_extent.specs.Extents.{IsOnDisk}
@@ -47,13 +47,13 @@ IsOfVerify refusal = IsOfLook refusal
 -- What a source answers to the question for damaged bodies, and what it is then.
 -- `names`: of a device that has followed the model, exactly the held names whose bytes have not their recorded SHA-256, in the
 -- order in which they are held, which is the ascending one; `few`: of every device, no more names than are held.
--- `closed`: refused as closed exactly where it is; `told`: Device comes only where a device call failed, and where another answer
+-- `closed`: refused as closed exactly where it is; `runs`: Device comes only where a device call failed, and where another answer
 -- comes none did; `others`: no other refusal is answered but for want of memory.
 -- `reads_only`: nothing changes but what the disk counts, and the source stays open, also after Device.
 pub record AnswersVerify {D : Type 0} (device : D → DiskState) (old new : Stored D) (result : Result (Vec (List ℕ) Global) Refusal) : Type 0 where
   pub names : IfOk result (λ names. IsTrue (device new.disk).honest → names.items ≡ damaged_names (state_of device old))
   pub few : IfOk result (λ names. length names.items ≤ length (state_of device old).held)
   pub closed : IsErrOf result Closed ↔ IsTrue old.is_closed
-  pub told : TellsFaults (IsErrOf result Device) (device old.disk) (device new.disk)
+  pub runs : RunsReading (IsErrOf result Device) (device old.disk) (device new.disk)
   pub others : IfErr result IsOfVerify
   pub reads_only : OnlyReads device old new

@@ -1,17 +1,18 @@
 -- What it is to write a plan.
-use Rattle.std.specs.Prelude.{◌≡◌, ℕ, List, length, All}
+use Rattle.std.specs.Prelude.{◌≡◌, ℕ, ◌++◌, List, length, All}
+use Rattle.rs_extent.specs.declared.Extent.{Extent}
 use Rattle.rs_extent.specs.Extents.{AreApart}
 use Rattle.rs_fixity.specs.Digests.{digests}
 use Rattle.rs_model.specs.declared.command.Command.{Command}
-use Rattle.rs_page.specs.declared.page.store.StoreFault.{StoreFault}
-use Rattle.rs_page.specs.declared.page.store.StoreFault.TheVariants.{Device as NoDevice, NoMemory as NoPageMemory}
 use Rattle.rs_image.specs.declared.contents.Contents.{Contents}
 use Rattle.rs_directory.specs.Directory.{written_format}
 use Rattle.rs_body.specs.Blocks.{IsSized}
 use Rattle.rs_body.specs.Outside.{WritesOutside}
 use Rattle.rs_disk.specs.Medium.{DiskState}
-use Rattle.rs_disk.specs.Leaves.{Advances}
-use Rattle.rs_page.specs.Pages.{IsTouched}
+use Rattle.rs_disk.specs.Runs.{RunsWriting}
+use Rattle.rs_page.specs.Items.{record_format, change_format}
+use Rattle.rs_page.specs.Pages.{IsTouched, placed_extents}
+use Rattle.rs_page.specs.DiskPages.{IsWritten}
 use Rattle.rs_image.specs.Reach.{is_kept, AreInside}
 use Rattle.rs_image.specs.Rooted.{Rooted}
 use Rattle.rs_image.specs.StateOfImage.{listing, AreListable, AreLists}
@@ -20,17 +21,10 @@ use Rattle.rs_plan.specs.declared.planning.PlanFault.{PlanFault}
 use Rattle.rs_plan.specs.declared.planning.PlanFault.TheVariants.{Full as NoRoom, NoMemory as NoPlanMemory}
 use Rattle.rs_store.specs.declared.refusal.Refusal.{Refusal}
 use Rattle.rs_store.specs.declared.refusal.Refusal.TheVariants.{Full, NoMemory as OutOfMemory}
-use Rattle.rs_store.specs.declared.writing.WriteFault.{WriteFault}
-use Rattle.rs_store.specs.declared.writing.WriteFault.TheVariants.{Device, NoMemory}
 use Rattle.rs_store.specs.declared.writing.Written.{Written}
 use Rattle.rs_store.specs.Source.{Stored}
 use Rattle.rs_plan.specs.Plans.{IsPlanned, AreBodies, once_stored, places, planned_listing, AreWritten}
 use Rattle.std.specs.List.{AllZip}
-
--- a page that was not stored
-abbrev pub of_store : StoreFault → WriteFault
-of_store NoDevice = Device
-of_store NoPageMemory = NoMemory
 
 -- a command that has no plan
 abbrev pub of_plan : PlanFault → Refusal
@@ -48,13 +42,26 @@ pub record IsPlanOfSome (old : Rooted) (p : Plan) : Type 0 where
   pub moment : ℕ
   pub planned : IsPlanned old command moment p
 
+-- the extents of the pages of these lists that were given blocks: those of the catalogue, and those of the history
+abbrev pub touched_extents : Contents → List Extent
+touched_extents c = placed_extents c.catalogue ++ placed_extents c.history.pages
+
+-- each page of these lists has its place
+pub record ArePlaced (c : Contents) : Type 0 where
+  pub catalogue : All (λ page. ¬ IsTouched page.place) c.catalogue
+  pub history : All (λ page. ¬ IsTouched page.place) c.history.pages
+
+-- the pages of these lists that were given blocks stand in them
+pub record AreWrittenPages (image : List ℕ) (c : Contents) : Type 0 where
+  pub catalogue : All (IsWritten record_format image) c.catalogue
+  pub history : All (IsWritten change_format image) c.history.pages
+
 -- The lists of a plan can be written to a disk of this many bytes: its places lie behind the slots, no two of them have a block
 -- in common, each page has its place, the directory has exactly its blocks, and a directory can have the lists.
 pub record IsWritable (size : ℕ) (p : Plan) : Type 0 where
   pub inside : AreInside size (places p)
   pub apart : AreApart (places p)
-  pub catalogue : All (λ page. ¬ IsTouched page.place) p.contents.catalogue
-  pub history : All (λ page. ¬ IsTouched page.place) p.contents.history.pages
+  pub placed : ArePlaced p.contents
   pub directory : IsSized p.directory (length (planned_listing p))
   pub listable : AreListable written_format (once_stored p.contents)
 
@@ -81,6 +88,5 @@ pub record HasWrittenBodies {D : Type 0} (device : D → DiskState) (start now :
   pub contents : now.contents ≡ start.contents
   pub is_closed : now.is_closed ≡ start.is_closed
   pub outside : WritesOutside (is_kept start.slots.root start.contents) (device start.disk) (device now.disk)
-  pub advances : Advances (device start.disk) (device now.disk)
-  pub sound : (device now.disk).faults ≡ (device start.disk).faults
+  pub runs : RunsWriting ⊥ (device start.disk) (device now.disk)
   pub stand : AreBodies (device now.disk).now.seen p.bodies.items bodies

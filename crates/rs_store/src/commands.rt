@@ -15,11 +15,12 @@ ghost use Rattle.rs_store.specs.Answered.{Answers};
 ghost use Rattle.rs_store.specs.Received.{IsLate};
 
 use crate::source::rooted_by;
-use crate::writing::{WriteFault, write_lists};
+use crate::writing::write_lists;
 use crate::{Refusal, Source};
 use rs_body::write_body;
 use rs_disk::Disk;
-use rs_model::Reply;
+use rs_model::{Command, Reply};
+use rs_page::StoreFault;
 use rs_plan::{Plan, PlanFault, plan_delete, plan_publish, plan_put};
 use rs_record::{MediaType, Name};
 use rs_time::Moment;
@@ -37,6 +38,23 @@ impl From<PlanFault> for Refusal {
 }
 
 impl<D: Disk> Source<D> {
+    /// Does a command, which comes at this moment, as [`Source::put`], [`Source::delete`],
+    /// [`Source::publish`] or [`Source::group`] does it.
+    ///
+    /// # Errors
+    ///
+    /// As with these.
+    pub fn command(&mut self, command: &Command, now: Moment) -> Result<Reply, Refusal>
+        ensures { Answers D.state self.old self.new command.now now result }
+    {
+        match command {
+            Command::Put { name, kind, bytes } => self.put(name, kind, bytes.bytes(), now),
+            Command::Delete { name } => self.delete(name, now),
+            Command::Publish => self.publish(now),
+            Command::Group(group) => self.group(group.items(), now),
+        }
+    }
+
     /// Binds the name to these bytes, of this media type: the resource is created, or updated where the
     /// name is held. The command comes at the moment `now`, and is accepted at this one, or at one
     /// millisecond after the last accepted command where that is later.
@@ -69,7 +87,7 @@ impl<D: Disk> Source<D> {
         self.carry_out_put(&mut plan, bytes)
     }
 
-    // The plan of a put at this moment.
+    /// The plan of a put at this moment.
     fn planned_put(
         &mut self,
         name: &Name,
@@ -96,7 +114,7 @@ impl<D: Disk> Source<D> {
         )
     }
 
-    // Writes the body of a planned put, and then the lists.
+    /// Writes the body of a planned put, and then the lists.
     fn carry_out_put(&mut self, plan: &mut Plan, bytes: &[u8]) -> Result<Reply, Refusal>
         requires is_open { self.old.is_closed ≡ false }
         requires spare { self.old.slots.root.generation + 1 < 2 ^ 64 }
@@ -172,8 +190,8 @@ impl<D: Disk> Source<D> {
     {
         let written = match write_lists(self.alloc, &mut self.disk, plan) {
             Ok(written) => written,
-            Err(WriteFault::NoMemory) => return Err(Refusal::NoMemory),
-            Err(WriteFault::Device) => {
+            Err(StoreFault::NoMemory) => return Err(Refusal::NoMemory),
+            Err(StoreFault::Device) => {
                 self.is_closed = true;
                 return Err(Refusal::Device);
             }

@@ -87,7 +87,7 @@ impl<D: Disk> Source<D> {
         Ok(moment)
     }
 
-    // The moment of a put or a delete that the resources allow.
+    /// The moment of a put or a delete that the resources allow.
     fn moment_of_change(&self, now: Moment) -> Result<Moment, Refusal>
         ensures decided { result ≡ moment_unless
             (or_spent (change_refusal (state_of D.state self.now)) (is_spent self.now))

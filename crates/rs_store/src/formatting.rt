@@ -1,12 +1,8 @@
 //! How a source is made.
 
-ghost use Rattle.std.specs.Prelude.{◌≡◌, ◌↔◌, ◌*◌, ◌<◌, ◌≤◌, false, length, take, IfOk, OnOk, IfErr, IsErrAnd, IsErrOf, IsTrue};
-ghost use Rattle.rs_disk.specs.Medium.{resting};
-ghost use Rattle.rs_disk.specs.Leaves.{Runs};
-ghost use Rattle.rs_extent.specs.Extents.{IsOnDisk};
-ghost use Rattle.rs_body.specs.Blocks.{part};
+ghost use Rattle.std.specs.Prelude.{◌≡◌, ◌↔◌, ◌*◌, ◌<◌, ◌≤◌, false, length, take, IfOk, OnOk, IfErr, IsErrAnd, IsErrOf, IsTrue, IsErr};
+ghost use Rattle.rs_disk.specs.Runs.{RunsWriting};
 ghost use Rattle.rs_record.specs.Base.{is_base};
-ghost use Rattle.rs_commit.specs.Commit.{IsReady};
 ghost use Rattle.rs_commit.specs.Slots.{written_version};
 ghost use Rattle.rs_commit.specs.Format.{formatted, fresh};
 ghost use Rattle.rs_directory.specs.Limit.{IsLimit};
@@ -15,7 +11,7 @@ ghost use Rattle.rs_image.specs.Reach.{blocks_of_disk};
 ghost use Rattle.rs_image.specs.Rooted.{rooted, MemoryIsSound};
 ghost use Rattle.rs_store.specs.Source.{Holds};
 ghost use Rattle.rs_store.specs.Opening.{disk_of};
-ghost use Rattle.rs_store.specs.Formatting.{first_header as header_of, first_contents, first_root, IsBlank, device_in_format};
+ghost use Rattle.rs_store.specs.Formatting.{first_header as header_of, first_contents, first_root, IsBlank, FitsDisk, IsMade, MayMake, HasCauses};
 
 use crate::Source;
 use rs_body::{blocks_for, write_body};
@@ -125,7 +121,8 @@ impl<D: Disk> Source<D> {
         ensures untouched { IfErr result (λ e. ¬ (e.1 ≡ FormatFault.Device) → e.0 ≡ disk) }
 
         // What holds of every device, whatever it answers.
-        ensures runs { Runs (D.state disk) (D.state (disk_of result)) (device_in_format result) }
+        ensures runs { RunsWriting (IsErrAnd result (λ e. e.1 ≡ FormatFault.Device))
+            (D.state disk) (D.state (disk_of result)) }
     {
         let mut disk = disk;
         let blank = match lay_out(alloc, disk.size(), base, limit, now) {
@@ -146,7 +143,7 @@ impl<D: Disk> Source<D> {
     }
 }
 
-// What is to be written of a source that is formatted now, on a disk of this many bytes.
+/// What is to be written of a source that is formatted now, on a disk of this many bytes.
 fn lay_out(
     alloc: Global,
     size: u64,
@@ -157,14 +154,8 @@ fn lay_out(
     ensures blank { IfOk result (IsBlank base.now limit now) }
     ensures sound { IfOk result
         (λ blank. MemoryIsSound (rooted size blank.root blank.contents) blank.used) }
-    ensures room { OnOk result (16 ≤ blocks_of_disk size) }
-    ensures limit { OnOk result (IsLimit limit) }
-    ensures base { OnOk result (IsTrue (is_base base.now)) }
-    ensures bad_base { IsErrOf result FormatFault.BadBase ↔ (is_base base.now ≡ false) }
-    ensures bad_limit { IsErrOf result FormatFault.BadLimit
-        ↔ (IsTrue (is_base base.now) × (¬ IsLimit limit)) }
-    ensures too_small { IsErrOf result FormatFault.TooSmall
-        ↔ (IsTrue (is_base base.now) × IsLimit limit × (blocks_of_disk size < 16)) }
+    ensures may { OnOk result (MayMake size base.now limit) }
+    ensures causes { HasCauses size base.now limit (IsErrOf result) }
     ensures device { ¬ IsErrOf result FormatFault.Device }
 {
     let header = first_header(alloc, size, base, limit, now)?;
@@ -196,7 +187,7 @@ fn lay_out(
     })
 }
 
-// The header of a source that is formatted now, on a disk of this many bytes.
+/// The header of a source that is formatted now, on a disk of this many bytes.
 fn first_header(
     alloc: Global,
     size: u64,
@@ -205,14 +196,8 @@ fn first_header(
     now: Moment,
 ) -> Result<Header, FormatFault>
     ensures header { IfOk result (λ header. header ≡ header_of base.now limit now) }
-    ensures room { OnOk result (16 ≤ blocks_of_disk size) }
-    ensures limit { OnOk result (IsLimit limit) }
-    ensures base { OnOk result (IsTrue (is_base base.now)) }
-    ensures bad_base { IsErrOf result FormatFault.BadBase ↔ (is_base base.now ≡ false) }
-    ensures bad_limit { IsErrOf result FormatFault.BadLimit
-        ↔ (IsTrue (is_base base.now) × (¬ IsLimit limit)) }
-    ensures too_small { IsErrOf result FormatFault.TooSmall
-        ↔ (IsTrue (is_base base.now) × IsLimit limit × (blocks_of_disk size < 16)) }
+    ensures may { OnOk result (MayMake size base.now limit) }
+    ensures causes { HasCauses size base.now limit (IsErrOf result) }
     ensures device { ¬ IsErrOf result FormatFault.Device }
 {
     let base = match Base::new(alloc, base) {
@@ -240,23 +225,12 @@ fn first_header(
     })
 }
 
-// Writes the directory, and then the slots, of which the first sync settles both.
+/// Writes the directory, and then the slots, of which the first sync settles both.
 fn write_blank<D: Disk>(disk: &mut D, blank: &Blank) -> Result<Slots, Fault>
-    requires slots { 1024 ≤ (D.state disk.old).size }
-    requires version { blank.now.root.version ≡ written_version }
-    requires behind { blank.now.root.directory.first ≡ 2 }
-    requires room { IsOnDisk blank.now.root.directory (D.state disk.old).size }
-    requires fits { length blank.now.directory.items ≤ 512 * blank.now.root.directory.blocks }
-    ensures runs { Runs (D.state disk.old) (D.state disk.new) result }
+    requires fits { FitsDisk (D.state disk.old).size blank.now }
+    ensures runs { RunsWriting (IsErr result) (D.state disk.old) (D.state disk.new) }
     ensures slots { IfOk result (λ slots. slots ≡ fresh blank.now.root) }
-    ensures front { OnOk result
-        (take 1024 (D.state disk.new).now.seen ≡ formatted blank.now.root) }
-    ensures ready { OnOk result (IsReady (fresh blank.now.root) (D.state disk.new).now) }
-    ensures resting { OnOk result ((D.state disk.new).now ≡ resting (D.state disk.new).now.seen) }
-    ensures reads { OnOk result
-        (part blank.now.root.directory (length blank.now.directory.items)
-        (D.state disk.new).now.seen
-        ≡ blank.now.directory.items) }
+    ensures made { OnOk result (IsMade blank.now (D.state disk.new).now) }
 {
     write_body(disk, blank.root.directory, &blank.directory)?;
     format_slots(disk, &blank.root)

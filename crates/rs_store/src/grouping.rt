@@ -1,11 +1,11 @@
 //! Groups: several puts and deletes by one commit.
 
-ghost use Rattle.std.specs.Prelude.{◌≡◌, ◌<◌, ◌≤◌, ◌+◌, ◌^◌, ℕ, Bool, length, take, map, false, None, IfOk, OnOk, IsErrOf};
+ghost use Rattle.std.specs.Prelude.{◌≡◌, ◌<◌, ◌≤◌, ◌+◌, ◌^◌, ℕ, Bool, length, take, map, false, None, IfOk, OnOk, IsErrOf, IsErr};
 ghost use Rattle.std.specs.List.{AllZip};
-ghost use Rattle.rs_disk.specs.Leaves.{Runs};
+ghost use Rattle.rs_disk.specs.Runs.{RunsWriting};
 ghost use Rattle.rs_extent.specs.Extents.{AreApart, AreBeside, AreOnDisk};
 ghost use Rattle.rs_body.specs.Blocks.{IsSized};
-ghost use Rattle.rs_body.specs.Outside.{WritesOutside};
+ghost use Rattle.rs_body.specs.Outside.{WritesOnly};
 ghost use Rattle.rs_model.specs.Grouping.{name_of};
 ghost use Rattle.rs_model.specs.State.{most_grouped};
 ghost use Rattle.rs_model.specs.Step.{is_held, moment_at, refusal_of};
@@ -53,7 +53,7 @@ impl<D: Disk> Source<D> {
         self.carry_out_group(&mut plan, items)
     }
 
-    // The plan of a group whose first item is done at this moment.
+    /// The plan of a group whose first item is done at this moment.
     fn planned_group(&mut self, items: &[Item], moment: Moment) -> Result<Plan, PlanFault>
         requires may { MayGroup self.old.contents items.now moment }
         ensures same { self.new ≡ self.old }
@@ -66,7 +66,7 @@ impl<D: Disk> Source<D> {
         plan_group(self.alloc, &mut self.used, &rooted, items, moment)
     }
 
-    // Writes the bodies of a planned group, and then its lists.
+    /// Writes the bodies of a planned group, and then its lists.
     fn carry_out_group(&mut self, plan: &mut Plan, items: &[Item]) -> Result<Reply, Refusal>
         requires is_open { self.old.is_closed ≡ false }
         requires spare { self.old.slots.root.generation + 1 < 2 ^ 64 }
@@ -85,7 +85,7 @@ impl<D: Disk> Source<D> {
         self.finish(plan)
     }
 
-    // The moment of the first item of a group that comes at `now`, or why it is refused at once.
+    /// The moment of the first item of a group that comes at `now`, or why it is refused at once.
     fn moment_of_group(&self, items: &[Item], now: Moment) -> Result<Moment, Refusal>
         ensures decided { result ≡ moment_unless
             (decided self.now (state_of D.state self.now) (Group items.now) now)
@@ -108,7 +108,7 @@ impl<D: Disk> Source<D> {
         Ok(moment)
     }
 
-    // Why the model refuses a group of these items that comes at `now`, if it does.
+    /// Why the model refuses a group of these items that comes at `now`, if it does.
     fn refused_group(&self, items: &[Item], now: Moment) -> Option<Refused>
         requires { length items.now ≤ most_grouped }
         ensures { result ≡ refusal_of (state_of D.state self.now) (Group items.now) now }
@@ -123,7 +123,7 @@ impl<D: Disk> Source<D> {
         group_refusal(items, &held[..items.len()], counts, now)
     }
 
-    // Puts down of each item whether its name is held.
+    /// Puts down of each item whether its name is held.
     fn note_held(&self, items: &[Item], held: &mut [bool])
         requires { length items.now ≤ length held.old }
         ensures noted { take (length items.now) held.new
@@ -136,8 +136,8 @@ impl<D: Disk> Source<D> {
     }
 }
 
-// Writes each body of these items that no later one replaces or deletes, each to its extent. Nothing
-// beside the extents changes, whether it succeeds or not.
+/// Writes each body of these items that no later one replaces or deletes, each to its extent. Nothing
+/// beside the extents changes, whether it succeeds or not.
 fn write_bodies<D: Disk>(disk: &mut D, extents: &[Extent], items: &[Item]) -> Result<(), Fault>
     requires room { AreOnDisk extents.now (D.state disk.old).size }
     requires apart { AreApart extents.now }
@@ -145,12 +145,7 @@ fn write_bodies<D: Disk>(disk: &mut D, extents: &[Extent], items: &[Item]) -> Re
         extents.now (bodies_kept items.now) }
     ensures stand { OnOk result
         (AreBodies (D.state disk.new).now.seen extents.now (bodies_kept items.now)) }
-    ensures runs { Runs (D.state disk.old) (D.state disk.new) result }
-
-    // Whatever it answers.
-    ensures keeps { (D.state disk.new).honest ≡ (D.state disk.old).honest }
-    ensures outside { (kept : ℕ → Bool) → AreBeside kept extents.now
-        → WritesOutside kept (D.state disk.old) (D.state disk.new) }
+    ensures writes { WritesOnly extents.now (IsErr result) (D.state disk.old) (D.state disk.new) }
 {
     let mut written = 0;
     for i in 0..items.len() {

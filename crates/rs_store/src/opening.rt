@@ -2,13 +2,13 @@
 
 ghost use Rattle.std.specs.Prelude.{◌≡◌, ◌+◌, ◌<◌, IfOk, IfErr, OnOk, IsErrOf, IsErrAnd, IsTrue};
 ghost use Rattle.rs_disk.specs.Medium.{resting};
-ghost use Rattle.rs_disk.specs.Leaves.{Rests, WritesNothing, TellsFaults};
+ghost use Rattle.rs_disk.specs.Runs.{RunsReading, WritesNothing};
 ghost use Rattle.rs_commit.specs.Commit.{AreSettled};
 ghost use Rattle.rs_image.specs.Rooted.{rooted, MemoryIsSound};
 ghost use Rattle.rs_store.specs.Opening.{disk_of, IsFound, IsOpened, IsNotOpened, ArePagesPlaced};
 
 use crate::Source;
-use rs_catalogue::LoadFault;
+use rs_body::LoadFault;
 use rs_commit::{SlotFault, Slots, open_slots};
 use rs_disk::{Disk, Fault};
 use rs_extent::BLOCK_SIZE;
@@ -100,15 +100,14 @@ impl<D: Disk> Source<D> {
     pub fn open(alloc: Global, disk: D) -> Result<Source<D>, (D, OpenFault)>
         ensures opened { IfOk result (IsOpened D.state (D.state disk)) }
         ensures refused { IfErr result (λ e. IsNotOpened (D.state disk) (D.state e.0) e.1) }
-        ensures told { TellsFaults (IsErrAnd result (λ e. e.1 ≡ OpenFault.Device))
-            (D.state disk) (D.state (disk_of result)) }
         ensures no_memory_behind { IfErr result (λ e. e.1 ≡ OpenFault.NoMemory
             → IsTrue (D.state e.0).honest → (D.state disk).calls + 3 < (D.state e.0).calls
             → ArePagesPlaced (D.state disk).size (D.state disk).now.seen) }
 
         // Whatever it answers, a crash within it leaves an image of its entry, and a read gives what
         // it gave.
-        ensures writes_nothing { WritesNothing (D.state disk) (D.state (disk_of result)) }
+        ensures runs { WritesNothing (IsErrAnd result (λ e. e.1 ≡ OpenFault.Device))
+            (D.state disk) (D.state (disk_of result)) }
     {
         let mut disk = disk;
         match recover(alloc, &mut disk) {
@@ -125,7 +124,7 @@ impl<D: Disk> Source<D> {
     }
 }
 
-// Settles what a disk holds, and reads the source that it holds.
+/// Settles what a disk holds, and reads the source that it holds.
 fn recover<D: Disk>(alloc: Global, disk: &mut D) -> Result<(Slots, Loaded), OpenFault>
     ensures sound { IfOk result (λ x.
         MemoryIsSound (rooted (D.state disk.new).size x.0.root x.1.contents) x.1.used) }
@@ -133,18 +132,17 @@ fn recover<D: Disk>(alloc: Global, disk: &mut D) -> Result<(Slots, Loaded), Open
     ensures found { IfOk result (λ x. IsTrue (D.state disk.new).honest
         → IsFound (D.state disk.old).now.seen (D.state disk.new).now x.0 x.1.contents) }
     ensures refused { IfErr result (IsNotOpened (D.state disk.old) (D.state disk.new)) }
-    ensures told { TellsFaults (IsErrOf result OpenFault.Device)
-        (D.state disk.old) (D.state disk.new) }
     ensures no_memory_behind { IsErrOf result OpenFault.NoMemory → IsTrue (D.state disk.new).honest
         → (D.state disk.old).calls + 3 < (D.state disk.new).calls
         → ArePagesPlaced (D.state disk.old).size (D.state disk.old).now.seen }
-    ensures writes_nothing { WritesNothing (D.state disk.old) (D.state disk.new) }
+    ensures runs { WritesNothing (IsErrOf result OpenFault.Device)
+        (D.state disk.old) (D.state disk.new) }
 {
     disk.sync()?;
     read_source(alloc, disk)
 }
 
-// Reads the source that a disk holds.
+/// Reads the source that a disk holds.
 fn read_source<D: Disk>(alloc: Global, disk: &mut D) -> Result<(Slots, Loaded), OpenFault>
     ensures sound { IfOk result (λ x.
         MemoryIsSound (rooted (D.state disk.new).size x.0.root x.1.contents) x.1.used) }
@@ -152,12 +150,11 @@ fn read_source<D: Disk>(alloc: Global, disk: &mut D) -> Result<(Slots, Loaded), 
         → AreSettled (D.state disk.old).now
         → IsFound (D.state disk.old).now.seen (D.state disk.new).now x.0 x.1.contents) }
     ensures refused { IfErr result (IsNotOpened (D.state disk.old) (D.state disk.new)) }
-    ensures told { TellsFaults (IsErrOf result OpenFault.Device)
-        (D.state disk.old) (D.state disk.new) }
     ensures no_memory_behind { IsErrOf result OpenFault.NoMemory → IsTrue (D.state disk.new).honest
         → (D.state disk.old).calls + 2 < (D.state disk.new).calls
         → ArePagesPlaced (D.state disk.old).size (D.state disk.old).now.seen }
-    ensures rests { Rests (D.state disk.old) (D.state disk.new) }
+    ensures runs { RunsReading (IsErrOf result OpenFault.Device)
+        (D.state disk.old) (D.state disk.new) }
 {
     let (slots, root) = open_slots(disk)?;
     // Behind the slots of so small a disk no directory has room.

@@ -1,7 +1,7 @@
 //! What a source shows.
 
 ghost use Rattle.std.specs.Prelude.{◌≡◌, ◌↔◌, false, map, IfOk, IfErr, IfSome, IsErrOf, IsOkUnless, Some, IsTrue};
-ghost use Rattle.rs_disk.specs.Leaves.{TellsFaults};
+ghost use Rattle.rs_disk.specs.Runs.{RunsReading};
 ghost use Rattle.rs_model.specs.Names.{value_of, is_ordered};
 ghost use Rattle.rs_model.specs.State.{body_of, entries};
 ghost use Rattle.rs_model.specs.Step.{is_held};
@@ -16,7 +16,7 @@ ghost use Rattle.rs_store.specs.OnlyReads.{OnlyReads};
 ghost use Rattle.rs_store.specs.Views.{shown_in, shown_by_source};
 
 use crate::{Refusal, Source, SourceView};
-use rs_body::{BodyFault, read_in_pieces};
+use rs_body::{LoadFault, read_in_pieces};
 use rs_catalogue::Catalogue;
 use rs_changes::History;
 use rs_disk::Disk;
@@ -37,16 +37,16 @@ pub struct Status {
     pub last: Moment,
 }
 
-impl From<BodyFault> for Refusal {
+impl From<LoadFault> for Refusal {
     ghost use Rattle.rs_store.specs.Bodies.{refusal_of_body};
 
     ghost from_gives = { λ fault refusal. refusal ≡ refusal_of_body fault };
 
-    fn from(fault: BodyFault) -> Refusal {
+    fn from(fault: LoadFault) -> Refusal {
         match fault {
-            BodyFault::Device => Refusal::Device,
-            BodyFault::Damaged => Refusal::Damaged,
-            BodyFault::NoMemory => Refusal::NoMemory,
+            LoadFault::Device => Refusal::Device,
+            LoadFault::Damaged => Refusal::Damaged,
+            LoadFault::NoMemory => Refusal::NoMemory,
         }
     }
 }
@@ -82,7 +82,7 @@ impl<D: Disk> Source<D> {
         self.read_held(name)
     }
 
-    // The body of a name, clause by clause.
+    /// The body of a name, clause by clause.
     fn read_held(&mut self, name: &Name) -> Result<Vec<u8>, Refusal>
         // What the disk holds is said of a device that has followed the model; that the bytes are as
         // recorded, of every device.
@@ -100,7 +100,7 @@ impl<D: Disk> Source<D> {
             → IsTrue (D.state self.new.disk).honest
             → IfSome (value_of name.now (state_of D.state self.old).held)
             (λ held. ¬ HasItsDigest held) }
-        ensures device { TellsFaults (IsErrOf result Refusal.Device)
+        ensures runs { RunsReading (IsErrOf result Refusal.Device)
             (D.state self.old.disk) (D.state self.new.disk) }
         ensures others { IfErr result IsOfBody }
 
@@ -248,7 +248,7 @@ impl<D: Disk> Source<D> {
     }
 }
 
-// Copies of the records of a catalogue, in their order.
+/// Copies of the records of a catalogue, in their order.
 fn records_in(alloc: Global, catalogue: &Catalogue) -> Result<Vec<Record>, AllocError>
     ensures records { IfOk result (λ records. records.items ≡ records_of catalogue.now) }
     ensures ascending { IfOk result (λ records. IsTrue (is_ordered (named records.items))) }
@@ -261,7 +261,7 @@ fn records_in(alloc: Global, catalogue: &Catalogue) -> Result<Vec<Record>, Alloc
     Ok(records)
 }
 
-// Copies of the changes of a history, in their order.
+/// Copies of the changes of a history, in their order.
 fn changes_in(alloc: Global, history: &History) -> Result<Vec<Change>, AllocError>
     ensures { IfOk result (λ changes. changes.items ≡ changes_of history.now.pages) }
 {

@@ -1,19 +1,18 @@
 //! A put whose body a reader brings.
 
-ghost use Rattle.std.specs.Prelude.{◌≡◌, ◌<◌, ◌≤◌, ◌+◌, ◌*◌, ◌++◌, ◌^◌, ℕ, Bool, List, false, None, length, take, drop, IfOk, IfErr, OnOk, OnErr, IsErrOf};
+ghost use Rattle.std.specs.Prelude.{◌≡◌, ◌<◌, ◌≤◌, ◌+◌, ◌*◌, ◌++◌, ◌^◌, ℕ, Bool, List, false, None, length, take, drop, IfOk, IfErr, OnOk, OnErr, IsErrOf, [], ◌∷◌};
 ghost use Rattle.std.specs.Io.KnownBytes.{Consumes, Keeps, IsAtEnd};
-ghost use Rattle.rs_io.specs.Watch.{watched, failures, EndFailed, Took};
-ghost use Rattle.rs_disk.specs.Leaves.{Advances, TellsFaults};
+ghost use Rattle.rs_io.specs.Watch.{watched, EndFailed, TellsEnd, Took};
 ghost use Rattle.rs_extent.specs.Blocks.{block_size};
-ghost use Rattle.rs_extent.specs.Extents.{IsOnDisk, IsBeside};
+ghost use Rattle.rs_extent.specs.Extents.{IsOnDisk};
 ghost use Rattle.rs_fixity.specs.Digests.{digests};
 ghost use Rattle.rs_body.specs.Blocks.{part};
-ghost use Rattle.rs_body.specs.Outside.{WritesOutside};
+ghost use Rattle.rs_body.specs.Outside.{WritesOnly};
 ghost use Rattle.rs_model.specs.declared.command.Command.TheVariants.{Put};
 ghost use Rattle.rs_plan.specs.declared.planning.PlanFault.{PlanFault};
 ghost use Rattle.rs_plan.specs.Allowed.{MayPut};
 ghost use Rattle.rs_plan.specs.Plans.{LacksRoom};
-ghost use Rattle.rs_plan.specs.Drafts.{AwaitsBody, IsDraftOf};
+ghost use Rattle.rs_plan.specs.Drafts.{AwaitsBody, IsDraft, IsDraftOf};
 ghost use Rattle.rs_model.specs.Step.{moment_at};
 ghost use Rattle.rs_store.specs.Source.{rooted_in, state_of};
 ghost use Rattle.rs_store.specs.Refusals.{decided};
@@ -62,9 +61,7 @@ impl<D: Disk> Source<D> {
         ensures came { (came : List ℕ)
             × Consumes (R.remaining (watched reader.old)) (R.remaining (watched reader.new)) came
             × AnswersFrom D.state self.old self.new name.now kind.now body_length now came result }
-        ensures failed { IsErrOf result Refusal.ReadFault → EndFailed reader.old reader.new }
-        ensures sound { ¬ IsErrOf result Refusal.ReadFault
-            → failures reader.new ≡ failures reader.old }
+        ensures failed { TellsEnd (IsErrOf result Refusal.ReadFault) reader.old reader.new }
         ensures ended { IsErrOf result Refusal.ShortBody
             → IsAtEnd (R.remaining (watched reader.new)) }
     {
@@ -74,7 +71,7 @@ impl<D: Disk> Source<D> {
         self.receive_planned(&mut plan, name, reader, length)
     }
 
-    // The plan of a put at this moment, of so many bytes that have not come yet.
+    /// The plan of a put at this moment, of so many bytes that have not come yet.
     fn drafted_put(
         &mut self,
         name: &Name,
@@ -84,9 +81,8 @@ impl<D: Disk> Source<D> {
     ) -> Result<Plan, PlanFault>
         requires may { MayPut self.old.contents name.now body_length moment }
         ensures same { self.new ≡ self.old }
-        ensures awaits { IfOk result (AwaitsBody name.now) }
-        ensures planned { IfOk result
-            (IsDraftOf (rooted_in D.state self.old) name.now kind.now body_length moment) }
+        ensures draft { IfOk result
+            (IsDraft (rooted_in D.state self.old) name.now kind.now body_length moment) }
         ensures full { IsErrOf result PlanFault.Full
             → (bytes : List ℕ) → length bytes ≡ body_length
             → LacksRoom (rooted_in D.state self.old) (Put name.now kind.now bytes) moment }
@@ -103,7 +99,7 @@ impl<D: Disk> Source<D> {
         )
     }
 
-    // Reads the body of a put that was drafted and writes it to its extent, and then the lists.
+    /// Reads the body of a put that was drafted and writes it to its extent, and then the lists.
     fn receive_planned<R: Read>(
         &mut self,
         plan: &mut Plan,
@@ -124,9 +120,7 @@ impl<D: Disk> Source<D> {
             → IsDraftOf (rooted_in D.state self.old) name.now kind body_length
             (moment_at (state_of D.state self.old) now) plan.old
             → AnswersFrom D.state self.old self.new name.now kind body_length now came result) }
-        ensures failed { IsErrOf result Refusal.ReadFault → EndFailed reader.old reader.new }
-        ensures sound { ¬ IsErrOf result Refusal.ReadFault
-            → failures reader.new ≡ failures reader.old }
+        ensures failed { TellsEnd (IsErrOf result Refusal.ReadFault) reader.old reader.new }
         ensures ended { IsErrOf result Refusal.ShortBody
             → IsAtEnd (R.remaining (watched reader.new)) }
     {
@@ -145,9 +139,9 @@ impl<D: Disk> Source<D> {
     }
 }
 
-// Reads the next bytes of a reader, exactly this many, and writes them to the front of an extent,
-// a piece at a time. A piece is written before the next one is read. Nothing beside the extent
-// changes, whether all came or not.
+/// Reads the next bytes of a reader, exactly this many, and writes them to the front of an extent,
+/// a piece at a time. A piece is written before the next one is read. Nothing beside the extent
+/// changes, whether all came or not.
 fn receive<R: Read, D: Disk>(
     disk: &mut D,
     reader: &mut Watched<R>,
@@ -165,15 +159,9 @@ fn receive<R: Read, D: Disk>(
     ensures stopped { IfErr result (λ refusal. (came : List ℕ)
         × Consumes (R.remaining (watched reader.old)) (R.remaining (watched reader.new)) came
         × IsStopped body_length (R.remaining (watched reader.new)) came refusal) }
-    ensures failed { IsErrOf result Refusal.ReadFault → EndFailed reader.old reader.new }
-    ensures sound { ¬ IsErrOf result Refusal.ReadFault → failures reader.new ≡ failures reader.old }
-    ensures device { TellsFaults (IsErrOf result Refusal.Device)
+    ensures failed { TellsEnd (IsErrOf result Refusal.ReadFault) reader.old reader.new }
+    ensures writes { WritesOnly (extent ∷ []) (IsErrOf result Refusal.Device)
         (D.state disk.old) (D.state disk.new) }
-
-    // Whatever it answers.
-    ensures outside { (kept : ℕ → Bool) → IsBeside kept extent
-        → WritesOutside kept (D.state disk.old) (D.state disk.new) }
-    ensures advances { Advances (D.state disk.old) (D.state disk.new) }
 {
     let mut buffer = [0; PIECE_SIZE];
     let mut hashing = Hashing::new();
@@ -188,7 +176,7 @@ fn receive<R: Read, D: Disk>(
     Ok(hashing.done())
 }
 
-// Fills a piece of a body with the next bytes of a reader, and writes it to its place in an extent.
+/// Fills a piece of a body with the next bytes of a reader, and writes it to its place in an extent.
 fn receive_piece<R: Read, D: Disk>(
     disk: &mut D,
     reader: &mut Watched<R>,
@@ -204,15 +192,9 @@ fn receive_piece<R: Read, D: Disk>(
     ensures stopped { IfErr result (λ refusal. (came : List ℕ)
         × Consumes (R.remaining (watched reader.old)) (R.remaining (watched reader.new)) came
         × IsStopped (length piece.old) (R.remaining (watched reader.new)) came refusal) }
-    ensures failed { IsErrOf result Refusal.ReadFault → EndFailed reader.old reader.new }
-    ensures sound { ¬ IsErrOf result Refusal.ReadFault → failures reader.new ≡ failures reader.old }
-    ensures device { TellsFaults (IsErrOf result Refusal.Device)
+    ensures failed { TellsEnd (IsErrOf result Refusal.ReadFault) reader.old reader.new }
+    ensures writes { WritesOnly (extent ∷ []) (IsErrOf result Refusal.Device)
         (D.state disk.old) (D.state disk.new) }
-
-    // Whatever it answers.
-    ensures outside { (kept : ℕ → Bool) → IsBeside kept extent
-        → WritesOutside kept (D.state disk.old) (D.state disk.new) }
-    ensures advances { Advances (D.state disk.old) (D.state disk.new) }
 {
     read_into(reader, piece)?;
     if write_piece(disk, extent, at, piece).is_err() {
@@ -221,7 +203,7 @@ fn receive_piece<R: Read, D: Disk>(
     Ok(())
 }
 
-// Reads once into a buffer, behind its first bytes.
+/// Reads once into a buffer, behind its first bytes.
 fn read_behind<R: Read>(
     reader: &mut Watched<R>,
     buf: &mut [u8],
@@ -253,8 +235,7 @@ pub fn read_into<R: Read>(reader: &mut Watched<R>, buf: &mut [u8]) -> Result<(),
     ensures cut { IfErr result (λ refusal. (came : List ℕ)
         × Consumes (R.remaining (watched reader.old)) (R.remaining (watched reader.new)) came
         × IsCut (length buf.old) (R.remaining (watched reader.new)) came refusal) }
-    ensures failed { IsErrOf result Refusal.ReadFault → EndFailed reader.old reader.new }
-    ensures sound { ¬ IsErrOf result Refusal.ReadFault → failures reader.new ≡ failures reader.old }
+    ensures failed { TellsEnd (IsErrOf result Refusal.ReadFault) reader.old reader.new }
 {
     let mut filled = 0;
     while filled < buf.len() {

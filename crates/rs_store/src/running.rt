@@ -5,7 +5,6 @@ ghost use Rattle.rs_disk.specs.Leaves.{Leaves};
 ghost use Rattle.rs_model.specs.State.{Source as State};
 ghost use Rattle.rs_model.specs.Step.{fold_of};
 ghost use Rattle.rs_store.specs.Source.{Holds};
-ghost use Rattle.rs_store.specs.Answered.{Answers};
 ghost use Rattle.rs_store.specs.Counted.{counted_commands};
 ghost use Rattle.rs_store.specs.Runs.{InTurn, StandsForPrefix, AreReplies};
 
@@ -58,7 +57,7 @@ impl<D: Disk> Source<D> {
     {
         let mut acks = Vec::with_capacity(self.alloc, commands.len())?;
         for (command, now) in commands {
-            let reply = self.answer(command, *now);
+            let reply = self.command(command, *now);
             let at_call = self.calls();
             // There is room for it.
             let _ = acks.push(Ack { reply, at_call });
@@ -66,19 +65,7 @@ impl<D: Disk> Source<D> {
         Ok(acks)
     }
 
-    // One command.
-    fn answer(&mut self, command: &Command, now: Moment) -> Result<Reply, Refusal>
-        ensures { Answers D.state self.old self.new command.now now result }
-    {
-        match command {
-            Command::Put { name, kind, bytes } => self.put(name, kind, bytes.bytes(), now),
-            Command::Delete { name } => self.delete(name, now),
-            Command::Publish => self.publish(now),
-            Command::Group(group) => self.group(group.items(), now),
-        }
-    }
-
-    // How many calls of the disk were counted.
+    /// How many calls of the disk were counted.
     fn calls(&self) -> u64
         ensures { result ≡ (D.state self.now.disk).calls }
     {

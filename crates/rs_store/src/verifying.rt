@@ -1,7 +1,7 @@
 //! Which bodies are damaged.
 
 ghost use Rattle.std.specs.Prelude.{◌≡◌, ◌∷◌, ◌++◌, [], ◌≤◌, ◌+◌, length, map, All, IfErr, IfOk, OnOk, IsErrOf, IsTrue};
-ghost use Rattle.rs_disk.specs.Leaves.{Rests, TellsFaults};
+ghost use Rattle.rs_disk.specs.Runs.{RunsReading};
 ghost use Rattle.rs_catalogue.specs.Catalogue.{records_of};
 ghost use Rattle.rs_image.specs.StateOfImage.{held_in};
 ghost use Rattle.rs_store.specs.Verified.{AnswersVerify, HasItsPlace, IsOfLook, damaged_among};
@@ -33,7 +33,7 @@ impl<D: Disk> Source<D> {
     }
 }
 
-// The names of the records of a catalogue whose body on the disk is damaged, in their order.
+/// The names of the records of a catalogue whose body on the disk is damaged, in their order.
 fn damaged_in<D: Disk>(
     alloc: Global,
     disk: &mut D,
@@ -43,10 +43,8 @@ fn damaged_in<D: Disk>(
     ensures names { IfOk result (λ names. IsTrue (D.state disk.new).honest → names.items
         ≡ damaged_among (map (held_in (D.state disk.old).now.seen) (records_of catalogue.now))) }
     ensures few { IfOk result (λ names. length names.items ≤ length (records_of catalogue.now)) }
-    ensures failed { TellsFaults (IsErrOf result Refusal.Device)
-        (D.state disk.old) (D.state disk.new) }
     ensures others { IfErr result IsOfLook }
-    ensures rests { Rests (D.state disk.old) (D.state disk.new) }
+    ensures runs { RunsReading (IsErrOf result Refusal.Device) (D.state disk.old) (D.state disk.new) }
 {
     let mut names = Vec::new(alloc);
     for i in 0..catalogue.len() {
@@ -55,7 +53,7 @@ fn damaged_in<D: Disk>(
     Ok(names)
 }
 
-// Looks at the body of a record, and puts the name behind the others where it is damaged.
+/// Looks at the body of a record, and puts the name behind the others where it is damaged.
 fn note_damage<D: Disk>(
     alloc: Global,
     disk: &mut D,
@@ -66,10 +64,8 @@ fn note_damage<D: Disk>(
     ensures names { OnOk result (IsTrue (D.state disk.new).honest → names.new.items
         ≡ names.old.items ++ damaged_among (held_in (D.state disk.old).now.seen held.now ∷ [])) }
     ensures few { OnOk result (length names.new.items ≤ length names.old.items + 1) }
-    ensures failed { TellsFaults (IsErrOf result Refusal.Device)
-        (D.state disk.old) (D.state disk.new) }
     ensures others { IfErr result IsOfLook }
-    ensures rests { Rests (D.state disk.old) (D.state disk.new) }
+    ensures runs { RunsReading (IsErrOf result Refusal.Device) (D.state disk.old) (D.state disk.new) }
 {
     match is_intact(disk, held.extent, held.length, &held.digests.sha256) {
         Ok(true) => Ok(()),
@@ -78,7 +74,7 @@ fn note_damage<D: Disk>(
     }
 }
 
-// Puts a copy of a name behind the others.
+/// Puts a copy of a name behind the others.
 fn add_copy(alloc: Global, name: &Name, names: &mut Vec<Name>) -> Result<(), AllocError>
     ensures { OnOk result (names.new.items ≡ names.old.items ++ name.now ∷ []) }
 {

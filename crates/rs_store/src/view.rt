@@ -18,7 +18,7 @@ pub struct SourceView<'a, D: Disk> {
 }
 
 impl<'a, D: Disk> SourceView<'a, D> {
-    // The lists of the source.
+    /// The lists of the source.
     fn contents(&self) -> &'a Contents
         ensures value { result.now ≡ self.now.source.now.contents }
         ensures first { result.now.header.first ≤ greatest }

@@ -1,69 +1,25 @@
 //! Writing what a plan says.
 
-ghost use Rattle.std.specs.Prelude.{◌≡◌, ◌<◌, ◌+◌, ◌++◌, ℕ, Bool, length, All, IfOk, OnOk, IsErrOf};
+ghost use Rattle.std.specs.Prelude.{◌≡◌, ◌<◌, ◌+◌, ◌++◌, ℕ, Bool, length, All, IfOk, OnOk, IsErrOf, [], ◌∷◌};
 ghost use Rattle.rs_extent.specs.Extents.{IsOnDisk, IsBeside, AreBeside, AreApart, AreOnDisk};
 ghost use Rattle.rs_body.specs.Blocks.{part, IsSized};
-ghost use Rattle.rs_body.specs.Outside.{WritesOutside};
+ghost use Rattle.rs_body.specs.Outside.{WritesOnly};
 ghost use Rattle.rs_page.specs.Items.{record_format, change_format};
 ghost use Rattle.rs_page.specs.Pages.{IsTouched, placed_extents};
 ghost use Rattle.rs_page.specs.DiskPages.{IsWritten};
 ghost use Rattle.rs_directory.specs.Directory.{written_format};
 ghost use Rattle.rs_image.specs.StateOfImage.{listing, AreLists};
-ghost use Rattle.rs_disk.specs.Leaves.{Advances, TellsFaults};
 ghost use Rattle.rs_plan.specs.Plans.{once_stored, places};
-ghost use Rattle.rs_store.specs.Writing.{of_store, IsDigestOf, AreStoredLists, IsWritable, StaysBesideLists};
+ghost use Rattle.rs_store.specs.Writing.{IsDigestOf, touched_extents, ArePlaced, AreWrittenPages, AreStoredLists, IsWritable, StaysBesideLists};
 
 use rs_body::write_body;
-use rs_disk::{Disk, Fault};
+use rs_disk::Disk;
 use rs_extent::Extent;
 use rs_fixity::sha256_of;
 use rs_image::Contents;
 use rs_page::StoreFault;
 use rs_plan::Plan;
-use std::alloc::{AllocError, Global};
-use thiserror::Error;
-
-/// Why not all of a plan was written.
-#[derive(Clone, Copy, Debug, PartialEq, Eq, Error)]
-pub(crate) enum WriteFault {
-    /// The device failed.
-    #[error("the device failed")]
-    Device,
-    /// The memory for the bytes of a page or of the directory was refused.
-    #[error("out of memory")]
-    NoMemory,
-}
-
-impl From<Fault> for WriteFault {
-    ghost use Rattle.rs_store.specs.declared.writing.WriteFault.TheVariants.{Device};
-
-    ghost from_gives = { λ _ fault. fault ≡ Device };
-
-    fn from(_: Fault) -> WriteFault {
-        WriteFault::Device
-    }
-}
-
-impl From<StoreFault> for WriteFault {
-    ghost from_gives = { λ of fault. fault ≡ of_store of };
-
-    fn from(fault: StoreFault) -> WriteFault {
-        match fault {
-            StoreFault::Device => WriteFault::Device,
-            StoreFault::NoMemory => WriteFault::NoMemory,
-        }
-    }
-}
-
-impl From<AllocError> for WriteFault {
-    ghost use Rattle.rs_store.specs.declared.writing.WriteFault.TheVariants.{NoMemory};
-
-    ghost from_gives = { λ _ fault. fault ≡ NoMemory };
-
-    fn from(_: AllocError) -> WriteFault {
-        WriteFault::NoMemory
-    }
-}
+use std::alloc::Global;
 
 /// A directory that was written, as a root names it.
 #[derive(Clone, Copy, Debug, PartialEq, Eq)]
@@ -81,70 +37,55 @@ pub(crate) struct Written {
 ///
 /// # Errors
 ///
-/// - [`WriteFault::NoMemory`] where the memory for the bytes of a page or of the directory is refused.
-/// - [`WriteFault::Device`] where the device fails.
+/// - [`StoreFault::NoMemory`] where the memory for the bytes of a page or of the directory is refused.
+/// - [`StoreFault::Device`] where the device fails.
 ///
 /// After each of them the places of the lists may hold anything.
 pub(crate) fn write_lists<D: Disk>(
     alloc: Global,
     disk: &mut D,
     plan: &mut Plan,
-) -> Result<Written, WriteFault>
+) -> Result<Written, StoreFault>
     requires { IsWritable (D.state disk.old).size plan.old }
     ensures written { IfOk result (IsDigestOf (once_stored plan.old.contents)) }
     ensures stored { OnOk result (AreStoredLists plan.old plan.new (D.state disk.old).now.seen
         (D.state disk.new).now.seen) }
-    ensures device { TellsFaults (IsErrOf result WriteFault.Device)
-        (D.state disk.old) (D.state disk.new) }
 
     // Whatever it answers.
     ensures stays { StaysBesideLists plan.old plan.new }
-    ensures outside { (kept : ℕ → Bool) → AreBeside kept (places plan.old)
-        → WritesOutside kept (D.state disk.old) (D.state disk.new) }
-    ensures advances { Advances (D.state disk.old) (D.state disk.new) }
+    ensures writes { WritesOnly (places plan.old) (IsErrOf result StoreFault.Device)
+        (D.state disk.old) (D.state disk.new) }
 {
     write_pages(alloc, disk, &mut plan.contents)?;
     write_directory(alloc, disk, plan.directory, &plan.contents)
 }
 
-// Writes each page that was given blocks.
+/// Writes each page that was given blocks.
 fn write_pages<D: Disk>(
     alloc: Global,
     disk: &mut D,
     contents: &mut Contents,
-) -> Result<(), WriteFault>
-    requires catalogue { All (λ page. ¬ IsTouched page.place) contents.old.catalogue }
-    requires history { All (λ page. ¬ IsTouched page.place) contents.old.history.pages }
-    requires room { AreOnDisk
-        (placed_extents contents.old.catalogue ++ placed_extents contents.old.history.pages)
-        (D.state disk.old).size }
-    requires apart { AreApart
-        (placed_extents contents.old.catalogue ++ placed_extents contents.old.history.pages) }
+) -> Result<(), StoreFault>
+    requires placed { ArePlaced contents.old }
+    requires room { AreOnDisk (touched_extents contents.old) (D.state disk.old).size }
+    requires apart { AreApart (touched_extents contents.old) }
     ensures ok { OnOk result (contents.new ≡ once_stored contents.old) }
-    ensures catalogue { OnOk result
-        (All (IsWritten record_format (D.state disk.new).now.seen) contents.old.catalogue) }
-    ensures history { OnOk result
-        (All (IsWritten change_format (D.state disk.new).now.seen) contents.old.history.pages) }
-    ensures device { TellsFaults (IsErrOf result WriteFault.Device)
+    ensures pages { OnOk result (AreWrittenPages (D.state disk.new).now.seen contents.old) }
+    ensures writes { WritesOnly (touched_extents contents.old) (IsErrOf result StoreFault.Device)
         (D.state disk.old) (D.state disk.new) }
-    ensures outside { (kept : ℕ → Bool)
-        → AreBeside kept
-        (placed_extents contents.old.catalogue ++ placed_extents contents.old.history.pages)
-        → WritesOutside kept (D.state disk.old) (D.state disk.new) }
-    ensures advances { Advances (D.state disk.old) (D.state disk.new) }
 {
     contents.catalogue.store_touched(alloc, disk)?;
     contents.history.store_touched(alloc, disk)?;
     Ok(())
 }
 
-// Writes the directory of these lists.
+/// Writes the directory of these lists.
 fn write_directory<D: Disk>(
     alloc: Global,
     disk: &mut D,
     extent: Extent,
     contents: &Contents,
-) -> Result<Written, WriteFault>
+) -> Result<Written, StoreFault>
     requires room { IsOnDisk extent (D.state disk.old).size }
     requires sized { IsSized extent (length (listing written_format contents.now)) }
     ensures written { IfOk result (IsDigestOf contents.now) }
@@ -152,11 +93,8 @@ fn write_directory<D: Disk>(
     ensures reads { OnOk result
         (part extent (length (listing written_format contents.now)) (D.state disk.new).now.seen
         ≡ listing written_format contents.now) }
-    ensures device { TellsFaults (IsErrOf result WriteFault.Device)
+    ensures writes { WritesOnly (extent ∷ []) (IsErrOf result StoreFault.Device)
         (D.state disk.old) (D.state disk.new) }
-    ensures outside { (kept : ℕ → Bool) → IsBeside kept extent
-        → WritesOutside kept (D.state disk.old) (D.state disk.new) }
-    ensures advances { Advances (D.state disk.old) (D.state disk.new) }
 {
     let bytes = contents.directory(alloc)?;
     let written = Written {

@@ -7,7 +7,7 @@ ghost use Rattle.rs_disk.specs.Plan.{left_by_write};
 ghost use Rattle.rs_disk.specs.declared.plan.Outcome.TheVariants.{Works};
 
 use super::MemoryDisk;
-use crate::history::Change;
+use crate::history::HeldChange;
 use crate::plan::Outcome;
 use crate::{Disk, Fault};
 use std::alloc::AllocError;
@@ -62,7 +62,7 @@ impl MemoryDisk {
         ensures plan { self.new.plan ≡ self.old.plan }
     {
         let put = bytes.to_vec(self.alloc)?;
-        let change = Change::Write { at, places, put };
+        let change = HeldChange::Write { at, places, put };
         self.history.note(call, change)?;
         self.contents.put(at, places, bytes);
         Ok(())
@@ -78,7 +78,7 @@ impl MemoryDisk {
         ensures counts { SameCounts (memory_state self.old) (memory_state self.new) }
         ensures plan { self.new.plan ≡ self.old.plan }
     {
-        self.history.note(call, Change::Sync)?;
+        self.history.note(call, HeldChange::Sync)?;
         self.contents.settle();
         Ok(())
     }

@@ -1,57 +1,26 @@
 //! Reading a page.
-ghost use Rattle.rs_disk.specs.Leaves.{TellsFaults};
-ghost use Rattle.std.specs.Prelude.{◌≡◌, ◌<◌, ◌≤◌, ◌+◌, List, IfOk, IsErrOf, IsTrue};
-ghost use Rattle.rs_disk.specs.Leaves.{Rests};
+ghost use Rattle.std.specs.Prelude.{◌≡◌, IfOk, IsErrOf, IsTrue};
+ghost use Rattle.rs_disk.specs.Runs.{RunsReading, CallsAtMost};
+ghost use Rattle.rs_page.specs.Faults.{fault_of_fields};
 ghost use Rattle.rs_page.specs.Format.{ArePageItems};
-ghost use Rattle.rs_page.specs.DiskPages.{HasItsBlocks, IsPage};
+ghost use Rattle.rs_page.specs.DiskPages.{HasItsBlocks, IsPage, HoldsNoPage};
 
 use crate::reading::read_items;
 use crate::shared::SharedItems;
 use crate::{Page, PageItem, PageRef, Place};
-use rs_body::{BodyFault, is_on_disk, is_sized, read_body};
+use rs_body::{LoadFault, is_on_disk, is_sized, read_body};
 use rs_disk::Disk;
 use rs_record::FieldFault;
 use std::alloc::Global;
-use thiserror::Error;
 
-/// Why no page was loaded.
-#[derive(Clone, Copy, Debug, PartialEq, Eq, Error)]
-pub enum LoadFault {
-    /// The device failed.
-    #[error("the device failed")]
-    Device,
-    /// There is no page where the reference points to.
-    #[error("the page is damaged")]
-    Damaged,
-    /// The memory for the page was refused.
-    #[error("out of memory")]
-    NoMemory,
-}
-
-impl From<BodyFault> for LoadFault {
-    ghost use Rattle.rs_page.specs.Faults.{load_fault_of};
-
-    ghost from_gives = { λ fault made. made ≡ load_fault_of fault };
-
-    fn from(fault: BodyFault) -> LoadFault {
-        match fault {
-            BodyFault::Device => LoadFault::Device,
-            BodyFault::Damaged => LoadFault::Damaged,
-            BodyFault::NoMemory => LoadFault::NoMemory,
-        }
-    }
-}
-
-impl From<FieldFault> for LoadFault {
-    ghost use Rattle.rs_page.specs.Faults.{of_items};
-
-    ghost from_gives = { λ fault made. made ≡ of_items fault };
-
-    fn from(fault: FieldFault) -> LoadFault {
-        match fault {
-            FieldFault::Malformed => LoadFault::Damaged,
-            FieldFault::NoMemory => LoadFault::NoMemory,
-        }
+/// The fault of a page or a directory whose fields were not read: where they are malformed, it is
+/// damaged.
+pub fn fault_of_fields(fault: FieldFault) -> LoadFault
+    ensures { result ≡ fault_of_fields fault }
+{
+    match fault {
+        FieldFault::Malformed => LoadFault::Damaged,
+        FieldFault::NoMemory => LoadFault::NoMemory,
     }
 }
 
@@ -77,22 +46,20 @@ impl<T: PageItem> Page<T> {
             → IsPage T.format page.now (D.state disk.new).now.seen loaded.items) }
         ensures damaged { IsErrOf result LoadFault.Damaged
             → IsTrue (D.state disk.new).honest
-            → (items : List T)
-            → ¬ IsPage T.format page.now (D.state disk.new).now.seen items }
+            → HoldsNoPage T.format page.now (D.state disk.new).now.seen }
         ensures no_memory { IsErrOf result LoadFault.NoMemory
             → HasItsBlocks (D.state disk.old).size page.now }
-        ensures device { TellsFaults (IsErrOf result LoadFault.Device)
-            (D.state disk.old) (D.state disk.new) }
 
-        ensures rests { Rests (D.state disk.old) (D.state disk.new) }
-        ensures one_call { (D.state disk.new).calls ≤ (D.state disk.old).calls + 1 }
+        ensures runs { RunsReading (IsErrOf result LoadFault.Device)
+            (D.state disk.old) (D.state disk.new) }
+        ensures calls { CallsAtMost 1 (D.state disk.old) (D.state disk.new) }
     {
         if !is_sized(page.extent, page.length) || !is_on_disk(page.extent, disk.size()) {
             return Err(LoadFault::Damaged);
         }
         let mut bytes = Vec::new(alloc);
         read_body(disk, page.extent, page.length, &page.sha256, &mut bytes)?;
-        let mut items = SharedItems::new(read_items(alloc, &bytes)?);
+        let mut items = SharedItems::new(read_items(alloc, &bytes).map_err(fault_of_fields)?);
         items.share(alloc);
         Ok(Page {
             items,

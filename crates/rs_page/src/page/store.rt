@@ -1,9 +1,9 @@
 //! Writing a page.
-ghost use Rattle.rs_disk.specs.Leaves.{Advances, TellsFaults};
-ghost use Rattle.std.specs.Prelude.{ℕ, ◌≡◌, ◌<◌, ◌≤◌, ◌+◌, Bool, IfSome, IsSome, OnOk, OnErr, IsErrOf};
-ghost use Rattle.rs_extent.specs.Extents.{IsOnDisk, IsBeside};
-ghost use Rattle.rs_body.specs.Outside.{WritesOutside};
-ghost use Rattle.rs_page.specs.Pages.{IsTouched, placed_extent, stored_ref, page_stored};
+ghost use Rattle.std.specs.Prelude.{◌≡◌, [], ◌∷◌, IfSome, IsSome, OnOk, OnErr, IsErrOf};
+ghost use Rattle.rs_disk.specs.Runs.{CallsAtMost};
+ghost use Rattle.rs_extent.specs.Extents.{IsOnDisk};
+ghost use Rattle.rs_body.specs.Outside.{WritesOnly};
+ghost use Rattle.rs_page.specs.Pages.{IsTouched, placed_extent, placed_extents, stored_ref, page_stored};
 ghost use Rattle.rs_page.specs.DiskPages.{IsWritten};
 
 use crate::format::page_bytes;
@@ -67,19 +67,15 @@ impl<T: PageItem> Page<T> {
         ensures ok { OnOk result (self.new ≡ page_stored T.format self.old) }
         ensures reads { OnOk result (IsWritten T.format (D.state disk.new).now.seen self.old) }
         ensures err { OnErr result (self.new ≡ self.old) }
-        ensures device { TellsFaults (IsErrOf result StoreFault.Device)
-            (D.state disk.old) (D.state disk.new) }
         ensures no_memory { IsErrOf result StoreFault.NoMemory
             → D.state disk.new ≡ D.state disk.old }
         ensures stored { IsSome (stored_ref self.old.place)
             → (result ≡ Ok tt) × (D.state disk.new ≡ D.state disk.old) }
 
         // Whatever it answers.
-        ensures outside { (kept : ℕ → Bool)
-            → IfSome (placed_extent self.old.place) (IsBeside kept)
-            → WritesOutside kept (D.state disk.old) (D.state disk.new) }
-        ensures advances { Advances (D.state disk.old) (D.state disk.new) }
-        ensures one_call { (D.state disk.new).calls ≤ (D.state disk.old).calls + 1 }
+        ensures writes { WritesOnly (placed_extents (self.old ∷ []))
+            (IsErrOf result StoreFault.Device) (D.state disk.old) (D.state disk.new) }
+        ensures calls { CallsAtMost 1 (D.state disk.old) (D.state disk.new) }
     {
         let Place::Placed(extent) = self.place else {
             return Ok(());

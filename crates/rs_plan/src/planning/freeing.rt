@@ -123,7 +123,7 @@ pub(crate) fn freed_by_publication(
     Ok(freed)
 }
 
-// The pages of the history that have a change that a publication drops.
+/// The pages of the history that have a change that a publication drops.
 fn dropped_pages(alloc: Global, contents: &Contents) -> Result<Vec<PageRef>, AllocError>
     ensures { IfOk result (λ pages. pages.items ≡ stored_refs
         (front_pages (changes_dropped contents.now) contents.now.history.pages)) }
@@ -133,7 +133,7 @@ fn dropped_pages(alloc: Global, contents: &Contents) -> Result<Vec<PageRef>, All
     history.dropped_entries(alloc, dropped_parts(contents), limit)
 }
 
-// Adds the blocks of pages.
+/// Adds the blocks of pages.
 fn add_pages(freed: &mut Vec<Extent>, pages: &[PageRef]) -> Result<(), AllocError>
     ensures { OnOk result (freed.new.items ≡ freed.old.items ++ extents_of pages.now) }
 {
@@ -143,7 +143,7 @@ fn add_pages(freed: &mut Vec<Extent>, pages: &[PageRef]) -> Result<(), AllocErro
     Ok(())
 }
 
-// The page of the catalogue that a name goes into, unless it is published.
+/// The page of the catalogue that a name goes into, unless it is published.
 fn unpublished_page(contents: &Contents, name: &Name) -> Option<PageRef>
     ensures { result ≡ unpublished (entry_of_name contents.now name.now)
         (stored_refs contents.now.published) }
@@ -156,7 +156,7 @@ fn unpublished_page(contents: &Contents, name: &Name) -> Option<PageRef>
     }
 }
 
-// Adds the blocks of a page, if there is one.
+/// Adds the blocks of a page, if there is one.
 fn add_page(freed: &mut Vec<Extent>, page: Option<PageRef>) -> Result<(), AllocError>
     ensures { OnOk result (freed.new.items ≡ freed.old.items ++ extent_of_page page) }
 {
@@ -166,7 +166,7 @@ fn add_page(freed: &mut Vec<Extent>, page: Option<PageRef>) -> Result<(), AllocE
     Ok(())
 }
 
-// Adds the blocks of the body that a name has.
+/// Adds the blocks of the body that a name has.
 fn add_body(freed: &mut Vec<Extent>, contents: &Contents, name: &Name) -> Result<(), AllocError>
     ensures { OnOk result (freed.new.items ≡ freed.old.items
         ++ extent_of_body contents.now name.now) }

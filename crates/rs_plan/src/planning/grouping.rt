@@ -18,7 +18,7 @@ ghost use Rattle.rs_plan.specs.Turned.{MayDoEach, is_written, extent_for, extent
 use super::freeing::Freed;
 use super::lists::{lists_after_delete, lists_after_put, lists_copied};
 use super::placing::{place_lists, take_lowest};
-use super::{PlanFault, page_rule_is_kept};
+use super::{PlanFault, page_rule_is_kept, types_are_kept};
 use crate::plan::Plan;
 use rs_extent::{Extent, Used};
 use rs_fixity::digests_of;
@@ -53,19 +53,16 @@ pub fn plan_group(
 {
     page_rule_is_kept();
     let contents = old.contents();
-    // Reading them shows what their types keep.
-    let _ms = moment.ms();
-    let _len = contents.catalogue.len();
+    types_are_kept(contents, moment);
     let bodies = find_bodies(alloc, used, items)?;
     let (lists, freed) = turn_items(alloc, contents, items, moment, &bodies)?;
     let freed = freed.with_directory(alloc, old.root().directory)?;
     let reply = Reply::Grouped(items.len() as u8, moment);
-    let plan = place_lists(alloc, used, bodies, lists, reply, freed)?;
-    Ok(plan)
+    place_lists(alloc, used, bodies, lists, reply, freed)
 }
 
-// Finds blocks for each body that is written: the lowest run of free blocks of its size, with those
-// taken that are for the bodies before it. The set is as it was when this returns.
+/// Finds blocks for each body that is written: the lowest run of free blocks of its size, with those
+/// taken that are for the bodies before it. The set is as it was when this returns.
 fn find_bodies(alloc: Global, used: &mut Used, items: &[Item]) -> Result<Vec<Extent>, PlanFault>
     requires short { AllByRecursion IsShort items.now }
     ensures same { used.new ≡ used.old }
@@ -81,8 +78,8 @@ fn find_bodies(alloc: Global, used: &mut Used, items: &[Item]) -> Result<Vec<Ext
     Ok(bodies)
 }
 
-// Takes blocks for each body that is written, and adds them to the list. Where one has no run, what
-// was taken before stays in the list.
+/// Takes blocks for each body that is written, and adds them to the list. Where one has no run, what
+/// was taken before stays in the list.
 fn take_bodies(used: &mut Used, items: &[Item], bodies: &mut Vec<Extent>) -> Result<(), Full>
     requires short { AllByRecursion IsShort items.now }
     requires empty { bodies.old.items ≡ [] }
@@ -105,7 +102,7 @@ fn take_bodies(used: &mut Used, items: &[Item], bodies: &mut Vec<Extent>) -> Res
     Ok(())
 }
 
-// How many bytes the body of an item has, where it is written: no later item is of its name.
+/// How many bytes the body of an item has, where it is written: no later item is of its name.
 fn written_length(item: &Item, later: &[Item]) -> Option<u32>
     requires { IsShort item.now }
     ensures { bodies_needed (bodies_kept (item.now ∷ later.now))
@@ -133,15 +130,15 @@ pub fn body_kept(items: &[Item]) -> Option<&[u8]>
     }
 }
 
-// Whether one of these items is of this name.
+/// Whether one of these items is of this name.
 fn is_named_in(name: &Name, items: &[Item]) -> bool
     ensures { result ≡ is_named_in name.now items.now }
 {
     items.iter().any(|item| name.bytes() == item.name().bytes())
 }
 
-// The lists after these items in turn, the first of them at this moment, where these are the blocks of
-// the bodies that are written; and what the items free beside the directory.
+/// The lists after these items in turn, the first of them at this moment, where these are the blocks of
+/// the bodies that are written; and what the items free beside the directory.
 fn turn_items(
     alloc: Global,
     old: &Contents,
@@ -175,8 +172,8 @@ fn turn_items(
     Ok((lists, freed))
 }
 
-// Of the blocks of the bodies that are left to write, those of an item's body, which has none where a
-// later item is of its name; and those that are left.
+/// Of the blocks of the bodies that are left to write, those of an item's body, which has none where a
+/// later item is of its name; and those that are left.
 fn body_for<'a>(item: &Item, later: &[Item], left: &'a [Extent]) -> (Extent, &'a [Extent])
     ensures body { result.0 ≡ extent_for item.now later.now left.now }
     ensures others { result.1.now ≡ extents_left item.now later.now left.now }
@@ -190,7 +187,7 @@ fn body_for<'a>(item: &Item, later: &[Item], left: &'a [Extent]) -> (Extent, &'a
     }
 }
 
-// Whether the body of an item is written: no later item replaces or deletes it.
+/// Whether the body of an item is written: no later item replaces or deletes it.
 fn is_written(item: &Item, later: &[Item]) -> bool
     ensures { result ≡ is_written item.now later.now }
 {
@@ -200,7 +197,7 @@ fn is_written(item: &Item, later: &[Item]) -> bool
     }
 }
 
-// The lists after one item at its moment, whose body stands in an extent.
+/// The lists after one item at its moment, whose body stands in an extent.
 fn lists_after_item(
     alloc: Global,
     old: &Contents,
@@ -223,7 +220,7 @@ fn lists_after_item(
     }
 }
 
-// The blocks of a body that is not written.
+/// The blocks of a body that is not written.
 const NO_BODY: Extent = Extent {
     first: 0,
     blocks: 0,

@@ -1,16 +1,14 @@
 //! Where the writes of a command go.
 
-ghost use Rattle.std.specs.Prelude.{◌≡◌, ◌≤◌, ◌+◌, List, ◌∷◌, ◌++◌, [], length, vec_len, vec_capacity, IfOk, OnErr, IsErrOf, MatchOption};
+ghost use Rattle.std.specs.Prelude.{◌≡◌, ◌≤◌, ◌+◌, List, ◌++◌, length, vec_len, vec_capacity, IfOk, OnErr, IsErrOf, MatchOption};
 ghost use Rattle.rs_body.specs.Blocks.{blocks_of};
 ghost use Rattle.rs_extent.specs.declared.Extent.{Extent};
 ghost use Rattle.rs_extent.specs.Extents.{CanTake, AreTaken};
-ghost use Rattle.rs_page.specs.Pages.{placed_extents};
-ghost use Rattle.rs_catalogue.specs.Catalogue.{IsCatalogue};
-ghost use Rattle.rs_changes.specs.History.{IsHistory};
+ghost use Rattle.rs_image.specs.StateOfImage.{AreLists};
 ghost use Rattle.rs_plan.specs.declared.planning.PlanFault.{PlanFault};
 ghost use Rattle.rs_plan.specs.Room.{Takes, IsFoundRun, HasNoRun, HasNoRoom, lists_needed};
-ghost use Rattle.rs_plan.specs.Plans.{places};
-ghost use Rattle.rs_plan.specs.Placed.{AreUnplaced, HaveTheirPlaces, IsPlacedFrom, HasNoRoomFrom};
+ghost use Rattle.rs_plan.specs.PlacedFrom.{IsPlacedFrom, HasNoRoomFrom};
+ghost use Rattle.rs_plan.specs.Placed.{AreUnplaced, HaveTheirPlaces, places_of};
 
 use super::PlanFault;
 use crate::plan::Plan;
@@ -58,14 +56,8 @@ pub(crate) fn place_lists(
     requires unplaced { AreUnplaced lists }
     requires are_free { CanTake used.old bodies.items }
     ensures same { used.new ≡ used.old }
-    ensures placed { IfOk result (IsPlacedFrom used.old bodies.items lists) }
-    ensures taken { IfOk result (λ plan. plan.taken.items ≡ places plan) }
-    ensures freed { IfOk result (λ plan. plan.freed.items ≡ freed.items) }
-    ensures reply { IfOk result (λ plan. plan.reply ≡ reply) }
+    ensures placed { IfOk result (IsPlacedFrom used.old bodies.items lists reply freed.items) }
     ensures full { IsErrOf result PlanFault.Full → HasNoRoomFrom used.old bodies.items lists }
-    ensures catalogue { IfOk result (λ _. IsCatalogue lists.catalogue) }
-    ensures history { IfOk result (λ _. IsHistory lists.history.pages) }
-    ensures published { IfOk result (λ _. IsCatalogue lists.published) }
 {
     let pages = lists.catalogue.page_count() + lists.history.page_count();
     let mut taken = with_room(alloc, &bodies, pages + 1)?;
@@ -83,7 +75,7 @@ pub(crate) fn place_lists(
     })
 }
 
-// These extents, in a list with room for so many more.
+/// These extents, in a list with room for so many more.
 fn with_room(alloc: Global, extents: &[Extent], more: usize) -> Result<Vec<Extent>, AllocError>
     ensures items { IfOk result (λ found. found.items ≡ extents.now) }
     ensures room { IfOk result (λ found. vec_len found + more ≤ vec_capacity found) }
@@ -93,8 +85,8 @@ fn with_room(alloc: Global, extents: &[Extent], more: usize) -> Result<Vec<Exten
     Ok(found)
 }
 
-// Takes blocks for the touched pages and then for the directory, and adds them to the list of what
-// is taken. Where one has no run, what was taken before stays in the list.
+/// Takes blocks for the touched pages and then for the directory, and adds them to the list of what
+/// is taken. Where one has no run, what was taken before stays in the list.
 fn take_places(
     used: &mut Used,
     lists: &mut Contents,
@@ -104,16 +96,12 @@ fn take_places(
     requires room { vec_len taken.old + length lists.old.catalogue
         + length lists.old.history.pages + 1 ≤ vec_capacity taken.old }
     ensures taken { (extents : List Extent) × (taken.new.items ≡ taken.old.items ++ extents)
-        × AreTaken used.old used.new extents }
-    ensures listed { IfOk result (λ directory. taken.new.items ≡ taken.old.items
-        ++ placed_extents lists.new.catalogue ++ placed_extents lists.new.history.pages
-        ++ directory ∷ []) }
+        × AreTaken used.old used.new extents
+        × IfOk result (λ directory. extents ≡ places_of lists.new directory) }
     ensures placed { IfOk result
         (λ directory. HaveTheirPlaces used.old lists.old lists.new directory used.new) }
     ensures full { OnErr result (HasNoRoom used.old (lists_needed lists.old)) }
-    ensures catalogue { IsCatalogue lists.old.catalogue }
-    ensures history { IsHistory lists.old.history.pages }
-    ensures published { IsCatalogue lists.old.published }
+    ensures lists { AreLists lists.old }
 {
     let length = directory_size(&lists.header, lists.page_count());
     lists.catalogue.place_touched(used)?;

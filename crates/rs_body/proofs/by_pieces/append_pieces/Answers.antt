@@ -1,39 +1,34 @@
-use Rattle.std.proofs.Common.{rules, ◌≡◌, ◌+◌, ◌-◌, ℕ, List, ◌++◌, length, take, drop, sym, ◌∙◌, ap, subst, arith}
-use Rattle.std.proofs.lemmas.List.{take-append-drop, take_all, length-drop}
-use Rattle.rs_disk.specs.Medium.{Medium}
+use Rattle.std.proofs.Common.{rules, ◌≡◌, ◌+◌, ◌-◌, ◌++◌, ℕ, List, length, take, drop, sym, ◌∙◌, ap, subst, arith}
+use Rattle.std.proofs.lemmas.List.{take_all, length-drop}
 use Rattle.rs_fixity.specs.Hashed.{HasTakenSha256}
-use Rattle.rs_body.specs.Blocks.{part}
+use Rattle.rs_body.proofs.Pieces.{with_piece, front_with_piece}
 use Rattle.rs_body.proofs.by_pieces.append_pieces.Goals as goal
 
--- what stood before a piece, and the piece behind it
-joined : (at : ℕ) (bytes before part_before whole : List ℕ) → take at bytes ≡ before → before ≡ part_before → whole ≡ part_before ++ drop at bytes → bytes ≡ whole
-joined at bytes before part_before whole front same gives =
-    sym (take-append-drop at bytes) ∙ ap (λ (l : List ℕ). l ++ drop at bytes) (front ∙ same) ∙ sym gives
-
 -- the bytes from one place on, all of them
-rest_of : (at n : ℕ) (bytes lent : List ℕ) → lent ≡ bytes → take (length lent - at) (drop at lent) ≡ drop at bytes
-rest_of at n bytes lent same =
-    ap (λ (l : List ℕ). take (length l - at) (drop at l)) same ∙ take_all (length bytes - at) (drop at bytes) (omega (arith, length-drop at bytes))
+rest_of : (at : ℕ) (before bytes lent : List ℕ) → length before ≡ at → lent ≡ bytes → take (length lent - at) (drop at lent) ≡ drop (length before) bytes
+rest_of at before bytes lent long same =
+    take_all (length lent - at) (drop at lent) (omega (arith, length-drop at lent)) ∙ ap (λ (l : List ℕ). drop at l) same ∙ ap (λ (k : ℕ). drop k bytes) (sym long)
 
 pub loop-at-preserved : goal.loop-at-preserved
 loop-at-preserved g c =
     let i = c.loop-at.invariant in
     let one = c.in_ok-append_piece.ensures in
+    let before = c.loop-at.into.items in
     let new = c.append_piece.new.into.items in
+    let end = c.loop-at.at + c.min.result in
+    let now = g.D.Disk.state c.loop-at.disk in
+    let then = g.D.Disk.state c.append_piece.new.disk in
+    let long : length before ≡ c.loop-at.at = search rules in
     record {
       within = search rules;
       long = search rules;
       space = search rules;
-      reads = λ honest. joined c.loop-at.at new c.loop-at.into.items _ _ one.front (i.reads (one.rests.lasts honest))
-          (subst (λ (m : Medium). part c.args.extent (c.loop-at.at + c.min.result) m.seen ≡ part c.args.extent c.loop-at.at m.seen ++ drop c.loop-at.at new) i.rests.now (one.gives honest));
+      reads = λ honest. front_with_piece c.args.extent c.loop-at.at end (g.D.Disk.state c.args.disk.now) now then before new i.runs.now long one.piece (i.reads (one.reads.runs.runs.lasts honest)) honest;
       hashed = subst (λ (l : List ℕ). HasTakenSha256 c.add.new.self l)
-          (ap (λ (l : List ℕ). c.loop-at.into.items ++ l) (rest_of c.loop-at.at 0 new c.deref.result.now c.deref.ensures.value)
-          ∙ ap (λ (l : List ℕ). l ++ drop c.loop-at.at new) (sym one.front) ∙ take-append-drop c.loop-at.at new)
-          (c.add.ensures c.loop-at.into.items i.hashed);
-      rests = search rules;
-      pieces = λ more. omega (arith, more, c.loop-at-test.true, c.min.ensures, i.pieces, one.one_call);
-      calls = omega (arith, c.loop-at-test.true, c.min.ensures, i.pieces, one.one_call);
+          (ap (λ (l : List ℕ). before ++ l) (rest_of c.loop-at.at before new c.deref.result.now long c.deref.ensures.value) ∙ with_piece c.args.extent end now then before new one.piece)
+          (c.add.ensures before i.hashed);
+      runs = search rules;
+      whole = search rules;
+      calls = search rules;
       none = λ nothing. absurd (omega (arith, nothing, c.loop-at-test.true, c.min.ensures));
-      ran = search rules;
-      sound = search rules;
     }

@@ -1,6 +1,6 @@
 -- The vector has the front of the extent that was read so far, and each piece but the last one is full.
-use Rattle.std.proofs.Common.{◌≡◌, ◌+◌, ◌-◌, ◌*◌, ◌≤◌, ◌<◌, IsTrue, vec_len, vec_capacity}
-use Rattle.rs_disk.specs.Leaves.{Rests}
+use Rattle.std.proofs.Common.{◌≡◌, ◌+◌, ◌-◌, ◌/◌, ◌%◌, ◌≤◌, ◌<◌, IsTrue, vec_len, vec_capacity}
+use Rattle.rs_disk.specs.Runs.{RunsReading, CallsAtMost}
 use Rattle.rs_fixity.specs.Hashed.{HasTakenSha256}
 use Rattle.rs_body.specs.Blocks.{part}
 use Rattle.rs_body.proofs.by_pieces.append_pieces.Given as goal
@@ -15,12 +15,10 @@ invariant-loop-at g l =
       space : l.fn.length ≤ vec_capacity l.into;
       reads : IsTrue now.honest → l.into.items ≡ part l.fn.extent l.at old.now.seen;
       hashed : HasTakenSha256 l.hashing l.into.items;
-      rests : Rests old now;
-      pieces : l.at < l.fn.length → 262144 * now.calls ≤ 262144 * old.calls + l.at;
-      calls : 262144 * now.calls ≤ 262144 * old.calls + l.at + 262143;
+      runs : RunsReading ⊥ old now;
+      whole : l.at < l.fn.length → l.at % 262144 ≡ 0;
+      calls : CallsAtMost ((l.at + 262143) / 262144) old now;
       none : l.at ≡ 0 → now ≡ old;
-      ran : old.calls ≤ now.calls;
-      sound : now.faults ≡ old.faults;
     }
 
 abbrev pub decreases-loop-at : goal.decreases-loop-at

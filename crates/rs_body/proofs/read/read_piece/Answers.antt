@@ -1,14 +1,10 @@
-use Rattle.std.proofs.Common.{◌≡◌, ◌<◌, ◌==◌, ◌+◌, ◌*◌, ℕ, false, length, sym, ◌∙◌, ap, List, ◌++◌, take, drop, Result, Ok, Err, OnOk, IsTrue, arith}
-use Rattle.std.proofs.lemmas.Bool.Decides.{nat_tests}
+use Rattle.std.proofs.Common.{◌≡◌, ◌+◌, ◌*◌, ℕ, length, sym, ◌∙◌, ap, List, ◌++◌, take, drop, Result, Ok, Err, OnOk, IsTrue, arith}
 use Rattle.rs_extent.specs.declared.Extent.{Extent}
 use Rattle.rs_extent.specs.Blocks.{block_size}
 use Rattle.rs_body.specs.Blocks.{part}
-use Rattle.rs_body.proofs.KeptBlocks.{has_room}
+use Rattle.rs_body.proofs.KeptBlocks.{lies}
 use Rattle.rs_body.proofs.Pieces.{piece_behind}
 use Rattle.rs_body.proofs.read.read_piece.Goals as goal
-
-some_bytes : (n : ℕ) → false ≡ (n == 0) → 0 < n
-some_bytes n is = grind (arith, nat_tests)
 
 -- what a read gives at the place of a piece follows what stands before it
 given_behind : {E : Type 0} (H : Type 0) (e : Extent) (at n from : ℕ) (seen into : List ℕ) (result : Result (Unit {0}) E) → from ≡ block_size * e.first + at → (H → OnOk result (into ≡ take n (drop from seen)))
@@ -18,8 +14,7 @@ given_behind H e at n from seen into (Err x) is given = cc
 
 pub read-requires : goal.read-requires
 read-requires g c =
-    let n = length c.args.into.now in
-    let room = has_room c.args.extent (c.args.at + n) (g.D.Disk.state c.args.disk.now).size (omega (arith, some_bytes n c.if-is_empty.ensures)) c.requires.fits c.requires.room in
+    let room = lies c.args.extent c.args.at (length c.args.into.now) (g.D.Disk.state c.args.disk.now).size c.if-is_empty.ensures c.requires.fits c.requires.room in
     omega (arith, c.offset_of.ensures, room)
 
 pub returns-clause-gives : goal.returns-clause-gives

@@ -1,6 +1,6 @@
-use Rattle.std.proofs.Common.{◌≡◌, ◌<◌, ℕ, length, take, drop, sym, ◌∙◌, ap, arith, length-take, length-drop}
+use Rattle.std.proofs.Common.{◌≡◌, ◌<◌, ℕ, length, take, drop, sym, ◌∙◌, ap, arith, length-take, length-drop, Ok}
 use Rattle.std.proofs.lemmas.List.{length-take-le, take-take}
-use Rattle.rs_disk.proofs.Steps.{rest_one}
+use Rattle.rs_disk.proofs.Runs.{reading_one}
 use Rattle.rs_commit.specs.Slots.{offset, block}
 use Rattle.rs_commit.proofs.Contents.{missing}
 use Rattle.rs_commit.proofs.reading.read_slot.Goals as goal
@@ -13,8 +13,8 @@ returns-then-size-from-clause-content g c _ =
     omega (arith, c.if-size-from.true, c.offset-from.ensures, c.size.ensures, is.settled, is.image.size, length-take 512 (drop (offset c.args.slot) image), length-drop (offset c.args.slot) image) in
     sym (missing (block image c.args.slot) short)
 
-pub returns-clause-rests : goal.returns-clause-rests
-returns-clause-rests g c = rest_one (g.D.Disk.state c.args.disk.now) (g.D.Disk.state c.read.new.self) c.read.result c.read.ensures.counts c.read.ensures.stays
+pub returns-clause-runs : goal.returns-clause-runs
+returns-clause-runs g c = reading_one (g.D.Disk.state c.args.disk.now) (g.D.Disk.state c.read.new.self) (Ok c.in_ok-read.field-0) c.in_ok-read.ensures.counts c.in_ok-read.ensures.stays
 
 pub returns-clause-content : goal.returns-clause-content
 returns-clause-content g c honest =

@@ -1,13 +1,11 @@
 -- The first bodies are copied so far.
-use Rattle.std.proofs.Common.{◌≡◌, ℕ, Bool, IsTrue, take, map}
+use Rattle.std.proofs.Common.{◌≡◌, IsTrue, take, map}
 use Rattle.std.specs.Prelude.{All}
-use Rattle.rs_disk.specs.Leaves.{Advances, Rests}
-use Rattle.rs_extent.specs.Extents.{AreBeside}
-use Rattle.rs_body.specs.Outside.{WritesOutside}
 use Rattle.rs_catalogue.specs.Catalogue.{records_of}
 use Rattle.rs_image.specs.Reach.{bodies_of}
 use Rattle.rs_image.specs.StateOfImage.{held_in}
 use Rattle.rs_copy.specs.Copies.{HasItsBody}
+use Rattle.rs_copy.specs.Copying.{CopiesOnly}
 use Rattle.rs_copy.proofs.bodies.copy_bodies.Given as goal
 
 abbrev pub invariant-loop-i : goal.invariant-loop-i
@@ -19,9 +17,5 @@ invariant-loop-i g l =
     record {
       copied : IsTrue after.honest → map (held_in new.now.seen) (take l.i (records_of l.new)) ≡ map (held_in before.now.seen) (take l.i (records_of l.old));
       intact : All (HasItsBody new.now.seen) (take l.i (records_of l.new));
-      rests : Rests before after;
-      advances : Advances old new;
-      read : after.faults ≡ before.faults;
-      written : new.faults ≡ old.faults;
-      outside : (kept : ℕ → Bool) → AreBeside kept (bodies_of (records_of l.new)) → WritesOutside kept old new;
+      copies : CopiesOnly (bodies_of (records_of l.new)) ⊥ before after old new;
     }

@@ -1,23 +1,22 @@
-use Rattle.std.proofs.Common.{◌≡◌, ◌+◌, ◌++◌, ℕ, List, length, take, length-take, sym, ◌∙◌, ap, subst, arith}
+use Rattle.std.proofs.Common.{◌≡◌, ◌+◌, ◌++◌, ℕ, List, length, take, length-take, refl, sym, ◌∙◌, ap, subst, arith}
+use Rattle.std.specs.Result.{is_err}
 use Rattle.rs_disk.specs.Medium.{Medium}
-use Rattle.rs_disk.proofs.Steps.{rest_on}
 use Rattle.rs_fixity.specs.Hashed.{HasTakenSha256}
 use Rattle.rs_body.specs.Blocks.{part}
-use Rattle.rs_body.proofs.KeptBlocks.{outside_on}
-use Rattle.rs_copy.proofs.Runs.{writes_on}
+use Rattle.rs_body.proofs.Only.{part_only}
+use Rattle.rs_copy.proofs.Handed.{err_is}
+use Rattle.rs_copy.proofs.Runs.{copies_as, copies_read, copies_write}
 use Rattle.rs_copy.proofs.bodies.copy_pieces.Goals as goal
 
-pub returns-in_err-write_piece-clause-outside : goal.returns-in_err-write_piece-clause-outside
-returns-in_err-write_piece-clause-outside g c kept beside =
-    outside_on kept (g.E.Disk.state c.args.to.now) (g.E.Disk.state c.loop-at.to) (g.E.Disk.state c.write_piece.new.disk)
-    (c.loop-at.invariant.outside kept beside) (c.write_piece.ensures.outside kept beside)
+pub returns-in_err-write_piece-clause-copies : goal.returns-in_err-write_piece-clause-copies
+returns-in_err-write_piece-clause-copies g c =
+    copies_as (λ is. ap is_err (err_is c.from_residual-in_err-write_piece.result c.in_err-write_piece.field-0.0 c.from_residual-in_err-write_piece.ensures.1)) (λ is. refl)
+    (copies_write (λ b is. is) (λ is. absurd cc) (copies_read (λ none. none) c.loop-at.invariant.copies c.in_ok-read_piece.ensures.runs)
+    (part_only c.args.extent c.loop-at.at _ _ _ c.in_err-write_piece.ensures.writes))
 
 pub loop-at-preserved : goal.loop-at-preserved
 loop-at-preserved g c =
-    let before = g.D.Disk.state c.args.from.now in
     let mid = g.D.Disk.state c.loop-at.from in
-    let after = g.D.Disk.state c.read_piece.new.disk in
-    let old = g.E.Disk.state c.args.to.now in
     let now = g.E.Disk.state c.loop-at.to in
     let new = g.E.Disk.state c.write_piece.new.disk in
     let inv = c.loop-at.invariant in
@@ -38,11 +37,8 @@ loop-at-preserved g c =
       copied = λ honest.
           let read : part held (at + size) mid.now.seen ≡ part held at mid.now.seen ++ piece =
           subst (λ (n : ℕ). part held (at + n) mid.now.seen ≡ part held at mid.now.seen ++ piece) asked (r.gives honest) in
-          wrote ∙ ap (λ (l : List ℕ). l ++ piece) (inv.copied (r.rests.lasts honest))
-          ∙ sym (subst (λ (m : Medium). part held (at + size) m.seen ≡ part held at m.seen ++ piece) inv.rests.now read);
-      rests = rest_on before mid after inv.rests r.rests;
-      advances = writes_on old now new inv.advances w.runs w.keeps;
-      read = r.runs.ok ∙ inv.read;
-      written = w.runs.ok ∙ inv.written;
-      outside = λ kept beside. outside_on kept old now new (inv.outside kept beside) (w.outside kept beside);
+          wrote ∙ ap (λ (l : List ℕ). l ++ piece) (inv.copied (r.runs.runs.lasts honest))
+          ∙ sym (subst (λ (m : Medium). part held (at + size) m.seen ≡ part held at m.seen ++ piece) inv.copies.runs.rests.now read);
+      copies = copies_as (λ is. absurd cc) (λ none. absurd none)
+          (copies_write (λ b is. is) (λ is. absurd cc) (copies_read (λ none. none) inv.copies r.runs) (part_only extent at (length piece) now new w.writes));
     }

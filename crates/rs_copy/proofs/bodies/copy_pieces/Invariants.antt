@@ -1,10 +1,8 @@
 -- The front of both extents is the same so far, and hashed.
-use Rattle.std.proofs.Common.{◌≡◌, ◌-◌, ◌≤◌, ℕ, Bool, IsTrue}
-use Rattle.rs_disk.specs.Leaves.{Advances, Rests}
+use Rattle.std.proofs.Common.{◌≡◌, ◌-◌, ◌≤◌, [], ◌∷◌, IsTrue}
 use Rattle.rs_fixity.specs.Hashed.{HasTakenSha256}
-use Rattle.rs_extent.specs.Extents.{IsBeside}
 use Rattle.rs_body.specs.Blocks.{part}
-use Rattle.rs_body.specs.Outside.{WritesOutside}
+use Rattle.rs_copy.specs.Copying.{CopiesOnly}
 use Rattle.rs_copy.proofs.bodies.copy_pieces.Given as goal
 
 abbrev pub invariant-loop-at : goal.invariant-loop-at
@@ -17,11 +15,7 @@ invariant-loop-at g l =
       within : l.at ≤ l.held.length;
       hashed : HasTakenSha256 l.hashing (part l.extent l.at new.now.seen);
       copied : IsTrue after.honest → part l.extent l.at new.now.seen ≡ part l.held.extent l.at before.now.seen;
-      rests : Rests before after;
-      advances : Advances old new;
-      read : after.faults ≡ before.faults;
-      written : new.faults ≡ old.faults;
-      outside : (kept : ℕ → Bool) → IsBeside kept l.extent → WritesOutside kept old new;
+      copies : CopiesOnly (l.extent ∷ []) ⊥ before after old new;
     }
 
 abbrev pub decreases-loop-at : goal.decreases-loop-at

@@ -1,5 +1,4 @@
 use Rattle.std.proofs.Common.{◌≡◌, ◌++◌, length, flat_map, All}
-use Rattle.rs_record.proofs.FieldLaws.{AreBytes}
 use Rattle.rs_directory.specs.Directory.{ref_bytes, IsLawfulRef}
 use Rattle.rs_directory.proofs.reading.refs_of.Given as goal
 
@@ -8,7 +7,6 @@ invariant-loop-entry l =
     record {
       lawful : All IsLawfulRef l.refs.items;
       found : l.bytes ≡ flat_map ref_bytes l.refs.items ++ l.rest;
-      fits : AreBytes l.rest;
     }
 
 abbrev pub decreases-loop-entry : goal.decreases-loop-entry

@@ -1,6 +1,5 @@
 -- A document is shown where it is there, unless the source is closed.
 use Rattle.std.proofs.Common.{ap, sym, ◌∙◌, codes}
-use Rattle.rs_io.specs.Watch.{WritesOut}
 use Rattle.rs_caps.specs.DocumentTexts.{document_text}
 use Rattle.rs_store.specs.Views.{shown_by_source}
 use Rattle.rs_http.specs.declared.request.RequestFault.TheVariants.{NoSuchDocument}
@@ -9,18 +8,18 @@ use Rattle.rs_http.specs.Outcomes.{document_or_none}
 use Rattle.rs_http.proofs.Asking.{answered, document_is, shown_none}
 use Rattle.rs_http.proofs.ask.show_document.Goals as goal
 
-pub returns-in-Some-clause-answered : goal.returns-in-Some-clause-answered
-returns-in-Some-clause-answered g c =
+pub returns-in-Some : goal.returns-in-Some
+returns-in-Some g c =
     let view = shown_by_source c.in-Ok.view in
-    let whole = c.write_shown_document.ensures.written in
-    answered c.args.framing (WritesOut g.W.Write.contents c.args.writer.now c.write_shown_document.new.writer c.write_shown_document.result) _ c.write_shown_document.result (shown (codes "application/xml") whole.0)
+    let whole = c.write_shown_document.ensures in
+    answered (shown (codes "application/xml") whole.0)
     (document_is c.documents_are_of_the_state.ensures g.D.Disk.state c.args.source.now c.args.doc view _ c.in-Ok.view c.in-Ok.ensures.closed c.in-Ok.ensures.shows (ap document_or_none whole.1))
-    c.write_shown_document.ensures.status whole.2
+    whole.2
 
-pub returns-in-None-clause-answered : goal.returns-in-None-clause-answered
-returns-in-None-clause-answered g c =
+pub returns-in-None : goal.returns-in-None
+returns-in-None g c =
     let view = shown_by_source c.in-Ok.view in
     let none = shown_none (document_text view c.args.doc) (sym c.document_length.ensures ∙ c.in-None.is) in
-    answered c.args.framing (WritesOut g.W.Write.contents c.args.writer.now c.write_fault.new.writer c.write_fault.result) _ c.write_fault.result (faulted NoSuchDocument)
+    answered (faulted NoSuchDocument)
     (document_is c.documents_are_of_the_state.ensures g.D.Disk.state c.args.source.now c.args.doc view _ c.in-Ok.view c.in-Ok.ensures.closed c.in-Ok.ensures.shows (ap document_or_none none))
-    c.write_fault.ensures.status c.write_fault.ensures.written
+    c.write_fault.ensures

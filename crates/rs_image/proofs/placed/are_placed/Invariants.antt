@@ -1,11 +1,11 @@
-use Rattle.std.proofs.Common.{◌≡◌, List, length, flat_map, All}
+use Rattle.std.proofs.Common.{List, length}
 use Rattle.rs_page.specs.declared.place.PageRef.{PageRef}
-use Rattle.rs_directory.specs.Directory.{ref_bytes, IsLawfulRef}
+use Rattle.rs_directory.specs.Directory.{AreEntries}
 use Rattle.rs_image.proofs.Named.{Left}
 use Rattle.rs_image.proofs.placed.are_placed.Given as goal
 
-abbrev pub invariant-loop-extent : goal.invariant-loop-extent
-invariant-loop-extent l = (pages : List PageRef) → All IsLawfulRef pages → l.entries ≡ flat_map ref_bytes pages → Left l.size pages l.rest
+abbrev pub invariant-loop-page : goal.invariant-loop-page
+invariant-loop-page l = (pages : List PageRef) → AreEntries l.entries pages → Left l.size pages l.rest
 
-abbrev pub decreases-loop-extent : goal.decreases-loop-extent
-decreases-loop-extent l = length l.rest
+abbrev pub decreases-loop-page : goal.decreases-loop-page
+decreases-loop-page l = length l.rest

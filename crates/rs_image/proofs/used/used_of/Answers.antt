@@ -1,4 +1,4 @@
-use Rattle.std.proofs.Common.{◌≡◌, ℕ, List, refl, sym, subst, Option, Some, None}
+use Rattle.std.proofs.Common.{◌≡◌, ℕ, List, refl, Option, Some, None}
 use Rattle.std.specs.Prelude.{IfNone, IsSome}
 use Rattle.rs_extent.specs.declared.Extent.{Extent}
 use Rattle.rs_extent.specs.Extents.{AreApart}
@@ -15,10 +15,7 @@ some_unless (Some x) size extents none apart inside = refl
 is_found : {A : Type 0} (o : Option A) (r : Rooted) (size : ℕ) (root : Root) (c : Contents) → size ≡ r.size → root ≡ r.root → c ≡ r.contents → IsRooted r
     → IfNone o (AreApart (reach root c) → AreInside size (reach root c) → ⊥) → IsSome o
 is_found o r size root c one two three sound none =
-    some_unless o size (reach root c) none
-    (subst (λ (x : Root). AreApart (reach x c)) (sym two) (subst (λ (l : Contents). AreApart (reach r.root l)) (sym three) sound.whole.apart))
-    (subst (λ (n : ℕ). AreInside n (reach root c)) (sym one)
-    (subst (λ (x : Root). AreInside r.size (reach x c)) (sym two) (subst (λ (l : Contents). AreInside r.size (reach r.root l)) (sym three) sound.whole.inside)))
+    some_unless o size (reach root c) none (rw (two, three) sound.whole.apart) (rw (one, two, three) sound.whole.inside)
 
 pub unwrap-requires : goal.unwrap-requires
 unwrap-requires c =

@@ -1,54 +1,42 @@
-use Rattle.std.proofs.Common.{◌≡◌, ◌-◌, Some, arith}
-use Rattle.std.specs.Prelude.{IsSome}
-use Rattle.rs_lists.specs.declared.doc.Doc.TheVariants.{ChangePart}
-use Rattle.rs_lists.specs.Text.{list_text, change_part_text}
 use Rattle.rs_lists.specs.Lawful.{IsSmall}
-use Rattle.rs_lists.proofs.Documents.{on_document, err_document, resource_part_there, resource_part_is, change_part_there, change_part_is, others_absent}
+use Rattle.rs_lists.specs.Sinks.{Puts}
+use Rattle.rs_lists.proofs.Documents.{of_document, on_document, resource_head_is, resource_part_is, change_head_is, change_part_is, others_absent}
 use Rattle.rs_lists.proofs.write.put_what_is_there.Goals as goal
 
-pub put_resource_part-requires : goal.put_resource_part-requires
-put_resource_part-requires g c = resource_part_there (g.V.View.shown c.args.view.now) c.in-ResourcePart.publication c.in-ResourcePart.part (rw c.in-ResourcePart.is at c.requires)
+pub put_part-requires : goal.put_part-requires
+put_part-requires g c = (resource_part_is (g.V.View.shown c.args.view.now) c.args.doc _ _ c.in-ResourcePart.is c.requires).0
 
 pub overflow_sub-part : goal.overflow_sub-part
-overflow_sub-part g c =
-    let h = change_part_there (g.V.View.shown c.args.view.now) c.in-ChangePart.part (rw c.in-ChangePart.is at c.requires) in
-    omega (arith, h, c.first.ensures)
+overflow_sub-part g c = (change_part_is (g.V.View.shown c.args.view.now) c.args.doc _ _ c.in-ChangePart.is c.first.ensures c.requires).0
 
-pub put_change_part-requires : goal.put_change_part-requires
-put_change_part-requires g c =
-    rw c.first.ensures (change_part_there (g.V.View.shown c.args.view.now) c.in-ChangePart.part (rw c.in-ChangePart.is at c.requires)).1
+pub put_part-requires-in-ChangePart : goal.put_part-requires-in-ChangePart
+put_part-requires-in-ChangePart g c = (change_part_is (g.V.View.shown c.args.view.now) c.args.doc _ _ c.in-ChangePart.is c.first.ensures c.requires).1
 
 pub unreachable-requires : goal.unreachable-requires
 unreachable-requires g c = let absent = others_absent (g.V.View.shown c.args.view.now) c.args.doc c.in-Description.is in let there = c.requires in cc
 
-pub returns-in-ResourcePart-clause-taken : goal.returns-in-ResourcePart-clause-taken
-returns-in-ResourcePart-clause-taken g c =
-    rw c.in-ResourcePart.is (on_document (g.S.Sink.takes _ _) c.put_resource_part.result _ _ c.put_resource_part.ensures.taken
-    (resource_part_is (g.V.View.shown c.args.view.now) c.in-ResourcePart.publication c.in-ResourcePart.part (rw c.in-ResourcePart.is at c.requires)))
+pub returns-in-ResourceHead-clause-puts : goal.returns-in-ResourceHead-clause-puts
+returns-in-ResourceHead-clause-puts g c = of_document (Puts _ _ _ _ _) _ _ (resource_head_is (g.V.View.shown c.args.view.now) c.args.doc c.in-ResourceHead.is) c.put_head.ensures.puts
 
-pub returns-in-ChangePart-clause-taken : goal.returns-in-ChangePart-clause-taken
-returns-in-ChangePart-clause-taken g c =
-    rw c.in-ChangePart.is (on_document (g.S.Sink.takes _ _) c.put_change_part.result _ _ c.put_change_part.ensures.taken
-    (rw c.first.ensures (change_part_is (g.V.View.shown c.args.view.now) c.in-ChangePart.part (rw c.in-ChangePart.is at c.requires))))
+pub returns-in-ResourceHead-clause-small : goal.returns-in-ResourceHead-clause-small
+returns-in-ResourceHead-clause-small g c = on_document IsSmall _ _ _ (resource_head_is (g.V.View.shown c.args.view.now) c.args.doc c.in-ResourceHead.is) c.put_head.ensures.small
+
+pub returns-in-ResourcePart-clause-puts : goal.returns-in-ResourcePart-clause-puts
+returns-in-ResourcePart-clause-puts g c = of_document (Puts _ _ _ _ _) _ _ (resource_part_is (g.V.View.shown c.args.view.now) c.args.doc _ _ c.in-ResourcePart.is c.requires).1 c.put_part.ensures.puts
 
 pub returns-in-ResourcePart-clause-small : goal.returns-in-ResourcePart-clause-small
-returns-in-ResourcePart-clause-small g c =
-    rw c.in-ResourcePart.is (on_document IsSmall c.put_resource_part.result _ _ c.put_resource_part.ensures.small
-    (resource_part_is (g.V.View.shown c.args.view.now) c.in-ResourcePart.publication c.in-ResourcePart.part (rw c.in-ResourcePart.is at c.requires)))
+returns-in-ResourcePart-clause-small g c = on_document IsSmall _ _ _ (resource_part_is (g.V.View.shown c.args.view.now) c.args.doc _ _ c.in-ResourcePart.is c.requires).1 c.put_part.ensures.small
+
+pub returns-in-ChangeHead-clause-puts : goal.returns-in-ChangeHead-clause-puts
+returns-in-ChangeHead-clause-puts g c = of_document (Puts _ _ _ _ _) _ _ (change_head_is (g.V.View.shown c.args.view.now) c.args.doc c.in-ChangeHead.is) c.put_head-in-ChangeHead.ensures.puts
+
+pub returns-in-ChangeHead-clause-small : goal.returns-in-ChangeHead-clause-small
+returns-in-ChangeHead-clause-small g c = on_document IsSmall _ _ _ (change_head_is (g.V.View.shown c.args.view.now) c.args.doc c.in-ChangeHead.is) c.put_head-in-ChangeHead.ensures.small
+
+pub returns-in-ChangePart-clause-puts : goal.returns-in-ChangePart-clause-puts
+returns-in-ChangePart-clause-puts g c =
+    of_document (Puts _ _ _ _ _) _ _ (change_part_is (g.V.View.shown c.args.view.now) c.args.doc _ _ c.in-ChangePart.is c.first.ensures c.requires).2 c.put_part-in-ChangePart.ensures.puts
 
 pub returns-in-ChangePart-clause-small : goal.returns-in-ChangePart-clause-small
 returns-in-ChangePart-clause-small g c =
-    let s = g.V.View.shown c.args.view.now in
-    let there : IsSome (list_text s (ChangePart c.in-ChangePart.part)) = rw c.in-ChangePart.is at c.requires in
-    let is : list_text s (ChangePart c.in-ChangePart.part) ≡ Some (change_part_text s (c.in-ChangePart.part - c.first.result)) = rw c.first.ensures (change_part_is s c.in-ChangePart.part there) in
-    rw c.in-ChangePart.is (on_document IsSmall c.put_change_part.result _ _ c.put_change_part.ensures.small is)
-
-pub returns-in-ResourcePart-clause-fault : goal.returns-in-ResourcePart-clause-fault
-returns-in-ResourcePart-clause-fault g c =
-    rw c.in-ResourcePart.is (err_document (g.S.Sink.fails _ _) c.put_resource_part.result _ _ c.put_resource_part.ensures.fault
-    (resource_part_is (g.V.View.shown c.args.view.now) c.in-ResourcePart.publication c.in-ResourcePart.part (rw c.in-ResourcePart.is at c.requires)))
-
-pub returns-in-ChangePart-clause-fault : goal.returns-in-ChangePart-clause-fault
-returns-in-ChangePart-clause-fault g c =
-    rw c.in-ChangePart.is (err_document (g.S.Sink.fails _ _) c.put_change_part.result _ _ c.put_change_part.ensures.fault
-    (rw c.first.ensures (change_part_is (g.V.View.shown c.args.view.now) c.in-ChangePart.part (rw c.in-ChangePart.is at c.requires))))
+    on_document IsSmall _ _ _ (change_part_is (g.V.View.shown c.args.view.now) c.args.doc _ _ c.in-ChangePart.is c.first.ensures c.requires).2 c.put_part-in-ChangePart.ensures.small

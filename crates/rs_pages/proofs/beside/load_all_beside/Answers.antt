@@ -1,60 +1,54 @@
-use Rattle.std.proofs.Common.{true≢false, is_ok, rules, ◌≡◌, ◌<◌, ◌≤◌, [], ◌∷◌, ◌++◌, ◌+◌, length, ◌∙◌, ap, arith}
-use Rattle.std.proofs.lemmas.List.{take_all}
+use Rattle.std.proofs.Common.{true≢false, is_ok, rules, ◌≡◌, [], ◌∷◌, ◌++◌, length, ◌∙◌, ap, arith}
 use Rattle.std.proofs.lemmas.Result.{err_from_is_err_and}
-use Rattle.rs_pages.proofs.LoadedUpTo.{damaged_at, sum_is}
-use Rattle.rs_pages.proofs.LoadedBeside.{load_step, too_many, reads_next}
+use Rattle.rs_body.specs.declared.read.LoadFault.TheVariants.{NoMemory}
 use Rattle.rs_page.specs.Pages.{stored_refs}
+use Rattle.rs_pages.proofs.LoadedUpTo.{unshared_called, load_step, load_end, damaged_at, too_many, reads_next}
 use Rattle.rs_pages.proofs.beside.load_all_beside.Goals as goal
 
 pub loop-page-preserved : goal.loop-page-preserved
 loop-page-preserved g c =
-    let inside : c.loop-page.page-index < length c.args.pages.now = omega arith in
     let pushed : c.push.new.self.items ≡ c.loop-page.loaded.items ++ c.in_ok-page.page ∷ [] = search rules in
-    let fits : c.in-Some.left + length c.in_ok-page.page.items ≡ c.loop-page.room = omega (arith, c.in-Some.ensures, ap length c.items.ensures.items) in
-    let some : 1 ≤ length c.in_ok-page.page.items = omega (arith, c.items.ensures.some, ap length c.items.ensures.items) in
     record {
-      so_far = load_step g.T.PageItem.format c.loop-page.page-index c.loop-page.room c.in-Some.left c.args.pages.now c.args.beside.now c.loop-page.loaded.items c.push.new.self.items _ c.in_ok-page.page
-          (g.D.Disk.state c.args.disk.now) (g.D.Disk.state c.loop-page.disk) (g.D.Disk.state c.load_one_beside.new.disk) inside c.loop-page.invariant.so_far fits pushed
-          c.in_ok-page.ensures.entry some c.in_ok-page.ensures.found c.load_one_beside.ensures.reads;
-      sound = c.in_ok-page.ensures.device.sound (λ is. true≢false (ap is_ok is)) ∙ c.loop-page.invariant.sound;
+      so_far = load_step _ c.loop-page.invariant.so_far (omega arith) (unshared_called (stored_refs c.args.beside.now)) c.push.new.self.items c.in_ok-page.page (g.D.Disk.state c.load_one_beside.new.disk)
+          (λ is. true≢false (ap is_ok is)) (omega (arith, c.in-Some.ensures, ap length c.items.ensures.items)) pushed c.in_ok-page.ensures.entry (omega (arith, c.items.ensures.some, ap length c.items.ensures.items))
+          c.in_ok-page.ensures.found c.in_ok-page.ensures.reads;
     }
 
 pub returns-clause-pages : goal.returns-clause-pages
-returns-clause-pages g c =
-    record {
-      named = c.loop-page.invariant.so_far.refs_are ∙ take_all c.loop-page.page-index c.args.pages.now (omega arith);
-      stored = c.loop-page.invariant.so_far.are_stored;
-      room = omega (arith, sum_is g.T.PageItem.format c.loop-page.loaded.items, c.loop-page.invariant.so_far.fits);
-    }
+returns-clause-pages g c = (load_end c.loop-page.invariant.so_far (omega arith)).0
+
+pub returns-clause-found : goal.returns-clause-found
+returns-clause-found g c = (load_end c.loop-page.invariant.so_far (omega arith)).2
+
+pub returns-clause-reads : goal.returns-clause-reads
+returns-clause-reads g c = (load_end c.loop-page.invariant.so_far (omega arith)).1 _ (λ is. true≢false (ap is_ok is))
 
 pub returns-in_err-page-clause-damaged : goal.returns-in_err-page-clause-damaged
 returns-in_err-page-clause-damaged g c =
-    let inside : c.loop-page.page-index < length c.args.pages.now = omega arith in
     let p = err_from_is_err_and c.from_residual-in_err-page.result c.from_residual-in_err-page.ensures.1 in
     rw (p.1, p.2)
-    (λ damaged honest stand held are.
-    damaged_at g.T.PageItem.format c.loop-page.page-index c.args.pages.now _ (g.D.Disk.state c.load_one_beside.new.disk).now.seen inside (c.in_err-page.ensures.damaged (cc) honest) held are)
+    (λ damaged honest stand. damaged_at c.loop-page.page-index c.args.pages.now _ (g.D.Disk.state c.load_one_beside.new.disk).now.seen (omega arith) (c.in_err-page.ensures.damaged (cc) honest))
 
 pub returns-in_err-page-clause-reads : goal.returns-in_err-page-clause-reads
 returns-in_err-page-clause-reads g c =
-    reads_next c.loop-page.page-index c.args.pages.now (stored_refs c.args.beside.now) _ (g.D.Disk.state c.args.disk.now) (g.D.Disk.state c.loop-page.disk) (g.D.Disk.state c.load_one_beside.new.disk)
-    (omega arith) c.loop-page.invariant.so_far.reads c.load_one_beside.ensures.reads
-
-pub returns-in_err-map_err-clause-reads : goal.returns-in_err-map_err-clause-reads
-returns-in_err-map_err-clause-reads g c =
-    reads_next c.loop-page.page-index c.args.pages.now (stored_refs c.args.beside.now) _ (g.D.Disk.state c.args.disk.now) (g.D.Disk.state c.loop-page.disk) (g.D.Disk.state c.load_one_beside.new.disk)
-    (omega arith) c.loop-page.invariant.so_far.reads c.load_one_beside.ensures.reads
+    let p = err_from_is_err_and c.from_residual-in_err-page.result c.from_residual-in_err-page.ensures.1 in
+    rw (p.1, p.2)
+    (reads_next _ c.loop-page.invariant.so_far (omega arith) (unshared_called (stored_refs c.args.beside.now)) (g.D.Disk.state c.load_one_beside.new.disk) (λ is. cc) (λ is. cc) c.in_err-page.ensures.reads)
 
 pub returns-in_default-clause-damaged : goal.returns-in_default-clause-damaged
-returns-in_default-clause-damaged g c =
-    let inside : c.loop-page.page-index < length c.args.pages.now = omega arith in
-    let short : c.loop-page.room < length c.in_ok-page.page.items = omega (arith, c.in_default.ensures, ap length c.items.ensures.items) in
-    λ damaged honest stand held are.
-    too_many g.T.PageItem.format g.met.T.PageItem.apart c.loop-page.page-index c.loop-page.room c.args.pages.now c.args.beside.now c.loop-page.loaded.items _ c.in_ok-page.page.items
-    (g.D.Disk.state c.args.disk.now) (g.D.Disk.state c.loop-page.disk) (g.D.Disk.state c.load_one_beside.new.disk) inside c.loop-page.invariant.so_far short c.load_one_beside.ensures.reads.rests honest stand
-    (c.in_ok-page.ensures.found honest stand) held are
+returns-in_default-clause-damaged g c damaged honest stand =
+    too_many _ c.loop-page.invariant.so_far (omega arith) (unshared_called (stored_refs c.args.beside.now)) c.in_ok-page.page.items (g.D.Disk.state c.load_one_beside.new.disk) g.met.T.PageItem.apart
+    (omega (arith, c.in_default.ensures, ap length c.items.ensures.items)) c.in_ok-page.ensures.reads.runs honest stand (c.in_ok-page.ensures.found honest stand)
 
 pub returns-in_default-clause-reads : goal.returns-in_default-clause-reads
 returns-in_default-clause-reads g c =
-    reads_next c.loop-page.page-index c.args.pages.now (stored_refs c.args.beside.now) _ (g.D.Disk.state c.args.disk.now) (g.D.Disk.state c.loop-page.disk) (g.D.Disk.state c.load_one_beside.new.disk)
-    (omega arith) c.loop-page.invariant.so_far.reads c.load_one_beside.ensures.reads
+    reads_next _ c.loop-page.invariant.so_far (omega arith) (unshared_called (stored_refs c.args.beside.now)) (g.D.Disk.state c.load_one_beside.new.disk) (λ is. absurd (true≢false (ap is_ok is))) (λ is. cc)
+    c.in_ok-page.ensures.reads
+
+pub returns-in_err-map_err-clause-reads : goal.returns-in_err-map_err-clause-reads
+returns-in_err-map_err-clause-reads g c =
+    let full : c.in_err-map_err.field-0.0 ≡ NoMemory = search rules in
+    let p = err_from_is_err_and c.from_residual-in_err-map_err.result c.from_residual-in_err-map_err.ensures.1 in
+    rw (p.1, p.2 ∙ full)
+    (reads_next _ c.loop-page.invariant.so_far (omega arith) (unshared_called (stored_refs c.args.beside.now)) (g.D.Disk.state c.load_one_beside.new.disk) (λ is. absurd (true≢false (ap is_ok is))) (λ is. cc)
+    c.in_ok-page.ensures.reads)

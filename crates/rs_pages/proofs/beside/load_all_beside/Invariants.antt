@@ -1,12 +1,10 @@
-use Rattle.std.proofs.Common.{◌≡◌}
-use Rattle.rs_pages.proofs.LoadedBeside.{LoadedBeside}
+use Rattle.rs_page.specs.Pages.{stored_refs}
+use Rattle.rs_pages.specs.Storing.{unshared}
+use Rattle.rs_pages.proofs.LoadedUpTo.{LoadedUpTo}
 use Rattle.rs_pages.proofs.beside.load_all_beside.Given as goal
 
 abbrev pub invariant-loop-page : goal.invariant-loop-page
 invariant-loop-page g l =
-    let old = g.D.Disk.state l.initial.disk in
-    let now = g.D.Disk.state l.disk in
     record {
-      so_far : LoadedBeside g.T.PageItem.format l.page-index l.room l.pages l.beside l.loaded.items old now;
-      sound : now.faults ≡ old.faults;
+      so_far : LoadedUpTo g.T.PageItem.format (λ refs. unshared refs (stored_refs l.beside)) l.page-index l.room l.pages l.beside l.loaded.items (g.D.Disk.state l.initial.disk) (g.D.Disk.state l.disk);
     }

@@ -1,97 +1,48 @@
-use Rattle.std.proofs.Common.{true≢false, is_ok, ◌≡◌, ◌<◌, length, map, set, sym, ap, ◌∙◌, subst, arith, Result, Ok, Err}
-use Rattle.std.specs.Prelude.{OnErr, IfSome}
-use Rattle.rs_disk.specs.Medium.{DiskState}
-use Rattle.rs_extent.specs.Extents.{IsOnDisk}
-use Rattle.rs_page.specs.Pages.{Page, IsTouched, placed_extent, page_stored}
-use Rattle.rs_page.specs.DiskPages.{IsWritten}
-use Rattle.rs_pages.proofs.Writing.{items_stored, items_zipped}
-use Rattle.rs_pages.proofs.StoredUpTo.{WritesOne, next_room, next_settled, store_step, store_stop, store_end}
+use Rattle.std.proofs.Common.{true≢false, is_ok, set, ap, arith, Err}
+use Rattle.std.specs.Prelude.{IsErrOf}
+use Rattle.std.proofs.lemmas.Result.{err_from_is_err_and}
+use Rattle.rs_page.specs.declared.page.store.StoreFault.TheVariants.{Device}
+use Rattle.rs_pages.specs.Storing.{StoresSome, WritesPages}
+use Rattle.rs_pages.proofs.Writing.{writes_as, writes_one}
+use Rattle.rs_pages.proofs.StoredUpTo.{next_room, next_settled, store_step, store_stop, store_end}
+use Rattle.rs_pages.proofs.storing.store_all.Given.{Over}
 use Rattle.rs_pages.proofs.storing.store_all.Goals as goal
-
-on_err : {A E P : Type 0} (r : Result A E) → P → OnErr r P
-on_err (Ok a) p = tt
-on_err (Err e) p = p
+use Rattle.rs_pages.proofs.storing.store_all.Goals.{In_err-store}
 
 pub store-requires-clause-placed : goal.store-requires-clause-placed
-store-requires-clause-placed g c =
-    let settled : ¬ IsTouched c.page-item.result.place =
-    next_settled g.T.PageItem.format c.loop-page.page-index c.args.pages.now c.loop-page.pages c.page-item.result (g.D.Disk.state c.args.disk.now) (g.D.Disk.state c.loop-page.disk)
-    c.loop-page.invariant.so_far (omega arith) c.page-item.is c.requires.placed in
-    subst (λ (page : Page g.row.T.Denot). ¬ IsTouched page.place) c.page-item.is settled
+store-requires-clause-placed g c = next_settled c.page-item.result c.loop-page.invariant.so_far (omega arith) c.requires.placed
 
 pub store-requires-clause-room : goal.store-requires-clause-room
-store-requires-clause-room g c =
-    let mid : DiskState = g.D.Disk.state c.loop-page.disk in
-    subst (λ (page : Page g.row.T.Denot). IfSome (placed_extent page.place) (λ extent. IsOnDisk extent mid.size)) c.page-item.is
-    (next_room g.T.PageItem.format c.loop-page.page-index c.args.pages.now c.loop-page.pages c.page-item.result (g.D.Disk.state c.args.disk.now) mid
-    c.loop-page.invariant.so_far (omega arith) c.page-item.is c.requires.room)
+store-requires-clause-room g c = next_room c.page-item.result c.loop-page.invariant.so_far (omega arith) c.requires.room
 
 pub loop-page-preserved : goal.loop-page-preserved
 loop-page-preserved g c =
-    let mid : DiskState = g.D.Disk.state c.loop-page.disk in
-    let new : DiskState = g.D.Disk.state c.store.new.disk in
-    let x : Page g.row.T.Denot = c.page-item.result in
-    let inside : c.loop-page.page-index < length c.loop-page.pages = omega arith in
-    let settled : ¬ IsTouched x.place =
-    next_settled g.T.PageItem.format c.loop-page.page-index c.args.pages.now c.loop-page.pages x (g.D.Disk.state c.args.disk.now) mid c.loop-page.invariant.so_far inside c.page-item.is c.requires.placed in
-    let one : WritesOne x mid new =
-    subst (λ (page : Page g.row.T.Denot). WritesOne page mid new) (sym c.page-item.is)
-    (record { outside = c.store.ensures.outside; advances = c.store.ensures.advances; same = λ h. (c.store.ensures.stored h).1; one_call = c.store.ensures.one_call }) in
-    let made : c.store.new.self ≡ page_stored g.T.PageItem.format x =
-    subst (λ (page : Page g.row.T.Denot). c.store.new.self ≡ page_stored g.T.PageItem.format page) (sym c.page-item.is) c.in_ok-store.ensures.ok in
-    let reads : IsWritten g.T.PageItem.format new.now.seen x =
-    subst (λ (page : Page g.row.T.Denot). IsWritten g.T.PageItem.format new.now.seen page) (sym c.page-item.is) c.in_ok-store.ensures.reads in
+    let settled = next_settled c.page-item.result c.loop-page.invariant.so_far (omega arith) c.requires.placed in
+    let one = writes_one _ _ _ _ settled (λ h. (c.store.ensures.stored h).1) c.store.ensures.calls c.in_ok-store.ensures.writes in
     record {
-      so_far = store_step g.T.PageItem.format c.loop-page.page-index c.args.pages.now c.loop-page.pages x c.store.new.self (g.D.Disk.state c.args.disk.now) mid new
-          c.loop-page.invariant.so_far inside c.page-item.is settled c.requires.apart one made reads;
-      sound = c.in_ok-store.ensures.device.sound (λ is. true≢false (ap is_ok is)) ∙ c.loop-page.invariant.sound;
+      so_far = store_step c.page-item.result c.loop-page.invariant.so_far (omega arith) c.store.new.self (g.D.Disk.state c.store.new.disk) (λ is. true≢false (ap is_ok is)) c.requires.apart one
+          c.in_ok-store.ensures.ok c.in_ok-store.ensures.reads;
     }
 
-pub returns-in_err-store-clause-places : goal.returns-in_err-store-clause-places
-returns-in_err-store-clause-places g c =
-    let mid : DiskState = g.D.Disk.state c.loop-page.disk in
-    let new : DiskState = g.D.Disk.state c.store.new.disk in
-    let x : Page g.row.T.Denot = c.page-item.result in
-    let inside : c.loop-page.page-index < length c.loop-page.pages = omega arith in
-    let settled : ¬ IsTouched x.place =
-    next_settled g.T.PageItem.format c.loop-page.page-index c.args.pages.now c.loop-page.pages x (g.D.Disk.state c.args.disk.now) mid c.loop-page.invariant.so_far inside c.page-item.is c.requires.placed in
-    let one : WritesOne x mid new =
-    subst (λ (page : Page g.row.T.Denot). WritesOne page mid new) (sym c.page-item.is)
-    (record { outside = c.store.ensures.outside; advances = c.store.ensures.advances; same = λ h. (c.store.ensures.stored h).1; one_call = c.store.ensures.one_call }) in
-    on_err c.from_residual.result
-    (store_stop g.T.PageItem.format c.loop-page.page-index c.args.pages.now c.loop-page.pages x c.store.new.self (g.D.Disk.state c.args.disk.now) mid new
-    c.loop-page.invariant.so_far inside c.page-item.is settled c.requires.apart one (c.in_err-store.ensures.err ∙ sym c.page-item.is)).0
+-- what the writing of a page that failed leaves
+stopped : (g : Over) (c : In_err-store g) → StoresSome g.T.PageItem.format (g.D.Disk.state c.store.new.disk).now.seen c.args.pages.now (set c.loop-page.pages c.loop-page.page-index c.store.new.self)
+    × WritesPages c.args.pages.now (IsErrOf {T = Unit {0}} (Err c.in_err-store.field-0.0) Device) (g.D.Disk.state c.args.disk.now) (g.D.Disk.state c.store.new.disk)
+stopped g c =
+    let settled = next_settled c.page-item.result c.loop-page.invariant.so_far (omega arith) c.requires.placed in
+    let one = writes_one _ _ _ _ settled (λ h. (c.store.ensures.stored h).1) c.store.ensures.calls c.in_err-store.ensures.writes in
+    store_stop c.page-item.result c.loop-page.invariant.so_far (omega arith) c.store.new.self (g.D.Disk.state c.store.new.disk) c.requires.apart one c.in_err-store.ensures.err
 
-pub returns-in_err-store-clause-items : goal.returns-in_err-store-clause-items
-returns-in_err-store-clause-items g c =
-    let mid : DiskState = g.D.Disk.state c.loop-page.disk in
-    let new : DiskState = g.D.Disk.state c.store.new.disk in
-    let x : Page g.row.T.Denot = c.page-item.result in
-    let inside : c.loop-page.page-index < length c.loop-page.pages = omega arith in
-    let settled : ¬ IsTouched x.place =
-    next_settled g.T.PageItem.format c.loop-page.page-index c.args.pages.now c.loop-page.pages x (g.D.Disk.state c.args.disk.now) mid c.loop-page.invariant.so_far inside c.page-item.is c.requires.placed in
-    let one : WritesOne x mid new =
-    subst (λ (page : Page g.row.T.Denot). WritesOne page mid new) (sym c.page-item.is)
-    (record { outside = c.store.ensures.outside; advances = c.store.ensures.advances; same = λ h. (c.store.ensures.stored h).1; one_call = c.store.ensures.one_call }) in
-    items_zipped g.T.PageItem.format new.now.seen c.args.pages.now (set c.loop-page.pages c.loop-page.page-index c.store.new.self)
-    (store_stop g.T.PageItem.format c.loop-page.page-index c.args.pages.now c.loop-page.pages x c.store.new.self (g.D.Disk.state c.args.disk.now) mid new
-    c.loop-page.invariant.so_far inside c.page-item.is settled c.requires.apart one (c.in_err-store.ensures.err ∙ sym c.page-item.is)).0
+pub returns-in_err-store-clause-err : goal.returns-in_err-store-clause-err
+returns-in_err-store-clause-err g c =
+    rw (err_from_is_err_and c.from_residual.result c.from_residual.ensures.1).1 (stopped g (goal.at.returns-in_err-store-clause-err g c).In_err-store).0
 
 pub returns-in_err-store-clause-writes : goal.returns-in_err-store-clause-writes
 returns-in_err-store-clause-writes g c =
-    let mid : DiskState = g.D.Disk.state c.loop-page.disk in
-    let new : DiskState = g.D.Disk.state c.store.new.disk in
-    let x : Page g.row.T.Denot = c.page-item.result in
-    let inside : c.loop-page.page-index < length c.loop-page.pages = omega arith in
-    let settled : ¬ IsTouched x.place =
-    next_settled g.T.PageItem.format c.loop-page.page-index c.args.pages.now c.loop-page.pages x (g.D.Disk.state c.args.disk.now) mid c.loop-page.invariant.so_far inside c.page-item.is c.requires.placed in
-    let one : WritesOne x mid new =
-    subst (λ (page : Page g.row.T.Denot). WritesOne page mid new) (sym c.page-item.is)
-    (record { outside = c.store.ensures.outside; advances = c.store.ensures.advances; same = λ h. (c.store.ensures.stored h).1; one_call = c.store.ensures.one_call }) in
-    (store_stop g.T.PageItem.format c.loop-page.page-index c.args.pages.now c.loop-page.pages x c.store.new.self (g.D.Disk.state c.args.disk.now) mid new
-    c.loop-page.invariant.so_far inside c.page-item.is settled c.requires.apart one (c.in_err-store.ensures.err ∙ sym c.page-item.is)).1
+    let p = err_from_is_err_and c.from_residual.result c.from_residual.ensures.1 in
+    rw (p.1, p.2) (stopped g (goal.at.returns-in_err-store-clause-writes g c).In_err-store).1
 
-pub returns-clause-items : goal.returns-clause-items
-returns-clause-items g c =
-    let ended = store_end g.T.PageItem.format c.loop-page.page-index c.args.pages.now c.loop-page.pages (g.D.Disk.state c.args.disk.now) (g.D.Disk.state c.loop-page.disk) c.loop-page.invariant.so_far (omega arith) in
-    ap (λ pages. map (λ page. page.items) pages) ended.0 ∙ items_stored g.T.PageItem.format c.args.pages.now
+pub returns-clause-ok : goal.returns-clause-ok
+returns-clause-ok g c = (store_end c.loop-page.invariant.so_far (omega arith)).0
+
+pub returns-clause-writes : goal.returns-clause-writes
+returns-clause-writes g c = writes_as _ _ _ (λ failed. absurd failed) (λ is. true≢false (ap is_ok is)) (store_end c.loop-page.invariant.so_far (omega arith)).1

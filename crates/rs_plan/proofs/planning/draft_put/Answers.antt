@@ -1,33 +1,42 @@
-use Rattle.std.proofs.Common.{◌<◌, ◌≤◌, ◌∙◌, ℕ, List, [], ◌∷◌, length, Err, sym, ap, subst, inl, refl}
-use Rattle.std.specs.Prelude.{replicate}
+use Rattle.std.proofs.Common.{◌≡◌, ℕ, Bool, List, [], ◌∷◌, ◌++◌, length, inl, sym, refl, ◌∙◌, ap, subst}
+use Rattle.std.specs.Prelude.{MatchOption, replicate}
+use Rattle.std.proofs.lemmas.Result.{IfOk-weaker}
 use Rattle.rs_fixity.specs.declared.Digests.{Digests}
 use Rattle.rs_fixity.specs.Digests.{digests}
 use Rattle.rs_extent.specs.declared.Extent.{Extent}
 use Rattle.rs_extent.specs.Extents.{CanTake}
-use Rattle.rs_image.specs.Rooted.{Rooted, IsRooted, rooted}
-use Rattle.rs_record.specs.declared.record.Record.{Record}
-use Rattle.rs_record.specs.Limits.{longest_body}
-use Rattle.rs_page.specs.Items.{record_format, change_format}
-use Rattle.rs_changes.specs.History.{Numbered}
-use Rattle.rs_plan.specs.Drafts.{lists_filled, plan_filled}
-use Rattle.rs_plan.proofs.Drafts.{AreLong, placed_stands, placed_ends}
 use Rattle.rs_body.specs.Blocks.{blocks_of}
+use Rattle.rs_record.specs.declared.record.Record.{Record}
+use Rattle.rs_record.specs.declared.change.Change.{Change}
+use Rattle.rs_page.specs.Items.{record_format, change_format}
+use Rattle.rs_changes.specs.History.{changes_of, last_of}
+use Rattle.rs_image.specs.declared.contents.Contents.{Contents}
+use Rattle.rs_image.specs.StateOfImage.{state_in}
+use Rattle.rs_image.specs.Rooted.{Rooted, AreUsed}
+use Rattle.rs_model.specs.Step.{reply_to}
 use Rattle.rs_model.specs.declared.command.Command.TheVariants.{Put}
-use Rattle.rs_plan.specs.Room.{HasNoRun, HasNoRoom, TakesEach}
-use Rattle.rs_plan.specs.Placed.{AreUnplaced, facts_of_body}
-use Rattle.rs_plan.proofs.Drafted.{IsDraft, frees_is, places_are, next_is, needed_is, unplaced_is, placed_is, records_are, changes_are, lawful_catalogue, lawful_history}
-use Rattle.rs_plan.proofs.Following.{all_unplaced, lacking}
-use Rattle.rs_plan.proofs.Here.{sound_here, used_here, later_here, same_fault, freed_here, planned_there, lacking_there}
-use Rattle.rs_plan.proofs.Extents.{found_free, found_somewhere, one_can, takes_one}
-use Rattle.rs_plan.proofs.Rules.{rules_of, changed, put_records}
-use Rattle.rs_plan.proofs.Parts.{sized_each}
-use Rattle.rs_plan.proofs.Planned.{planned}
-use Rattle.rs_plan.proofs.Replies.{put_told}
-use Rattle.rs_plan.specs.declared.planning.PlanFault.TheVariants.{Full}
-use Rattle.rs_plan.specs.Placed.{IsPlacedFrom, HasNoRoomFrom}
+use Rattle.rs_model.specs.declared.command.Item.TheVariants as single
+use Rattle.rs_model.specs.declared.command.Reply.{Reply}
+use Rattle.rs_plan.specs.declared.plan.Plan.{Plan}
+use Rattle.rs_plan.specs.Allowed.{MayPut}
+use Rattle.rs_plan.specs.Drafts.{AwaitsBody, IsDraft, plan_filled}
 use Rattle.rs_plan.specs.Freed.{freed_by_change}
-use Rattle.rs_plan.specs.Turned.{change_put}
+use Rattle.rs_plan.specs.Placed.{AreUnplaced, record_of_body, facts_of_body}
+use Rattle.rs_plan.specs.PlacedFrom.{IsPlacedFrom, HasNoRoomFrom}
+use Rattle.rs_plan.specs.Plans.{IsPlanned, LacksRoom}
+use Rattle.rs_plan.specs.Replies.{reply_of}
+use Rattle.rs_plan.specs.Room.{HasNoRun, IsFoundRun}
+use Rattle.rs_plan.specs.Turned.{change_of_record, lists_after_put}
+use Rattle.rs_plan.proofs.Drafts.{AreLong, placed_stands, placed_ends}
+use Rattle.rs_plan.proofs.Drafted.{filled_lacks, filled_from}
+use Rattle.rs_plan.proofs.Extents.{found_free, found_somewhere, one_can, takes_one}
+use Rattle.rs_plan.proofs.Placing.{all_unplaced}
+use Rattle.rs_plan.proofs.Grouped.{put_does, may_one, frees_one, items_lack, items_planned}
+use Rattle.rs_plan.proofs.Here.{IsAccepted, accepted}
+use Rattle.rs_plan.proofs.ItemSteps.{unplaced_with}
+use Rattle.rs_plan.proofs.Replies.{put_told, some_change}
 use Rattle.rs_plan.proofs.planning.draft_put.Goals as goal
+use Rattle.rs_plan.proofs.planning.draft_put.Goals.{After-place_lists}
 
 -- what stands in the place of digests that are not known
 abbrev unknown : Digests
@@ -36,28 +45,93 @@ unknown = record { md5 = replicate 16 0; sha256 = replicate 32 0 }
 unknown_long : AreLong unknown
 unknown_long = record { md5 = refl; sha256 = refl }
 
+-- the record of a draft, and its lists behind a root
+abbrev blank : List ℕ → List ℕ → ℕ → Extent → ℕ → Record
+blank name kind n body moment = record_of_body name kind n unknown body moment
+
+abbrev draft : Rooted → List ℕ → List ℕ → ℕ → Extent → ℕ → Contents
+draft r name kind n body moment = lists_after_put r.contents (blank name kind n body moment)
+
+made : (r : Rooted) (c lists : Contents) (name kind : List ℕ) (n : ℕ) (body : Extent) (moment : ℕ) → c ≡ r.contents → lists ≡ lists_after_put c (blank name kind n body moment)
+    → lists ≡ draft r name kind n body moment
+made r c lists name kind n body moment at is = is ∙ ap (λ (x : Contents). lists_after_put x (blank name kind n body moment)) at
+
+module _ (r : Rooted) (name kind : List ℕ) (n : ℕ) (body : Extent) (moment : ℕ) (given : IsAccepted r moment) where
+  abbrev change : Change
+  change = change_of_record r.contents (blank name kind n body moment)
+
+  unplaced : AreUnplaced (draft r name kind n body moment)
+  unplaced =
+      unplaced_with given.law r.contents (draft r name kind n body moment).catalogue change moment (given.law.touches_bound (blank name kind n body moment) r.contents.catalogue)
+      (all_unplaced r.contents given.sound.whole.catalogue given.sound.whole.history)
+
+  one_more : changes_of (draft r name kind n body moment).history.pages ≡ changes_of r.contents.history.pages ++ change ∷ []
+  one_more = given.law.appended change r.contents.history.pages
+
+  -- Its record and its last change stand in pages that are not stored, also once these have their places.
+  awaits : (used : List Bool) (bodies : List Extent) (told : Reply) (gone : List Extent) (p : Plan) → IsPlacedFrom used bodies (draft r name kind n body moment) told gone p
+      → AwaitsBody name p
+  awaits used bodies told gone p from =
+      let placed = from.placed in
+      let lists = draft r name kind n body moment in
+      record {
+        catalogue = placed_stands record_format (λ (r : Record). r.name) name from.after_bodies placed.after_catalogue lists.catalogue p.contents.catalogue placed.catalogue
+            (given.law.stands (blank name kind n body moment) r.contents.catalogue);
+        history = placed_ends change_format placed.after_catalogue placed.after_history lists.history.pages p.contents.history.pages placed.history
+            (given.law.ends change r.contents.history.pages);
+      }
+
+  told_of : (told : Reply) → MatchOption (last_of (changes_of (draft r name kind n body moment).history.pages)) ⊥ (λ x. told ≡ reply_of x)
+      → (bytes image : List ℕ) → told ≡ reply_to (state_in image r.contents) (Put name kind bytes) moment
+  told_of told is bytes image =
+      put_told image r.contents (draft r name kind n body moment) name kind bytes moment (facts_of_body kind n unknown) told one_more is
+
+-- Where as many bytes come as were counted, what was found for the draft is found for the put.
+module _ (r : Rooted) (name kind bytes : List ℕ) (body : Extent) (moment : ℕ) (given : IsAccepted r moment) (used : List Bool) (are_used : AreUsed r used)
+    (may : MayPut r.contents name (length bytes) moment) (found : IsFoundRun used (blocks_of (length bytes)) body) where
+  lacks : HasNoRoomFrom used (body ∷ []) (draft r name kind (length bytes) body moment) → LacksRoom r (Put name kind bytes) moment
+  lacks room =
+      items_lack r moment given (Put name kind bytes) (single.Put name kind bytes ∷ []) (put_does name kind bytes) (body ∷ [])
+      (may_one r moment given (single.Put name kind bytes) may (body ∷ [])) used are_used (λ after taken. takes_one used after (blocks_of (length bytes)) body found taken)
+      (filled_lacks given.law r.contents given.lawful.held.ordered unknown unknown_long name kind bytes body moment used (body ∷ []) room)
+
+  planned : (told : Reply) (gone : List Extent) (p : Plan) → ((image : List ℕ) → told ≡ reply_to (state_in image r.contents) (Put name kind bytes) moment)
+      → gone ≡ freed_by_change r name → IsPlacedFrom used (body ∷ []) (draft r name kind (length bytes) body moment) told gone p
+      → IsPlanned r (Put name kind bytes) moment (plan_filled name (digests bytes) p)
+  planned told gone p reply freed from =
+      items_planned r moment given (Put name kind bytes) (single.Put name kind bytes ∷ []) (put_does name kind bytes) (body ∷ [])
+      (may_one r moment given (single.Put name kind bytes) may (body ∷ [])) used are_used (λ after taken. takes_one used after (blocks_of (length bytes)) body found taken)
+      told gone (plan_filled name (digests bytes) p) reply (freed ∙ frees_one r (single.Put name kind bytes) moment (body ∷ []))
+      (filled_from given.law r.contents given.lawful.held.ordered unknown unknown_long name kind bytes body moment used (body ∷ []) told gone p from)
+
+pub reply_told-reply-requires : goal.reply_told-reply-requires
+reply_told-reply-requires c =
+    let r = c.args.old.now in
+    let name = c.args.name.now in
+    let kind = c.args.kind.now in
+    let n = c.args.body_length in
+    let body = c.in-Some.body in
+    let moment = c.args.moment in
+    let at = c.contents-contents.ensures.contents in
+    let given = accepted r _ moment at c.page_rule_is_kept.ensures c.contents-contents.ensures.sound c.types_are_kept.ensures.lists c.types_are_kept.ensures.moment
+    c.requires.may.change.later in
+    some_change r.contents c.in_ok-lists.lists (change_of_record r.contents (blank name kind n body moment))
+    (ap (λ (x : Contents). changes_of x.history.pages) (made r _ c.in_ok-lists.lists name kind n body moment at c.in_ok-lists.ensures) ∙ one_more r name kind n body moment given)
+
 pub place_lists-requires : goal.place_lists-requires
 place_lists-requires c =
     let r = c.args.old.now in
-    let old = c.contents-contents.result.now in
-    let sound : IsRooted (rooted r.size r.root old) = sound_here r old c.contents-contents.ensures.contents c.contents-contents.ensures.sound in
+    let name = c.args.name.now in
+    let kind = c.args.kind.now in
+    let n = c.args.body_length in
+    let body = c.in-Some.body in
+    let moment = c.args.moment in
+    let at = c.contents-contents.ensures.contents in
+    let given = accepted r _ moment at c.page_rule_is_kept.ensures c.contents-contents.ensures.sound c.types_are_kept.ensures.lists c.types_are_kept.ensures.moment
+    c.requires.may.change.later in
     record {
-      unplaced = c.in_ok-lists.ensures.unplaced (all_unplaced old sound.whole.catalogue sound.whole.history);
-      are_free = subst (CanTake c.args.used.now) (sym c.in_ok-bodies.ensures.items)
-          (one_can c.args.used.now c.in-Some.body (found_free c.args.used.now (blocks_of c.args.body_length) c.in-Some.body c.in-Some.ensures));
-    }
-
-pub returns-clause-awaits : goal.returns-clause-awaits
-returns-clause-awaits c =
-    let unstored = c.in_ok-lists.ensures.unstored in
-    let lists = c.in_ok-lists.lists in
-    let plan = c.in_ok-plan.plan in
-    let from = c.in_ok-plan.ensures.placed in
-    let placed = from.placed in
-    record {
-      catalogue = placed_stands record_format (λ (r : Record). r.name) c.args.name.now from.after_bodies placed.after_catalogue lists.catalogue plan.contents.catalogue
-          placed.catalogue unstored.0;
-      history = placed_ends change_format placed.after_catalogue placed.after_history lists.history.pages plan.contents.history.pages placed.history unstored.1;
+      unplaced = subst AreUnplaced (sym (made r _ c.in_ok-lists.lists name kind n body moment at c.in_ok-lists.ensures)) (unplaced r name kind n body moment given);
+      are_free = subst (CanTake c.args.used.now) (sym c.in_ok-bodies.ensures.items) (one_can c.args.used.now body (found_free c.args.used.now (blocks_of n) body c.in-Some.ensures));
     }
 
 pub returns-clause-no_body : goal.returns-clause-no_body
@@ -70,98 +144,52 @@ returns-in_default-clause-full c full bytes is = record {
   fails = inl (inl (subst (λ (n : ℕ). HasNoRun c.args.used.now (blocks_of n)) (sym is) c.in_default.ensures));
 }
 
-pub returns-in_err-plan-clause-full : goal.returns-in_err-plan-clause-full
-returns-in_err-plan-clause-full c full bytes is =
-    let law = c.page_rule_is_kept.ensures in
-    let old = c.contents-contents.result.now in
-    let at = c.contents-contents.ensures.contents in
+given : (c : After-place_lists) → IsAccepted c.args.old.now c.args.moment
+given c =
+    accepted c.args.old.now _ c.args.moment c.contents-contents.ensures.contents c.page_rule_is_kept.ensures c.contents-contents.ensures.sound c.types_are_kept.ensures.lists
+    c.types_are_kept.ensures.moment c.requires.may.change.later
+
+lists_are : (c : After-place_lists) → c.in_ok-lists.lists
+    ≡ draft c.args.old.now c.args.name.now c.args.kind.now c.args.body_length c.in-Some.body c.args.moment
+lists_are c =
+    made c.args.old.now _ c.in_ok-lists.lists c.args.name.now c.args.kind.now c.args.body_length c.in-Some.body c.args.moment c.contents-contents.ensures.contents c.in_ok-lists.ensures
+
+pub returns-clause-draft : goal.returns-clause-draft
+returns-clause-draft c =
     let r = c.args.old.now in
     let name = c.args.name.now in
     let kind = c.args.kind.now in
-    let lists = c.in_ok-lists.lists in
-    let made = c.in_ok-lists.ensures in
+    let n = c.args.body_length in
     let body = c.in-Some.body in
     let moment = c.args.moment in
     let used = c.args.used.now in
-    let room : HasNoRoomFrom used (body ∷ []) lists =
-    subst (λ (l : List Extent). HasNoRoomFrom used l lists) c.in_ok-bodies.ensures.items
-    (c.place_lists.ensures.full (c.in_err-plan.was ∙ ap Err (same_fault c.from_residual-in_err-plan.result c.in_err-plan.field-0.0 Full c.from_residual-in_err-plan.ensures.1 full))) in
-    let sound : IsRooted (rooted r.size r.root old) = sound_here r old at c.contents-contents.ensures.sound in
-    let unplaced : AreUnplaced lists = made.unplaced (all_unplaced old sound.whole.catalogue sound.whole.history) in
-    let draft : IsDraft old lists name kind (length bytes) unknown body moment =
-    subst (λ (n : ℕ). IsDraft old lists name kind n unknown body moment) (sym is)
-    (record {
-      header = made.header;
-      published = made.published;
-      catalogue = made.catalogue;
-      history = ap (λ (h : Numbered). h.pages) made.history;
-      old_lawful = made.lawful;
-      unplaced = unplaced;
-      long = unknown_long;
-    }) in
-    let takes : TakesEach used (blocks_of (length bytes) ∷ []) (body ∷ []) room.after_bodies =
-    subst (λ (n : ℕ). TakesEach used (blocks_of n ∷ []) (body ∷ []) room.after_bodies) (sym is)
-    (takes_one used room.after_bodies (blocks_of c.args.body_length) body c.in-Some.ensures room.takes) in
-    lacking_there r old at (Put name kind bytes) moment
-    (lacking (rooted r.size r.root old) (Put name kind bytes) moment used room.after_bodies (body ∷ []) (lists_filled name (digests bytes) lists)
-    (used_here r old at used c.requires.used) takes (next_is law old lists name kind bytes unknown body moment draft)
-    (subst (λ (ns : List ℕ). HasNoRoom room.after_bodies ns) (sym (needed_is law old lists name kind bytes unknown body moment draft)) room.fails))
+    let told = c.reply_told-reply.result in
+    let gone = c.in_ok-freed.freed.items in
+    let reply = told_of r name kind n body moment (given c) told
+    (subst (λ (x : Contents). MatchOption (last_of (changes_of x.history.pages)) ⊥ (λ change. told ≡ reply_of change)) (lists_are c) c.reply_told-reply.ensures) in
+    IfOk-weaker c.place_lists.result (IsPlacedFrom used c.in_ok-bodies.bodies.items c.in_ok-lists.lists told gone) (IsDraft r name kind n moment)
+    (λ p from.
+    let placed : IsPlacedFrom used (body ∷ []) (draft r name kind n body moment) told gone p =
+    subst (λ (l : List Extent). IsPlacedFrom used l (draft r name kind n body moment) told gone p) c.in_ok-bodies.ensures.items
+    (subst (λ (x : Contents). IsPlacedFrom used c.in_ok-bodies.bodies.items x told gone p) (lists_are c) from) in
+    record {
+      awaits = awaits r name kind n body moment (given c) used (body ∷ []) told gone p placed;
+      planned = λ bytes is.
+          subst (λ (k : ℕ). MayPut r.contents name k moment → IsFoundRun used (blocks_of k) body → IsPlacedFrom used (body ∷ []) (draft r name kind k body moment) told gone p
+          → IsPlanned r (Put name kind bytes) moment (plan_filled name (digests bytes) p)) is
+          (λ may found from. planned r name kind bytes body moment (given c) used c.requires.used may found told gone p (reply bytes) c.in_ok-freed.ensures from)
+          c.requires.may c.in-Some.ensures placed;
+    }) c.place_lists.ensures.placed
 
-pub returns-clause-planned : goal.returns-clause-planned
-returns-clause-planned c bytes is =
-    let law = c.page_rule_is_kept.ensures in
-    let old = c.contents-contents.result.now in
-    let at = c.contents-contents.ensures.contents in
+pub returns-clause-full : goal.returns-clause-full
+returns-clause-full c full bytes is =
     let r = c.args.old.now in
     let name = c.args.name.now in
     let kind = c.args.kind.now in
-    let lists = c.in_ok-lists.lists in
-    let made = c.in_ok-lists.ensures in
-    let placing = c.in_ok-plan.ensures in
     let body = c.in-Some.body in
-    let start = c.args.used.now in
-    let from : IsPlacedFrom start (body ∷ []) lists c.in_ok-plan.plan =
-    subst (λ (l : List Extent). IsPlacedFrom start l lists c.in_ok-plan.plan) c.in_ok-bodies.ensures.items placing.placed in
-    let used = from.after_bodies in
     let moment = c.args.moment in
-    let sound : IsRooted (rooted r.size r.root old) = sound_here r old at c.contents-contents.ensures.sound in
-    let unplaced : AreUnplaced lists = made.unplaced (all_unplaced old sound.whole.catalogue sound.whole.history) in
-    let draft : IsDraft old lists name kind (length bytes) unknown body moment =
-    subst (λ (n : ℕ). IsDraft old lists name kind n unknown body moment) (sym is)
-    (record {
-      header = made.header;
-      published = made.published;
-      catalogue = made.catalogue;
-      history = ap (λ (h : Numbered). h.pages) made.history;
-      old_lawful = made.lawful;
-      unplaced = unplaced;
-      long = unknown_long;
-    }) in
-    let one : TakesEach start (blocks_of c.args.body_length ∷ []) (body ∷ []) used =
-    takes_one start used (blocks_of c.args.body_length) body c.in-Some.ensures from.takes in
-    let takes : TakesEach start (blocks_of (length bytes) ∷ []) (body ∷ []) used =
-    subst (λ (n : ℕ). TakesEach start (blocks_of n ∷ []) (body ∷ []) used) (sym is) one in
-    let filled = lists_filled name (digests bytes) lists in
-    let later : old.header.last < moment = later_here r old at moment c.requires.may.change.later in
-    let short : length bytes ≤ longest_body = subst (λ (n : ℕ). n ≤ longest_body) (sym is) c.requires.may.body in
-    planned_there r old at (Put name kind bytes) moment (plan_filled name (digests bytes) c.in_ok-plan.plan)
-    (planned r.size r.root old sound (Put name kind bytes) moment start used
-    (used_here r old at start c.requires.used)
-    (body ∷ []) takes filled
-    (next_is law old lists name kind bytes unknown body moment draft)
-    (changed old filled (change_put old name kind bytes moment) moment (rules_of r.size r.root old sound.whole sound.listable.header) made.moment later refl short
-    made.header (ap (λ (h : Numbered). h.first) made.history) (changes_are law old lists name kind bytes unknown body moment draft) made.published)
-    (put_records r.size r.root old filled name kind bytes body moment sound.whole later short (sized_each (bytes ∷ []) start used (body ∷ []) takes).0 made.header
-    (records_are law old lists name kind bytes unknown body moment draft))
-    (unplaced_is law old lists name kind bytes unknown body moment draft)
-    (plan_filled name (digests bytes) c.in_ok-plan.plan) (placed_is law old lists name kind bytes unknown body moment draft used c.in_ok-plan.plan from.placed)
-    (λ image.
-    placing.reply
-    ∙ put_told image old lists name kind bytes moment (facts_of_body kind c.args.body_length unknown) c.reply_told-reply.result made.changes
-    c.reply_told-reply.ensures)
-    (lawful_catalogue law old lists name kind bytes unknown body moment draft placing.catalogue)
-    (lawful_history law old lists name kind bytes unknown body moment draft placing.history)
-    placing.published
-    (λ one apart beside. frees_is law old lists name kind bytes unknown body moment draft r.root.directory c.in_ok-plan.plan.freed.items
-    (placing.freed ∙ freed_here r old at (λ (o : Rooted). freed_by_change o name) c.in_ok-freed.freed.items c.in_ok-freed.ensures) apart beside)
-    (placing.taken ∙ places_are law old lists name kind bytes unknown body moment draft used c.in_ok-plan.plan from.placed))
+    let used = c.args.used.now in
+    subst (λ (k : ℕ). MayPut r.contents name k moment → IsFoundRun used (blocks_of k) body → HasNoRoomFrom used (body ∷ []) (draft r name kind k body moment)
+    → LacksRoom r (Put name kind bytes) moment) is (lacks r name kind bytes body moment (given c) used c.requires.used) c.requires.may c.in-Some.ensures
+    (subst (λ (l : List Extent). HasNoRoomFrom used l (draft r name kind c.args.body_length body moment)) c.in_ok-bodies.ensures.items
+    (subst (HasNoRoomFrom used c.in_ok-bodies.bodies.items) (lists_are c) (c.place_lists.ensures.full full)))

@@ -1,6 +1,6 @@
 use Rattle.rs_store.specs.Counted.{is_accepted, is_in_doubt}
 use Rattle.rs_store.proofs.Turns.{closed_run, none_counts, closed_is_no_ok, closed_is_no_device}
-use Rattle.rs_store.proofs.Moments.{is_device_or_not, not_done, each_moment, holds_all}
+use Rattle.rs_store.proofs.Moments.{each_moment, holds_all}
 use Rattle.rs_recovery.specs.AnyDisk.{state_of_any}
 use Rattle.rs_recovery.proofs.Sessions.{any_is_sound}
 use Rattle.rs_recovery.proofs.laws.laws_of_any.Goals as goal
@@ -11,8 +11,6 @@ returns c = record {
   closed = closed_run state_of_any;
   none_counts = λ commands acks closed.
       (none_counts is_accepted closed_is_no_ok commands acks closed, none_counts is_in_doubt closed_is_no_device commands acks closed);
-  kinds = is_device_or_not;
-  kept = not_done state_of_any;
   moments = each_moment state_of_any any_is_sound;
   end = holds_all state_of_any any_is_sound;
 }

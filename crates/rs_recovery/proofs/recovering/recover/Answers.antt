@@ -20,7 +20,7 @@ pub returns-clause-opened : goal.returns-clause-opened
 returns-clause-opened g c = opened_on g.D.Disk.state c.args.disk c.open.result c.open.ensures.opened
 
 pub returns-clause-after_a_run : goal.returns-clause-after_a_run
-returns-clause-after_a_run g c = λ honest s commands acks m prefix.
+returns-clause-after_a_run g c = λ s commands acks m prefix honest.
     record {
       j = prefix.j;
       least = prefix.least;

@@ -1,54 +1,49 @@
 -- The input is one piece, and then it ends.
-use Rattle.std.proofs.Common.{[], ℕ, List, Vec, Global, Option, None, Some, inl, inr, refl, rules, sym, subst, append-nil}
-use Rattle.rs_script.specs.Progress.{Progress}
-use Rattle.rs_script.specs.Session.{script_state}
-use Rattle.rs_script.proofs.Steps.{Progress-none, ran_of}
+use Rattle.std.proofs.Common.{[], ℕ, List, Vec, Global, Option, Some, inl, inr, refl, rules, sym, append-nil}
+use Rattle.rs_script.specs.Progress.{stand}
+use Rattle.rs_script.proofs.Steps.{Progress-none, on_err, ran_of}
 use Rattle.rs_script.proofs.memory.script_bytes.Goals as goal
 
 -- what a vector holds as a writer
 abbrev held : Vec ℕ Global → Option (List ℕ)
 held bytes = Some bytes.items
 
-pub returns-in_default-clause-err : goal.returns-in_default-clause-err
-returns-in_default-clause-err g c =
-    let start = script_state c.args.source.now 0 in
-    let P : ℕ → Type 0 = λ now. Progress g.D.Disk.state held start c.new-writer.result [] c.new-line.result None c.new-writer.result (script_state c.args.source.now now) in
-    let begun = subst P (sym c.first-now.ensures) (Progress-none g.D.Disk.state held start c.new-writer.result c.new-line.result c.new-line.ensures) in
-    let e = c.in_default.ensures.err in
-    let stops = e.3 start c.new-writer.result [] begun in (
-      ran_of g.D.Disk.state (c.scripts_recover.ensures, c.scripts_make_walks.ensures) c.args.source.now c.take_piece-taken.new.source e.0 stops.0.0 stops.0.1 c.take_piece-taken.new.now stops.0.2,
-      e.1,
-      e.2,
-      inl stops.1,
-      stops.0.3.whole,
-      stops.0.3.last,
-      stops.0.3.outcomes_are,
-    )
+pub returns-in_err-take_piece-clause-err : goal.returns-in_err-take_piece-clause-err
+returns-in_err-take_piece-clause-err g c =
+    let begun = Progress-none g.D.Disk.state held (stand c.new-pending.result c.args.source.now c.new-writer.result) c.args.source.now refl c.new-pending.ensures.now c.new-pending.ensures.group c.new-pending.ensures.line in
+    let e = c.in_err-take_piece.ensures.err in
+    let stops = e.3 _ [] begun in
+    on_err c.from_residual.result (record {
+      ran = ran_of g.D.Disk.state (c.scripts_recover.ensures, c.scripts_make_walks.ensures) c.args.source.now c.take_piece.new.source e.0 stops.0.0 stops.0.1 c.take_piece.new.self.now stops.0.2;
+      tail = e.1;
+      input_is = e.2;
+      come = inl stops.1;
+      before = stops.0.3.whole;
+      last = stops.0.3.last;
+      outcomes_are = stops.0.3.outcomes_are;
+    })
 
-pub returns-in_default-take_end-clause-err : goal.returns-in_default-take_end-clause-err
-returns-in_default-take_end-clause-err g c =
-    let start = script_state c.args.source.now 0 in
-    let P : ℕ → Type 0 = λ now. Progress g.D.Disk.state held start c.new-writer.result [] c.new-line.result None c.new-writer.result (script_state c.args.source.now now) in
-    let begun = subst P (sym c.first-now.ensures) (Progress-none g.D.Disk.state held start c.new-writer.result c.new-line.result c.new-line.ensures) in
+pub returns-in_err-take_end-clause-err : goal.returns-in_err-take_end-clause-err
+returns-in_err-take_end-clause-err g c =
+    let begun = Progress-none g.D.Disk.state held (stand c.new-pending.result c.args.source.now c.new-writer.result) c.args.source.now refl c.new-pending.ensures.now c.new-pending.ensures.group c.new-pending.ensures.line in
     let input = c.args.input.now in
-    let end = c.in_default-take_end.ensures.err start c.new-writer.result input (c.in-Ok.ensures.ok start c.new-writer.result [] begun) in (
-      ran_of g.D.Disk.state (c.scripts_recover.ensures, c.scripts_make_walks.ensures) c.args.source.now c.take_end.new.source input end.0 end.1 c.take_end.new.now end.2,
-      [],
-      sym (append-nil input),
-      inr refl,
-      end.3.whole,
-      end.3.last,
-      end.3.outcomes_are,
-    )
+    let end = c.in_err-take_end.ensures.err _ input (c.in_ok-take_piece.ensures.ok _ [] begun) in
+    on_err c.from_residual-in_err-take_end.result (record {
+      ran = ran_of g.D.Disk.state (c.scripts_recover.ensures, c.scripts_make_walks.ensures) c.args.source.now c.take_end.new.source input end.0 end.1 c.take_end.new.self.now end.2;
+      tail = [];
+      input_is = sym (append-nil input);
+      come = inr refl;
+      before = end.3.whole;
+      last = end.3.last;
+      outcomes_are = end.3.outcomes_are;
+    })
 
 pub returns-clause-ok : goal.returns-clause-ok
 returns-clause-ok g c =
-    let start = script_state c.args.source.now 0 in
-    let P : ℕ → Type 0 = λ now. Progress g.D.Disk.state held start c.new-writer.result [] c.new-line.result None c.new-writer.result (script_state c.args.source.now now) in
-    let begun = subst P (sym c.first-now.ensures) (Progress-none g.D.Disk.state held start c.new-writer.result c.new-line.result c.new-line.ensures) in
+    let begun = Progress-none g.D.Disk.state held (stand c.new-pending.result c.args.source.now c.new-writer.result) c.args.source.now refl c.new-pending.ensures.now c.new-pending.ensures.group c.new-pending.ensures.line in
     let input = c.args.input.now in
-    let end = c.in-Ok-take_end.ensures.ok start c.new-writer.result input (c.in-Ok.ensures.ok start c.new-writer.result [] begun) in (
-      ran_of g.D.Disk.state (c.scripts_recover.ensures, c.scripts_make_walks.ensures) c.args.source.now c.take_end.new.source input end.0 end.1 c.take_end.new.now end.2,
+    let end = c.in_ok-take_end.ensures.ok _ input (c.in_ok-take_piece.ensures.ok _ [] begun) in (
+      ran_of g.D.Disk.state (c.scripts_recover.ensures, c.scripts_make_walks.ensures) c.args.source.now c.take_end.new.source input end.0 end.1 c.take_end.new.self.now end.2,
       refl,
       search rules,
     )

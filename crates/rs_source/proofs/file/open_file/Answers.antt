@@ -10,4 +10,4 @@ pub returns-in-Ok-clause-held : goal.returns-in-Ok-clause-held
 returns-in-Ok-clause-held g c = λ honest.
     let device = device_of g.S.Start in
     subst (λ (m : Medium). StandsFor m.seen (state_of device c.in-Ok.source))
-    (c.in_ok-disk.ensures.first (c.in-Ok.ensures.writes_nothing.lasts honest)) (c.in-Ok.ensures.found.holds honest).1
+    (c.in_ok-disk.ensures.first (c.in-Ok.ensures.runs.runs.lasts honest)) (c.in-Ok.ensures.found.holds honest).1

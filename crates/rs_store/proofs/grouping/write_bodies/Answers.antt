@@ -1,16 +1,17 @@
-use Rattle.std.proofs.Common.{rules, ◌≡◌, ℕ, ◌+◌, ◌<◌, length, drop, take, get_or, List, [], refl, ◌∙◌, ap, arith, Option, None, Bor}
+use Rattle.std.proofs.Common.{rules, ◌≡◌, ◌⊎◌, inr, ◌∷◌, ℕ, ◌+◌, ◌<◌, length, drop, take, get_or, List, [], refl, ◌∙◌, ap, arith, Option, None, Bor}
 use Rattle.std.specs.List.{cons_option}
 use Rattle.std.specs.Option.{option_copied}
 use Rattle.std.proofs.lemmas.List.{drop_all}
-use Rattle.rs_disk.specs.Leaves.{Advances}
-use Rattle.rs_extent.specs.Extents.{in_some}
-use Rattle.rs_body.proofs.KeptBlocks.{outside_on}
+use Rattle.rs_disk.specs.Medium.{DiskState}
+use Rattle.rs_extent.specs.declared.Extent.{Extent}
+use Rattle.rs_extent.specs.Extents.{in_some, IsSubset}
+use Rattle.rs_body.specs.Outside.{WritesOnly, WritesPart}
+use Rattle.rs_body.proofs.Only.{only_on, part_only}
 use Rattle.rs_body.proofs.Sets.{fits_sized}
 use Rattle.rs_model.specs.declared.command.Item.{Item}
 use Rattle.rs_plan.specs.Room.{bodies_kept}
 use Rattle.rs_plan.specs.Turned.{no_body}
-use Rattle.rs_store.proofs.Finished.{advances_on}
-use Rattle.rs_store.proofs.Grouped.{kept_step, has_extent, others_left, sized_at, beside_at, inside_at, beside_before, one_more, all_stand}
+use Rattle.rs_store.proofs.Grouped.{kept_step, has_extent, others_left, sized_at, among_all, inside_at, beside_before, one_more, all_stand}
 use Rattle.rs_store.proofs.grouping.write_bodies.Goals.{in-Some+in_ok-write_body, in_default}
 use Rattle.rs_store.proofs.grouping.write_bodies.Goals as goal
 
@@ -36,7 +37,7 @@ write_body-requires-clause-room g c b is =
     let next = left_by items i n c.body_kept.result _ c.loop-i.invariant.left (kept_step items i (option_copied c.body_kept.result) c.body_kept.ensures) c.in-Some.is in
     let there = inside_at extents (bodies_kept items) c.requires.sized n c.in-Some.bytes.now (bodies_kept (drop (i + 1) items)) next no_body (get_or extents n no_body) refl
     (g.D.Disk.state c.args.disk.now).size c.requires.room b is in
-    omega (arith, there, c.loop-i.invariant.advances.size)
+    omega (arith, there, c.loop-i.invariant.writes.runs.runs.size)
 
 pub write_body-requires-clause-fits : goal.write_body-requires-clause-fits
 write_body-requires-clause-fits g c =
@@ -49,16 +50,24 @@ write_body-requires-clause-fits g c =
     fits_sized (get_or extents n no_body) (length bytes)
     (sized_at extents (bodies_kept items) c.requires.sized n bytes (bodies_kept (drop (i + 1) items)) next no_body (get_or extents n no_body) refl)
 
-pub returns-in_err-write_body-clause-outside : goal.returns-in_err-write_body-clause-outside
-returns-in_err-write_body-clause-outside g c kept beside =
+-- a body more, written to the extent at hand
+further : {A B C : Type 0} (extents : List Extent) (e : Extent) (n : ℕ) (old mid new : DiskState) → IsSubset (in_some (e ∷ [])) (in_some extents)
+    → (A → C) → (B → C) → (C → A ⊎ B) → WritesOnly extents A old mid → WritesPart e 0 n B mid new → WritesOnly extents C old new
+further extents e n old mid new among left right split one two =
+    only_on extents (e ∷ []) extents old mid new (λ b is. is) among left right split one (part_only e 0 n mid new two)
+
+pub returns-in_err-write_body-clause-writes : goal.returns-in_err-write_body-clause-writes
+returns-in_err-write_body-clause-writes g c =
     let items = c.args.items.now in
     let extents = c.args.extents.now in
     let i = c.loop-i.i in
     let n = c.loop-i.written in
     let next = left_by items i n c.body_kept.result _ c.loop-i.invariant.left (kept_step items i (option_copied c.body_kept.result) c.body_kept.ensures) c.in-Some.is in
-    let at_hand = beside_at extents (bodies_kept items) c.requires.sized n c.in-Some.bytes.now (bodies_kept (drop (i + 1) items)) next no_body (get_or extents n no_body) refl kept beside in
-    outside_on kept (g.D.Disk.state c.args.disk.now) (g.D.Disk.state c.loop-i.disk) (g.D.Disk.state c.write_body.new.disk) (c.loop-i.invariant.outside kept beside)
-    (c.write_body.ensures.outside kept at_hand)
+    let e = get_or extents n no_body in
+    let among = among_all extents (bodies_kept items) c.requires.sized n c.in-Some.bytes.now (bodies_kept (drop (i + 1) items)) next no_body e refl in
+    let both = further extents e (length c.in-Some.bytes.now) (g.D.Disk.state c.args.disk.now) (g.D.Disk.state c.loop-i.disk) (g.D.Disk.state c.write_body.new.disk) among
+    (λ none. absurd none) (λ is. is) (λ is. inr is) c.loop-i.invariant.writes c.in_err-write_body.ensures.writes in
+    record { runs = search rules; outside = both.outside }
 
 pub loop-i-preserved : goal.loop-i-preserved
 loop-i-preserved g c =
@@ -79,24 +88,18 @@ loop-i-preserved g c =
           let next = left_by items i n c.body_kept.result _ kept.left step w.in-Some.is in
           let e = get_or extents n no_body in
           let new = g.D.Disk.state w.write_body.new.disk in
-          let runs = w.write_body.ensures.runs in
-          let goes : Advances mid new = record { size = runs.size; keeps = w.write_body.ensures.keeps; calls = runs.calls; faults = runs.faults } in
-          let written = w.write_body.ensures.outside (in_some (take n extents)) (beside_before extents bodies sized n bytes later next no_body e refl c.requires.apart) in
+          let among = among_all extents bodies sized n bytes later next no_body e refl in
+          let written = w.write_body.ensures.writes.outside (in_some (take n extents)) (beside_before extents bodies sized n bytes later next no_body e refl c.requires.apart) in
           rw (w.written-is, w.disk-is) (record {
             left = others_left extents bodies sized n bytes later next;
             stand = one_more extents bodies sized n bytes later next no_body e refl mid.now.seen new.now.seen kept.stand written.seen w.in_ok-write_body.ensures.reads;
-            advances = advances_on old mid new kept.advances goes;
-            sound = w.in_ok-write_body.ensures.runs.ok ∙ kept.sound;
-            outside = λ set beside. outside_on set old mid new (kept.outside set beside)
-                (w.write_body.ensures.outside set (beside_at extents bodies sized n bytes later next no_body e refl set beside));
+            writes = further extents e (length bytes) old mid new among (λ none. none) (λ is. absurd cc) (λ none. absurd none) kept.writes w.in_ok-write_body.ensures.writes;
           })
       | in_default w ↦
           rw (w.written-is, w.disk-is) (record {
             left = left_by items i n c.body_kept.result None kept.left step w.in_default.is;
             stand = kept.stand;
-            advances = kept.advances;
-            sound = kept.sound;
-            outside = kept.outside;
+            writes = kept.writes;
           })
     ]
 

@@ -1,8 +1,6 @@
 -- The first bodies stand, and the others are those of the items that are left.
-use Rattle.std.proofs.Common.{◌≡◌, ℕ, Bool, take, drop}
-use Rattle.rs_disk.specs.Leaves.{Advances}
-use Rattle.rs_extent.specs.Extents.{AreBeside}
-use Rattle.rs_body.specs.Outside.{WritesOutside}
+use Rattle.std.proofs.Common.{◌≡◌, take, drop}
+use Rattle.rs_body.specs.Outside.{WritesOnly}
 use Rattle.rs_plan.specs.Plans.{AreBodies}
 use Rattle.rs_plan.specs.Room.{bodies_kept}
 use Rattle.rs_store.proofs.grouping.write_bodies.Given as goal
@@ -14,7 +12,5 @@ invariant-loop-i g l =
     record {
       left : drop l.written (bodies_kept l.items) ≡ bodies_kept (drop l.i l.items);
       stand : AreBodies now.now.seen (take l.written l.extents) (take l.written (bodies_kept l.items));
-      advances : Advances old now;
-      sound : now.faults ≡ old.faults;
-      outside : (kept : ℕ → Bool) → AreBeside kept l.extents → WritesOutside kept old now;
+      writes : WritesOnly l.extents ⊥ old now;
     }

@@ -1,9 +1,8 @@
-use Rattle.std.proofs.Common.{◌≡◌, List, ℕ, false, get_or, sym, ap, subst, ◌∙◌, arith, Result, Ok, Err}
+use Rattle.std.proofs.Common.{true≢false, ◌≡◌, List, ℕ, false, get_or, sym, ap, subst, Result, Ok, Err}
 use Rattle.std.specs.Prelude.{IfOk, IfErr, IsTrue}
-use Rattle.rs_disk.specs.Medium.{Medium, DiskState, IsImage}
-use Rattle.rs_disk.specs.Leaves.{Leaves, Runs}
+use Rattle.rs_disk.specs.Medium.{Medium, DiskState}
 use Rattle.rs_disk.proofs.Images.{resting_off}
-use Rattle.rs_disk.proofs.Steps.{runs_one, sync_leaves, goes_on, weaker, exit_images}
+use Rattle.rs_disk.proofs.Runs.{runs_one, nothing_read, nothing_synced, nothing_then}
 use Rattle.rs_commit.specs.Slots.{Standing}
 use Rattle.rs_commit.specs.Commit.{AreSettled}
 use Rattle.rs_image.specs.declared.contents.Loaded.{Loaded}
@@ -37,24 +36,14 @@ returns-clause-refused g c =
     let old = g.D.Disk.state c.args.disk.now in
     let mid = g.D.Disk.state c.sync.new.self in
     let new = g.D.Disk.state c.read_source.new.disk in
-    let sync : Runs old mid c.sync.result = runs_one old mid c.sync.result c.sync.ensures.counts in
+    let sync = runs_one old mid c.sync.result c.sync.ensures.counts in
     refused_before c.read_source.result old mid new
     (not_opened_before old mid new (ap (λ (m : Medium). m.seen) c.in_ok-sync.ensures.settles.now) sync.size sync.faults) c.read_source.ensures.refused
 
-pub returns-clause-writes_nothing : goal.returns-clause-writes_nothing
-returns-clause-writes_nothing g c =
+pub returns-clause-runs : goal.returns-clause-runs
+returns-clause-runs g c =
     let old = g.D.Disk.state c.args.disk.now in
     let mid = g.D.Disk.state c.sync.new.self in
     let new = g.D.Disk.state c.read_source.new.disk in
-    let rests = c.read_source.ensures.rests in
-    let sync : Runs old mid c.sync.result = runs_one old mid c.sync.result c.sync.ensures.counts in
-    let first : Leaves old mid (λ _. IsImage old.now) =
-    sync_leaves old mid (IsImage old.now) c.sync.result c.sync.ensures.counts (g.met.D.Disk.holds c.args.disk.now) c.sync.ensures.settles c.sync.ensures.stays (λ image left. left) in
-    record {
-      seen = ap (λ (m : Medium). m.seen) rests.now ∙ ap (λ (m : Medium). m.seen) c.in_ok-sync.ensures.settles.now;
-      size = rests.size ∙ sync.size;
-      lasts = λ h. sync.lasts (rests.lasts h);
-      faults = omega (arith, sync.faults, rests.faults);
-      leaves = goes_on old mid new (λ _. IsImage old.now) first
-          (weaker mid new (λ _. IsImage mid.now) (λ _. IsImage old.now) (λ m image left. exit_images old mid (λ _. IsImage old.now) first image left) rests.leaves);
-    }
+    let sync = nothing_synced old mid (Ok c.in_ok-sync.field-0) c.in_ok-sync.ensures.counts (g.met.D.Disk.holds c.args.disk.now) c.in_ok-sync.ensures.settles tt in
+    nothing_then old mid new (λ is. true≢false (sym is)) sync (nothing_read mid new c.read_source.ensures.runs)

@@ -1,11 +1,11 @@
-use Rattle.std.proofs.Common.{◌≡◌, ◌+◌, ◌≤◌, ◌++◌, ℕ, List, length, take, sym, ◌∙◌, ap, subst, arith}
+use Rattle.std.proofs.Common.{rules, ◌≡◌, [], ◌∷◌, ◌+◌, ◌≤◌, ◌++◌, ℕ, List, length, take, sym, ◌∙◌, ap, subst, arith}
 use Rattle.std.proofs.KnownBytes.{Consumes-trans}
 use Rattle.std.proofs.lemmas.List.{length-append, length-take}
 use Rattle.std.proofs.lemmas.Result.{err_from_is_err_and}
 use Rattle.std.specs.Io.KnownBytes.{Consumes}
 use Rattle.rs_fixity.specs.Hashed.{HasTaken}
 use Rattle.rs_body.specs.Blocks.{part}
-use Rattle.rs_body.proofs.KeptBlocks.{outside_on}
+use Rattle.rs_body.proofs.Only.{only_on, only_then}
 use Rattle.rs_io.specs.Watch.{watched}
 use Rattle.rs_store.proofs.Received.{stops_behind}
 use Rattle.rs_store.proofs.receiving.receive.Goals as goal
@@ -26,10 +26,12 @@ returns-in_err-receive_piece-clause-stopped g c =
       stops_behind c.args.body_length (length piece) rest front cut.0 c.in_err-receive_piece.field-0.0 fits cut.2,
     )
 
-pub returns-in_err-receive_piece-clause-outside : goal.returns-in_err-receive_piece-clause-outside
-returns-in_err-receive_piece-clause-outside g c kept beside =
-    outside_on kept (g.D.Disk.state c.args.disk.now) (g.D.Disk.state c.loop-at.disk) (g.D.Disk.state c.receive_piece.new.disk)
-    (c.loop-at.invariant.outside kept beside) (c.receive_piece.ensures.outside kept beside)
+pub returns-in_err-receive_piece-clause-writes : goal.returns-in_err-receive_piece-clause-writes
+returns-in_err-receive_piece-clause-writes g c =
+    let alone = c.args.extent ∷ [] in
+    let both = only_then alone alone alone (g.D.Disk.state c.args.disk.now) (g.D.Disk.state c.loop-at.disk) (g.D.Disk.state c.receive_piece.new.disk)
+    (λ b is. is) (λ b is. is) (λ none. none) c.loop-at.invariant.writes c.in_err-receive_piece.ensures.writes in
+    record { runs = search rules; outside = both.outside }
 
 pub loop-at-preserved : goal.loop-at-preserved
 loop-at-preserved g c =
@@ -38,6 +40,7 @@ loop-at-preserved g c =
     let size = c.min-size.result in
     let remaining = g.R.Read.remaining in
     let piece : List ℕ = c.receive_piece.new.piece in
+    let alone = c.args.extent ∷ [] in
     let old = g.D.Disk.state c.args.disk.now in
     let mid = g.D.Disk.state c.loop-at.disk in
     let new = g.D.Disk.state c.receive_piece.new.disk in
@@ -56,12 +59,5 @@ loop-at-preserved g c =
       );
       whole = ap length joined ∙ omega (arith, length-append front piece, same, inv.whole);
       hashed = subst (λ (came : List ℕ). HasTaken c.add.new.self came) (sym joined) (c.add.ensures front inv.hashed);
-      outside = λ kept beside. outside_on kept old mid new (inv.outside kept beside) (c.receive_piece.ensures.outside kept beside);
-      sound = e.device.sound (λ is. absurd cc) ∙ inv.sound;
-      advances = record {
-        size = e.advances.size ∙ inv.advances.size;
-        keeps = e.advances.keeps ∙ inv.advances.keeps;
-        calls = omega (arith, e.advances.calls, inv.advances.calls);
-        faults = omega (arith, e.advances.faults, inv.advances.faults);
-      };
+      writes = only_on alone alone alone old mid new (λ b is. is) (λ b is. is) (λ none. none) (λ is. absurd cc) (λ none. absurd none) inv.writes e.writes;
     }

@@ -1,9 +1,7 @@
 -- The front of the extent is what came so far.
-use Rattle.std.proofs.Common.{◌≡◌, ◌-◌, ◌≤◌, ℕ, Bool, length}
-use Rattle.rs_disk.specs.Leaves.{Advances}
-use Rattle.rs_extent.specs.Extents.{IsBeside}
+use Rattle.std.proofs.Common.{◌≡◌, ◌-◌, ◌≤◌, [], ◌∷◌, length}
 use Rattle.rs_body.specs.Blocks.{part}
-use Rattle.rs_body.specs.Outside.{WritesOutside}
+use Rattle.rs_body.specs.Outside.{WritesOnly}
 use Rattle.rs_fixity.specs.Hashed.{HasTaken}
 use Rattle.rs_io.specs.Watch.{Took}
 use Rattle.rs_store.proofs.receiving.receive.Given as goal
@@ -16,9 +14,7 @@ invariant-loop-at g l =
       took : Took g.R.Read.remaining l.fn.reader l.reader came;
       whole : length came ≡ l.at;
       hashed : HasTaken l.hashing came;
-      outside : (kept : ℕ → Bool) → IsBeside kept l.fn.extent → WritesOutside kept (g.D.Disk.state l.fn.disk) (g.D.Disk.state l.disk);
-      sound : (g.D.Disk.state l.disk).faults ≡ (g.D.Disk.state l.fn.disk).faults;
-      advances : Advances (g.D.Disk.state l.fn.disk) (g.D.Disk.state l.disk);
+      writes : WritesOnly (l.fn.extent ∷ []) ⊥ (g.D.Disk.state l.fn.disk) (g.D.Disk.state l.disk);
     }
 
 abbrev pub decreases-loop-at : goal.decreases-loop-at

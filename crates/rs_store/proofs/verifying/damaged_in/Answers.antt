@@ -2,7 +2,7 @@ use Rattle.std.proofs.Common.{◌≡◌, ◌<◌, ◌+◌, ◌++◌, ◌∷◌, 
 use Rattle.std.proofs.lemmas.List.{take_more}
 use Rattle.std.proofs.lemmas.Option.{get_or_from_slice_get}
 use Rattle.rs_disk.specs.Medium.{Medium}
-use Rattle.rs_disk.proofs.Steps.{rest_on}
+use Rattle.rs_disk.proofs.Runs.{reading_on}
 use Rattle.rs_record.specs.declared.record.Record.{Record}
 use Rattle.rs_catalogue.specs.Catalogue.{records_of}
 use Rattle.rs_image.specs.StateOfImage.{held_in}
@@ -26,11 +26,10 @@ loop-i-preserved g c =
     record {
       names = λ honest.
           e.names honest
-          ∙ ap (λ (l : List (List ℕ)). l ++ damaged_among (held_in mid.now.seen r ∷ [])) (inv.names (e.rests.lasts honest))
-          ∙ ap (λ (m : Medium). damaged_among (map (held_in seen) (take i all)) ++ damaged_among (held_in m.seen r ∷ [])) inv.rests.now
+          ∙ ap (λ (l : List (List ℕ)). l ++ damaged_among (held_in mid.now.seen r ∷ [])) (inv.names (e.runs.runs.lasts honest))
+          ∙ ap (λ (m : Medium). damaged_among (map (held_in seen) (take i all)) ++ damaged_among (held_in m.seen r ∷ [])) inv.runs.now
           ∙ sym (damaged_more seen (take i all) r)
           ∙ ap (λ (l : List Record). damaged_among (map (held_in seen) l)) (sym first);
       few = omega (arith, e.few, inv.few);
-      sound = e.failed.sound (λ is. absurd cc) ∙ inv.sound;
-      rests = rest_on old mid new inv.rests e.rests;
+      runs = reading_on old mid new (λ none. none) (λ is. absurd cc) (λ none. absurd none) inv.runs e.runs;
     }

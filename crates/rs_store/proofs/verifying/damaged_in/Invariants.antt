@@ -1,6 +1,6 @@
 -- The names are those of the damaged records among the first ones.
 use Rattle.std.proofs.Common.{◌≡◌, ◌≤◌, length, map, take, IsTrue}
-use Rattle.rs_disk.specs.Leaves.{Rests}
+use Rattle.rs_disk.specs.Runs.{RunsReading}
 use Rattle.rs_catalogue.specs.Catalogue.{records_of}
 use Rattle.rs_image.specs.StateOfImage.{held_in}
 use Rattle.rs_store.specs.Verified.{damaged_among}
@@ -13,6 +13,5 @@ invariant-loop-i g l =
     record {
       names : IsTrue now.honest → l.names.items ≡ damaged_among (map (held_in old.now.seen) (take l.i (records_of l.catalogue)));
       few : length l.names.items ≤ l.i;
-      sound : now.faults ≡ old.faults;
-      rests : Rests old now;
+      runs : RunsReading ⊥ old now;
     }

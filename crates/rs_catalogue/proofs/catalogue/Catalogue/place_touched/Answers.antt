@@ -1,13 +1,11 @@
-use Rattle.std.proofs.Common.{List, sym, ap, ◌∙◌, subst}
-use Rattle.rs_record.specs.declared.record.Record.{Record}
-use Rattle.rs_page.specs.Pages.{Page}
-use Rattle.rs_catalogue.specs.Catalogue.{StandsUnstored, records_of}
-use Rattle.rs_catalogue.proofs.MovedPages.{same_held, same_records, stands_again}
+use Rattle.std.proofs.Common.{sym, ap, ◌∙◌, subst}
+use Rattle.rs_pages.proofs.Joined.{same_joined}
+use Rattle.rs_catalogue.specs.Catalogue.{AreHeld, StandsUnstored, records_of}
+use Rattle.rs_catalogue.proofs.MovedPages.{stands_again}
 use Rattle.rs_catalogue.proofs.catalogue.Catalogue.place_touched.Goals as goal
 
 pub invariant_of-self : goal.invariant_of-self
-invariant_of-self c =
-    same_held c.self.inside.pages c.place_touched.new.self c.place_touched.ensures.items c.self.invariant
+invariant_of-self c = subst AreHeld (sym (same_joined c.self.inside.pages c.place_touched.new.self c.place_touched.ensures.items)) c.self.invariant
 
 pub returns-clause-unstored : goal.returns-clause-unstored
 returns-clause-unstored c name h =
@@ -15,5 +13,4 @@ returns-clause-unstored c name h =
     (subst (StandsUnstored name) (sym c.self.view_is) h)
 
 pub returns-clause-records : goal.returns-clause-records
-returns-clause-records c =
-    same_records c.self.inside.pages c.place_touched.new.self c.place_touched.ensures.items ∙ ap (λ (pages : List (Page Record)). records_of pages) c.self.view_is
+returns-clause-records c = same_joined c.self.inside.pages c.place_touched.new.self c.place_touched.ensures.items ∙ ap records_of c.self.view_is

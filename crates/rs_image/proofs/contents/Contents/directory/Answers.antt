@@ -38,11 +38,11 @@ returns-clause-fits c =
     let catalogue = c.in_ok-catalogue.ensures.lawful in
     let history = c.in_ok-changes.ensures.lawful in
     let published = c.in_ok-published.ensures.lawful in
-    fits c.directory_bytes.result c.args.self.now.header (length c.deref.result.now + length c.deref-2.result.now + length c.deref-3.result.now)
+    fits c.directory_bytes.result c.args.self.now.header (length c.deref.result.now + length c.deref-2.result.now + length c.deref-3.result.now) _ _ _
     (omega (
       arith,
       refs_fit c.args.self.now.catalogue c.deref.result.now catalogue.some catalogue.held.room (c.deref.ensures.value ∙ c.in_ok-catalogue.ensures.pages),
       refs_fit c.args.self.now.history.pages c.deref-2.result.now history.some history.kept.room (c.deref-2.ensures.value ∙ c.in_ok-changes.ensures.pages),
       refs_fit c.args.self.now.published c.deref-3.result.now published.some published.held.room (c.deref-3.ensures.value ∙ c.in_ok-published.ensures.pages),
     ))
-    c.directory_bytes.ensures.size c.directory_bytes.ensures.header
+    c.directory_bytes.ensures.size c.directory_bytes.ensures.bytes

@@ -1,22 +1,24 @@
--- What is beside the page's place is beside the extent that the body goes to.
-use Rattle.std.proofs.Common.{◌≡◌, ℕ, Bool, sym, ◌∙◌, ap, subst}
-use Rattle.std.specs.Prelude.{IfSome}
+-- The body goes to the blocks that the page was given.
+use Rattle.std.proofs.Common.{rules, ◌≡◌, ℕ, [], ◌∷◌, length, sym, subst}
+use Rattle.std.specs.List.{cons_option}
+use Rattle.rs_disk.specs.Medium.{DiskState}
 use Rattle.rs_extent.specs.declared.Extent.{Extent}
-use Rattle.rs_extent.specs.Extents.{IsBeside}
+use Rattle.rs_body.specs.Outside.{WritesOnly, WritesPart}
+use Rattle.rs_body.proofs.Only.{only_as, part_only}
 use Rattle.rs_page.specs.declared.place.Place.{Place}
 use Rattle.rs_page.specs.declared.place.Place.TheVariants.{Placed}
-use Rattle.rs_page.specs.Pages.{Page, placed_extent}
+use Rattle.rs_page.specs.Pages.{placed_extent}
 use Rattle.rs_page.proofs.page.Page.store.Goals as goal
 
-beside_extent : (kept : ℕ → Bool) (place : Place) (extent : Extent) → place ≡ Placed extent → IfSome (placed_extent place) (IsBeside kept) → IsBeside kept extent
-beside_extent kept place extent is beside = subst (λ (p : Place). IfSome (placed_extent p) (IsBeside kept)) is beside
+written : {A B : Type 0} (place : Place) (extent : Extent) (n : ℕ) (old new : DiskState) → place ≡ Placed extent → (A → B) → (B → A)
+    → WritesPart extent 0 n A old new → WritesOnly (cons_option (placed_extent place) []) B old new
+written {A} {B} place extent n old new is to from run =
+    subst (λ (p : Place). WritesOnly (cons_option (placed_extent p) []) B old new) (sym is) (only_as (extent ∷ []) old new to from (part_only extent 0 n old new run))
 
-pub returns-clause-outside : goal.returns-clause-outside
-returns-clause-outside g c = λ kept beside.
-    c.write_body.ensures.outside kept
-    (beside_extent kept c.args.self.now.place c.in-Placed.extent (sym (ap (λ (page : Page g.row.T.Denot). page.place) c.self.view_is) ∙ c.in-Placed.is) beside)
+pub returns-clause-writes : goal.returns-clause-writes
+returns-clause-writes g c =
+    written c.args.self.now.place c.in-Placed.extent _ (g.D.Disk.state c.args.disk.now) (g.D.Disk.state c.write_body.new.disk) (search rules) (search rules) (search rules) c.in_ok-write_body.ensures.writes
 
-pub returns-in_err-write_body-clause-outside : goal.returns-in_err-write_body-clause-outside
-returns-in_err-write_body-clause-outside g c = λ kept beside.
-    c.write_body.ensures.outside kept
-    (beside_extent kept c.args.self.now.place c.in-Placed.extent (sym (ap (λ (page : Page g.row.T.Denot). page.place) c.self.view_is) ∙ c.in-Placed.is) beside)
+pub returns-in_err-write_body-clause-writes : goal.returns-in_err-write_body-clause-writes
+returns-in_err-write_body-clause-writes g c =
+    written c.args.self.now.place c.in-Placed.extent _ (g.D.Disk.state c.args.disk.now) (g.D.Disk.state c.write_body.new.disk) (search rules) (λ _. search rules) (λ _. search rules) c.in_err-write_body.ensures.writes

@@ -8,7 +8,7 @@ returns g c = record {
   closed = c.read_held.ensures.closed;
   not_held = c.read_held.ensures.not_held;
   damaged = c.read_held.ensures.damaged;
-  told = c.read_held.ensures.device;
+  runs = c.read_held.ensures.runs;
   others = c.read_held.ensures.others;
   reads_only = c.read_held.ensures.reads_only;
 }

@@ -1,15 +1,13 @@
-use Rattle.std.proofs.Common.{◌≡◌, ◌∙◌, ℕ, Bool, List, ap, sym, subst}
-use Rattle.rs_disk.specs.Leaves.{Advances, HasFailed}
+use Rattle.std.proofs.Common.{true≢false, ◌≡◌, ◌∙◌, ℕ, List, ap, sym, subst, IsErr}
 use Rattle.rs_extent.specs.declared.Extent.{Extent}
-use Rattle.rs_extent.specs.Extents.{AreApart, AreBeside, AreOnDisk}
-use Rattle.rs_body.specs.Outside.{WritesOutside}
-use Rattle.rs_model.specs.declared.command.Command.{Command}
+use Rattle.rs_extent.specs.Extents.{AreApart, AreOnDisk}
+use Rattle.rs_body.specs.Outside.{WritesOnly}
 use Rattle.rs_model.specs.declared.command.Command.TheVariants.{Group}
 use Rattle.rs_image.specs.Rooted.{Rooted, rooted}
 use Rattle.rs_plan.specs.Plans.{AreBodies, IsPlanned}
 use Rattle.rs_plan.specs.Room.{bodies_kept}
 use Rattle.rs_store.specs.Source.{Stored, rooted_in}
-use Rattle.rs_store.proofs.Begun.{begun, broken_body, on_err, on_ok}
+use Rattle.rs_store.proofs.Begun.{begun, broken_body, on_ok}
 use Rattle.rs_store.proofs.Written.{apart_each, inside_each}
 use Rattle.rs_store.proofs.source.Source.carry_out_group.Goals as goal
 
@@ -33,12 +31,9 @@ returns-then-is_err g c = λ now free planned.
     let o : Stored g.row.D.Denot = record { disk = c.self.inside.disk; slots = c.self.inside.slots; contents = c.self.inside.contents; is_closed = c.self.inside.is_closed } in
     let p = c.args.plan.now in
     let mid = c.write_bodies.new.disk in
-    let outside : (kept : ℕ → Bool) → AreBeside kept p.bodies.items → WritesOutside kept (device o.disk) (device mid) =
-    λ kept beside. c.write_bodies.ensures.outside kept (subst (λ (es : List Extent). AreBeside kept es) (sym c.deref.ensures.value) beside) in
-    let runs = c.write_bodies.ensures.runs in
-    let goes : Advances (device o.disk) (device mid) = record { size = runs.size; keeps = c.write_bodies.ensures.keeps; calls = runs.calls; faults = runs.faults } in
-    let failed : HasFailed (device o.disk) (device mid) = on_err c.write_bodies.result (sym c.is_err.ensures.value ∙ c.if-is_err.true) runs.cause in
-    broken_body device g.met.D.Disk.holds c.args.self.now o c.self.view_is p mid outside goes c.self.invariant.rooted.whole (Group c.args.items.now) now free planned failed
+    let writes = subst (λ (es : List Extent). WritesOnly es (IsErr c.write_bodies.result) (device o.disk) (device mid)) c.deref.ensures.value c.write_bodies.ensures.writes in
+    broken_body device g.met.D.Disk.holds c.args.self.now o c.self.view_is p mid _ writes c.self.invariant.rooted.whole (Group c.args.items.now) now free planned
+    (sym c.is_err.ensures.value ∙ c.if-is_err.true)
 
 -- the plan is one of what is in memory
 pub finish-requires-clause-planned : goal.finish-requires-clause-planned
@@ -47,7 +42,7 @@ finish-requires-clause-planned g c =
     let old : Stored g.row.D.Denot = c.args.self.now in
     let here : Rooted = rooted (device c.write_bodies.new.disk).size c.self.inside.slots.root c.self.inside.contents in
     let same : rooted_in device old ≡ here =
-    ap (λ (s : Stored g.row.D.Denot). rooted_in device s) (sym c.self.view_is) ∙ ap (λ (n : ℕ). rooted n c.self.inside.slots.root c.self.inside.contents) (sym c.write_bodies.ensures.runs.size) in
+    ap (λ (s : Stored g.row.D.Denot). rooted_in device s) (sym c.self.view_is) ∙ ap (λ (n : ℕ). rooted n c.self.inside.slots.root c.self.inside.contents) (sym c.write_bodies.ensures.writes.runs.runs.size) in
     record {
       command = Group c.args.items.now;
       moment = c.requires.planned.0;
@@ -59,17 +54,12 @@ returns g c = λ now free planned.
     let device = g.D.Disk.state in
     let old : Stored g.row.D.Denot = c.args.self.now in
     let o : Stored g.row.D.Denot = record { disk = c.self.inside.disk; slots = c.self.inside.slots; contents = c.self.inside.contents; is_closed = c.self.inside.is_closed } in
-    let command : Command = Group c.args.items.now in
     let p = c.args.plan.now in
     let mid = c.write_bodies.new.disk in
-    let outside : (kept : ℕ → Bool) → AreBeside kept p.bodies.items → WritesOutside kept (device o.disk) (device mid) =
-    λ kept beside. c.write_bodies.ensures.outside kept (subst (λ (es : List Extent). AreBeside kept es) (sym c.deref.ensures.value) beside) in
-    let runs = c.write_bodies.ensures.runs in
-    let goes : Advances (device o.disk) (device mid) = record { size = runs.size; keeps = c.write_bodies.ensures.keeps; calls = runs.calls; faults = runs.faults } in
     let fine = sym c.is_err.ensures.value ∙ c.if-is_err.false in
-    let unmet : (device mid).faults ≡ (device o.disk).faults = on_ok c.write_bodies.result fine runs.ok in
+    let writes = subst (λ (es : List Extent). WritesOnly es (IsErr c.write_bodies.result) (device o.disk) (device mid)) c.deref.ensures.value c.write_bodies.ensures.writes in
     let stand : AreBodies (device mid).now.seen p.bodies.items (bodies_kept c.args.items.now) =
     subst (λ (es : List Extent). AreBodies (device mid).now.seen es (bodies_kept c.args.items.now)) c.deref.ensures.value
     (on_ok c.write_bodies.result fine c.write_bodies.ensures.stand) in
-    c.finish.ensures.answers old command now
-    (begun device g.met.D.Disk.holds old o c.self.view_is p mid outside goes unmet (bodies_kept c.args.items.now) planned.free stand) free planned
+    c.finish.ensures.answers old (Group c.args.items.now) now
+    (begun device g.met.D.Disk.holds old o c.self.view_is p mid _ writes (λ is. true≢false (sym is ∙ fine)) (bodies_kept c.args.items.now) planned.free stand) free planned

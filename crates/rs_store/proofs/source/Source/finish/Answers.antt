@@ -1,6 +1,5 @@
 use Rattle.std.proofs.Common.{arith, ◌≡◌, ℕ, true, List, length, refl, sym, ◌∙◌, ap, subst, Result, Ok, Err, IsErrOf}
 use Rattle.rs_disk.specs.Medium.{DiskState}
-use Rattle.rs_disk.specs.Leaves.{Advances, Runs, HasFailed}
 use Rattle.std.specs.Prelude.{Vec}
 use Rattle.std.specs.Global.{Global}
 use Rattle.rs_extent.specs.declared.Extent.{Extent}
@@ -9,10 +8,10 @@ use Rattle.rs_commit.specs.declared.root.Root.{Root}
 use Rattle.rs_commit.specs.declared.faults.CommitFault.{CommitFault}
 use Rattle.rs_commit.specs.declared.faults.CommitFault.TheVariants.{Device as Failed, Exhausted as Spent}
 use Rattle.rs_commit.specs.Slots.{other}
-use Rattle.rs_commit.specs.Commit.{next, with_root, device_in_commit}
+use Rattle.rs_commit.specs.Commit.{next, with_root}
 use Rattle.rs_store.specs.declared.refusal.Refusal.TheVariants.{Device, NoMemory}
-use Rattle.rs_store.specs.declared.writing.WriteFault.{WriteFault}
-use Rattle.rs_store.specs.declared.writing.WriteFault.TheVariants.{Device as NotWritten, NoMemory as NotGiven}
+use Rattle.rs_page.specs.declared.page.store.StoreFault.{StoreFault}
+use Rattle.rs_page.specs.declared.page.store.StoreFault.TheVariants.{Device as NotWritten, NoMemory as NotGiven}
 use Rattle.rs_store.specs.declared.writing.Written.{Written}
 use Rattle.rs_store.specs.Source.{Stored, rooted_in}
 use Rattle.rs_plan.specs.Plans.{places, once_stored, planned_root, planned_listing, IsPlanned}
@@ -28,17 +27,13 @@ same_root r p directory w is digest =
     ap (λ (d : Extent). next r d w.length w.sha256) is ∙ ap (λ (n : ℕ). next r p.directory n w.sha256) digest.len
     ∙ ap (λ (h : List ℕ). next r p.directory (length (planned_listing p)) h) digest.sha256
 
-commit_failed : (mid new : DiskState) (result : Result (Unit {0}) CommitFault) (fault : CommitFault) → result ≡ Err fault → (IsErrOf result Spent → ⊥)
-    → Runs mid new (device_in_commit result) → HasFailed mid new
-commit_failed mid new (Ok x) fault is spare runs = absurd cc
-commit_failed mid new (Err Spent) fault is spare runs = absurd (spare refl)
-commit_failed mid new (Err Failed) fault is spare runs = runs.cause
+commit_failed : (result : Result (Unit {0}) CommitFault) (fault : CommitFault) → result ≡ Err fault → (IsErrOf result Spent → ⊥) → IsErrOf result Failed
+commit_failed (Ok x) fault is spare = absurd cc
+commit_failed (Err Spent) fault is spare = absurd (spare refl)
+commit_failed (Err Failed) fault is spare = refl
 
-not_both : {T : Type 0} (result : Result T WriteFault) → result ≡ Err NotGiven → IsErrOf result NotWritten → ⊥
+not_both : {T : Type 0} (result : Result T StoreFault) → result ≡ Err NotGiven → IsErrOf result NotWritten → ⊥
 not_both result refused failed = absurd cc
-
-commit_goes : {E : Type 0} (mid new : DiskState) (result : Result (Unit {0}) E) → Runs mid new result → new.honest ≡ mid.honest → Advances mid new
-commit_goes mid new result runs keeps = record { size = runs.size; keeps = keeps; calls = runs.calls; faults = runs.faults }
 
 -- the plan is one of what is in memory
 planned_of : {D : Type 0} (device : D → DiskState) (o now : Stored D) (p : Plan) → o ≡ now → (given : IsPlanOfSome (rooted_in device now) p)
@@ -53,8 +48,7 @@ write_lists-requires g c =
     record {
       inside = planned.inside;
       apart = planned.apart;
-      catalogue = planned.catalogue;
-      history = planned.history;
+      placed = record { catalogue = planned.catalogue; history = planned.history };
       directory = planned.directory;
       listable = planned.listable;
     }
@@ -101,8 +95,8 @@ invariant_of-self-2 g c =
     subst (λ (es : List Extent). AreGiven mid then es)
     (c.deref-2.ensures.value ∙ ap (λ (v : Vec Extent Global). v.items) c.write_lists.ensures.stays.freed) c.give_each.ensures in
     sound_next size (device c.commit-committed.new.disk).size o.slots.root c.commit-committed.new.self.root o.contents c.swap.new.x given.command given.moment p then
-    (c.commit-committed.ensures.runs.size ∙ c.write_lists.ensures.advances.size)
-    (c.in-Ok-committed.ensures.root ∙ same_root o.slots.root p c.write_lists.new.plan.directory c.in-Ok.written c.write_lists.ensures.stays.directory c.in-Ok.ensures.written)
+    (c.commit-committed.ensures.runs.writes.runs.size ∙ c.write_lists.ensures.writes.runs.runs.size)
+    (c.in-Ok-committed.ensures.committed.root ∙ same_root o.slots.root p c.write_lists.new.plan.directory c.in-Ok.written c.write_lists.ensures.stays.directory c.in-Ok.ensures.written)
     (c.swap.ensures.x_after ∙ c.in-Ok.ensures.stored.contents) c.self.invariant.rooted.room planned
     (used_next size o.slots.root o.contents given.command given.moment p used c.self.invariant.rooted.whole c.self.invariant.used planned mid took then gave)
 
@@ -112,9 +106,8 @@ returns-in-Err-NoMemory-clause-answers g c =
     let o : Stored g.row.D.Denot = record { disk = c.self.inside.disk; slots = c.self.inside.slots; contents = c.self.inside.contents; is_closed = c.self.inside.is_closed } in
     let new : Stored g.row.D.Denot = record { disk = c.write_lists.new.disk; slots = c.self.inside.slots; contents = c.self.inside.contents; is_closed = c.self.inside.is_closed } in
     subst (Promised device c.args.plan.now new (Err NoMemory)) c.self.view_is
-    (stopped_behind device g.met.D.Disk.holds o c.args.plan.now c.self.invariant.rooted.whole c.write_lists.new.disk c.write_lists.ensures.outside c.write_lists.ensures.advances
-    (c.write_lists.ensures.device.sound
-    (not_both c.write_lists.result (subst (λ (x : WriteFault). c.write_lists.result ≡ Err x) c.in-Err-NoMemory.field-0-is c.in-Err-NoMemory.is))))
+    (stopped_behind device g.met.D.Disk.holds o c.args.plan.now c.self.invariant.rooted.whole c.write_lists.new.disk _ c.write_lists.ensures.writes
+    (not_both c.write_lists.result (subst (λ (x : StoreFault). c.write_lists.result ≡ Err x) c.in-Err-NoMemory.field-0-is c.in-Err-NoMemory.is)))
 
 pub returns-in-Err-Device-clause-answers : goal.returns-in-Err-Device-clause-answers
 returns-in-Err-Device-clause-answers g c =
@@ -122,9 +115,8 @@ returns-in-Err-Device-clause-answers g c =
     let o : Stored g.row.D.Denot = record { disk = c.self.inside.disk; slots = c.self.inside.slots; contents = c.self.inside.contents; is_closed = c.self.inside.is_closed } in
     let new : Stored g.row.D.Denot = record { disk = c.write_lists.new.disk; slots = c.self.inside.slots; contents = c.self.inside.contents; is_closed = true } in
     subst (Promised device c.args.plan.now new (Err Device)) c.self.view_is
-    (broken_behind device g.met.D.Disk.holds o c.args.plan.now c.self.invariant.rooted.whole c.write_lists.new.disk c.write_lists.ensures.outside c.write_lists.ensures.advances
-    new refl refl
-    (c.write_lists.ensures.device.failed (subst (λ (x : WriteFault). c.write_lists.result ≡ Err x) c.in-Err-Device.field-0-is c.in-Err-Device.is)))
+    (broken_behind device g.met.D.Disk.holds o c.args.plan.now c.self.invariant.rooted.whole c.write_lists.new.disk _ c.write_lists.ensures.writes new refl refl
+    (subst (λ (x : StoreFault). c.write_lists.result ≡ Err x) c.in-Err-Device.field-0-is c.in-Err-Device.is))
 
 pub returns-in-Err-clause-answers : goal.returns-in-Err-clause-answers
 returns-in-Err-clause-answers g c =
@@ -137,13 +129,11 @@ returns-in-Err-clause-answers g c =
     let generation : c.self.inside.slots.root.generation ≡ c.args.self.now.slots.root.generation =
     ap (λ (s : Stored g.row.D.Denot). s.slots.root.generation) c.self.view_is in
     let spare : IsErrOf c.commit-committed.result Spent → ⊥ = λ is. let over = c.commit-committed.ensures.exhausted.0 is in omega (arith, over, generation, c.requires.spare) in
-    let runs = c.commit-committed.ensures.runs in
     subst (Promised device p new (Err Device)) c.self.view_is
-    (not_committed_behind device g.met.D.Disk.holds o p c.self.invariant.rooted.whole c.write_lists.new.disk c.write_lists.ensures.outside c.write_lists.ensures.advances
+    (not_committed_behind device g.met.D.Disk.holds o p c.self.invariant.rooted.whole c.write_lists.new.disk _ c.in-Ok.ensures.writes
     c.write_lists.new.plan c.in-Ok.ensures.stored root
     (same_root o.slots.root p c.write_lists.new.plan.directory c.in-Ok.written c.write_lists.ensures.stays.directory c.in-Ok.ensures.written)
-    new c.commit-committed.ensures.any_moment (commit_goes mid (device new.disk) (device_in_commit c.commit-committed.result) runs c.commit-committed.ensures.keeps)
-    refl (commit_failed mid (device new.disk) c.commit-committed.result _ c.in-Err.is spare runs))
+    new c.commit-committed.ensures.any_moment _ c.commit-committed.ensures.runs.writes refl (commit_failed c.commit-committed.result _ c.in-Err.is spare))
 
 pub returns-clause-answers : goal.returns-clause-answers
 returns-clause-answers g c =
@@ -155,11 +145,11 @@ returns-clause-answers g c =
     let mid = device c.write_lists.new.disk in
     let root : Root = next o.slots.root c.write_lists.new.plan.directory c.in-Ok.written.length c.in-Ok.written.sha256 in
     subst (Promised device p new (Ok c.write_lists.new.plan.reply)) c.self.view_is
-    (committed_behind device g.met.D.Disk.holds o p c.self.invariant.rooted.whole c.write_lists.new.disk c.write_lists.ensures.outside c.write_lists.ensures.advances
+    (committed_behind device g.met.D.Disk.holds o p c.self.invariant.rooted.whole c.write_lists.new.disk _ c.in-Ok.ensures.writes
     c.write_lists.new.plan c.in-Ok.ensures.stored root
     (same_root o.slots.root p c.write_lists.new.plan.directory c.in-Ok.written c.write_lists.ensures.stays.directory c.in-Ok.ensures.written)
-    new c.commit-committed.ensures.any_moment (commit_goes mid (device new.disk) (device_in_commit c.commit-committed.result) c.commit-committed.ensures.runs c.commit-committed.ensures.keeps)
+    new c.commit-committed.ensures.any_moment _ c.in-Ok-committed.ensures.runs.writes
     c.write_lists.new.plan.reply (with_root mid.now.seen (other c.self.inside.slots.slot) c.commit-committed.new.self.root)
-    c.in-Ok-committed.ensures.root (c.swap.ensures.x_after ∙ c.in-Ok.ensures.stored.contents) refl c.in-Ok-committed.ensures.ready c.commit-committed.ensures.outside
-    c.in-Ok-committed.ensures.written c.write_lists.ensures.stays.reply
-    (c.in-Ok.ensures.device.sound (λ is. absurd cc)) c.in-Ok-committed.ensures.runs.ok)
+    c.in-Ok-committed.ensures.committed.root (c.swap.ensures.x_after ∙ c.in-Ok.ensures.stored.contents) refl c.in-Ok-committed.ensures.committed.ready c.commit-committed.ensures.runs.outside
+    c.in-Ok-committed.ensures.committed.written c.write_lists.ensures.stays.reply
+    (λ is. absurd cc) (λ is. absurd cc))

@@ -12,9 +12,9 @@ returns-in-Ok-write_blank-clause-holds g c =
     let disk = c.write_blank.new.disk in
     let medium = g.met.D.Disk.holds disk in
     let is = c.in-Ok-write_blank.ensures in
-    let size : c.size.result ≡ length (device disk).now.seen = omega (arith, medium.image.size, medium.settled, is.runs.size, c.size.ensures) in
-    first_holds device disk c.in-Ok-write_blank.slots c.args.base.now c.args.limit c.args.now c.in-Ok.blank c.in-Ok.ensures.blank is.slots is.ready is.resting is.reads
-    (subst (λ (n : ℕ). 16 ≤ blocks_of_disk n) size c.in-Ok.ensures.room)
+    let size : c.size.result ≡ length (device disk).now.seen = omega (arith, medium.image.size, medium.settled, is.runs.runs.size, c.size.ensures) in
+    first_holds device disk c.in-Ok-write_blank.slots c.args.base.now c.args.limit c.args.now c.in-Ok.blank c.in-Ok.ensures.blank is.slots is.made.ready is.made.resting is.made.reads
+    (subst (λ (n : ℕ). 16 ≤ blocks_of_disk n) size c.in-Ok.ensures.may.room)
 
 pub returns-in-Ok-write_blank-clause-contents : goal.returns-in-Ok-write_blank-clause-contents
 returns-in-Ok-write_blank-clause-contents g c = c.in-Ok.ensures.blank.contents
@@ -27,4 +27,4 @@ returns-in-Ok-write_blank-clause-slots g c =
 
 pub returns-in-Ok-write_blank-clause-front : goal.returns-in-Ok-write_blank-clause-front
 returns-in-Ok-write_blank-clause-front g c =
-    c.in-Ok-write_blank.ensures.front ∙ sym (ap (λ (slots : Standing). formatted slots.root) c.in-Ok-write_blank.ensures.slots)
+    c.in-Ok-write_blank.ensures.made.front ∙ sym (ap (λ (slots : Standing). formatted slots.root) c.in-Ok-write_blank.ensures.slots)

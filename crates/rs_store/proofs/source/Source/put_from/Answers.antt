@@ -1,4 +1,4 @@
-use Rattle.std.proofs.Common.{◌≡◌, ℕ, List, [], length, sym, ap, subst, Err, None}
+use Rattle.std.proofs.Common.{◌≡◌, ℕ, List, [], length, refl, sym, ap, subst, Err, None}
 use Rattle.std.specs.Prelude.{replicate}
 use Rattle.std.proofs.lemmas.Result.{err_from_is_err_and}
 use Rattle.std.proofs.KnownBytes.{Consumes-nil}
@@ -43,8 +43,12 @@ returns-in_err-moment-clause-failed g c =
     let r = c.in_err-moment.field-0.0 in
     let command : Command = Put c.args.name.now c.args.kind.now (replicate n 0) in
     let given = err_from_is_err_and c.from_residual.result c.from_residual.ensures.1 in
-    rw (given.1, given.2) (λ same. absurd ((at_once device g.met.D.Disk.holds old command c.args.now r
-    (unless_err (decided old (state_of device old) command c.args.now) (moment_at (state_of device old) c.args.now) r (c.in_err-moment.ensures.decided c.args.kind.now (replicate n 0) (zeros n).len))).refused ReadFault same))
+    rw (given.1, given.2) (record {
+      failed = λ same. absurd ((at_once device g.met.D.Disk.holds old command c.args.now r
+          (unless_err (decided old (state_of device old) command c.args.now) (moment_at (state_of device old) c.args.now) r
+          (c.in_err-moment.ensures.decided c.args.kind.now (replicate n 0) (zeros n).len))).refused ReadFault same);
+      sound = λ _. refl;
+    })
 
 pub returns-in_err-moment-clause-ended : goal.returns-in_err-moment-clause-ended
 returns-in_err-moment-clause-ended g c =
@@ -87,7 +91,7 @@ receive_planned-requires-clause-planned g c = (
   c.args.kind.now,
   c.in_ok-moment.moment,
   subst (λ (s : Stored g.row.D.Denot). IsDraftOf (rooted_in g.D.Disk.state s) c.args.name.now c.args.kind.now c.args.body_length c.in_ok-moment.moment c.in_ok-plan.plan)
-      (sym c.drafted_put.ensures.same) c.in_ok-plan.ensures.planned,
+      (sym c.drafted_put.ensures.same) c.in_ok-plan.ensures.draft.planned,
 )
 
 pub returns-clause-came : goal.returns-clause-came
@@ -103,7 +107,7 @@ returns-clause-came g c =
     let came = c.receive_planned.ensures.came in
     let free = λ (body : List ℕ) (is : length body ≡ n). unless_ok (decided old (state_of device old) (Put name kind body) c.args.now) at c.in_ok-moment.moment (c.in_ok-moment.ensures.decided kind body is) in
     let drafted : IsDraftOf (rooted_in device old) name kind n at plan =
-    λ body is. subst (λ (m : ℕ). IsPlanned (rooted_in device old) (Put name kind body) m (plan_filled name (digests body) plan)) (free body is).1 (c.in_ok-plan.ensures.planned body is) in (
+    λ body is. subst (λ (m : ℕ). IsPlanned (rooted_in device old) (Put name kind body) m (plan_filled name (digests body) plan)) (free body is).1 (c.in_ok-plan.ensures.draft.planned body is) in (
       came.0,
       came.1,
       subst (λ (s : Stored g.row.D.Denot). AnswersFrom device s c.receive_planned.new.self name kind n c.args.now came.0 c.receive_planned.result) same

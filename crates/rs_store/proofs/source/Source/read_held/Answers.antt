@@ -2,7 +2,7 @@ use Rattle.std.proofs.Common.{◌≡◌, false, true, Option, Some, is_some, opt
 use Rattle.std.specs.Prelude.{IfSome}
 use Rattle.std.proofs.lemmas.Bool.{false≢true}
 use Rattle.std.proofs.lemmas.Result.{err_from_is_err_and}
-use Rattle.rs_body.specs.declared.read.BodyFault.TheVariants as faults
+use Rattle.rs_body.specs.declared.read.LoadFault.TheVariants as faults
 use Rattle.rs_model.specs.declared.value.Held.{Held}
 use Rattle.rs_model.specs.Names.{value_of}
 use Rattle.rs_model.specs.State.{body_of}
@@ -56,7 +56,7 @@ returns-in_err-read_in_pieces-clause-damaged g c is honest =
     let only : fault ≡ faults.Damaged = damaged_body fault answered in
     subst P c.self.view_is
     (subst Q (sym (held_found seen name (records_of c.self.inside.contents.catalogue) c.in-Some.record.now (sym c.in-Some.ensures)))
-    (λ digest. c.in_err-read_in_pieces.ensures.damaged (cc) honest digest))
+    (λ digest. c.in_err-read_in_pieces.ensures.body.damaged (cc) honest digest))
 
 pub returns-clause-reads : goal.returns-clause-reads
 returns-clause-reads g c honest =
@@ -65,7 +65,7 @@ returns-clause-reads g c honest =
     let P : Stored g.row.D.Denot → Type 0 = λ s. body_of name (state_of g.D.Disk.state s) ≡ Some c.read_in_pieces.new.into.items in
     subst P c.self.view_is
     (ap (λ (o : Option Held). option_map (λ held. held.bytes) o) (held_found seen name (records_of c.self.inside.contents.catalogue) c.in-Some.record.now (sym c.in-Some.ensures))
-    ∙ ap Some (sym (c.in_ok-read_in_pieces.ensures.reads honest)))
+    ∙ ap Some (sym (c.in_ok-read_in_pieces.ensures.body.found honest)))
 
 pub returns-clause-recorded : goal.returns-clause-recorded
 returns-clause-recorded g c =
@@ -74,10 +74,10 @@ returns-clause-recorded g c =
     let seen = (g.D.Disk.state c.self.inside.disk).now.seen in
     let P : Stored g.row.D.Denot → Type 0 = λ s. IfSome (value_of name (state_of g.D.Disk.state s).held) (λ held. AreAsRecorded held.entry.facts bytes) in
     let Q : Option Held → Type 0 = λ o. IfSome o (λ held. AreAsRecorded held.entry.facts bytes) in
-    let long : length bytes ≡ c.in-Some.record.now.length = search rules in
+    let long : length bytes ≡ c.in-Some.record.now.length = c.in_ok-read_in_pieces.ensures.body.long in
     subst P c.self.view_is
     (subst Q (sym (held_found seen name (records_of c.self.inside.contents.catalogue) c.in-Some.record.now (sym c.in-Some.ensures)))
-    (record { len = long; sha256 = c.in_ok-read_in_pieces.ensures.digest }))
+    (record { len = long; sha256 = c.in_ok-read_in_pieces.ensures.body.digest }))
 
 pub returns-clause-not_held : goal.returns-clause-not_held
 returns-clause-not_held g c =

@@ -1,7 +1,6 @@
 use Rattle.std.proofs.Common.{rules, ◌≡◌, ℕ, ◌<◌, ◌+◌, ◌*◌, ◌≤◌, List, [], ◌∷◌, length, ◌∙◌, sym, ap, subst, arith, Err}
 use Rattle.std.specs.Prelude.{replicate}
 use Rattle.rs_io.specs.Watch.{watched}
-use Rattle.rs_disk.specs.Leaves.{HasFailed}
 use Rattle.rs_body.specs.Blocks.{part}
 use Rattle.rs_body.proofs.Sets.{fits_sized}
 use Rattle.rs_fixity.specs.declared.Digests.{Digests}
@@ -19,7 +18,7 @@ use Rattle.rs_store.specs.Source.{Stored, rooted_in, state_of}
 use Rattle.rs_store.specs.Writing.{HasWrittenBodies}
 use Rattle.rs_store.specs.Answered.{Answers}
 use Rattle.rs_store.specs.Received.{IsStopped}
-use Rattle.rs_store.proofs.Begun.{begun, beside_one, broken_body, on_disk_one, one_extent, sized_one, some_extent, stand_one, stopped_body}
+use Rattle.rs_store.proofs.Begun.{begun, only_one, broken_body, on_disk_one, one_extent, sized_one, some_extent, stand_one, stopped_body}
 use Rattle.rs_store.proofs.Written.{inside_each}
 use Rattle.rs_store.proofs.Received.{answered_whole, zeros, left_by, cut_from, refused_elsewhere}
 use Rattle.rs_store.proofs.source.Source.receive_planned.Goals as goal
@@ -70,15 +69,15 @@ returns-in-Device-clause-came g c =
     let mid = c.receive.new.disk in
     let e = c.index.result.now in
     let alone : plan.bodies.items ≡ e ∷ [] = one_extent plan.bodies.items (replicate n 0) e (c.requires.planned.2 (replicate n 0) (zeros n).len).bodies c.index.ensures in
-    let outside = beside_one plan.bodies.items e (device o.disk) (device mid) alone c.receive.ensures.outside in
+    let writes = only_one plan.bodies.items e (device o.disk) (device mid) alone c.in-Err.ensures.writes in
     let stop = c.in-Err.ensures.stopped in
     let rest = g.R.Read.remaining (watched c.receive.new.reader) in
-    let failed : HasFailed (device o.disk) (device mid) = c.in-Err.ensures.device.failed (ap (λ (x : Refusal). Err x) c.in-Device.is) in (
+    let failed = ap (λ (x : Refusal). Err x) c.in-Device.is in (
       stop.0,
       stop.1,
       λ kind now free planned. (
         subst (λ (r : Refusal). IsStopped n rest stop.0 r) c.in-Device.is stop.2,
-        λ body is. broken_body device g.met.D.Disk.holds old o c.self.view_is (plan_filled name (digests body) plan) mid outside c.receive.ensures.advances
+        λ body is. broken_body device g.met.D.Disk.holds old o c.self.view_is (plan_filled name (digests body) plan) mid _ writes
             c.self.invariant.rooted.whole (Put name kind body) now (free body is.len) (planned body is.len) failed,
       ),
     )
@@ -95,7 +94,7 @@ returns-in_default-clause-came g c =
     let mid = c.receive.new.disk in
     let e = c.index.result.now in
     let alone : plan.bodies.items ≡ e ∷ [] = one_extent plan.bodies.items (replicate n 0) e (c.requires.planned.2 (replicate n 0) (zeros n).len).bodies c.index.ensures in
-    let outside = beside_one plan.bodies.items e (device o.disk) (device mid) alone c.receive.ensures.outside in
+    let writes = only_one plan.bodies.items e (device o.disk) (device mid) alone c.in-Err.ensures.writes in
     let stop = c.in-Err.ensures.stopped in
     let rest = g.R.Read.remaining (watched c.receive.new.reader) in
     let new : Stored g.row.D.Denot = record { disk = mid; slots = o.slots; contents = o.contents; is_closed = o.is_closed } in
@@ -110,17 +109,17 @@ returns-in_default-clause-came g c =
             decides = free;
             plan = λ body is. (plan_filled name (digests body) plan, planned body is);
             left = left_by device old new name kind body now
-                (stopped_body device g.met.D.Disk.holds old o c.self.view_is (plan_filled name (digests body) plan) mid outside c.receive.ensures.advances
+                (stopped_body device g.met.D.Disk.holds old o c.self.view_is (plan_filled name (digests body) plan) mid _ writes
                 c.self.invariant.rooted.whole (Put name kind body) now (free body is) (planned body is)
-                (c.in-Err.ensures.device.sound (λ is. absurd (c.in_default.not-Device cc))));
+                (λ is. absurd (c.in_default.not-Device cc)));
           }),
     )
 
 pub returns-in_default-clause-failed : goal.returns-in_default-clause-failed
-returns-in_default-clause-failed g c e = c.in-Err.ensures.failed (refused_elsewhere c.in-Err.refusal ReadFault e)
-
-pub returns-in_default-clause-sound : goal.returns-in_default-clause-sound
-returns-in_default-clause-sound g c other = c.in-Err.ensures.sound (λ e. other (refused_elsewhere c.in-Err.refusal ReadFault e))
+returns-in_default-clause-failed g c = record {
+  failed = λ e. c.in-Err.ensures.failed.failed (refused_elsewhere c.in-Err.refusal ReadFault e);
+  sound = λ other. c.in-Err.ensures.failed.sound (λ e. other (refused_elsewhere c.in-Err.refusal ReadFault e));
+}
 
 pub returns-in_default-clause-ended : goal.returns-in_default-clause-ended
 returns-in_default-clause-ended g c e =
@@ -142,7 +141,7 @@ finish-requires-clause-planned g c =
     let here : Rooted = rooted (device mid).size c.self.inside.slots.root c.self.inside.contents in
     let bytes = part c.index.result.now c.args.body_length (device mid).now.seen in
     let same : rooted_in device c.args.self.now ≡ here =
-    ap (λ (s : Stored g.row.D.Denot). rooted_in device s) (sym c.self.view_is) ∙ ap (λ (n : ℕ). rooted n c.self.inside.slots.root c.self.inside.contents) (sym c.receive.ensures.advances.size) in
+    ap (λ (s : Stored g.row.D.Denot). rooted_in device s) (sym c.self.view_is) ∙ ap (λ (n : ℕ). rooted n c.self.inside.slots.root c.self.inside.contents) (sym c.receive.ensures.writes.runs.runs.size) in
     let filled : c.fill.new.self ≡ plan_filled name (digests bytes) plan =
     c.fill.ensures ∙ ap (λ (d : Digests). plan_filled name d plan) c.in-Ok.ensures.digests in
     record {
@@ -164,7 +163,7 @@ returns-clause-came g c =
     let mid = c.receive.new.disk in
     let e = c.index.result.now in
     let alone : plan.bodies.items ≡ e ∷ [] = one_extent plan.bodies.items (replicate n 0) e (c.requires.planned.2 (replicate n 0) (zeros n).len).bodies c.index.ensures in
-    let outside = beside_one plan.bodies.items e (device o.disk) (device mid) alone c.receive.ensures.outside in
+    let writes = only_one plan.bodies.items e (device o.disk) (device mid) alone c.in-Ok.ensures.writes in
     let bytes = part e n (device mid).now.seen in
     let whole : length bytes ≡ n = c.in-Ok.ensures.whole in
     let filled : c.fill.new.self ≡ plan_filled name (digests bytes) plan =
@@ -175,8 +174,8 @@ returns-clause-came g c =
       λ kind now free planned.
           let command : Command = Put name kind bytes in
           let stands : HasWrittenBodies device old left (plan_filled name (digests bytes) plan) (bytes ∷ []) =
-          begun device g.met.D.Disk.holds old o c.self.view_is (plan_filled name (digests bytes) plan) mid outside c.receive.ensures.advances
-          (c.in-Ok.ensures.device.sound (λ is. absurd cc)) (bytes ∷ [])
+          begun device g.met.D.Disk.holds old o c.self.view_is (plan_filled name (digests bytes) plan) mid _ writes
+          (λ is. absurd cc) (bytes ∷ [])
           (planned bytes whole).free (stand_one plan.bodies.items e bytes (device mid).now.seen alone (ap (λ (k : ℕ). part e k (device mid).now.seen) whole)) in
           let said : Answers device old c.finish.new.self command now c.finish.result =
           c.finish.ensures.answers old command now

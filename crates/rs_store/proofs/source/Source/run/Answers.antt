@@ -15,11 +15,11 @@ loop-command-preserved g c =
     let i = c.loop-command.command-index in
     let commands = c.args.commands.now in
     let acks = c.loop-command.acks.items in
-    let new = c.answer-reply.new.self in
+    let new = c.command-reply.new.self in
     let item : Command × ℕ = c.loop-command-item.result in
     let lt : i < length commands = omega arith in
-    let ack : Ack = record { reply = c.answer-reply.result; at_call = c.calls-at_call.result } in
-    let more = in_turn_push g.D.Disk.state g.met.D.Disk.holds c.args.self.now (take i commands) acks c.loop-command.self item ack new c.loop-command.invariant.turn c.answer-reply.ensures c.calls-at_call.ensures in
+    let ack : Ack = record { reply = c.command-reply.result; at_call = c.calls-at_call.result } in
+    let more = in_turn_push g.D.Disk.state g.met.D.Disk.holds c.args.self.now (take i commands) acks c.loop-command.self item ack new c.loop-command.invariant.turn c.command-reply.ensures c.calls-at_call.ensures in
     let these : take i commands ++ item ∷ [] ≡ take (i + 1) commands =
     ap (λ (x : Command × ℕ). take i commands ++ x ∷ []) c.loop-command-item.is ∙ sym (take_more commands i item lt) in
     let fits : vec_len c.loop-command.acks < vec_capacity c.loop-command.acks = omega (arith, lt, c.loop-command.invariant.many, c.loop-command.invariant.room) in

@@ -1,8 +1,0 @@
-use Rattle.std.proofs.Common.{◌≡◌, ℕ, drop, ◌+◌, ◌∙◌, ap, arith}
-use Rattle.rs_image.proofs.Named.{entries_behind, entries_within}
-use Rattle.rs_image.proofs.placed.entries_of.Goals as goal
-
-pub returns : goal.returns
-returns c pages names =
-    let at : c.min.result ≡ c.others.result + c.base_length.result = omega (arith, c.min.ensures, c.others.ensures, c.base_length.ensures.value, entries_within c.args.version c.args.bytes.now pages names) in
-    c.split_at.ensures.back ∙ ap (λ (n : ℕ). drop n c.args.bytes.now) (at ∙ (λ i. c.others.ensures i + c.base_length.ensures.value i)) ∙ entries_behind c.args.version c.args.bytes.now pages names

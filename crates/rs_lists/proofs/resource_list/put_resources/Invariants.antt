@@ -1,8 +1,0 @@
-use Rattle.std.proofs.Common.{◌-◌, ◌*◌, ◌≤◌, length}
-use Rattle.rs_lists.specs.Lines.{resource_lines}
-use Rattle.rs_lists.proofs.resource_list.put_resources.Given as goal
-
-abbrev pub invariant-loop-i : goal.invariant-loop-i
-invariant-loop-i g l =
-    let text = resource_lines (g.V.View.shown l.view) l.from l.i in
-    record { taken : g.S.Sink.takes l.fn.sink l.sink text; small : length text ≤ 2450 * (l.i - l.from) }

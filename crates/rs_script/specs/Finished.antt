@@ -1,0 +1,59 @@
+-- How a script ends, as its two ends see it.
+use Rattle.std.specs.Prelude.{◌≡◌, ◌⊎◌, ◌≤◌, ◌+◌, ◌*◌, ℕ, true, List, [], ◌∷◌, ◌++◌, length, Option}
+use Rattle.std.specs.Io.KnownBytes.{Consumes}
+use Rattle.rs_disk.specs.Medium.{DiskState}
+use Rattle.rs_io.specs.declared.watch.Watched.{Watched}
+use Rattle.rs_io.specs.Watch.{watched, calls, failures, is_flushed, seen_by, End, Ends, Wrote}
+use Rattle.rs_store.specs.Source.{Stored}
+use Rattle.rs_script.specs.Answers.{output_of}
+use Rattle.rs_script.specs.Broken.{BreaksOff}
+use Rattle.rs_script.specs.Progress.{Came, TookAll, GaveStatements, ReadsNoMore}
+use Rattle.rs_script.specs.Script.{Ran}
+use Rattle.rs_script.specs.Session.{LineOutcome}
+use Rattle.rs_script.specs.Statements.{AreWholeStatements}
+
+-- the bytes of an end that is seen by them
+abbrev pub bytes_of : Option (List ℕ) → Option (List ℕ)
+bytes_of bytes = bytes
+
+-- All that the reader gave, up to its end, was answered, and all that was written is flushed.
+pub record EndsWell {D : Type 0} (device : D → DiskState) (old new : Stored D) (ends : Ends) : Type 0 where
+  pub ran : Ran device old new
+  pub took : TookAll bytes_of ends.left ends.rest ran.input
+  pub wrote : Wrote bytes_of ends.before ends.after (output_of ran.outcomes)
+  pub flushed : is_flushed ends.after ≡ true
+
+-- A read failed, and all answers were flushed before it; or 2^40 reads came to no end. The whole statements were answered, and a part of
+-- one after them was not.
+pub record StopsReading {D : Type 0} (device : D → DiskState) (old new : Stored D) (ends : Ends) : Type 0 where
+  pub ran : Ran device old new
+  pub part : List ℕ
+  pub gave : GaveStatements bytes_of ends.left ends.rest ran.input part
+  pub wrote : Wrote bytes_of ends.before ends.after (output_of ran.outcomes)
+  pub no_more : ReadsNoMore ends.left ends.rest ends.after (ran.input ++ part)
+
+-- A call of the writer failed, and none of the reader: what the statements so far asked for is done. They had come whole, or the input had
+-- ended. A put failed within the last answer, and the others went out whole; or all did, and a flush failed.
+pub record StopsWriting {D : Type 0} (device : D → DiskState) (old new : Stored D) (ends : Ends) : Type 0 where
+  pub ran : Ran device old new
+  pub came : Came bytes_of ends.left ends.rest ran.input
+  pub breaks : BreaksOff bytes_of ends.before ends.after ran.outcomes
+  pub read : failures ends.rest ≡ failures ends.left
+
+-- So many reads were made at most, each of at most so many bytes, and one that failed was not tried again.
+pub record ReadsWithin (turns size : ℕ) (left rest : End) : Type 0 where
+  pub gave : List ℕ
+  pub came : Consumes (watched left) (watched rest) gave
+  pub bound : length gave ≤ turns * size
+  pub reads : calls rest ≤ calls left + turns
+  pub once : (failures rest).all ≤ (failures left).all + 1
+
+-- The statements of a beginning of this input are done, up to one whose answer is not whole: they had come whole, or the input had ended.
+pub record StopsWithin {D : Type 0} (device : D → DiskState) (old new : Stored D) (input : List ℕ) : Type 0 where
+  pub ran : Ran device old new
+  pub tail : List ℕ
+  pub input_is : input ≡ ran.input ++ tail
+  pub come : AreWholeStatements ran.input ⊎ (tail ≡ [])
+  pub before : List LineOutcome
+  pub last : LineOutcome
+  pub outcomes_are : ran.outcomes ≡ before ++ last ∷ []

@@ -1,0 +1,158 @@
+//! What is kept of a script while its input comes.
+
+ghost use Rattle.std.specs.Prelude.{◌≡◌, [], ◌++◌, ℕ, List, None, OnOk, OnErr};
+ghost use Rattle.rs_io.specs.Watch.{failures, EndFailed};
+ghost use Rattle.rs_script.specs.Lines.{HasNoBreak, with_break};
+ghost use Rattle.rs_script.specs.PartialLine.{KeepsLine};
+ghost use Rattle.rs_script.specs.Progress.{stand, ComesTo, StopsBy, EndsLine, EndsAt, StopsAt};
+
+use crate::answer::write_refusal;
+use crate::bytes::position_of;
+use crate::group::Taking;
+use crate::line::Line;
+use crate::refusal::Refusal;
+use crate::statement::take_content;
+use rs_disk::Disk;
+use rs_io::{Watched, WriteFault};
+use rs_store::Source;
+use rs_time::Moment;
+use std::alloc::Global;
+use std::io::Write;
+
+/// What is kept of a script from one read to the next.
+#[derive(Drop)]
+pub struct Pending {
+    /// The moment at which commands come.
+    pub now: Moment,
+    /// The group whose lines come, if there is one.
+    pub group: Option<Taking>,
+    /// The line that comes.
+    pub line: Line,
+}
+
+impl Pending {
+    /// Nothing has come, and commands come at the moment 0.
+    pub fn new(alloc: Global) -> Pending
+        ensures now { result.now ≡ 0 }
+        ensures group { result.group ≡ None }
+        ensures line { KeepsLine result.line [] }
+    {
+        Pending {
+            now: Moment::first(),
+            group: None,
+            line: Line::new(alloc),
+        }
+    }
+
+    /// More bytes of the input: `run`, without a line feed, and the line feed that ends the line.
+    fn take_line<D: Disk, W: Write>(
+        &mut self,
+        alloc: Global,
+        source: &mut Source<D>,
+        run: &[u8],
+        writer: &mut Watched<W>,
+    ) -> Result<(), WriteFault>
+        ensures ok { OnOk result (HasNoBreak run.now → ComesTo D.state W.contents
+            (stand self.old source.old writer.old)
+            (stand self.new source.new writer.new) (with_break run.now)) }
+        ensures err { OnErr result (HasNoBreak run.now → StopsBy D.state W.contents
+            (stand self.old source.old writer.old)
+            (stand self.new source.new writer.new) (with_break run.now)) }
+        ensures sound { OnOk result (failures writer.new ≡ failures writer.old) }
+        ensures failed { OnErr result (EndFailed writer.old writer.new) }
+    {
+        self.line.extend(run);
+        let content = self.line.content(true);
+        let taken = take_content(
+            alloc,
+            source,
+            &mut self.now,
+            &mut self.group,
+            content,
+            writer,
+        );
+        self.line.clear();
+        taken
+    }
+
+    /// More bytes of the input.
+    ///
+    /// # Errors
+    ///
+    /// [`WriteFault`] where an answer is not written whole. Nothing of the bytes after its statement is done.
+    pub fn take_piece<D: Disk, W: Write>(
+        &mut self,
+        alloc: Global,
+        source: &mut Source<D>,
+        piece: &[u8],
+        writer: &mut Watched<W>,
+    ) -> Result<(), WriteFault>
+        ensures ok { OnOk result (ComesTo D.state W.contents
+            (stand self.old source.old writer.old)
+            (stand self.new source.new writer.new) piece.now) }
+        ensures err { OnErr result ((used : List ℕ) × (tail : List ℕ) × (piece.now ≡ used ++ tail)
+            × StopsBy D.state W.contents (stand self.old source.old writer.old)
+            (stand self.new source.new writer.new) used) }
+        ensures failed { OnErr result (EndFailed writer.old writer.new) }
+    {
+        let mut rest = piece;
+        while let Some(i) = position_of(b'\n', rest) {
+            self.take_line(alloc, source, &rest[..i], writer)?;
+            rest = &rest[i + 1..];
+        }
+        self.line.extend(rest);
+        Ok(())
+    }
+
+    /// The last line of the input, if there is one that no line feed ended, is taken.
+    fn take_last<D: Disk, W: Write>(
+        &mut self,
+        alloc: Global,
+        source: &mut Source<D>,
+        writer: &mut Watched<W>,
+    ) -> Result<(), WriteFault>
+        ensures ok { OnOk result (EndsLine D.state W.contents
+            (stand self.old source.old writer.old) (stand self.new source.new writer.new)) }
+        ensures err { OnErr result (StopsAt D.state W.contents
+            (stand self.old source.old writer.old) (stand self.new source.new writer.new)) }
+        ensures sound { OnOk result (failures writer.new ≡ failures writer.old) }
+        ensures failed { OnErr result (EndFailed writer.old writer.new) }
+    {
+        if self.line.is_empty() {
+            return Ok(());
+        }
+        let content = self.line.content(false);
+        take_content(
+            alloc,
+            source,
+            &mut self.now,
+            &mut self.group,
+            content,
+            writer,
+        )
+    }
+
+    /// The end of the input: the last line is taken, and a group that lacks a line then is refused.
+    ///
+    /// # Errors
+    ///
+    /// [`WriteFault`] where an answer is not written whole.
+    pub fn take_end<D: Disk, W: Write>(
+        &mut self,
+        alloc: Global,
+        source: &mut Source<D>,
+        writer: &mut Watched<W>,
+    ) -> Result<(), WriteFault>
+        ensures ok { OnOk result (EndsAt D.state W.contents
+            (stand self.old source.old writer.old) (stand self.new source.new writer.new)) }
+        ensures err { OnErr result (StopsAt D.state W.contents
+            (stand self.old source.old writer.old) (stand self.new source.new writer.new)) }
+        ensures failed { OnErr result (EndFailed writer.old writer.new) }
+    {
+        self.take_last(alloc, source, writer)?;
+        match self.group {
+            Some(_) => write_refusal(Refusal::BadGroup, writer),
+            None => Ok(()),
+        }
+    }
+}
