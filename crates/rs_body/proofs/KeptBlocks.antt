@@ -5,14 +5,12 @@ use Rattle.std.proofs.lemmas.List.{append_assoc, drop-append-le, drop-take, ext_
 use Rattle.rs_disk.specs.Medium.{Medium, DiskState, IsImage, IsImageAt, over, marked}
 use Rattle.rs_disk.specs.Leaves.{Torn, TornFrom}
 use Rattle.rs_disk.specs.Runs.{RunsReading, WritesWithin}
-use Rattle.rs_disk.proofs.Images.{torn_below, torn_above}
-use Rattle.rs_disk.proofs.Steps.{started, goes_on, weaker, exit_images}
+use Rattle.rs_body.proofs.FromBelow.{torn_below, torn_above, started, goes_on, weaker, exit_images, within_true, outside, turned}
 use Rattle.rs_extent.specs.declared.Extent.{Extent}
 use Rattle.rs_extent.specs.Blocks.{block_size}
 use Rattle.rs_extent.specs.Extents.{within, IsOnDisk, IsBeside}
 use Rattle.rs_body.specs.Blocks.{part}
 use Rattle.rs_body.specs.Outside.{Keeps, KeepsMarks, KeptFrom, WritesOutside}
-use Rattle.rs_extent.proofs.Sets.{within_true, outside, turned}
 use Rattle.rs_body.proofs.Torn.{IsHeld}
 
 -- The first bytes of an extent on the disk, if there are any, lie on the disk.

@@ -1,3 +1,5 @@
+mod FromBelow
+pub mod ForCallers
 pub mod Sets
 pub mod Torn
 pub mod KeptBlocks

@@ -1,12 +1,11 @@
 -- Runs that write some extents alone: of no call, one after another, and by another answer.
 use Rattle.std.proofs.Common.{◌⊎◌, inr, ℕ, List, [], ◌∷◌}
 use Rattle.rs_disk.specs.Medium.{DiskState}
-use Rattle.rs_disk.proofs.Runs.{writing_none, writing_as, writing_on}
+use Rattle.rs_body.proofs.FromBelow.{writing_none, writing_as, writing_on, beside_first}
 use Rattle.rs_extent.specs.declared.Extent.{Extent}
 use Rattle.rs_extent.specs.Extents.{in_some, IsSubset}
 use Rattle.rs_body.specs.Outside.{WritesOnly, WritesPart}
 use Rattle.rs_body.proofs.KeptBlocks.{outside_none, outside_on}
-use Rattle.rs_extent.proofs.Sets.{beside_first}
 
 pub only_none : {A : Type 0} (xs : List Extent) (disk : DiskState) → ¬ A → WritesOnly xs A disk disk
 only_none xs disk none = record { runs = writing_none disk none; outside = λ kept beside. outside_none kept disk }

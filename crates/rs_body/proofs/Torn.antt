@@ -3,7 +3,7 @@ use Rattle.std.proofs.Common.{◌≡◌, ◌⊎◌, inl, inr, ℕ, ◌+◌, ◌�
 use Rattle.rs_disk.specs.Medium.{Medium, DiskState, over, written}
 use Rattle.rs_disk.specs.Calls.{Writes, Tears}
 use Rattle.rs_disk.specs.Leaves.{Torn}
-use Rattle.rs_disk.proofs.Images.{over_torn}
+use Rattle.rs_body.proofs.FromBelow.{over_torn}
 
 -- any bytes of its length in its place, or what was held
 abbrev pub IsHeld : ℕ → ℕ → Medium → Medium → Type 0

@@ -7,7 +7,7 @@ use Rattle.rs_record.specs.declared.facts.Facts.{Facts}
 use Rattle.rs_record.specs.declared.change.Change.{Change}
 use Rattle.rs_record.specs.declared.change.What.{What}
 use Rattle.rs_record.specs.declared.change.What.TheVariants.{Created, Updated, Deleted}
-use Rattle.rs_record.proofs.Changes.{same_change}
+use Rattle.rs_caps.proofs.FromBelow.{same_change}
 
 abbrev IsBinding : What → Option Facts → Type 0
 IsBinding what facts = (again : Bool) × (f : Facts) × (what ≡ binding again) × (facts ≡ Some f)

@@ -7,17 +7,14 @@ use Rattle.std.specs.Fmt.{decimal}
 use Rattle.std.proofs.lemmas.Bool.Decides.{nat_tests}
 use Rattle.std.proofs.lemmas.List.Folds.{list_all-append}
 use Rattle.rs_time.specs.Moment.{moment_text, is_moment_byte}
-use Rattle.rs_time.proofs.MomentTexts.{moment_text-bytes}
+use Rattle.rs_caps.proofs.FromBelow.{moment_text-bytes, lacks_by, hash_text-passes, name_clean, base_clean, media_type_lacks}
 use Rattle.rs_fixity.specs.Cut.{lacks}
 use Rattle.rs_fixity.specs.HashText.{hash_text_of}
 use Rattle.rs_fixity.specs.declared.Digests.{Digests}
-use Rattle.rs_fixity.proofs.CutLemmas.{lacks_by}
-use Rattle.rs_fixity.proofs.HashTexts.{hash_text-passes}
 use Rattle.rs_record.specs.Name.{is_name}
 use Rattle.rs_record.specs.MediaType.{is_media_type}
 use Rattle.rs_record.specs.Base.{is_base, uri}
 use Rattle.rs_record.specs.CleanBytes.{is_clean}
-use Rattle.rs_record.proofs.Clean.{name_clean, base_clean, media_type_lacks}
 use Rattle.rs_lists.specs.Escape.{escaped, escape}
 use Rattle.rs_lists.specs.Text.{resource_part_path, change_part_path}
 use Rattle.rs_record.specs.Bytes.{is_digit}

@@ -3,7 +3,7 @@ use Rattle.std.proofs.Common.{◌≡◌, ℕ, suc, zero, ◌≤◌, List, [], �
 use Rattle.std.specs.Prelude.{codes, ◌==◌, ◌||◌}
 use Rattle.std.proofs.lemmas.Bool.{eqb-true}
 use Rattle.std.proofs.lemmas.Bool.Decides.{nat_tests}
-use Rattle.rs_fixity.proofs.CutLemmas.{then_gave}
+use Rattle.rs_caps.proofs.FromBelow.{then_gave}
 use Rattle.rs_lists.specs.Escape.{escaped, escape}
 use Rattle.rs_caps.specs.Cut.{◌>>=◌, strip, reference_to, reference, character, characters, unescape}
 use Rattle.rs_caps.proofs.Steps.{either_gave, strip_gave}

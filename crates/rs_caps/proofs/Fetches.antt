@@ -12,7 +12,7 @@ use Rattle.rs_model.specs.Walk.{state_at, IsLawfulEvent, recorded, count_at}
 use Rattle.rs_lists.specs.Chunks.{part_at}
 use Rattle.rs_lists.specs.Shown.{Shown, resource_parts_of, change_parts_of}
 use Rattle.rs_lists.specs.Text.{numbers_from, resource_part_path, change_part_path}
-use Rattle.rs_lists.proofs.Parts.{parts_cover, parts_tight}
+use Rattle.rs_caps.proofs.FromBelow.{parts_cover, parts_tight}
 use Rattle.rs_caps.specs.Shows.{shown_of}
 use Rattle.rs_caps.specs.Readings.{Document}
 use Rattle.rs_caps.specs.Readings.Document.{ResourceList, ChangeList, ResourceListIndex, ChangeListIndex}

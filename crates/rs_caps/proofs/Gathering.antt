@@ -2,7 +2,7 @@
 use Rattle.std.proofs.Common.{◌≡◌, ℕ, List, [], ◌∷◌, ◌++◌, length, map, refl, sym, ap, ◌∙◌, Option, Some}
 use Rattle.std.specs.List.{AllByRecursion}
 use Rattle.std.proofs.lemmas.List.{map-append}
-use Rattle.rs_fixity.proofs.CutLemmas.{then_some}
+use Rattle.rs_caps.proofs.FromBelow.{then_some}
 use Rattle.rs_lists.specs.Chunks.{parts_of, part_at}
 use Rattle.rs_lists.specs.Text.{numbers_from}
 use Rattle.rs_lists.specs.Parts.{AreChunks, parts_joined}

@@ -1,3 +1,5 @@
+mod FromBelow
+pub mod ForCallers
 pub mod Cases
 pub mod Cutting
 pub mod Texts

@@ -5,7 +5,7 @@ use Rattle.std.proofs.lemmas.Bool.{eqb-true}
 use Rattle.std.specs.Cmp.{first_so, second_so}
 use Rattle.std.specs.List.{list_all, AllByRecursion}
 use Rattle.rs_fixity.specs.Cut.{lacks}
-use Rattle.rs_fixity.proofs.CutLemmas.{then_some}
+use Rattle.rs_caps.proofs.FromBelow.{then_some}
 use Rattle.rs_lists.specs.Text.{joined}
 use Rattle.rs_caps.specs.Cut.{◌>>=◌, lines_of, onto_lines}
 use Rattle.rs_caps.specs.Reads.{read_children}

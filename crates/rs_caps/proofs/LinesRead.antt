@@ -7,10 +7,8 @@ use Rattle.std.proofs.lemmas.Bool.Decides.{nat_tests}
 use Rattle.std.proofs.Math.Bool.{and-false}
 use Rattle.rs_time.specs.Moment.{IsMoment, moment_text}
 use Rattle.rs_time.specs.ReadMoment.{read_moment, same_bytes}
-use Rattle.rs_time.proofs.MomentTexts.{read_moment-text}
+use Rattle.rs_caps.proofs.FromBelow.{read_moment-text, then_some, strip_own, read_hash-text, base_clean}
 use Rattle.rs_fixity.specs.HashText.{hash_text_of}
-use Rattle.rs_fixity.proofs.CutLemmas.{then_some, strip_own}
-use Rattle.rs_fixity.proofs.HashTexts.{read_hash-text}
 use Rattle.rs_fixity.specs.ReadHash.{read_hash}
 use Rattle.rs_record.specs.Base.{is_base, uri}
 use Rattle.rs_record.specs.Name.{is_name}
@@ -20,7 +18,6 @@ use Rattle.rs_record.specs.declared.facts.Facts.{Facts}
 use Rattle.rs_record.specs.declared.record.Record.{Record}
 use Rattle.rs_record.specs.declared.change.Change.{Change}
 use Rattle.rs_record.specs.CleanBytes.{is_clean}
-use Rattle.rs_record.proofs.Clean.{base_clean}
 use Rattle.rs_lists.specs.declared.doc.Doc.{Doc}
 use Rattle.rs_lists.specs.declared.doc.Doc.TheVariants.{ResourcePart, ChangePart}
 use Rattle.rs_lists.specs.Escape.{escape}

@@ -9,7 +9,7 @@ use Rattle.rs_model.specs.declared.value.Held.{Held}
 use Rattle.rs_model.specs.Lawful.{IsHeld, IsLawful}
 use Rattle.rs_model.specs.Names.{Names, by_bytes, by_order, value_of}
 use Rattle.rs_model.specs.State.{Source, body_of}
-use Rattle.rs_model.proofs.MapLemmas.{same_name}
+use Rattle.rs_caps.proofs.FromBelow.{same_name}
 
 other_name : (r : Ordering) (name : List ℕ) (e : List ℕ × Held) (m : Names Held) → by_bytes name e.0 ≡ r → IsTrue (is_name e.0)
     → is_name name ≡ false → value_of name m ≡ None → by_order r None (Some e.1) (value_of name m) ≡ None

@@ -5,7 +5,7 @@ use Rattle.std.specs.Fmt.{decimal}
 use Rattle.std.proofs.lemmas.Bool.{ltb-true}
 use Rattle.std.proofs.lemmas.Bool.Decides.{nat_tests}
 use Rattle.rs_time.specs.ReadMoment.{same_bytes}
-use Rattle.rs_fixity.proofs.CutLemmas.{then_some, then_gave, cut_value}
+use Rattle.rs_caps.proofs.FromBelow.{then_some, then_gave, cut_value}
 use Rattle.rs_lists.specs.declared.doc.Doc.{Doc}
 use Rattle.rs_lists.specs.declared.doc.Doc.TheVariants.{Description, Capabilities, ResourceHead, ResourcePart, ChangeHead, ChangePart}
 use Rattle.rs_lists.specs.Text.{resource_part_path, change_part_path}

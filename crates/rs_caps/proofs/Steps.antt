@@ -7,7 +7,7 @@ use Rattle.std.specs.List.{list_all}
 use Rattle.std.specs.Cmp.Lexicographic.{bytes_decides}
 use Rattle.rs_time.specs.ReadMoment.{same_bytes}
 use Rattle.rs_fixity.specs.Cut.{lacks}
-use Rattle.rs_fixity.proofs.CutLemmas.{then_some, cut_value}
+use Rattle.rs_caps.proofs.FromBelow.{then_some, cut_value}
 use Rattle.rs_caps.specs.Cut.{◌or_else◌, strip, cut, value_to}
 
 -- a value before its mark is read

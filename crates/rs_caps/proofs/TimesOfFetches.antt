@@ -13,7 +13,7 @@ use Rattle.rs_model.specs.WalkLaws.{WalksAreFolds}
 use Rattle.rs_lists.specs.declared.doc.Doc.TheVariants.{ResourcePart, ChangePart}
 use Rattle.rs_lists.specs.Chunks.{parts_of, part_at}
 use Rattle.rs_lists.specs.Text.{list_text, resource_part_path, change_part_path}
-use Rattle.rs_lists.proofs.Parts.{parts_cover, parts_tight, scale}
+use Rattle.rs_caps.proofs.FromBelow.{parts_cover, parts_tight, scale}
 use Rattle.rs_caps.specs.Shows.{shown_of}
 use Rattle.rs_caps.specs.Readings.Document.{ResourceList}
 use Rattle.rs_caps.specs.Answer.{answer, listed_of, change_part_of}

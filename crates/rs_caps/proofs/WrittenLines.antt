@@ -13,7 +13,7 @@ use Rattle.rs_record.specs.Format.{facts_in}
 use Rattle.rs_record.specs.declared.facts.Facts.{Facts}
 use Rattle.rs_record.specs.declared.record.Record.{Record}
 use Rattle.rs_record.specs.declared.change.Change.{Change}
-use Rattle.rs_record.proofs.Clean.{base_clean}
+use Rattle.rs_caps.proofs.FromBelow.{base_clean}
 use Rattle.rs_lists.specs.Escape.{escape}
 use Rattle.rs_lists.specs.Shown.{Shown}
 use Rattle.rs_lists.specs.Text.{resource_line, change_line, resource_md, change_md, resource_entry, change_entry, resource_part_path, change_part_path, link_line, from_of, until_of, until_parts, what_text, location_parts, facts_parts, lastmod_parts, some_facts_parts}

@@ -4,8 +4,7 @@ use Rattle.std.specs.Prelude.{IsNone, is_none}
 use Rattle.std.proofs.lemmas.List.{length-map}
 use Rattle.rs_record.specs.declared.record.Record.{Record}
 use Rattle.rs_model.specs.Names.{value_of, bind, unbind}
-use Rattle.rs_model.proofs.OrderLemmas.{ordered-bind, ordered-unbind}
-use Rattle.rs_model.proofs.RoomLemmas.{length-bind, length-unbind}
+use Rattle.rs_catalogue.proofs.FromBelow.{ordered-bind, ordered-unbind, length-bind, length-unbind}
 use Rattle.rs_catalogue.specs.Named.{named}
 use Rattle.rs_catalogue.specs.Catalogue.{AreHeld}
 

@@ -1,2 +1,2 @@
 -- The pages of a catalogue, joined.
-pub use Rattle.rs_pages.proofs.Joined.{joined}
+pub use Rattle.rs_catalogue.proofs.FromBelow.{joined}

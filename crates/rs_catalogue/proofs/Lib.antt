@@ -1,3 +1,5 @@
+mod FromBelow
+pub mod ForCallers
 pub mod Shown
 pub mod BoundRecords
 pub mod Joined

@@ -1,2 +1,2 @@
 -- The pages of a history, joined.
-pub use Rattle.rs_pages.proofs.Joined.{joined}
+pub use Rattle.rs_changes.proofs.FromBelow.{joined}

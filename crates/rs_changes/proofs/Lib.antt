@@ -1,3 +1,5 @@
+mod FromBelow
+pub mod ForCallers
 pub mod Rising
 pub mod Filled
 pub mod Joined

@@ -3,7 +3,7 @@ use Rattle.std.proofs.Common.{◌≡◌, inl, inr, ℕ, ◌+◌, ◌≤◌, List
 use Rattle.std.proofs.lemmas.List.{length-take-le, take-take, drop-take, drop-drop, drop_at, get_or-take, get_or-drop}
 use Rattle.rs_disk.specs.Medium.{over}
 use Rattle.rs_disk.specs.Leaves.{Torn}
-use Rattle.rs_disk.proofs.Images.{over_torn, over_part, over_byte, torn_part, torn_byte, front_part, back_part}
+use Rattle.rs_commit.proofs.FromBelow.{over_torn, over_part, over_byte, torn_part, torn_byte, front_part, back_part}
 use Rattle.rs_commit.specs.declared.slot.Slot.{Slot}
 use Rattle.rs_commit.specs.declared.slot.Slot.TheVariants.{First, Second}
 use Rattle.rs_commit.specs.Slots.{offset, other, block, gate}

@@ -4,8 +4,7 @@ use Rattle.std.proofs.lemmas.Bool.{cases_eq}
 use Rattle.std.proofs.lemmas.List.{take_all}
 use Rattle.rs_disk.specs.Medium.{Medium, DiskState, IsImage, IsMedium, over, resting}
 use Rattle.rs_disk.specs.Leaves.{Leaves, Torn, TornFrom}
-use Rattle.rs_disk.proofs.Images.{over_torn, over_part, settled_front, resting_image, resting_off}
-use Rattle.rs_disk.proofs.Steps.{goes_on, weaker}
+use Rattle.rs_commit.proofs.FromBelow.{over_torn, over_part, settled_front, resting_image, resting_off, goes_on, weaker}
 use Rattle.rs_commit.specs.declared.root.Root.{Root}
 use Rattle.rs_commit.specs.declared.slot.Slot.TheVariants.{First, Second}
 use Rattle.rs_commit.specs.declared.slot.SlotContent.TheVariants.{Closed, Open}

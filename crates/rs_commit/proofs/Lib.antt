@@ -1,3 +1,5 @@
+mod FromBelow
+pub mod ForCallers
 pub mod Blocks
 pub mod Contents
 pub mod Payloads

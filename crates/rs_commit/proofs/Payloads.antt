@@ -4,7 +4,7 @@ use Rattle.std.proofs.lemmas.List.{append-nil, take_all, take_at, drop_at, take-
 use Rattle.std.proofs.lemmas.Nat.{from_be_bytes-to_be_bytes_4, from_be_bytes-to_be_bytes_8}
 use Rattle.std.specs.Int.{from_be_bytes, to_be_bytes, w32, w64}
 use Rattle.rs_disk.specs.Medium.{over}
-use Rattle.rs_disk.proofs.Images.{over_torn, front_part, back_part}
+use Rattle.rs_commit.proofs.FromBelow.{over_torn, front_part, back_part}
 use Rattle.rs_commit.specs.declared.root.Root.{Root}
 use Rattle.rs_commit.specs.declared.slot.Slot.TheVariants.{First, Second}
 use Rattle.rs_commit.specs.declared.slot.SlotContent.TheVariants.{Closed, Open}

@@ -3,7 +3,7 @@ use Rattle.std.proofs.Common.{◌≡◌, inl, inr, ℕ, ◌+◌, ◌<◌, ◌≤
 use Rattle.std.proofs.lemmas.Bool.{cases_eq}
 use Rattle.rs_disk.specs.Medium.{Medium, IsImage, IsMedium, over, resting}
 use Rattle.rs_disk.specs.Leaves.{Torn, TornFrom}
-use Rattle.rs_disk.proofs.Images.{over_torn, settled_front, resting_image, resting_off}
+use Rattle.rs_commit.proofs.FromBelow.{over_torn, settled_front, resting_image, resting_off}
 use Rattle.rs_commit.specs.declared.root.Root.{Root}
 use Rattle.rs_commit.specs.declared.slot.Slot.{Slot}
 use Rattle.rs_commit.specs.declared.slot.SlotContent.TheVariants.{Closed, Open}

@@ -5,9 +5,7 @@ use Rattle.rs_disk.specs.Medium.{Medium, DiskState, IsImage, IsMedium, over, res
 use Rattle.rs_disk.specs.Calls.{CountsCall, Writes, Tears}
 use Rattle.rs_disk.specs.Leaves.{Leaves, Torn, TornFrom}
 use Rattle.rs_disk.specs.Runs.{WritesWithin, WritesNothing}
-use Rattle.rs_disk.proofs.Images.{over_torn, back_part}
-use Rattle.rs_disk.proofs.Steps.{started, goes_on, weaker, exit_images, write_leaves}
-use Rattle.rs_disk.proofs.Runs.{writing_one, writing_then}
+use Rattle.rs_commit.proofs.FromBelow.{over_torn, back_part, started, goes_on, weaker, exit_images, write_leaves, writing_one, writing_then}
 use Rattle.rs_commit.specs.declared.root.Root.{Root}
 use Rattle.rs_commit.specs.declared.slot.Slot.{Slot}
 use Rattle.rs_commit.specs.Slots.{Standing, offset, other, payload_of, IsLawfulRoot}

@@ -6,7 +6,7 @@ use Rattle.std.proofs.lemmas.Bool.Decides.{nat_tests}
 use Rattle.rs_disk.specs.Medium.{Medium, DiskState, IsImage, IsMedium, resting}
 use Rattle.rs_disk.specs.Leaves.{Leaves}
 use Rattle.rs_disk.specs.Runs.{MakesCalls}
-use Rattle.rs_disk.proofs.Images.{resting_image}
+use Rattle.rs_copy.proofs.FromBelow.{resting_image, is_behind, keeps_behind, tells_behind, stored_items}
 use Rattle.rs_commit.specs.Commit.{SameBehind, WritesSlots}
 use Rattle.rs_commit.specs.Format.{AreShut}
 use Rattle.rs_commit.specs.Laws.{ShutTellsNone, ShutStays}
@@ -18,8 +18,6 @@ use Rattle.rs_image.specs.declared.contents.Contents.{Contents}
 use Rattle.rs_image.specs.Rooted.{rooted, MemoryIsSound}
 use Rattle.rs_image.specs.StateOfImage.{Tells, held_in, state_in}
 use Rattle.rs_image.specs.Whole.{IsWhole}
-use Rattle.rs_image.proofs.Frame.{is_behind, keeps_behind, tells_behind}
-use Rattle.rs_plan.proofs.Stored.{stored_items}
 use Rattle.rs_copy.specs.declared.faults.CopyFault.{CopyFault}
 use Rattle.rs_copy.specs.declared.faults.CopyFault.TheVariants.{Device, Damaged}
 use Rattle.rs_copy.specs.declared.laying_out.Layout.{Layout}

@@ -6,7 +6,7 @@ use Rattle.std.proofs.lemmas.List.{take-append-drop}
 use Rattle.std.proofs.lemmas.List.Elements.{All-nil, All-cons, All-head, All-tail}
 use Rattle.rs_extent.specs.declared.Extent.{Extent}
 use Rattle.rs_extent.specs.Extents.{within, in_some, AreDisjoint}
-use Rattle.rs_extent.proofs.Sets.{within_true, some_first, some_rest, not_true, not_both}
+use Rattle.rs_copy.proofs.FromBelow.{within_true, some_first, some_rest, not_true, not_both, needed, shared_blocks}
 use Rattle.rs_page.specs.declared.place.PageRef.{PageRef}
 use Rattle.rs_page.specs.declared.place.Place.{Place}
 use Rattle.rs_page.specs.declared.place.Place.TheVariants.{Placed}
@@ -17,8 +17,6 @@ use Rattle.rs_page.specs.Placing.{Places}
 use Rattle.rs_pages.specs.Rule.{touched, cut_up_to}
 use Rattle.rs_pages.specs.Dropped.{cut_full, full_pages}
 use Rattle.rs_pages.specs.Storing.{unshared}
-use Rattle.rs_plan.proofs.Placing.{needed}
-use Rattle.rs_image.proofs.Reaching.{shared_blocks}
 
 -- They have all the items, in their order.
 append_nil : {A : Type 0} (l : List A) → l ++ [] ≡ l

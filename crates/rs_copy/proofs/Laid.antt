@@ -6,14 +6,11 @@ use Rattle.std.proofs.lemmas.Bool.Decides.{nat_tests}
 use Rattle.std.proofs.lemmas.List.Elements.{All-nil, All-cons, All-head, All-tail}
 use Rattle.rs_extent.specs.declared.Extent.{Extent}
 use Rattle.rs_extent.specs.Extents.{in_some, AreTaken, IsSubset}
-use Rattle.rs_extent.proofs.Sets.{some_first, some_rest, some_front, some_behind}
-use Rattle.rs_extent.proofs.Taken.{taken_both, taken_before}
-use Rattle.rs_body.proofs.Sets.{fits_sized}
+use Rattle.rs_copy.proofs.FromBelow.{some_first, some_rest, some_front, some_behind, taken_both, taken_before, fits_sized, taken_places, settled_places, taken_lowest, places_items, places_length}
 use Rattle.rs_body.specs.Blocks.{IsSized, blocks_of}
 use Rattle.rs_record.specs.declared.record.Record.{Record}
 use Rattle.rs_page.specs.Items.{record_format, change_format}
 use Rattle.rs_page.specs.Pages.{placed_extents}
-use Rattle.rs_pages.proofs.Taken.{taken_places, settled_places}
 use Rattle.rs_catalogue.specs.Catalogue.{records_of}
 use Rattle.rs_changes.specs.History.{changes_of}
 use Rattle.rs_directory.specs.Directory.{directory_length}
@@ -21,8 +18,6 @@ use Rattle.rs_directory.specs.declared.header.Header.{Header}
 use Rattle.rs_image.specs.declared.contents.Contents.{Contents}
 use Rattle.rs_image.specs.Reach.{bodies_of, blocks_of_disk, AreInside}
 use Rattle.rs_image.specs.StateOfImage.{directory_bytes_of}
-use Rattle.rs_plan.proofs.Extents.{taken_lowest}
-use Rattle.rs_plan.proofs.Placing.{places_items, places_length}
 use Rattle.rs_copy.specs.Laying.{with_extents, IsMoved, as_published, copied_lists, records_needed, IsLaidOut}
 use Rattle.rs_copy.specs.Copying.{HasPlace, HasRoom, pages_in, is_slot, written_in}
 use Rattle.rs_copy.proofs.FullPages.{full_items, full_unplaced}

@@ -1,3 +1,4 @@
+mod FromBelow
 pub mod Answered
 pub mod Ended
 pub mod FullPages

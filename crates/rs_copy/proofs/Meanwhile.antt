@@ -4,18 +4,16 @@ use Rattle.std.proofs.lemmas.Bool.Decides.{nat_tests}
 use Rattle.std.proofs.lemmas.List.{ext_get_or, get_or-take}
 use Rattle.rs_disk.specs.Medium.{DiskState, IsMedium}
 use Rattle.rs_disk.specs.Leaves.{Leaves}
-use Rattle.rs_disk.proofs.Steps.{goes_on, goes_further, weaker}
+use Rattle.rs_copy.proofs.FromBelow.{goes_on, goes_further, weaker, current_stays, tells_behind}
 use Rattle.rs_body.specs.Outside.{Keeps, KeptFrom, WritesOutside}
 use Rattle.rs_commit.specs.declared.root.Root.{Root}
 use Rattle.rs_commit.specs.Slots.{current}
 use Rattle.rs_commit.specs.Commit.{OutsideOf, SameBehind}
 use Rattle.rs_commit.specs.Format.{AreShut, NoneOrRoot}
 use Rattle.rs_commit.specs.Laws.{ShutTellsNone, ShutStays}
-use Rattle.rs_commit.proofs.Contents.{current_stays}
 use Rattle.rs_model.specs.State.{Source}
 use Rattle.rs_image.specs.declared.contents.Contents.{Contents}
 use Rattle.rs_image.specs.StateOfImage.{Tells}
-use Rattle.rs_image.proofs.Frame.{tells_behind}
 use Rattle.rs_copy.specs.Copying.{is_slot, NoneOrState}
 
 is_low : (b : ℕ) → b < 2 → nat_lt b 2 ≡ true

@@ -10,10 +10,9 @@ use Rattle.rs_disk.specs.Medium.{DiskState}
 use Rattle.rs_fixity.specs.Digests.{digests}
 use Rattle.rs_extent.specs.declared.Extent.{Extent}
 use Rattle.rs_extent.specs.Extents.{in_some, AreApart, AreBeside, IsSubset}
-use Rattle.rs_extent.proofs.Sets.{some_first, some_rest, some_front, some_behind, beside_front, beside_between}
+use Rattle.rs_copy.proofs.FromBelow.{some_first, some_rest, some_front, some_behind, beside_front, beside_between, part_kept}
 use Rattle.rs_body.specs.Blocks.{part}
 use Rattle.rs_body.specs.Outside.{Keeps}
-use Rattle.rs_body.proofs.KeptBlocks.{part_kept}
 use Rattle.rs_record.specs.declared.record.Record.{Record}
 use Rattle.rs_model.specs.declared.value.Held.{Held}
 use Rattle.rs_model.specs.Listed.{entry_of}

@@ -18,8 +18,7 @@ use Rattle.rs_image.specs.declared.contents.Contents.{Contents}
 use Rattle.rs_image.specs.Reach.{blocks_of_disk}
 use Rattle.rs_image.specs.StateOfImage.{directory_bytes_of}
 use Rattle.rs_plan.specs.Room.{HasNoRun, HasNoRoom, Takes, TakesEach, pages_needed}
-use Rattle.rs_plan.proofs.Extents.{taken_lowest, same_taken}
-use Rattle.rs_plan.proofs.Placing.{needed}
+use Rattle.rs_copy.proofs.FromBelow.{taken_lowest, same_taken, needed}
 use Rattle.rs_copy.specs.Laying.{as_published, with_extents, copied_lists, records_needed, copy_needed, HasSlotsAlone, ArePlacedInTurn, IsLaidOut, LacksCopyRoom}
 
 abbrev pub directory_needed : Contents → List ℕ

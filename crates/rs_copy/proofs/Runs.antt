@@ -4,11 +4,10 @@ use Rattle.std.specs.Prelude.{IsErrOf}
 use Rattle.std.specs.Result.{IsErrAnd}
 use Rattle.rs_disk.specs.Medium.{DiskState}
 use Rattle.rs_disk.specs.Runs.{HasFailed, RunsReading, RunsWriting}
-use Rattle.rs_disk.proofs.Runs.{reading_none, writing_none, rests, rests_on, advances, advances_on}
+use Rattle.rs_copy.proofs.FromBelow.{reading_none, writing_none, rests, rests_on, advances, advances_on, outside_on}
 use Rattle.rs_extent.specs.declared.Extent.{Extent}
 use Rattle.rs_extent.specs.Extents.{in_some, IsSubset}
 use Rattle.rs_body.specs.Outside.{WritesOnly}
-use Rattle.rs_body.proofs.KeptBlocks.{outside_on}
 use Rattle.rs_copy.specs.declared.faults.CopyFault.{CopyFault}
 use Rattle.rs_copy.specs.Copying.{CopiesOnly, RunsCopying}
 use Rattle.rs_copy.proofs.Handed.{handed_err, told_on}

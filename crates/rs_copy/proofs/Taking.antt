@@ -5,12 +5,11 @@ use Rattle.std.specs.List.{AllZip}
 use Rattle.std.proofs.lemmas.List.Elements.{All-nil, All-cons}
 use Rattle.rs_extent.specs.declared.Extent.{Extent}
 use Rattle.rs_extent.specs.Extents.{AreTaken}
-use Rattle.rs_extent.proofs.Taken.{taken_none, taken_both}
+use Rattle.rs_copy.proofs.FromBelow.{taken_none, taken_both, taken_lowest}
 use Rattle.rs_body.specs.Blocks.{blocks_of, IsSized}
 use Rattle.rs_record.specs.declared.record.Record.{Record}
 use Rattle.rs_image.specs.Reach.{bodies_of}
 use Rattle.rs_plan.specs.Room.{HasNoRun, HasNoRoom, Takes, TakesEach}
-use Rattle.rs_plan.proofs.Extents.{taken_lowest}
 use Rattle.rs_copy.specs.Laying.{with_extents, IsMoved, records_needed}
 use Rattle.rs_copy.proofs.Records.{IsSizedRecord}
 

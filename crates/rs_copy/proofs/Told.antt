@@ -4,9 +4,8 @@ use Rattle.std.specs.Prelude.{All}
 use Rattle.rs_disk.specs.Medium.{DiskState}
 use Rattle.rs_extent.specs.declared.Extent.{Extent}
 use Rattle.rs_extent.specs.Extents.{in_some}
-use Rattle.rs_extent.proofs.Sets.{in_one, none_front, none_behind, apart_between}
+use Rattle.rs_copy.proofs.FromBelow.{in_one, none_front, none_behind, apart_between, outside_on, written_stand, written_stay, standing_are_pages, joined, joined as joined_changes, stored_items}
 use Rattle.rs_body.specs.Outside.{Keeps, WritesOnly}
-use Rattle.rs_body.proofs.KeptBlocks.{outside_on}
 use Rattle.rs_record.specs.declared.record.Record.{Record}
 use Rattle.rs_record.specs.declared.change.Change.{Change}
 use Rattle.rs_model.specs.State.{Source}
@@ -14,16 +13,12 @@ use Rattle.rs_model.specs.Listed.{entry_of}
 use Rattle.rs_page.specs.Items.{record_format, change_format}
 use Rattle.rs_page.specs.Pages.{Page, IsStored, stored, stored_refs}
 use Rattle.rs_page.specs.DiskPages.{Stands as PageStands}
-use Rattle.rs_page.proofs.Standing.{written_stand, written_stay, standing_are_pages}
 use Rattle.rs_catalogue.specs.Catalogue.{AreHeld, records_of, IsCatalogue, HoldsCatalogue}
-use Rattle.rs_catalogue.proofs.Joined.{joined}
 use Rattle.rs_changes.specs.History.{AreKept, changes_of, IsHistory, HoldsHistory}
-use Rattle.rs_changes.proofs.Joined.{joined as joined_changes}
 use Rattle.rs_image.specs.declared.contents.Contents.{Contents}
 use Rattle.rs_image.specs.Reach.{bodies_of}
 use Rattle.rs_image.specs.StateOfImage.{Tells, held_in, state_in}
 use Rattle.rs_image.specs.Whole.{IsWhole}
-use Rattle.rs_plan.proofs.Stored.{stored_items}
 use Rattle.rs_copy.specs.Laying.{as_published, with_extents, IsLaidOut, all_stored}
 use Rattle.rs_copy.specs.Copies.{HasItsBody}
 use Rattle.rs_copy.specs.Copying.{HasRoom, ArePagesWritten, CopyStands, copied_root, pages_in}

@@ -5,7 +5,7 @@ use Rattle.std.proofs.lemmas.Bool.{or_right}
 use Rattle.rs_extent.specs.declared.Extent.{Extent}
 use Rattle.rs_extent.specs.Blocks.{is_used}
 use Rattle.rs_extent.specs.Extents.{in_some, AreApart, AreDisjoint}
-use Rattle.rs_extent.proofs.Sets.{none_front, some_behind, apart_front, apart_behind, beside_between}
+use Rattle.rs_copy.proofs.FromBelow.{none_front, some_behind, apart_front, apart_behind, beside_between, stored_items, length_stored, all_stored as pages_stored}
 use Rattle.rs_commit.specs.declared.root.Root.{Root}
 use Rattle.rs_record.specs.declared.change.Change.{Change}
 use Rattle.rs_page.specs.Items.{record_format, change_format}
@@ -21,7 +21,6 @@ use Rattle.rs_image.specs.Whole.{AreMoments, IsWhole, IsSoundRecord, IsSoundChan
 use Rattle.rs_image.specs.Rooted.{rooted, AreUsed, MemoryIsSound}
 use Rattle.rs_image.specs.StateOfImage.{AreListable, listing, directory_bytes_of}
 use Rattle.rs_body.specs.Blocks.{IsSized}
-use Rattle.rs_plan.proofs.Stored.{stored_items, length_stored, all_stored as pages_stored}
 use Rattle.rs_copy.specs.Laying.{as_published, with_extents, IsLaidOut, all_stored}
 use Rattle.rs_copy.specs.Copying.{HasPlace, pages_in, copied_root, written_in}
 use Rattle.rs_copy.proofs.FullPages.{full_extents, full_blocks, none_shared}

@@ -4,8 +4,7 @@ use Rattle.std.specs.Prelude.{All}
 use Rattle.std.proofs.lemmas.Grind.{flat_map-append}
 use Rattle.std.proofs.lemmas.List.{take_more, append-nil, length-append, length-take, length-drop, take-append-drop}
 use Rattle.std.proofs.lemmas.List.Elements.{All-nil, All-cons, All-head, All-tail}
-use Rattle.rs_record.proofs.FieldLaws.{AreBytes}
-use Rattle.rs_record.proofs.Answered.{alone}
+use Rattle.rs_directory.proofs.FromBelow.{AreBytes, alone}
 use Rattle.rs_page.specs.declared.place.PageRef.{PageRef}
 use Rattle.rs_directory.specs.Directory.{ref_bytes, IsLawfulRef, BeginsWith}
 use Rattle.rs_directory.specs.declared.parts.PageCounts.{PageCounts}

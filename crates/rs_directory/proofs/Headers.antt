@@ -5,7 +5,7 @@ use Rattle.std.specs.Int.{w16, w64, to_be_bytes}
 use Rattle.rs_time.specs.Moment.{IsMoment}
 use Rattle.rs_record.specs.Format.{counted_text}
 use Rattle.rs_record.specs.Reading.{◌>>=◌, number_in, counted_at, moment_in}
-use Rattle.rs_record.proofs.FieldLaws.{AreBytes, Takes, IsFormat, bind_some, takes_as, one_more, concat-onto, number_8, counted, moment}
+use Rattle.rs_directory.proofs.FromBelow.{AreBytes, Takes, IsFormat, bind_some, takes_as, one_more, concat-onto, number_8, counted, moment}
 use Rattle.rs_directory.specs.declared.header.Header.{Header}
 use Rattle.rs_directory.specs.Limit.{IsLimit}
 use Rattle.rs_directory.specs.Directory.{history_bytes, header_bytes, HasAllHistory}

@@ -6,7 +6,7 @@ use Rattle.std.specs.Int.{w64, to_be_bytes}
 use Rattle.std.proofs.lemmas.Bool.{eqb-true}
 use Rattle.rs_time.specs.Moment.{IsMoment}
 use Rattle.rs_record.specs.Reading.{◌>>=◌, number_in, moment_in}
-use Rattle.rs_record.proofs.FieldLaws.{AreBytes, Takes, IsFormat, bind_some, takes_as, one_more, concat-onto, number_8, moment}
+use Rattle.rs_directory.proofs.FromBelow.{AreBytes, Takes, IsFormat, bind_some, takes_as, one_more, concat-onto, number_8, moment}
 use Rattle.rs_directory.specs.Reading.{history_at}
 
 -- the first kept part and the begin of the history, told or not

@@ -1,3 +1,5 @@
+mod FromBelow
+pub mod ForCallers
 pub mod Pieces
 pub mod Limits
 pub mod History

@@ -5,7 +5,7 @@ use Rattle.std.specs.Int.{w16, to_be_bytes}
 use Rattle.std.proofs.lemmas.Bool.{and_parts}
 use Rattle.std.proofs.lemmas.Bool.Decides.{nat_tests}
 use Rattle.rs_record.specs.Reading.{◌>>=◌, number_in}
-use Rattle.rs_record.proofs.FieldLaws.{AreBytes, Takes, IsFormat, bind_some, guard_some, some_is, number_2}
+use Rattle.rs_directory.proofs.FromBelow.{AreBytes, Takes, IsFormat, bind_some, guard_some, some_is, number_2}
 use Rattle.rs_directory.specs.Limit.{IsLimit, limit_of}
 use Rattle.rs_directory.specs.Reading.{limit_at}
 

@@ -4,7 +4,7 @@ use Rattle.std.specs.Prelude.{All, IsTrue}
 use Rattle.std.proofs.lemmas.Bool.{eqb-true}
 use Rattle.std.proofs.lemmas.List.{append-nil, length-append}
 use Rattle.rs_record.specs.Base.{is_base}
-use Rattle.rs_record.proofs.FieldLaws.{AreBytes, Takes, bind_some, guard_some, some_is}
+use Rattle.rs_directory.proofs.FromBelow.{AreBytes, Takes, bind_some, guard_some, some_is}
 use Rattle.rs_page.specs.declared.place.PageRef.{PageRef}
 use Rattle.rs_directory.specs.declared.header.Header.{Header}
 use Rattle.rs_directory.specs.declared.parts.PageCounts.{PageCounts}

@@ -3,7 +3,7 @@ use Rattle.std.proofs.Common.{◌≡◌, ℕ, ◌^◌, ◌<◌, List, [], ◌∷
 use Rattle.std.specs.List.{concat}
 use Rattle.std.specs.Int.{w32, to_be_bytes}
 use Rattle.rs_record.specs.Reading.{◌>>=◌, piece_at, number_in}
-use Rattle.rs_record.proofs.FieldLaws.{AreBytes, Takes, IsFormat, bind_some, takes_as, one_more, concat-onto, piece, piece_read, number_4, number_none, piece_none_of}
+use Rattle.rs_directory.proofs.FromBelow.{AreBytes, Takes, IsFormat, bind_some, takes_as, one_more, concat-onto, piece, piece_read, number_4, number_none, piece_none_of}
 use Rattle.rs_page.specs.declared.place.PageRef.{PageRef}
 use Rattle.rs_directory.specs.declared.parts.PageCounts.{PageCounts}
 use Rattle.rs_directory.specs.Directory.{ref_bytes, IsLawfulRef}

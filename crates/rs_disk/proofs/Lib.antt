@@ -1,3 +1,4 @@
+pub mod ForCallers
 pub mod Images
 pub mod Steps
 pub mod Runs

@@ -1,3 +1,4 @@
+pub mod ForCallers
 pub mod Blocks
 pub mod Sets
 pub mod Taken

@@ -1,2 +1,3 @@
+mod FromBelow
 mod Replaying
 mod Following

@@ -4,7 +4,7 @@ use Rattle.std.proofs.lemmas.Bool.Decides.{nat_tests}
 use Rattle.std.proofs.lemmas.List.{length-replicate, take_at}
 use Rattle.rs_disk.specs.Medium.{Medium, DiskState, IsMedium, widened, written, resting}
 use Rattle.rs_disk.specs.Calls.{Passes, Writes, Tears}
-use Rattle.rs_disk.proofs.Images.{resting_medium, written_medium}
+use Rattle.rs_file.proofs.FromBelow.{resting_medium, written_medium}
 use Rattle.rs_file.specs.Events.{Event, WasWritten}
 use Rattle.rs_file.specs.Replay.{sized, one_more, opened, replay_events}
 

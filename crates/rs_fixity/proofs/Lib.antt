@@ -1,3 +1,4 @@
+pub mod ForCallers
 pub mod CutLemmas
 pub mod DigestBytes
 pub mod HashTexts

@@ -1,7 +1,7 @@
 -- What the answers of the source come to.
 use Rattle.std.proofs.Common.{◌≡◌, ℕ, List, [], ◌++◌, append_assoc, append-nil, codes, Option, Some, None, Result, Ok, Err, Vec, Global, Bool, true, false, ◌↔◌, length, refl, ap, sym, subst, ◌∙◌, if◌then◌else◌, IsErrOf, IsTrue, option_map}
 use Rattle.rs_disk.specs.Medium.{DiskState}
-use Rattle.rs_disk.proofs.Runs.{reading_as}
+use Rattle.rs_http.proofs.FromBelow.{reading_as}
 use Rattle.rs_model.specs.Step.{is_held}
 use Rattle.rs_lists.specs.declared.doc.Doc.{Doc}
 use Rattle.rs_lists.specs.Shown.{Shown}

@@ -3,7 +3,7 @@ use Rattle.std.proofs.Common.{ℕ, List, ◌++◌, Option, Result, OnOk}
 use Rattle.std.proofs.lemmas.Result.{on_ok_weaker}
 use Rattle.rs_io.specs.declared.watch.Watched.{Watched}
 use Rattle.rs_io.specs.Watch.{Wrote}
-use Rattle.rs_io.proofs.Growth.{wrote_then}
+use Rattle.rs_http.proofs.FromBelow.{wrote_then}
 
 module _ {W T E : Type 0} (contents : W → Option (List ℕ)) (last : Result T E) where
   pub two : (w x y : Watched W) (a b : List ℕ) → Wrote contents w x a → OnOk last (Wrote contents x y b) → OnOk last (Wrote contents w y (a ++ b))

@@ -9,7 +9,7 @@ use Rattle.httpdate.specs.declared.date.HttpDate.{HttpDate}
 use Rattle.rs_disk.specs.Medium.{DiskState}
 use Rattle.rs_io.specs.declared.watch.Watched.{Watched}
 use Rattle.rs_io.specs.Watch.{watched, seen_by, failures, EndFailed, FlushFailed, Wrote, FailedWithin, TellsEnd, End, Ends, ends_of}
-use Rattle.rs_io.proofs.Faults.{later_fault, later_put_fault}
+use Rattle.rs_http.proofs.FromBelow.{later_fault, later_put_fault}
 use Rattle.rs_model.specs.declared.command.Reply.{Reply}
 use Rattle.rs_store.specs.Received.{AnswersFrom}
 use Rattle.rs_store.specs.declared.refusal.Refusal.{Refusal}

@@ -1,3 +1,4 @@
+mod FromBelow
 pub mod Asking
 pub mod Chains
 pub mod Endings

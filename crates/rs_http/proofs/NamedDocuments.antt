@@ -5,7 +5,7 @@ use Rattle.std.specs.List.{starts_with}
 use Rattle.rs_record.specs.Name.{is_name}
 use Rattle.rs_lists.specs.declared.doc.Doc.{Doc}
 use Rattle.rs_caps.specs.Paths.{doc_of, HasCounts}
-use Rattle.rs_caps.proofs.PathsRead.{doc_of-exact}
+use Rattle.rs_http.proofs.FromBelow.{doc_of-exact}
 use Rattle.rs_http.specs.declared.target.Place.{Place}
 use Rattle.rs_http.specs.declared.target.Place.TheVariants.{Resource, Unlawful, Document, Publishing, Grouping, Nowhere}
 use Rattle.rs_http.specs.declared.head.HeadRead.{HeadRead}

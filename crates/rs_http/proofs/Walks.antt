@@ -29,7 +29,7 @@ use Rattle.rs_store.specs.declared.refusal.Refusal as stored
 use Rattle.rs_store.specs.declared.refusal.Refusal.TheVariants.{Closed, ReadFault, ShortBody, Device, NoMemory}
 use Rattle.rs_recovery.specs.Turns.{ReadingsIdle}
 use Rattle.rs_recovery.specs.Walked.{CommandEvents, LeavesWalk, CommandsMakeWalks}
-use Rattle.rs_recovery.proofs.Walked.{told, walked}
+use Rattle.rs_http.proofs.FromBelow.{told, walked}
 use Rattle.rs_http.specs.declared.request.RequestPlan.{RequestPlan}
 use Rattle.rs_http.specs.declared.request.RequestPlan.TheVariants.{ShowBody, ShowDocument, Put, Delete, Publish, Group}
 use Rattle.rs_http.specs.declared.request.NoPlan.{NoPlan}

@@ -5,12 +5,11 @@ use Rattle.std.proofs.lemmas.List.Elements.{All-nil, All-cons, All-append, All-t
 use Rattle.std.proofs.lemmas.List.{take_at, drop_at}
 use Rattle.rs_disk.specs.Medium.{Medium, DiskState, IsMedium}
 use Rattle.rs_disk.specs.Runs.{RunsReading, CallsAtMost}
-use Rattle.rs_disk.proofs.Runs.{reading_as, reading_then}
+use Rattle.rs_image.proofs.FromBelow.{reading_as, reading_then, within_true, within_is, some_first, some_rest, one_directory}
 use Rattle.rs_extent.specs.declared.Extent.{Extent}
 use Rattle.rs_extent.specs.Extents.{within}
 use Rattle.rs_body.specs.Blocks.{part, IsSized}
 use Rattle.rs_body.specs.Reading.{ReadsBody}
-use Rattle.rs_extent.proofs.Sets.{within_true, within_is, some_first, some_rest}
 use Rattle.rs_record.specs.declared.fields.FieldFault.{FieldFault}
 use Rattle.rs_record.specs.declared.fields.FieldFault.TheVariants.{Malformed, NoMemory as NoFieldMemory}
 use Rattle.rs_body.specs.declared.read.LoadFault.{LoadFault}
@@ -38,7 +37,6 @@ use Rattle.rs_image.specs.Loading.{IsPlaced, IsPagePlaced, RefusesMemory, ArePla
 use Rattle.rs_image.proofs.ListsRead.{went_well}
 use Rattle.rs_image.proofs.Reaching.{reaches_catalogue, reaches_history, reaches_published}
 use Rattle.rs_image.proofs.Once.{listable_lawful, pages_once, catalogue_held_once, history_held_once}
-use Rattle.rs_directory.proofs.OneDirectory.{one_directory}
 
 -- whether both ends of an extent are inside
 pub ends_inside : (e : Extent) (n : ℕ) → 2 ≤ e.first → e.first + e.blocks ≤ n → (b : ℕ) → within e b ≡ true → (2 ≤ b) × (b < n)

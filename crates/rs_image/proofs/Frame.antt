@@ -7,16 +7,13 @@ use Rattle.std.proofs.lemmas.List.Elements.{All-head, All-tail}
 use Rattle.rs_extent.specs.Extents.{in_some}
 use Rattle.rs_body.specs.Blocks.{part}
 use Rattle.rs_body.specs.Outside.{Keeps}
-use Rattle.rs_body.proofs.KeptBlocks.{part_kept}
-use Rattle.rs_extent.proofs.Sets.{some_first, some_rest}
-use Rattle.rs_body.proofs.Sets.{fits_sized}
+use Rattle.rs_image.proofs.FromBelow.{part_kept, some_first, some_rest, fits_sized, pages_stay}
 use Rattle.rs_commit.specs.Commit.{SameBehind}
 use Rattle.rs_record.specs.declared.record.Record.{Record}
 use Rattle.rs_model.specs.declared.value.Held.{Held}
 use Rattle.rs_model.specs.Listed.{entry_of}
 use Rattle.rs_page.specs.Items.{record_format, change_format}
 use Rattle.rs_page.specs.Pages.{stored_refs}
-use Rattle.rs_page.proofs.Standing.{pages_stay}
 use Rattle.rs_catalogue.specs.Catalogue.{records_of}
 use Rattle.rs_catalogue.specs.Laws.{CatalogueStays}
 use Rattle.rs_changes.specs.Laws.{HistoryStays}

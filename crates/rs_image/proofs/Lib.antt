@@ -1,3 +1,5 @@
+mod FromBelow
+pub mod ForCallers
 pub mod Counts
 pub mod Bounds
 pub mod Taken

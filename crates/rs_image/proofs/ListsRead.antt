@@ -3,7 +3,7 @@ use Rattle.std.proofs.Common.{true≢false, is_ok, ◌≡◌, List, length, ap, 
 use Rattle.std.specs.Prelude.{IsErrOf}
 use Rattle.std.specs.Result.{IsErrAnd}
 use Rattle.rs_disk.specs.Medium.{DiskState}
-use Rattle.rs_disk.proofs.Runs.{reading_as, reading_then}
+use Rattle.rs_image.proofs.FromBelow.{reading_as, reading_then}
 use Rattle.rs_body.specs.declared.read.LoadFault.{LoadFault}
 use Rattle.rs_body.specs.declared.read.LoadFault.TheVariants.{Device, Damaged, NoMemory}
 use Rattle.rs_page.specs.declared.place.PageRef.{PageRef}

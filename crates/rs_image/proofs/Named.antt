@@ -5,8 +5,7 @@ use Rattle.std.proofs.lemmas.List.{length-append}
 use Rattle.std.proofs.lemmas.List.Elements.{All-nil, All-cons, All-head, All-tail}
 use Rattle.rs_page.specs.declared.place.PageRef.{PageRef}
 use Rattle.rs_directory.specs.Directory.{ref_bytes, IsLawfulRef, AreEntries, BeginsWith}
-use Rattle.rs_directory.proofs.Pieces.{length-ref_bytes, length-entries}
-use Rattle.rs_directory.proofs.Entries.{same_entry}
+use Rattle.rs_image.proofs.FromBelow.{length-ref_bytes, length-entries, same_entry}
 use Rattle.rs_image.specs.Loading.{IsPagePlaced}
 
 -- What is left of entries: those of pages on which it depends whether all are placed.

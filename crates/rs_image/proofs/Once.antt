@@ -4,14 +4,13 @@ use Rattle.std.specs.Prelude.{All, IsSome}
 use Rattle.std.specs.List.{cons_option}
 use Rattle.std.proofs.lemmas.List.Elements.{All-head, All-tail}
 use Rattle.rs_commit.specs.declared.root.Root.{Root}
-use Rattle.rs_commit.proofs.Contents.{opens_once}
+use Rattle.rs_image.proofs.FromBelow.{opens_once, pages_hold_once, one_directory}
 use Rattle.rs_page.specs.declared.place.PageRef.{PageRef}
 use Rattle.rs_page.specs.declared.place.Place.{Place}
 use Rattle.rs_page.specs.declared.place.Place.TheVariants.{Touched, Placed, Stored}
 use Rattle.rs_page.specs.FormatsApart.{records_apart, changes_apart}
 use Rattle.rs_page.specs.Items.{record_format, change_format}
 use Rattle.rs_page.specs.Pages.{Page, IsStored, stored_ref, stored_refs}
-use Rattle.rs_page.proofs.OneList.{pages_hold_once}
 use Rattle.rs_pages.specs.Storing.{items_by_page}
 use Rattle.rs_catalogue.specs.Catalogue.{HoldsCatalogue}
 use Rattle.rs_catalogue.specs.Laws.{CatalogueHeldOnce}
@@ -20,7 +19,6 @@ use Rattle.rs_changes.specs.Laws.{HistoryHeldOnce}
 use Rattle.rs_directory.specs.declared.header.Header.{Header}
 use Rattle.rs_directory.specs.Directory.{AreLawful}
 use Rattle.rs_image.specs.declared.contents.Contents.{Contents}
-use Rattle.rs_directory.proofs.OneDirectory.{one_directory}
 use Rattle.rs_record.specs.declared.record.Record.{Record}
 use Rattle.rs_record.specs.declared.change.Change.{Change}
 use Rattle.rs_image.specs.StateOfImage.{AreListable, state_in, Tells}

@@ -7,7 +7,7 @@ use Rattle.std.proofs.lemmas.List.Elements.{filter_more}
 use Rattle.rs_extent.specs.declared.Extent.{Extent}
 use Rattle.rs_page.specs.declared.place.PageRef.{PageRef}
 use Rattle.rs_extent.specs.Extents.{AreTaken, CanTake}
-use Rattle.rs_extent.proofs.Taken.{taken_before, can_behind, can_front}
+use Rattle.rs_image.proofs.FromBelow.{taken_before, can_behind, can_front}
 use Rattle.rs_commit.specs.declared.root.Root.{Root}
 use Rattle.rs_page.specs.Pages.{same_page, extents_of, stored_refs}
 use Rattle.rs_pages.specs.Storing.{unshared}

@@ -4,10 +4,9 @@ use Rattle.std.specs.Prelude.{nat_eq, not, bytes_eq, cond, ◌&&◌}
 use Rattle.std.specs.List.{list_any}
 use Rattle.std.proofs.lemmas.Bool.{and_parts, or_cases}
 use Rattle.std.proofs.lemmas.Bool.Decides.{nat_tests}
-use Rattle.rs_extent.proofs.Sets.{some_front, some_behind}
+use Rattle.rs_image.proofs.FromBelow.{some_front, some_behind, within_true, within_is, some_first, some_rest, some_split}
 use Rattle.rs_extent.specs.declared.Extent.{Extent}
 use Rattle.rs_extent.specs.Extents.{within, in_some}
-use Rattle.rs_extent.proofs.Sets.{within_true, within_is, some_first, some_rest, some_split}
 use Rattle.rs_commit.specs.declared.root.Root.{Root}
 use Rattle.rs_page.specs.declared.place.PageRef.{PageRef}
 use Rattle.rs_page.specs.Pages.{same_page, stored_refs, extents_of}

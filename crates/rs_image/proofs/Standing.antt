@@ -8,7 +8,7 @@ use Rattle.rs_page.specs.declared.place.PageRef.{PageRef}
 use Rattle.rs_page.specs.Items.{record_format}
 use Rattle.rs_page.specs.Pages.{Page, IsStored, stored_refs}
 use Rattle.rs_page.specs.DiskPages.{ArePages, Stands}
-use Rattle.rs_page.proofs.Standing.{pages_stand}
+use Rattle.rs_image.proofs.FromBelow.{pages_stand}
 use Rattle.rs_pages.specs.Storing.{items_by_page}
 use Rattle.rs_catalogue.specs.Catalogue.{HoldsCatalogue}
 

@@ -1,2 +1,3 @@
+pub mod ForCallers
 pub mod FieldLemmas
 pub mod ItemLemmas

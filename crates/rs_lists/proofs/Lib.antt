@@ -1,3 +1,5 @@
+mod FromBelow
+pub mod ForCallers
 pub mod Bounds
 pub mod Chunks
 pub mod Documents

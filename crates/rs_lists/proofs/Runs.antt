@@ -5,7 +5,7 @@ use Rattle.std.specs.Result.{IsErr}
 use Rattle.std.specs.List.{flat_map}
 use Rattle.std.proofs.lemmas.Grind.{flat_map-append}
 use Rattle.std.proofs.lemmas.Result.{IfOk-from_err}
-use Rattle.rs_io.proofs.Growth.{flat_map-next}
+use Rattle.rs_lists.proofs.FromBelow.{flat_map-next}
 use Rattle.rs_lists.specs.Sinks.{IsSink, Puts}
 
 module _ {S : Type 0} {R F : S → S → List ℕ → Type 0} where

@@ -18,7 +18,7 @@ use Rattle.rs_model.specs.Names.{Names, by_bytes, by_order, bind, unbind}
 use Rattle.rs_model.specs.State.{Source, facts_of, entries}
 use Rattle.rs_model.specs.Step.{step, state_after, fold_of, accepted_unless, next_state, reply_to, refusal_of, first_cause, causes, put_causes, delete_causes, item_causes, items_causes, moment_at, after_put, after_delete, after_item, after_items, put_change, dropped_parts, dropped_changes}
 use Rattle.rs_model.specs.Lawful.{AreFacts, IsEntry, IsHeld, IsChange, IsLawful, IsLawfulItem, IsLawfulCommand, IsLawfulTimed}
-use Rattle.rs_fixity.proofs.DigestBytes.{md5-bytes, sha256-bytes}
+use Rattle.rs_model.proofs.FromBelow.{md5-bytes, sha256-bytes}
 use Rattle.rs_model.proofs.DropLemmas.{all_taken, all_dropped, last_exists}
 use Rattle.rs_model.proofs.GroupLemmas.{item_accepted, group_accepted, refused_alike}
 use Rattle.rs_model.proofs.OrderLemmas.{ordered-bind, ordered-unbind, ordered-entries}

@@ -1,3 +1,5 @@
+mod FromBelow
+pub mod ForCallers
 pub mod DropLemmas
 pub mod ItemLemmas
 pub mod GroupLemmas

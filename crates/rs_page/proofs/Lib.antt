@@ -1,3 +1,5 @@
+mod FromBelow
+pub mod ForCallers
 pub mod OneList
 pub mod Replaced
 pub mod Standing

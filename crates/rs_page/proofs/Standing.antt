@@ -8,9 +8,7 @@ use Rattle.rs_fixity.specs.Digests.{digests}
 use Rattle.rs_extent.specs.Extents.{in_some, IsOnDisk}
 use Rattle.rs_body.specs.Blocks.{part}
 use Rattle.rs_body.specs.Outside.{Keeps}
-use Rattle.rs_extent.proofs.Sets.{some_first, some_rest}
-use Rattle.rs_body.proofs.Sets.{fits_sized}
-use Rattle.rs_body.proofs.KeptBlocks.{part_kept}
+use Rattle.rs_page.proofs.FromBelow.{some_first, some_rest, fits_sized, part_kept}
 use Rattle.rs_page.specs.declared.place.PageRef.{PageRef}
 use Rattle.rs_page.specs.declared.place.Place.{Place}
 use Rattle.rs_page.specs.declared.place.Place.TheVariants.{Touched, Placed, Stored}

@@ -5,7 +5,7 @@ use Rattle.std.specs.Prelude.{IsTrue, slice_get}
 use Rattle.std.specs.Ordering.{is_lt}
 use Rattle.std.proofs.lemmas.Bool.{and_from}
 use Rattle.rs_model.specs.Names.{by_bytes, is_ordered, is_above}
-use Rattle.rs_model.proofs.OrderLemmas.{tail_ordered}
+use Rattle.rs_pages.proofs.FromBelow.{tail_ordered}
 use Rattle.rs_pages.specs.Items.{keyed}
 
 module _ {T : Type 0} (name : T → List ℕ) where

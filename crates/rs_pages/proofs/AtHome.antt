@@ -11,7 +11,7 @@ use Rattle.std.proofs.lemmas.Option.{get_or_from_slice_get}
 use Rattle.rs_model.specs.Names.{by_bytes, value_of, is_above, is_ordered, IsFoundAt, IsMissingAt, IsPlaceOf}
 use Rattle.std.specs.Cmp.{first_so, second_so}
 use Rattle.std.proofs.lemmas.Bool.{and_from}
-use Rattle.rs_model.proofs.Searches.{searched}
+use Rattle.rs_pages.proofs.FromBelow.{searched}
 use Rattle.rs_page.specs.Pages.{Page, items_of}
 use Rattle.rs_pages.specs.Items.{keyed, put_in, taken_out}
 use Rattle.rs_pages.specs.Rule.{HaveItems, touched_pages, items_at, with_page, begins_by, some_begins_by, home, bound_in, unbound_in}

@@ -9,7 +9,7 @@ use Rattle.std.specs.declared.cmp.Ordering.TheVariants.{Less, Equal, Greater}
 use Rattle.std.proofs.lemmas.Bool.{and_from}
 use Rattle.std.proofs.lemmas.List.Elements.{All-head, All-tail}
 use Rattle.rs_model.specs.Names.{by_bytes, by_order, value_of, is_above, is_ordered, IsFoundAt}
-use Rattle.rs_model.proofs.OrderLemmas.{is_less, swapped, tail_ordered}
+use Rattle.rs_pages.proofs.FromBelow.{is_less, swapped, tail_ordered}
 use Rattle.rs_page.specs.Pages.{Page, items_of}
 use Rattle.rs_pages.specs.Items.{keyed}
 use Rattle.rs_pages.specs.Changed.{changed_at, page_filled}

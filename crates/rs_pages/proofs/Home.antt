@@ -8,7 +8,7 @@ use Rattle.std.specs.declared.cmp.Ordering.TheVariants.{Less, Equal, Greater}
 use Rattle.rs_model.specs.Names.{Names, by_bytes, is_above, is_ordered}
 use Rattle.std.specs.Cmp.{first_so, second_so}
 use Rattle.std.proofs.lemmas.Bool.{and_from}
-use Rattle.rs_model.proofs.OrderLemmas.{is_less, swapped, tail_ordered}
+use Rattle.rs_pages.proofs.FromBelow.{is_less, swapped, tail_ordered}
 use Rattle.rs_page.specs.Pages.{Page, items_of}
 use Rattle.rs_pages.specs.Items.{keyed}
 use Rattle.rs_pages.specs.Rule.{begins_by, some_begins_by}

@@ -1,3 +1,5 @@
+mod FromBelow
+pub mod ForCallers
 mod Examples
 pub mod InOrder
 pub mod Home

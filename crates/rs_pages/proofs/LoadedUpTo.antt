@@ -6,13 +6,12 @@ use Rattle.std.proofs.lemmas.List.{append-nil, length-append, map-append, take_a
 use Rattle.std.proofs.lemmas.List.Elements.{All-nil, All-push, filter-append, filter_map-append}
 use Rattle.rs_disk.specs.Medium.{DiskState, Medium}
 use Rattle.rs_disk.specs.Runs.{RunsReading}
-use Rattle.rs_disk.proofs.Runs.{reading_none, reading_as, reading_then}
+use Rattle.rs_pages.proofs.FromBelow.{reading_none, reading_as, reading_then, AreApart, page_holds_once}
 use Rattle.rs_record.specs.Limits.{most_items}
 use Rattle.rs_page.specs.declared.place.PageRef.{PageRef}
 use Rattle.rs_page.specs.Format.{ItemFormat}
 use Rattle.rs_page.specs.Pages.{Page, IsStored, same_page, stored_ref, stored_refs}
 use Rattle.rs_page.specs.DiskPages.{IsPage, HoldsNoPage, ArePages, Stands}
-use Rattle.rs_page.proofs.OneList.{AreApart, page_holds_once}
 use Rattle.rs_pages.specs.Rule.{HaveItems}
 use Rattle.rs_pages.specs.Storing.{items_by_page, AreStoredAt, HoldItems, HoldNoItems, ReadsPages, unshared}
 use Rattle.rs_pages.proofs.Joined.{joined}

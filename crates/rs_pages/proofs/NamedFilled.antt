@@ -12,7 +12,7 @@ use Rattle.std.proofs.lemmas.List.{map-append, length-map, take-map, drop-map}
 use Rattle.std.proofs.lemmas.Map.Text.{is_eq-slice_cmp}
 use Rattle.std.proofs.lemmas.Slice.Eq.{bytes_eq-Decides}
 use Rattle.rs_model.specs.Names.{by_bytes, by_order, value_of, bind, is_above, is_ordered}
-use Rattle.rs_model.proofs.OrderLemmas.{is_less, tail_ordered}
+use Rattle.rs_pages.proofs.FromBelow.{is_less, tail_ordered}
 use Rattle.rs_page.specs.Pages.{Page, items_of}
 use Rattle.rs_pages.specs.Items.{keyed, put_in}
 use Rattle.rs_pages.specs.Filled.{items_filled, named_filled}

@@ -5,7 +5,7 @@ use Rattle.std.proofs.lemmas.List.{append-nil}
 use Rattle.std.specs.declared.cmp.Ordering.{Ordering}
 use Rattle.std.specs.declared.cmp.Ordering.TheVariants.{Less, Equal, Greater}
 use Rattle.rs_model.specs.Names.{by_bytes, by_order, value_of}
-use Rattle.rs_model.proofs.MapLemmas.{value-bind}
+use Rattle.rs_pages.proofs.FromBelow.{value-bind}
 use Rattle.rs_page.specs.Pages.{Page, items_of}
 use Rattle.rs_pages.specs.Items.{keyed, put_in}
 use Rattle.rs_pages.specs.Filled.{StandsUnstored, EndsUnstored}

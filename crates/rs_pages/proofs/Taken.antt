@@ -7,7 +7,7 @@ use Rattle.std.proofs.lemmas.Bool.{cases_lt}
 use Rattle.rs_extent.specs.declared.Extent.{Extent}
 use Rattle.rs_extent.specs.Blocks.{is_used, IsLowest, Sets}
 use Rattle.rs_extent.specs.Extents.{within, in_some, AreTaken}
-use Rattle.rs_extent.proofs.Sets.{within_is, within_true, some_first, some_rest, some_split}
+use Rattle.rs_pages.proofs.FromBelow.{within_is, within_true, some_first, some_rest, some_split}
 use Rattle.rs_page.specs.declared.place.Place.{Place}
 use Rattle.rs_page.specs.declared.place.Place.TheVariants.{Touched, Placed, Stored}
 use Rattle.rs_page.specs.Format.{ItemFormat}

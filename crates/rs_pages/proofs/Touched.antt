@@ -5,7 +5,7 @@ use Rattle.std.specs.List.{cons_option}
 use Rattle.std.proofs.lemmas.List.{append-nil, append_assoc}
 use Rattle.std.proofs.lemmas.List.Elements.{All-nil, All-head, All-tail}
 use Rattle.rs_model.specs.Names.{value_of}
-use Rattle.rs_model.proofs.OrderLemmas.{ordered-bind, ordered-unbind}
+use Rattle.rs_pages.proofs.FromBelow.{ordered-bind, ordered-unbind}
 use Rattle.rs_page.specs.declared.place.Place.{Place}
 use Rattle.rs_page.specs.declared.place.Place.TheVariants.{Touched, Placed, Stored}
 use Rattle.rs_page.specs.Pages.{Page, IsTouched, items_of, placed_extents, placed_extent, stored_ref}

@@ -9,14 +9,12 @@ use Rattle.rs_disk.specs.Runs.{CallsAtMost}
 use Rattle.rs_extent.specs.declared.Extent.{Extent}
 use Rattle.rs_extent.specs.Extents.{in_some, AreBeside, AreApart, IsOnDisk, AreOnDisk}
 use Rattle.rs_body.specs.Outside.{WritesOnly}
-use Rattle.rs_extent.proofs.Sets.{some_first, some_front, some_behind, beside_front, beside_between}
-use Rattle.rs_body.proofs.Only.{only_none, only_as, only_then}
+use Rattle.rs_pages.proofs.FromBelow.{some_first, some_front, some_behind, beside_front, beside_between, only_none, only_as, only_then, written_stay}
 use Rattle.rs_page.specs.declared.place.Place.{Place}
 use Rattle.rs_page.specs.declared.place.Place.TheVariants.{Touched, Placed, Stored}
 use Rattle.rs_page.specs.Format.{ItemFormat}
 use Rattle.rs_page.specs.Pages.{Page, IsTouched, placed_extent, placed_extents, stored_ref, stored}
 use Rattle.rs_page.specs.DiskPages.{IsWritten}
-use Rattle.rs_page.proofs.Standing.{written_stay}
 use Rattle.rs_pages.specs.Storing.{items_by_page, StaysOrIsStored, StoresTouched, StoresSome, WritesPages}
 
 module _ {A : Type 0} where

@@ -4,7 +4,7 @@ use Rattle.std.specs.Prelude.{IsTrue, is_some}
 use Rattle.std.specs.List.{AllByRecursion}
 use Rattle.rs_fixity.specs.declared.Digests.{Digests}
 use Rattle.rs_fixity.specs.Digests.{digests}
-use Rattle.rs_fixity.proofs.DigestBytes.{md5-bytes, sha256-bytes}
+use Rattle.rs_plan.proofs.FromBelow.{md5-bytes, sha256-bytes, same_change, value-bind}
 use Rattle.rs_extent.specs.declared.Extent.{Extent}
 use Rattle.rs_extent.specs.Extents.{AreTaken}
 use Rattle.rs_body.specs.Blocks.{blocks_of}
@@ -12,7 +12,6 @@ use Rattle.rs_record.specs.declared.record.Record.{Record}
 use Rattle.rs_record.specs.declared.change.Change.{Change}
 use Rattle.rs_record.specs.declared.facts.Facts.{Facts}
 use Rattle.rs_record.specs.Changes.{bound}
-use Rattle.rs_record.proofs.Changes.{same_change}
 use Rattle.rs_page.specs.Items.{record_format, change_format, record_filled, change_filled, facts_filled}
 use Rattle.rs_page.specs.Pages.{Page, placed_extents}
 use Rattle.rs_pages.specs.Rule.{appended_to}
@@ -26,7 +25,6 @@ use Rattle.rs_model.specs.Regular.{is_rising}
 use Rattle.rs_model.specs.State.{facts_of}
 use Rattle.rs_model.specs.declared.command.Item.TheVariants as single
 use Rattle.rs_model.specs.declared.command.Reply.{Reply}
-use Rattle.rs_model.proofs.MapLemmas.{value-bind}
 use Rattle.rs_image.specs.declared.contents.Contents.{Contents}
 use Rattle.rs_image.specs.StateOfImage.{AreLists, directory_bytes_of}
 use Rattle.rs_plan.specs.declared.plan.Plan.{Plan}

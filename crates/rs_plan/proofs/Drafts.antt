@@ -16,7 +16,7 @@ use Rattle.rs_record.specs.declared.change.Change.{Change}
 use Rattle.rs_record.specs.declared.facts.Facts.{Facts}
 use Rattle.rs_record.specs.Changes.{bound}
 use Rattle.rs_record.specs.Format.{record_bytes, change_bytes}
-use Rattle.rs_record.proofs.Pieces.{length-record_bytes}
+use Rattle.rs_plan.proofs.FromBelow.{length-record_bytes, is_less, tail_ordered, above_lower, HasItems}
 use Rattle.rs_extent.specs.Blocks.{IsLowest}
 use Rattle.rs_body.specs.Blocks.{blocks_of}
 use Rattle.rs_page.specs.declared.place.Place.{Place}
@@ -30,10 +30,7 @@ use Rattle.rs_pages.specs.Filled.{end_filled, last_filled, IsUnstored, StandsUns
 use Rattle.rs_catalogue.specs.Named.{named}
 use Rattle.rs_model.specs.Names.{Names, by_bytes, by_order, value_of, is_above, is_ordered}
 use Rattle.rs_model.specs.Regular.{is_rising, rises_from}
-use Rattle.rs_model.proofs.OrderLemmas.{is_less, tail_ordered}
-use Rattle.rs_pages.proofs.Home.{above_lower}
 use Rattle.rs_plan.specs.Room.{pages_needed}
-use Rattle.rs_image.proofs.Counts.{HasItems}
 
 -- digests are as long as all digests are
 pub record AreLong (digests : Digests) : Type 0 where

@@ -4,9 +4,7 @@ use Rattle.rs_extent.specs.declared.Extent.{Extent}
 use Rattle.rs_extent.specs.Blocks.{is_used, IsFree, IsFreeRun, Sets}
 use Rattle.rs_extent.specs.Extents.{in_some, CanTake, AreTaken, AreGiven, CanGive}
 use Rattle.std.proofs.lemmas.List.{ext_get_or}
-use Rattle.rs_extent.proofs.Sets.{not_true, within_true, within_is, some_first, in_one}
-use Rattle.rs_extent.proofs.Taken.{taken_none, taken_free, taken_both}
-use Rattle.rs_extent.proofs.InTurn.{taken_is_given_back}
+use Rattle.rs_plan.proofs.FromBelow.{not_true, within_true, within_is, some_first, in_one, taken_none, taken_free, taken_both, taken_is_given_back}
 use Rattle.rs_plan.specs.Room.{Takes, TakesEach, HasNoRun, IsFoundRun}
 
 pub taken_lowest : (old new : List Bool) (n : ℕ) (e : Extent) → Takes old n e new → AreTaken old new (e ∷ [])

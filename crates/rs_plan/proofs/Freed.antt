@@ -5,7 +5,7 @@ use Rattle.std.proofs.lemmas.Bool.{and_from, or_left, or_right}
 use Rattle.std.proofs.lemmas.Bool.Decides.{nat_tests}
 use Rattle.rs_extent.specs.declared.Extent.{Extent}
 use Rattle.rs_extent.specs.Extents.{in_some, AreApart, IsSubset}
-use Rattle.rs_extent.proofs.Sets.{not_true, not_both, narrowed, some_front, some_behind, some_of_both}
+use Rattle.rs_plan.proofs.FromBelow.{not_true, not_both, narrowed, some_front, some_behind, some_of_both}
 use Rattle.rs_plan.proofs.Separate.{joined, AreSeparate, apart_again, five_of, a_in, b_in, c_in, e_in}
 
 -- tests that hold where the other does are the same

@@ -7,7 +7,7 @@ use Rattle.std.proofs.lemmas.Slice.Eq.{bytes_eq-Decides}
 use Rattle.std.specs.Prelude.{◌&&◌, ◌||◌, not, nat_eq, bytes_eq}
 use Rattle.rs_extent.specs.declared.Extent.{Extent}
 use Rattle.rs_extent.specs.Extents.{within, in_some, AreApart, AreDisjoint, IsSubset}
-use Rattle.rs_extent.proofs.Sets.{not_true, not_both, some_first, some_rest, some_split, some_front, some_behind, some_of_both, none_front, apart_both, apart_front, apart_behind, apart_between, within_is, in_one}
+use Rattle.rs_plan.proofs.FromBelow.{not_true, not_both, some_first, some_rest, some_split, some_front, some_behind, some_of_both, none_front, apart_both, apart_front, apart_behind, apart_between, within_is, in_one}
 use Rattle.rs_page.specs.declared.place.PageRef.{PageRef}
 use Rattle.rs_page.specs.Pages.{Page, same_page, stored_refs, extents_of}
 use Rattle.rs_pages.specs.Dropped.{front_pages, ReplacesFront}

@@ -30,7 +30,7 @@ use Rattle.std.specs.Prelude.{All, not}
 use Rattle.std.specs.List.{list_any}
 use Rattle.std.proofs.lemmas.List.{map-append}
 use Rattle.std.proofs.lemmas.List.Elements.{All-head, All-tail}
-use Rattle.rs_extent.proofs.Sets.{not_true, not_both, some_first, some_split, some_behind}
+use Rattle.rs_plan.proofs.FromBelow.{not_true, not_both, some_first, some_split, some_behind}
 use Rattle.rs_page.specs.SharedPages.{IsSublist}
 use Rattle.rs_plan.proofs.Unshared.{published_some, unshared_some, unshared_apart}
 

@@ -7,7 +7,7 @@ use Rattle.std.specs.declared.cmp.Ordering.TheVariants.{Less, Equal, Greater}
 use Rattle.std.proofs.lemmas.Slice.Eq.{bytes_eq-Decides}
 use Rattle.rs_extent.specs.declared.Extent.{Extent}
 use Rattle.rs_extent.specs.Extents.{in_some, AreApart, AreDisjoint, IsSubset}
-use Rattle.rs_extent.proofs.Sets.{not_true, not_both, some_first, some_rest, in_one, some_behind, apart_behind, apart_between}
+use Rattle.rs_plan.proofs.FromBelow.{not_true, not_both, some_first, some_rest, in_one, some_behind, apart_behind, apart_between, value-bind, other-bind, other-unbind}
 use Rattle.rs_body.specs.Blocks.{IsSized}
 use Rattle.rs_record.specs.declared.record.Record.{Record}
 use Rattle.rs_pages.specs.Laws.{Ascend}
@@ -17,7 +17,6 @@ use Rattle.rs_model.specs.Grouping.{name_of}
 use Rattle.rs_model.specs.Names.{by_bytes, by_order, value_of}
 use Rattle.rs_model.specs.declared.command.Item.{Item}
 use Rattle.rs_model.specs.declared.command.Item.TheVariants as single
-use Rattle.rs_model.proofs.MapLemmas.{value-bind, other-bind, other-unbind}
 use Rattle.rs_image.specs.declared.contents.Contents.{Contents}
 use Rattle.rs_image.specs.Reach.{bodies_of}
 use Rattle.rs_plan.specs.Drafts.{IsPageRuleKept}

@@ -18,7 +18,7 @@ use Rattle.rs_model.specs.declared.value.Entry.{Entry}
 use Rattle.rs_model.specs.State.{Source}
 use Rattle.rs_model.specs.Step.{after_item, item_causes, items_causes}
 use Rattle.rs_model.specs.Names.{Names, value_of}
-use Rattle.rs_model.proofs.RoomLemmas.{below_if, at_most_if}
+use Rattle.rs_plan.proofs.FromBelow.{below_if, at_most_if}
 use Rattle.rs_image.specs.declared.contents.Contents.{Contents}
 use Rattle.rs_plan.specs.Allowed.{MayDoItem, IsShort}
 use Rattle.rs_plan.specs.Drafts.{IsPageRuleKept}

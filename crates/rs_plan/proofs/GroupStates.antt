@@ -11,7 +11,7 @@ use Rattle.rs_record.specs.Changes.{bound, deleted}
 use Rattle.rs_pages.specs.Laws.{Ascend}
 use Rattle.rs_catalogue.specs.Catalogue.{records_of}
 use Rattle.rs_catalogue.specs.Named.{named}
-use Rattle.rs_catalogue.proofs.Shown.{map_values-bind, map_values-unbind, value-map_values}
+use Rattle.rs_plan.proofs.FromBelow.{map_values-bind, map_values-unbind, value-map_values, same_name, is_less, swapped, tail_ordered, above_lower}
 use Rattle.rs_changes.specs.History.{changes_of}
 use Rattle.rs_model.specs.declared.value.Entry.{Entry}
 use Rattle.rs_model.specs.declared.value.Held.{Held}
@@ -37,9 +37,6 @@ use Rattle.std.specs.declared.cmp.Ordering.TheVariants.{Less, Equal, Greater}
 use Rattle.std.proofs.lemmas.List.Elements.{All-nil, All-cons, All-head, All-tail}
 use Rattle.std.proofs.lemmas.Map.Text.{is_eq-slice_cmp}
 use Rattle.rs_model.specs.Grouping.{name_of}
-use Rattle.rs_model.proofs.MapLemmas.{same_name}
-use Rattle.rs_model.proofs.OrderLemmas.{is_less, swapped, tail_ordered}
-use Rattle.rs_pages.proofs.Home.{above_lower}
 use Rattle.rs_model.specs.declared.command.Item.TheVariants as single
 
 -- a name above another one or below it is another one

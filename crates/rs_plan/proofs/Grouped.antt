@@ -19,7 +19,7 @@ use Rattle.rs_model.specs.declared.command.Reply.{Reply}
 use Rattle.rs_model.specs.Grouping.{name_of}
 use Rattle.rs_model.specs.State.{Source}
 use Rattle.rs_model.specs.Step.{after_put, after_delete, after_items, causes, next_state, reply_to}
-use Rattle.rs_model.proofs.RoomLemmas.{no_causes}
+use Rattle.rs_plan.proofs.FromBelow.{no_causes}
 use Rattle.rs_image.specs.declared.contents.Contents.{Contents}
 use Rattle.rs_image.specs.Rooted.{Rooted, AreUsed}
 use Rattle.rs_image.specs.StateOfImage.{held_in, state_in}

@@ -11,7 +11,7 @@ use Rattle.rs_page.specs.SharedPages.{KeepsPages}
 use Rattle.rs_pages.specs.Rule.{appended_to, items_at, home}
 use Rattle.rs_pages.specs.Entries.{open_entry}
 use Rattle.rs_pages.specs.Laws.{Ascend, TouchesOne}
-use Rattle.rs_pages.proofs.Touched.{touching_keeps}
+use Rattle.rs_plan.proofs.FromBelow.{touching_keeps, found_at_home}
 use Rattle.rs_catalogue.specs.Catalogue.{records_of}
 use Rattle.rs_catalogue.specs.Named.{named}
 use Rattle.rs_model.specs.Grouping.{name_of}
@@ -28,7 +28,6 @@ use Rattle.rs_plan.proofs.FreedPages.{LosesOne, bind_takes, unbind_takes, append
 use Rattle.rs_plan.proofs.FreedParts.{Replaces}
 use Rattle.rs_plan.proofs.Parts.{bodies_in}
 use Rattle.rs_pages.specs.Items.{keyed}
-use Rattle.rs_pages.proofs.Flat.{found_at_home}
 use Rattle.std.specs.declared.cmp.Ordering.{Ordering}
 use Rattle.std.specs.declared.cmp.Ordering.TheVariants.{Less, Equal, Greater}
 use Rattle.rs_image.specs.Reach.{bodies_of}

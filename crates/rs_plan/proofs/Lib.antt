@@ -1,3 +1,5 @@
+mod FromBelow
+pub mod ForCallers
 pub mod Extents
 pub mod Sublists
 pub mod Placing

@@ -6,7 +6,7 @@ use Rattle.std.proofs.lemmas.List.{map-append}
 use Rattle.std.proofs.lemmas.List.Elements.{All-nil, All-cons, All-append, All-weaker}
 use Rattle.rs_extent.specs.declared.Extent.{Extent}
 use Rattle.rs_extent.specs.Extents.{in_some, AreApart, AreDisjoint}
-use Rattle.rs_extent.proofs.Sets.{not_true, not_both, some_front, some_behind, some_of_both, apart_both}
+use Rattle.rs_plan.proofs.FromBelow.{not_true, not_both, some_front, some_behind, some_of_both, apart_both}
 use Rattle.rs_page.specs.declared.place.PageRef.{PageRef}
 use Rattle.rs_page.specs.Pages.{extents_of}
 use Rattle.rs_page.specs.SharedPages.{IsSublist}

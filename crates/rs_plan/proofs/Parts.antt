@@ -21,7 +21,7 @@ use Rattle.rs_image.specs.Reach.{bodies_of}
 use Rattle.rs_plan.specs.declared.plan.Plan.{Plan}
 use Rattle.rs_plan.specs.Room.{TakesEach, bodies_needed}
 use Rattle.rs_plan.specs.Plans.{MayHavePlaces, ArePagesAfter, once_stored, places}
-use Rattle.rs_extent.proofs.Sets.{some_front, some_behind}
+use Rattle.rs_plan.proofs.FromBelow.{some_front, some_behind}
 use Rattle.rs_plan.proofs.Sublists.{filter_mapped}
 use Rattle.rs_plan.proofs.Placing.{places_stored}
 use Rattle.rs_plan.proofs.Stored.{refs_kept}

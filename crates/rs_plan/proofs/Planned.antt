@@ -31,12 +31,10 @@ use Rattle.rs_image.specs.Rooted.{rooted, AreUsed, IsRooted}
 use Rattle.rs_plan.specs.Room.{TakesEach, bodies_needed, bodies_of_command}
 use Rattle.rs_plan.specs.Plans.{AreBodies, ArePagesAfter, IsNext, places, planned_listing, planned_root, TakesInTurn, TakesAndGives, IsPlanned}
 use Rattle.rs_plan.specs.Placed.{AreUnplaced, HasItsPlaces}
-use Rattle.rs_extent.proofs.Sets.{not_true, not_both, turned}
-use Rattle.rs_extent.proofs.Taken.{taken_both}
+use Rattle.rs_plan.proofs.FromBelow.{not_true, not_both, turned, taken_both, few_catalogue, few_history, count_refs}
 use Rattle.rs_plan.proofs.Extents.{taken_lowest, taken_each}
 use Rattle.rs_plan.proofs.Sublists.{mapped, all_of, some_of, apart_of}
 use Rattle.rs_plan.proofs.Placing.{places_items, places_length, places_stored, places_fitted, places_same, places_ruled}
-use Rattle.rs_image.proofs.Counts.{few_catalogue, few_history, count_refs}
 use Rattle.rs_plan.proofs.Stored.{stored_items, all_stored, length_stored, same_refs, stored_some, stored_apart, lawful_refs, kept_refs}
 use Rattle.rs_plan.proofs.Separate.{AreSeparate, separated, apart_again, five_of, a_in, b_in, c_in, e_in, AreNew, separate_next}
 use Rattle.rs_plan.proofs.Unshared.{published_some, unshared_some, unshared_apart, unshared_itself, beside_kept}

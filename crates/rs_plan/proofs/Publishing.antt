@@ -40,7 +40,7 @@ use Rattle.rs_catalogue.specs.Catalogue.{records_of}
 use Rattle.rs_directory.specs.declared.header.Header.{Header}
 use Rattle.rs_directory.specs.Directory.{IsLawfulHeader, written_format}
 use Rattle.rs_model.specs.Regular.{rises_from, IsAfter}
-use Rattle.rs_model.proofs.DropLemmas.{rises_after, all_after, rest_rises, last_later, dropped_within, few_parts}
+use Rattle.rs_plan.proofs.FromBelow.{rises_after, all_after, rest_rises, last_later, dropped_within, few_parts}
 use Rattle.rs_image.specs.Whole.{IsWhole, IsSoundRecord, IsSoundChange, HasFirstPart, AreMoments}
 use Rattle.rs_plan.proofs.Rules.{KeepsRules, later_records, later_changes}
 

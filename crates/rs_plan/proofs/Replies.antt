@@ -13,7 +13,7 @@ use Rattle.rs_model.specs.Names.{Names, value_of, bind}
 use Rattle.rs_model.specs.Step.{reply_to}
 use Rattle.rs_model.specs.declared.command.Command.TheVariants.{Put}
 use Rattle.rs_model.specs.declared.command.Reply.{Reply}
-use Rattle.rs_model.proofs.RoomLemmas.{length-bind}
+use Rattle.rs_plan.proofs.FromBelow.{length-bind}
 use Rattle.rs_image.specs.declared.contents.Contents.{Contents}
 use Rattle.rs_image.specs.StateOfImage.{state_in}
 use Rattle.rs_plan.specs.Replies.{reply_of, reply_that}

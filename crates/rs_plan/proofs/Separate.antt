@@ -2,7 +2,7 @@
 use Rattle.std.proofs.Common.{true≢false, ◌≡◌, ◌⊎◌, inl, inr, ℕ, Bool, true, false, List, [], ◌∷◌, ◌++◌, refl, sym}
 use Rattle.rs_extent.specs.declared.Extent.{Extent}
 use Rattle.rs_extent.specs.Extents.{in_some, AreApart, AreDisjoint, IsSubset}
-use Rattle.rs_extent.proofs.Sets.{some_first, not_true, not_both, turned, narrowed, some_front, some_behind, some_of_both, apart_both, apart_front, apart_behind, apart_between}
+use Rattle.rs_plan.proofs.FromBelow.{some_first, not_true, not_both, turned, narrowed, some_front, some_behind, some_of_both, apart_both, apart_front, apart_behind, apart_between}
 
 -- the directory, the catalogue pages, the change pages, the published pages and the bodies
 abbrev pub joined : Extent → List Extent → List Extent → List Extent → List Extent → List Extent

@@ -4,9 +4,8 @@ use Rattle.std.specs.Prelude.{All, IfSome, IsSome}
 use Rattle.std.specs.List.{cons_option}
 use Rattle.std.proofs.lemmas.List.Elements.{All-nil, All-cons, All-head, All-tail}
 use Rattle.rs_extent.specs.declared.Extent.{Extent}
-use Rattle.rs_fixity.proofs.DigestBytes.{sha256-bytes}
+use Rattle.rs_plan.proofs.FromBelow.{sha256-bytes, within_true, some_first, some_rest, some_split, not_true, not_both}
 use Rattle.rs_extent.specs.Extents.{within, in_some, AreApart, AreDisjoint}
-use Rattle.rs_extent.proofs.Sets.{within_true, some_first, some_rest, some_split, not_true, not_both}
 use Rattle.rs_page.specs.declared.place.PageRef.{PageRef}
 use Rattle.rs_page.specs.declared.place.Place.{Place}
 use Rattle.rs_page.specs.declared.place.Place.TheVariants.{Touched, Placed, Stored}

@@ -6,7 +6,7 @@ use Rattle.std.proofs.lemmas.Bool.{or_left, or_right}
 use Rattle.std.proofs.lemmas.List.Elements.{All-nil, All-cons, All-head, All-tail}
 use Rattle.rs_extent.specs.declared.Extent.{Extent}
 use Rattle.rs_extent.specs.Extents.{within, in_some, AreApart}
-use Rattle.rs_extent.proofs.Sets.{some_first, some_rest, some_split, not_true, not_both}
+use Rattle.rs_plan.proofs.FromBelow.{some_first, some_rest, some_split, not_true, not_both}
 use Rattle.rs_page.specs.SharedPages.{IsSublist}
 
 -- a part of a list is one of its sublists

@@ -5,7 +5,7 @@ use Rattle.rs_record.specs.declared.record.Record.{Record}
 use Rattle.rs_record.specs.declared.change.Change.{Change}
 use Rattle.rs_catalogue.specs.Catalogue.{records_of}
 use Rattle.rs_catalogue.specs.Named.{named}
-use Rattle.rs_catalogue.proofs.Shown.{value-map_values}
+use Rattle.rs_plan.proofs.FromBelow.{value-map_values}
 use Rattle.rs_directory.specs.declared.header.Header.{Header}
 use Rattle.rs_model.specs.declared.value.Entry.{Entry}
 use Rattle.rs_model.specs.declared.value.Held.{Held}

@@ -8,7 +8,7 @@ use Rattle.std.proofs.lemmas.Bool.Decides.{nat_tests}
 use Rattle.std.proofs.lemmas.Slice.Eq.{bytes_eq-Decides}
 use Rattle.rs_extent.specs.declared.Extent.{Extent}
 use Rattle.rs_extent.specs.Extents.{within, in_some, AreApart, AreDisjoint}
-use Rattle.rs_extent.proofs.Sets.{not_true, not_both, some_first, some_rest, some_split}
+use Rattle.rs_plan.proofs.FromBelow.{not_true, not_both, some_first, some_rest, some_split}
 use Rattle.rs_page.specs.declared.place.PageRef.{PageRef}
 use Rattle.rs_page.specs.Pages.{same_page, extents_of}
 use Rattle.rs_page.specs.SharedPages.{IsSublist}

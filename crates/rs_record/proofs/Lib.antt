@@ -1,3 +1,4 @@
+pub mod ForCallers
 pub mod EachPart
 pub mod Clean
 pub mod Changes

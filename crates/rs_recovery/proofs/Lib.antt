@@ -1,3 +1,5 @@
+mod FromBelow
+pub mod ForCallers
 pub mod Below
 pub mod Opened
 pub mod TurnsJoined

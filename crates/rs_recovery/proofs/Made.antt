@@ -6,7 +6,7 @@ use Rattle.rs_model.specs.Step.{step, state_after, fold_of, refusal_of, accepted
 use Rattle.rs_model.specs.declared.command.Command.{Command}
 use Rattle.rs_model.specs.declared.command.Reply.{Reply}
 use Rattle.rs_model.specs.declared.command.Refusal as model
-use Rattle.rs_model.proofs.RegularLemmas.{next_regular}
+use Rattle.rs_recovery.proofs.FromBelow.{next_regular}
 use Rattle.rs_recovery.specs.DiskSessions.{after, after_all}
 use Rattle.rs_recovery.specs.Seen.{FoldsAreMade}
 use Rattle.rs_recovery.proofs.Below.{Commands}

@@ -1,7 +1,7 @@
 -- What a command leaves of a source, as a walk.
 use Rattle.std.proofs.Common.{◌≡◌, ◌⊎◌, inl, inr, ⊎_elim, true≢false, ℕ, Bool, true, false, List, [], ◌∷◌, ◌++◌, refl, sym, ◌∙◌, ap, subst, cond, Option, Some, None, Result, Ok, Err}
 use Rattle.rs_disk.specs.Medium.{DiskState, IsMedium}
-use Rattle.rs_disk.proofs.Steps.{exit_images}
+use Rattle.rs_recovery.proofs.FromBelow.{exit_images}
 use Rattle.rs_model.specs.State.{Source}
 use Rattle.rs_model.specs.Step.{step, state_after, next_state, accepted_unless, refusal_of, reply_to, moment_at}
 use Rattle.rs_model.specs.Walk.{after_event, walk_of}

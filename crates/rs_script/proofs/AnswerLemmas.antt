@@ -1,7 +1,7 @@
 -- The answer to each kind of request.
 use Rattle.std.proofs.Common.{◌≡◌, ℕ, List, [], Option, Some, None, Result, Ok, Err, Vec, Global, Bool, true, false, ◌⊎◌, ◌<◌, ◌≤◌, length, refl, inl, inr, ap, sym, subst, ◌∙◌, ◌-◌, if◌then◌else◌, ◌↔◌, IsErrOf, IsTrue, option_map, codes, decimal, ◌++◌, ◌∷◌}
 use Rattle.rs_disk.specs.Medium.{DiskState}
-use Rattle.rs_disk.proofs.Runs.{reading_none, rests}
+use Rattle.rs_script.proofs.FromBelow.{reading_none, rests}
 use Rattle.rs_model.specs.declared.command.Command.{Command}
 use Rattle.rs_model.specs.declared.command.Reply.{Reply}
 use Rattle.rs_lists.specs.declared.doc.Doc.{Doc}

@@ -7,7 +7,7 @@ use Rattle.std.proofs.lemmas.List.{take_more}
 use Rattle.std.proofs.lemmas.List.Sums.{fails_before_first, passes_at_first}
 use Rattle.std.proofs.lemmas.List.Elements.{All-from_get_or}
 use Rattle.rs_script.specs.Lines.{HasNoBreak, with_break}
-use Rattle.rs_items.proofs.FieldLemmas.{position-some, position-none}
+use Rattle.rs_script.proofs.FromBelow.{position-some, position-none}
 
 not_break : (b : ℕ) → (b == 10) ≡ false → b ≢ 10
 not_break b h = λ e. absurd (grind (arith, nat_tests))

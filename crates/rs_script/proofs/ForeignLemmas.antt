@@ -9,8 +9,7 @@ use Rattle.rs_record.specs.Decimal.{number_in}
 use Rattle.rs_items.specs.declared.item.ItemFault.TheVariants as fault
 use Rattle.rs_items.specs.Fields.{fields, is_space, after_space, first_field, after_field}
 use Rattle.rs_items.specs.Items.{item_of_fields, item_of_line}
-use Rattle.rs_items.proofs.FieldLemmas.{position-some, fields-cut, fields-last}
-use Rattle.rs_items.proofs.ItemLemmas.{other_word as no_item}
+use Rattle.rs_script.proofs.FromBelow.{position-some, fields-cut, fields-last, other_word as no_item}
 use Rattle.rs_script.specs.declared.refusal.Refusal.TheVariants.{BadLine}
 use Rattle.rs_script.specs.Lines.{line_of}
 use Rattle.rs_script.specs.PartialLine.{AsksNothing}

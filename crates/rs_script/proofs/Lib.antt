@@ -1,3 +1,4 @@
+mod FromBelow
 pub mod AnswerLemmas
 pub mod ForeignLemmas
 pub mod Breaks

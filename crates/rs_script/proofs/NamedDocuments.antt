@@ -6,7 +6,7 @@ use Rattle.rs_record.specs.Decimal.{number_in}
 use Rattle.rs_record.specs.Name.{is_name}
 use Rattle.rs_lists.specs.declared.doc.Doc.{Doc}
 use Rattle.rs_caps.specs.Paths.{doc_of, HasCounts}
-use Rattle.rs_caps.proofs.PathsRead.{doc_of-exact}
+use Rattle.rs_script.proofs.FromBelow.{doc_of-exact}
 use Rattle.rs_model.specs.declared.command.Command.TheVariants.{Publish}
 use Rattle.rs_model.specs.declared.command.Item.{Item}
 use Rattle.rs_model.specs.declared.command.Item.TheVariants as item

@@ -11,8 +11,7 @@ use Rattle.std.proofs.KnownBytes.{Appends-kept, Consumes-trans}
 use Rattle.rs_disk.specs.Medium.{DiskState}
 use Rattle.rs_io.specs.declared.watch.Watched.{Watched}
 use Rattle.rs_io.specs.Watch.{watched, failures, FlushFailed, Wrote, FailedWithin, WritesOut}
-use Rattle.rs_io.proofs.Growth.{wrote_nothing, wrote_then}
-use Rattle.rs_io.proofs.Faults.{failed_after, failed_same}
+use Rattle.rs_script.proofs.FromBelow.{wrote_nothing, wrote_then, failed_after, failed_same}
 use Rattle.rs_model.specs.declared.command.Command.{Command}
 use Rattle.rs_store.specs.Source.{Stored}
 use Rattle.rs_script.specs.declared.line.Line.{Line}

@@ -5,14 +5,13 @@ use Rattle.rs_model.specs.State.{Source}
 use Rattle.rs_model.specs.Walk.{walk_of}
 use Rattle.rs_model.specs.declared.command.Command.{Command}
 use Rattle.rs_model.specs.declared.event.Event.{Event}
-use Rattle.rs_model.proofs.WalkLemmas.{walk-append}
+use Rattle.rs_script.proofs.FromBelow.{walk-append, walk_is, walk_behind, walked}
 use Rattle.rs_image.specs.StateOfImage.{StandsFor}
 use Rattle.rs_caps.specs.PathAnswers.{DocumentsAreAnswered, BodiesAreAnswered}
 use Rattle.rs_store.specs.Laws.{HeldStands}
 use Rattle.rs_store.specs.Source.{Stored, Holds}
 use Rattle.rs_recovery.specs.Turns.{ReadingsIdle}
 use Rattle.rs_recovery.specs.Walked.{LeavesWalk, CommandsMakeWalks, ClosedCommandsAreRefused}
-use Rattle.rs_recovery.proofs.Walked.{walk_is, walk_behind, walked}
 use Rattle.rs_script.specs.Statements.{Statement, request_by}
 use Rattle.rs_script.specs.Script.{Transcript, ScriptsMakeWalks}
 use Rattle.rs_script.specs.Session.{ScriptState, LineOutcome}

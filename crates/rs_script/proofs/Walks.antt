@@ -21,7 +21,7 @@ use Rattle.rs_store.specs.declared.refusal.Refusal as stored
 use Rattle.rs_store.specs.declared.refusal.Refusal.TheVariants.{Closed}
 use Rattle.rs_recovery.specs.Turns.{ReadingsIdle}
 use Rattle.rs_recovery.specs.Walked.{CommandEvents, LeavesWalk, CommandsMakeWalks, ClosedCommandsAreRefused}
-use Rattle.rs_recovery.proofs.Walked.{told, walked}
+use Rattle.rs_script.proofs.FromBelow.{told, walked}
 use Rattle.rs_script.specs.declared.refusal.Refusal.{Refusal}
 use Rattle.rs_script.specs.declared.refusal.Refusal.TheVariants as refusals
 use Rattle.rs_script.specs.declared.request.Request.{Request}

@@ -3,9 +3,7 @@ use Rattle.std.proofs.Common.{◌≡◌, ◌⊎◌, inl, inr, ℕ, Bool, true, f
 use Rattle.rs_disk.specs.Medium.{Medium, DiskState, IsImage, IsMedium, resting}
 use Rattle.rs_disk.specs.Leaves.{Leaves}
 use Rattle.rs_disk.specs.Runs.{Advances, HasFailed, RunsWriting}
-use Rattle.rs_disk.proofs.Steps.{started, goes_on, weaker}
-use Rattle.rs_disk.proofs.Runs.{writing_none, writing_as}
-use Rattle.rs_disk.proofs.Images.{resting_image}
+use Rattle.rs_store.proofs.FromBelow.{started, goes_on, weaker, writing_none, writing_as, resting_image, tells_behind}
 use Rattle.rs_body.specs.Outside.{WritesOutside}
 use Rattle.rs_commit.specs.declared.root.Root.{Root}
 use Rattle.rs_commit.specs.Commit.{SameBehind, IsReady, OldOrNew}
@@ -19,7 +17,6 @@ use Rattle.rs_image.specs.declared.contents.Contents.{Contents}
 use Rattle.rs_image.specs.Reach.{is_kept}
 use Rattle.rs_image.specs.Whole.{IsWhole}
 use Rattle.rs_image.specs.StateOfImage.{Tells, StandsFor, state_in, AreLists}
-use Rattle.rs_image.proofs.Frame.{tells_behind}
 use Rattle.rs_plan.specs.declared.plan.Plan.{Plan}
 use Rattle.rs_plan.specs.declared.planning.PlanFault.{PlanFault}
 use Rattle.rs_plan.specs.declared.planning.PlanFault.TheVariants.{Full as NoRoom, NoMemory as NoPlanMemory}

@@ -3,13 +3,11 @@ use Rattle.std.proofs.Common.{◌≡◌, ◌<◌, ℕ, true, false, true≢false
 use Rattle.std.specs.Prelude.{is_err, OnOk, OnErr}
 use Rattle.rs_disk.specs.Medium.{DiskState, IsMedium}
 use Rattle.rs_disk.specs.Runs.{RunsWriting}
-use Rattle.rs_disk.proofs.Runs.{writing_none, writing_as, advances}
+use Rattle.rs_store.proofs.FromBelow.{writing_none, writing_as, advances, some_first, outside_none}
 use Rattle.rs_extent.specs.declared.Extent.{Extent}
 use Rattle.rs_extent.specs.Extents.{AreBeside, IsOnDisk, AreOnDisk}
-use Rattle.rs_extent.proofs.Sets.{some_first}
 use Rattle.rs_body.specs.Blocks.{part, IsSized}
 use Rattle.rs_body.specs.Outside.{WritesOutside, WritesOnly}
-use Rattle.rs_body.proofs.KeptBlocks.{outside_none}
 use Rattle.rs_model.specs.Step.{moment_at}
 use Rattle.rs_model.specs.declared.command.Command.{Command}
 use Rattle.rs_image.specs.Reach.{is_kept}

@@ -3,7 +3,7 @@ use Rattle.std.proofs.Common.{true≢false, ◌≡◌, ◌⊎◌, inl, inr, ⊎_
 use Rattle.std.specs.Prelude.{All}
 use Rattle.std.proofs.lemmas.List.Elements.{All-nil, All-cons, All-head, All-tail}
 use Rattle.rs_disk.specs.Medium.{DiskState, IsMedium}
-use Rattle.rs_disk.proofs.Runs.{reading_none, writing_none, rests, advances}
+use Rattle.rs_store.proofs.FromBelow.{reading_none, writing_none, rests, advances}
 use Rattle.rs_record.specs.declared.record.Record.{Record}
 use Rattle.rs_catalogue.specs.Catalogue.{records_of}
 use Rattle.rs_model.specs.declared.value.Held.{Held}

@@ -5,8 +5,7 @@ use Rattle.std.specs.List.{filter}
 use Rattle.std.proofs.lemmas.List.{map-append}
 use Rattle.std.proofs.lemmas.List.Elements.{All-cons, All-head, All-tail, filter-append}
 use Rattle.rs_extent.specs.Extents.{in_some}
-use Rattle.rs_extent.proofs.Sets.{some_first, some_rest, some_behind}
-use Rattle.rs_body.proofs.Sets.{fits_sized}
+use Rattle.rs_store.proofs.FromBelow.{some_first, some_rest, some_behind, fits_sized}
 use Rattle.rs_commit.specs.declared.root.Root.{Root}
 use Rattle.rs_record.specs.declared.record.Record.{Record}
 use Rattle.rs_catalogue.specs.Catalogue.{records_of}

@@ -12,9 +12,8 @@ use Rattle.rs_model.specs.declared.command.Reply.{Reply}
 use Rattle.rs_model.specs.declared.command.Refusal.{Refusal}
 use Rattle.rs_model.specs.Names.{value_of}
 use Rattle.rs_model.specs.Step.{refusal_of, moment_at, next_state, reply_to, accepted_unless, step, state_after}
-use Rattle.rs_model.proofs.MapLemmas.{value-bind}
+use Rattle.rs_store.proofs.FromBelow.{value-bind, stands_once}
 use Rattle.rs_image.specs.StateOfImage.{StandsFor}
-use Rattle.rs_image.proofs.Once.{stands_once}
 use Rattle.rs_store.specs.Laws.{EarlyFaultsLeave}
 use Rattle.rs_store.specs.Received.{IsBodyOf}
 

@@ -3,9 +3,8 @@ use Rattle.std.proofs.Common.{◌≡◌, ℕ, true, List, refl, sym, ◌∙◌, 
 use Rattle.rs_disk.specs.Medium.{DiskState, IsMedium, resting}
 use Rattle.rs_disk.specs.Leaves.{Leaves}
 use Rattle.rs_disk.specs.Runs.{Advances, HasFailed, RunsWriting}
-use Rattle.rs_disk.proofs.Runs.{writing_on, advances, advances_on}
+use Rattle.rs_store.proofs.FromBelow.{writing_on, advances, advances_on, outside_on}
 use Rattle.rs_body.specs.Outside.{WritesOutside, WritesOnly}
-use Rattle.rs_body.proofs.KeptBlocks.{outside_on}
 use Rattle.rs_commit.specs.declared.root.Root.{Root}
 use Rattle.rs_commit.specs.Slots.{Standing}
 use Rattle.rs_commit.specs.Commit.{SameBehind, IsReady, OldOrNew}

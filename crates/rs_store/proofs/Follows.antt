@@ -16,11 +16,9 @@ use Rattle.rs_page.specs.Items.{record_format, change_format}
 use Rattle.rs_page.specs.Pages.{Page, IsStored, stored_ref, stored_refs, stored, items_of}
 use Rattle.rs_page.specs.DiskPages.{IsPage, Stands}
 use Rattle.rs_page.specs.SharedPages.{IsSublist, stored_pages, KeepsPages}
-use Rattle.rs_page.proofs.Standing.{written_stand, standing_are_pages, pages_stand}
+use Rattle.rs_store.proofs.FromBelow.{written_stand, standing_are_pages, pages_stand, joined, joined as joined_changes}
 use Rattle.rs_catalogue.specs.Catalogue.{AreHeld, IsCatalogue, HoldsCatalogue}
-use Rattle.rs_catalogue.proofs.Joined.{joined}
 use Rattle.rs_changes.specs.History.{AreKept, IsHistory, HoldsHistory}
-use Rattle.rs_changes.proofs.Joined.{joined as joined_changes}
 use Rattle.rs_image.specs.declared.contents.Contents.{Contents}
 use Rattle.rs_image.specs.Rooted.{rooted}
 use Rattle.rs_image.specs.Whole.{IsWhole}

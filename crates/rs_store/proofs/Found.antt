@@ -4,11 +4,9 @@ use Rattle.std.specs.Prelude.{All}
 use Rattle.std.specs.declared.cmp.Ordering.{Ordering}
 use Rattle.std.specs.declared.cmp.Ordering.TheVariants.{Less, Equal, Greater}
 use Rattle.std.proofs.lemmas.List.Elements.{All-head, All-tail}
-use Rattle.rs_extent.proofs.Sets.{some_behind}
+use Rattle.rs_store.proofs.FromBelow.{some_behind, some_first, some_rest, fits_sized}
 use Rattle.rs_extent.specs.declared.Extent.{Extent}
 use Rattle.rs_extent.specs.Extents.{within, in_some, IsOnDisk}
-use Rattle.rs_extent.proofs.Sets.{some_first, some_rest}
-use Rattle.rs_body.proofs.Sets.{fits_sized}
 use Rattle.rs_commit.specs.declared.root.Root.{Root}
 use Rattle.rs_record.specs.declared.record.Record.{Record}
 use Rattle.rs_model.specs.declared.value.Entry.{Entry}

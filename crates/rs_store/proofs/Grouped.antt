@@ -4,7 +4,7 @@ use Rattle.std.specs.List.{AllZip, cons_option}
 use Rattle.std.proofs.lemmas.List.{take-append-drop, take_more, drop_more, length-drop, take_all, drop-drop}
 use Rattle.rs_extent.specs.declared.Extent.{Extent}
 use Rattle.rs_extent.specs.Extents.{in_some, IsOnDisk, IsBeside, IsSubset, AreApart, AreOnDisk}
-use Rattle.rs_extent.proofs.Sets.{some_first, some_behind, in_one, beside_first, beside_between}
+use Rattle.rs_store.proofs.FromBelow.{some_first, some_behind, in_one, beside_first, beside_between}
 use Rattle.rs_body.specs.Blocks.{part, IsSized}
 use Rattle.rs_body.specs.Outside.{Keeps}
 use Rattle.rs_model.specs.declared.command.Item.{Item}

@@ -5,15 +5,12 @@ use Rattle.std.specs.List.{cons_option}
 use Rattle.std.proofs.lemmas.Bool.{cases_lt}
 use Rattle.std.proofs.lemmas.List.{ext_get_or, append_assoc, length-replicate}
 use Rattle.rs_disk.specs.Medium.{over}
-use Rattle.rs_disk.proofs.Images.{over_torn}
+use Rattle.rs_store.proofs.FromBelow.{over_torn, some_first, some_rest, has_room, keeps_torn, piece_follows, fits_sized, taken_each, sized_each, needed}
 use Rattle.rs_extent.specs.declared.Extent.{Extent}
 use Rattle.rs_extent.specs.Blocks.{is_used, block_size, IsFreeRun, IsLowest, Sets}
 use Rattle.rs_extent.specs.Extents.{in_some, IsOnDisk, AreApart, AreOnDisk}
-use Rattle.rs_extent.proofs.Sets.{some_first, some_rest}
 use Rattle.rs_body.specs.Blocks.{part, blocks_of, IsSized}
 use Rattle.rs_body.specs.Outside.{Keeps}
-use Rattle.rs_body.proofs.KeptBlocks.{has_room, keeps_torn, piece_follows}
-use Rattle.rs_body.proofs.Sets.{fits_sized}
 use Rattle.rs_page.specs.declared.place.Place.{Place}
 use Rattle.rs_page.specs.declared.place.Place.TheVariants.{Touched, Placed, Stored}
 use Rattle.rs_page.specs.Format.{ItemFormat}
@@ -37,9 +34,6 @@ use Rattle.rs_plan.specs.Room.{Takes, TakesEach, HasNoRoom, pages_needed, lists_
 use Rattle.rs_plan.specs.Placed.{AreUnplaced, HasItsPlaces}
 use Rattle.rs_plan.specs.Turned.{no_body, first_of, lists_after_item, lists_after_items}
 use Rattle.rs_plan.specs.Plans.{AreBodies, MayHavePlace, MayHavePlaces, AreChanged, ArePagesAfter, IsNext, LacksRoom, IsPlanned}
-use Rattle.rs_plan.proofs.Extents.{taken_each}
-use Rattle.rs_plan.proofs.Parts.{sized_each}
-use Rattle.rs_plan.proofs.Placing.{needed}
 use Rattle.rs_store.proofs.Written.{AreSized, bodies_kept_so}
 
 -- One set of blocks is used by a root.

@@ -1,3 +1,5 @@
+mod FromBelow
+pub mod ForCallers
 pub mod Written
 pub mod Stays
 pub mod Follows

@@ -6,7 +6,7 @@ use Rattle.rs_record.specs.declared.record.Record.{Record}
 use Rattle.rs_model.specs.declared.value.Held.{Held}
 use Rattle.rs_model.specs.Names.{Names, by_bytes, value_of, map_values, is_above, is_ordered}
 use Rattle.rs_catalogue.specs.Named.{named}
-use Rattle.rs_catalogue.proofs.Shown.{value-map_values}
+use Rattle.rs_store.proofs.FromBelow.{value-map_values}
 use Rattle.rs_image.specs.StateOfImage.{held_in}
 
 shown : (image : List ℕ) (records : List Record) → map (held_in image) records ≡ map_values (λ r. (held_in image r).1) (named records)

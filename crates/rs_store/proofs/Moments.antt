@@ -5,7 +5,7 @@ use Rattle.std.specs.List.{AllByRecursion}
 use Rattle.rs_disk.specs.Medium.{DiskState, IsMedium, IsImage}
 use Rattle.rs_disk.specs.Leaves.{Leaves}
 use Rattle.rs_disk.specs.Runs.{Rests}
-use Rattle.rs_disk.proofs.Steps.{goes_on, goes_further, weaker, exit_images}
+use Rattle.rs_store.proofs.FromBelow.{goes_on, goes_further, weaker, exit_images}
 use Rattle.rs_model.specs.State.{Source}
 use Rattle.rs_model.specs.Step.{step, state_after, fold_of}
 use Rattle.rs_model.specs.declared.command.Command.{Command}

@@ -7,9 +7,8 @@ use Rattle.rs_extent.specs.declared.Extent.{Extent}
 use Rattle.rs_disk.specs.Medium.{Medium, DiskState, IsImage, resting}
 use Rattle.rs_disk.specs.Calls.{CountsCall}
 use Rattle.rs_disk.specs.Runs.{HasFailed}
-use Rattle.rs_disk.proofs.Images.{resting_image}
+use Rattle.rs_store.proofs.FromBelow.{resting_image, within_true, some_first}
 use Rattle.rs_body.specs.Blocks.{part, IsSized}
-use Rattle.rs_extent.proofs.Sets.{within_true, some_first}
 use Rattle.rs_commit.specs.declared.root.Root.{Root}
 use Rattle.rs_commit.specs.Slots.{Standing, current}
 use Rattle.rs_commit.specs.Commit.{IsReady}

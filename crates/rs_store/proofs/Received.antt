@@ -4,7 +4,7 @@ use Rattle.std.specs.Prelude.{replicate, IfErr, IsErrOf}
 use Rattle.std.proofs.Math.Seq.{take-length}
 use Rattle.std.proofs.lemmas.List.{length-append, length-replicate}
 use Rattle.rs_disk.specs.Medium.{DiskState}
-use Rattle.rs_disk.proofs.Runs.{writing_as}
+use Rattle.rs_store.proofs.FromBelow.{writing_as}
 use Rattle.rs_model.specs.declared.command.Command.TheVariants.{Put}
 use Rattle.rs_model.specs.declared.command.Reply.{Reply}
 use Rattle.rs_store.specs.declared.refusal.Refusal.{Refusal}

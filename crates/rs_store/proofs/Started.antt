@@ -7,10 +7,9 @@ use Rattle.std.proofs.lemmas.List.Elements.{All-nil}
 use Rattle.std.proofs.Math.Seq.{take-append_seam}
 use Rattle.rs_extent.specs.declared.Extent.{Extent}
 use Rattle.rs_disk.specs.Medium.{Medium, DiskState, IsImage, resting}
-use Rattle.rs_disk.proofs.Images.{resting_image}
+use Rattle.rs_store.proofs.FromBelow.{resting_image, within_is, some_split}
 use Rattle.rs_extent.specs.Extents.{in_some}
 use Rattle.rs_body.specs.Blocks.{part, blocks_of}
-use Rattle.rs_extent.proofs.Sets.{within_is, some_split}
 use Rattle.rs_commit.specs.Commit.{SameBehind, IsReady, behind_slots}
 use Rattle.rs_commit.specs.Format.{formatted, fresh}
 use Rattle.rs_commit.specs.declared.root.Root.{Root}

@@ -4,14 +4,12 @@ use Rattle.std.proofs.lemmas.Bool.Decides.{nat_tests}
 use Rattle.std.proofs.lemmas.List.{ext_get_or, get_or-take}
 use Rattle.rs_disk.specs.Medium.{DiskState, IsImage, IsMedium}
 use Rattle.rs_disk.specs.Leaves.{Leaves}
-use Rattle.rs_disk.proofs.Steps.{weaker, exit_images}
+use Rattle.rs_store.proofs.FromBelow.{weaker, exit_images, opens_stays, ready_stays, ready_opens, reaches_bodies, tells_stays, held_stays, keeps_behind}
 use Rattle.rs_extent.specs.Extents.{in_some}
 use Rattle.rs_body.specs.Outside.{Keeps, KeepsMarks, KeptFrom, WritesOutside}
 use Rattle.rs_commit.specs.declared.root.Root.{Root}
 use Rattle.rs_commit.specs.Slots.{Standing}
 use Rattle.rs_commit.specs.Commit.{IsReady, SameBehind}
-use Rattle.rs_commit.proofs.Contents.{opens_stays}
-use Rattle.rs_commit.proofs.Ready.{ready_stays, ready_opens}
 use Rattle.rs_model.specs.declared.value.Held.{Held}
 use Rattle.rs_model.specs.State.{Source}
 use Rattle.rs_catalogue.specs.Catalogue.{records_of}
@@ -19,8 +17,6 @@ use Rattle.rs_image.specs.declared.contents.Contents.{Contents}
 use Rattle.rs_image.specs.Reach.{reach, is_kept}
 use Rattle.rs_image.specs.Whole.{IsWhole}
 use Rattle.rs_image.specs.StateOfImage.{Tells, StandsFor, state_in, held_in}
-use Rattle.rs_image.proofs.Reaching.{reaches_bodies}
-use Rattle.rs_image.proofs.Frame.{tells_stays, held_stays, keeps_behind}
 
 or_left : (a b : Bool) → a ≡ true → (a || b) ≡ true
 or_left true b is = refl

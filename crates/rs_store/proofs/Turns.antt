@@ -5,9 +5,7 @@ use Rattle.std.specs.List.{AllByRecursion}
 use Rattle.std.proofs.lemmas.Bool.Decides.{nat_tests}
 use Rattle.rs_disk.specs.Medium.{DiskState, IsImage, IsMedium}
 use Rattle.rs_disk.specs.Runs.{Rests}
-use Rattle.rs_disk.proofs.Steps.{started, goes_on}
-use Rattle.rs_disk.proofs.Runs.{reading_none, rests, rests_on}
-use Rattle.rs_commit.proofs.Ready.{ready_opens}
+use Rattle.rs_store.proofs.FromBelow.{started, goes_on, reading_none, rests, rests_on, ready_opens}
 use Rattle.rs_model.specs.State.{Source}
 use Rattle.rs_model.specs.Step.{refusal_of}
 use Rattle.rs_model.specs.declared.command.Command.{Command}

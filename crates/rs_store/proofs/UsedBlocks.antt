@@ -3,7 +3,7 @@ use Rattle.std.proofs.Common.{true≢false, ◌≡◌, ◌≤◌, ℕ, Bool, tru
 use Rattle.rs_extent.specs.declared.Extent.{Extent}
 use Rattle.rs_extent.specs.Blocks.{is_used}
 use Rattle.rs_extent.specs.Extents.{in_some, CanTake, AreTaken, CanGive, AreGiven}
-use Rattle.rs_extent.proofs.Sets.{not_true}
+use Rattle.rs_store.proofs.FromBelow.{not_true}
 use Rattle.rs_commit.specs.declared.root.Root.{Root}
 use Rattle.rs_model.specs.declared.command.Command.{Command}
 use Rattle.rs_image.specs.declared.contents.Contents.{Contents}

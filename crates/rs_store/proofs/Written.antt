@@ -7,18 +7,13 @@ use Rattle.rs_extent.specs.declared.Extent.{Extent}
 use Rattle.rs_extent.specs.Extents.{in_some, IsOnDisk, IsBeside, IsSubset, AreBeside, AreApart, AreOnDisk}
 use Rattle.rs_body.specs.Blocks.{part, IsSized}
 use Rattle.rs_body.specs.Outside.{Keeps, WritesOnly}
-use Rattle.rs_body.proofs.KeptBlocks.{part_kept, outside_on}
-use Rattle.rs_extent.proofs.Sets.{some_first, some_rest, beside_first, in_one}
-use Rattle.rs_body.proofs.Sets.{fits_sized}
+use Rattle.rs_store.proofs.FromBelow.{part_kept, outside_on, some_first, some_rest, beside_first, in_one, fits_sized, written_stay, some_front, some_behind, beside_front, beside_behind, apart_front, apart_behind, beside_between}
 use Rattle.rs_page.specs.Items.{record_format, change_format}
 use Rattle.rs_page.specs.Pages.{placed_extents}
-use Rattle.rs_page.proofs.Standing.{written_stay}
 use Rattle.rs_image.specs.Reach.{AreInside, blocks_of_disk}
-use Rattle.rs_extent.proofs.Sets.{some_front, some_behind}
 use Rattle.rs_plan.specs.declared.plan.Plan.{Plan}
 use Rattle.rs_plan.specs.Plans.{AreBodies, places, planned_listing, AreWritten}
 use Rattle.rs_store.specs.Writing.{AreWrittenPages}
-use Rattle.rs_extent.proofs.Sets.{beside_front, beside_behind, apart_front, apart_behind, beside_between}
 
 pub on_ok : {T E : Type 0} {P Q : Type 0} (result : Result T E) → (P → Q) → OnOk result P → OnOk result Q
 on_ok (Ok x) from p = from p

@@ -1,2 +1,3 @@
+pub mod ForCallers
 pub mod Counting
 pub mod MomentTexts

@@ -1,7 +1,7 @@
 use Rattle.std.proofs.Common.{◌+◌, ◌*◌, ◌<◌, ◌≤◌, ℕ, nat_le, IsTrue, arith}
 use Rattle.std.proofs.lemmas.Bool.Decides.{nat_tests}
 use Rattle.rs_body.proofs.KeptBlocks.{has_room}
-use Rattle.rs_extent.proofs.Sets.{within_is}
+use Rattle.rs_body.proofs.FromBelow.{within_is}
 use Rattle.rs_body.proofs.blocks.is_on_disk.Goals as goal
 
 le_is : (m n : ℕ) → IsTrue (nat_le m n) → m ≤ n

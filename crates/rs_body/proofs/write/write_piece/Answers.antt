@@ -6,8 +6,7 @@ use Rattle.rs_disk.specs.Calls.{Writes, Tears}
 use Rattle.rs_disk.specs.Runs.{WritesWithin}
 use Rattle.rs_extent.specs.Blocks.{block_size}
 use Rattle.rs_body.specs.Blocks.{part, place_of}
-use Rattle.rs_disk.proofs.Steps.{write_leaves, counts_calls}
-use Rattle.rs_disk.proofs.Runs.{writing_one}
+use Rattle.rs_body.proofs.FromBelow.{write_leaves, counts_calls, writing_one}
 use Rattle.rs_body.proofs.KeptBlocks.{outside_write, piece_follows, lies}
 use Rattle.rs_body.proofs.Torn.{held, torn_held}
 use Rattle.rs_body.proofs.write.write_piece.Goals as goal

@@ -4,7 +4,7 @@ use Rattle.std.specs.Prelude.{option_copied, MatchOption}
 use Rattle.std.proofs.lemmas.Bool.Decides.{Decides-eqb}
 use Rattle.std.proofs.lemmas.Slice.Eq.{strip_prefix_is}
 use Rattle.rs_caps.specs.Cut.{strip}
-use Rattle.rs_fixity.proofs.CutLemmas.{strip_own}
+use Rattle.rs_caps.proofs.FromBelow.{strip_own}
 use Rattle.rs_caps.proofs.Cutting.{strip-none}
 use Rattle.rs_caps.proofs.path_reading.strip.Goals as goal
 

@@ -1,6 +1,6 @@
 use Rattle.std.proofs.Common.{◌≡◌, ◌<◌, ℕ, length, take, drop, sym, ◌∙◌, ap, arith, length-take, length-drop, Ok}
 use Rattle.std.proofs.lemmas.List.{length-take-le, take-take}
-use Rattle.rs_disk.proofs.Runs.{reading_one}
+use Rattle.rs_commit.proofs.FromBelow.{reading_one}
 use Rattle.rs_commit.specs.Slots.{offset, block}
 use Rattle.rs_commit.proofs.Contents.{missing}
 use Rattle.rs_commit.proofs.reading.read_slot.Goals as goal

@@ -1,6 +1,6 @@
 use Rattle.std.proofs.Common.{Ok, Err}
 use Rattle.std.proofs.lemmas.Result.{err_from_is_err_and}
-use Rattle.rs_disk.proofs.Runs.{nothing_synced}
+use Rattle.rs_commit.proofs.FromBelow.{nothing_synced}
 use Rattle.rs_commit.proofs.Runs.{within_one, within_then}
 use Rattle.rs_commit.proofs.settled.write_settled.Goals as goal
 

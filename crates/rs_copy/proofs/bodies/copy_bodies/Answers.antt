@@ -10,7 +10,7 @@ use Rattle.rs_record.specs.declared.record.Record.{Record}
 use Rattle.rs_catalogue.specs.Catalogue.{records_of}
 use Rattle.rs_image.specs.Reach.{bodies_of}
 use Rattle.rs_image.specs.StateOfImage.{held_in}
-use Rattle.rs_image.proofs.Each.{each_more, each_at_end}
+use Rattle.rs_copy.proofs.FromBelow.{each_more, each_at_end}
 use Rattle.rs_copy.specs.declared.faults.CopyFault.TheVariants.{Device}
 use Rattle.rs_copy.specs.Laying.{IsMoved}
 use Rattle.rs_copy.specs.Copies.{HasItsBody}

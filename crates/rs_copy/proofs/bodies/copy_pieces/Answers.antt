@@ -3,7 +3,7 @@ use Rattle.std.specs.Result.{is_err}
 use Rattle.rs_disk.specs.Medium.{Medium}
 use Rattle.rs_fixity.specs.Hashed.{HasTakenSha256}
 use Rattle.rs_body.specs.Blocks.{part}
-use Rattle.rs_body.proofs.Only.{part_only}
+use Rattle.rs_copy.proofs.FromBelow.{part_only}
 use Rattle.rs_copy.proofs.Handed.{err_is}
 use Rattle.rs_copy.proofs.Runs.{copies_as, copies_read, copies_write}
 use Rattle.rs_copy.proofs.bodies.copy_pieces.Goals as goal

@@ -8,7 +8,7 @@ use Rattle.rs_page.specs.Placing.{Places}
 use Rattle.rs_directory.specs.Directory.{directory_length}
 use Rattle.rs_image.specs.declared.contents.Contents.{Contents}
 use Rattle.rs_plan.specs.Room.{HasNoRun, HasNoRoom, pages_needed}
-use Rattle.rs_plan.proofs.Placing.{room_after, room_none}
+use Rattle.rs_copy.proofs.FromBelow.{room_after, room_none}
 use Rattle.rs_copy.specs.Laying.{copy_needed}
 use Rattle.rs_copy.specs.Copying.{AreAllUnplaced}
 use Rattle.rs_copy.proofs.Roomy.{directory_needed, needed_in_turn}

@@ -3,7 +3,7 @@ use Rattle.std.specs.Prelude.{IfErr, IsErrOf}
 use Rattle.std.specs.Result.{IsErrAnd}
 use Rattle.rs_disk.specs.Medium.{DiskState}
 use Rattle.rs_extent.specs.declared.Extent.{Extent}
-use Rattle.rs_extent.proofs.Sets.{apart_front, apart_behind, some_first, some_front}
+use Rattle.rs_copy.proofs.FromBelow.{apart_front, apart_behind, some_first, some_front, all_stored as pages_stored}
 use Rattle.rs_page.specs.Items.{record_format, change_format}
 use Rattle.rs_page.specs.declared.page.store.StoreFault.{StoreFault}
 use Rattle.rs_page.specs.declared.page.store.StoreFault.TheVariants.{Device as NoDevice, NoMemory as NoPageMemory}
@@ -12,7 +12,6 @@ use Rattle.rs_commit.specs.declared.root.Root.{Root}
 use Rattle.rs_image.specs.declared.contents.Contents.{Contents}
 use Rattle.rs_image.specs.Reach.{bodies_of}
 use Rattle.rs_image.specs.StateOfImage.{AreAllStored}
-use Rattle.rs_plan.proofs.Stored.{all_stored as pages_stored}
 use Rattle.rs_copy.specs.declared.faults.CopyFault.{CopyFault}
 use Rattle.rs_copy.specs.declared.faults.CopyFault.TheVariants.{TooSmall, Full, Device, Damaged, NoMemory}
 use Rattle.rs_copy.specs.Copying.{CopiesOnly, IsListed, IsOfListing, IsOfWriting, copied_root, copy_fault_of, pages_in, written_in}

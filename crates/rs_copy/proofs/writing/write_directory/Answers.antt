@@ -1,5 +1,5 @@
 use Rattle.std.proofs.Common.{[], ◌∷◌, refl}
-use Rattle.rs_body.proofs.Only.{only_as, part_only}
+use Rattle.rs_copy.proofs.FromBelow.{only_as, part_only}
 use Rattle.rs_copy.specs.declared.faults.CopyFault.TheVariants.{Device}
 use Rattle.rs_copy.proofs.Handed.{err_is}
 use Rattle.rs_copy.proofs.writing.write_directory.Goals as goal

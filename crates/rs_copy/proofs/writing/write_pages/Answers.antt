@@ -1,13 +1,10 @@
 use Rattle.std.proofs.Common.{◌++◌, List, arith}
 use Rattle.rs_extent.specs.declared.Extent.{Extent}
 use Rattle.rs_extent.specs.Extents.{in_some, AreBeside}
-use Rattle.rs_extent.proofs.Sets.{none_front, none_behind, beside_between, apart_front, apart_behind}
-use Rattle.rs_body.proofs.KeptBlocks.{outside_on}
-use Rattle.rs_body.proofs.Only.{only_as, only_none, only_then}
+use Rattle.rs_copy.proofs.FromBelow.{none_front, none_behind, beside_between, apart_front, apart_behind, outside_on, only_as, only_none, only_then, written_stay}
 use Rattle.rs_page.specs.Items.{record_format, change_format}
 use Rattle.rs_page.specs.Pages.{placed_extents}
 use Rattle.rs_page.specs.declared.page.store.StoreFault.TheVariants.{Device}
-use Rattle.rs_page.proofs.Standing.{written_stay}
 use Rattle.rs_image.specs.declared.contents.Contents.{Contents}
 use Rattle.rs_copy.specs.Copying.{pages_in}
 use Rattle.rs_copy.proofs.Handed.{handed_err, on_ok, told_on}

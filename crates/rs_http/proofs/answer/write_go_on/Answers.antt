@@ -1,5 +1,5 @@
 -- The word is put, and flushed then.
-use Rattle.rs_io.proofs.Faults.{on_fault}
+use Rattle.rs_http.proofs.FromBelow.{on_fault}
 use Rattle.rs_http.specs.Responses.{go_on}
 use Rattle.rs_http.proofs.Endings.{took_part, flushed, unflushed}
 use Rattle.rs_http.proofs.answer.write_go_on.Goals as goal

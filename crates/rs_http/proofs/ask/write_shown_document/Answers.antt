@@ -2,8 +2,7 @@
 use Rattle.std.proofs.Common.{◌≡◌, ◌∙◌, ◌++◌, [], ap, sym, refl, Err, List, ℕ, if◌then◌else◌, Bool, subst, Option, codes}
 use Rattle.std.specs.Prelude.{IfSome}
 use Rattle.rs_io.specs.Watch.{FailedWithin, Wrote}
-use Rattle.rs_io.proofs.Growth.{wrote_then}
-use Rattle.rs_io.proofs.Faults.{failed_first, failed_last}
+use Rattle.rs_http.proofs.FromBelow.{wrote_then, failed_first, failed_last}
 use Rattle.rs_caps.specs.DocumentTexts.{document_text}
 use Rattle.rs_http.specs.declared.fault.FrontFault.TheVariants.{Write}
 use Rattle.rs_http.specs.Responses.{content_lines, sent_body, framed}

@@ -1,8 +1,7 @@
 -- The length, between what is always there, and the number and the moment.
 use Rattle.std.proofs.Common.{◌≡◌, ◌∙◌, ◌++◌, ◌+◌, [], ◌∷◌, ap, codes, decimal, length, length-append, arith, List, ℕ}
 use Rattle.rs_time.specs.Moment.{moment_text}
-use Rattle.rs_lists.proofs.Lengths.{length-moment_text}
-use Rattle.rs_io.proofs.Faults.{writes_same}
+use Rattle.rs_http.proofs.FromBelow.{length-moment_text, writes_same}
 use Rattle.rs_http.specs.Responses.{content_lines, framed, plain, reply_line}
 use Rattle.rs_http.proofs.outcome.write_line.Goals as goal
 

@@ -1,6 +1,6 @@
 -- The length, between what is always there.
 use Rattle.std.proofs.Common.{◌≡◌, ◌∙◌, ◌++◌, [], codes, decimal}
-use Rattle.rs_io.proofs.Faults.{writes_same}
+use Rattle.rs_http.proofs.FromBelow.{writes_same}
 use Rattle.rs_http.specs.Responses.{content_lines, framed}
 use Rattle.rs_http.proofs.response.write_document_head.Goals as goal
 

@@ -1,7 +1,7 @@
 -- The digits of the status, its reason and the date, between what is always there.
 use Rattle.std.proofs.Common.{◌≡◌, ◌∙◌, ◌++◌, codes, decimal}
 use Rattle.httpdate.specs.Date.{date_text}
-use Rattle.rs_io.proofs.Faults.{writes_either, writes_same}
+use Rattle.rs_http.proofs.FromBelow.{writes_either, writes_same}
 use Rattle.rs_http.specs.Responses.{first_lines, reason_of}
 use Rattle.rs_http.proofs.response.write_first.Goals as goal
 

@@ -3,8 +3,7 @@ use Rattle.std.proofs.Common.{◌≡◌, ◌∙◌, ◌++◌, [], ap, sym, refl,
 use Rattle.std.specs.List.{flat_map}
 use Rattle.httpdate.specs.Date.{date_text}
 use Rattle.rs_io.specs.Watch.{Wrote}
-use Rattle.rs_io.proofs.Growth.{wrote_then}
-use Rattle.rs_io.proofs.Faults.{stops_first, stops_then, writes_last}
+use Rattle.rs_http.proofs.FromBelow.{wrote_then, stops_first, stops_then, writes_last}
 use Rattle.rs_http.specs.Responses.{first_lines, sent_body, framed}
 use Rattle.rs_http.proofs.response.write_response.Goals as goal
 

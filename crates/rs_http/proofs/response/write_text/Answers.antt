@@ -1,6 +1,6 @@
 -- The type and the length, between what is always there, and the body.
 use Rattle.std.proofs.Common.{◌≡◌, ◌∙◌, ◌++◌, codes, decimal, length, append-nil}
-use Rattle.rs_io.proofs.Faults.{writes_same}
+use Rattle.rs_http.proofs.FromBelow.{writes_same}
 use Rattle.rs_http.specs.Responses.{content_lines, framed}
 use Rattle.rs_http.proofs.response.write_text.Goals as goal
 

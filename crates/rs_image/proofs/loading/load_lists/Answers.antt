@@ -1,7 +1,7 @@
 use Rattle.std.proofs.Common.{rules, sym, subst, ◌∙◌}
 use Rattle.std.specs.Prelude.{List}
 use Rattle.std.proofs.lemmas.Result.{err_from_is_err_and}
-use Rattle.rs_disk.proofs.Runs.{reading_as, reading_then}
+use Rattle.rs_image.proofs.FromBelow.{reading_as, reading_then}
 use Rattle.rs_page.specs.declared.place.PageRef.{PageRef}
 use Rattle.rs_pages.specs.Storing.{items_by_page}
 use Rattle.rs_catalogue.specs.Catalogue.{HoldsCatalogue}

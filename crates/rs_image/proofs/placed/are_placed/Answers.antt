@@ -1,7 +1,7 @@
 use Rattle.std.proofs.Common.{true≢false, refl, sym, ap, length, ◌∙◌, arith}
 use Rattle.std.proofs.lemmas.List.{length-append}
 use Rattle.rs_directory.specs.Directory.{ref_bytes}
-use Rattle.rs_directory.proofs.Pieces.{length-ref_bytes}
+use Rattle.rs_image.proofs.FromBelow.{length-ref_bytes}
 use Rattle.rs_image.proofs.Named.{none_left, one_seen}
 use Rattle.rs_image.proofs.placed.are_placed.Goals as goal
 

@@ -1,8 +1,7 @@
 use Rattle.std.proofs.Common.{◌∙◌, ◌+◌, arith}
 use Rattle.rs_lists.proofs.Escaping.{reference_written, run_over, run_on, run_within, reference_within, last_run}
 use Rattle.rs_lists.proofs.escape.write_escaped.Goals.{in-Some+in_ok-put+in_ok-put-2, in_default}
-use Rattle.rs_io.proofs.Faults.{on_fault, failed_then, on_failed_last}
-use Rattle.rs_io.proofs.Growth.{wrote_then}
+use Rattle.rs_lists.proofs.FromBelow.{on_fault, failed_then, on_failed_last, wrote_then}
 use Rattle.rs_lists.proofs.escape.write_escaped.Goals as goal
 
 pub loop-i-preserved : goal.loop-i-preserved

@@ -2,7 +2,7 @@ use Rattle.std.proofs.Common.{◌≡◌, ℕ, List, [], ◌∷◌, sym, refl, �
 use Rattle.std.specs.Prelude.{IfOk, IsErrOf}
 use Rattle.rs_extent.specs.declared.Extent.{Extent}
 use Rattle.rs_extent.specs.Extents.{CanTake}
-use Rattle.rs_extent.proofs.Taken.{taken_none}
+use Rattle.rs_plan.proofs.FromBelow.{taken_none}
 use Rattle.rs_image.specs.declared.contents.Contents.{Contents}
 use Rattle.rs_image.specs.Rooted.{Rooted}
 use Rattle.rs_model.specs.declared.command.Command.TheVariants.{Delete}

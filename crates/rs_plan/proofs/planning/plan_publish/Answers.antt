@@ -2,7 +2,7 @@ use Rattle.std.proofs.Common.{◌≡◌, ◌∙◌, ap, ℕ, List, [], refl, sym
 use Rattle.std.specs.Prelude.{IfOk, IsErrOf}
 use Rattle.rs_extent.specs.declared.Extent.{Extent}
 use Rattle.rs_extent.specs.Extents.{CanTake}
-use Rattle.rs_extent.proofs.Taken.{taken_none}
+use Rattle.rs_plan.proofs.FromBelow.{taken_none}
 use Rattle.rs_changes.specs.History.{IsHistory}
 use Rattle.rs_image.specs.declared.contents.Contents.{Contents}
 use Rattle.rs_image.specs.Rooted.{Rooted}

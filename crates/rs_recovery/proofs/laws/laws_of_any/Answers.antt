@@ -1,6 +1,5 @@
 use Rattle.rs_store.specs.Counted.{is_accepted, is_in_doubt}
-use Rattle.rs_store.proofs.Turns.{closed_run, none_counts, closed_is_no_ok, closed_is_no_device}
-use Rattle.rs_store.proofs.Moments.{each_moment, holds_all}
+use Rattle.rs_recovery.proofs.FromBelow.{closed_run, none_counts, closed_is_no_ok, closed_is_no_device, each_moment, holds_all}
 use Rattle.rs_recovery.specs.AnyDisk.{state_of_any}
 use Rattle.rs_recovery.proofs.Sessions.{any_is_sound}
 use Rattle.rs_recovery.proofs.laws.laws_of_any.Goals as goal

@@ -1,5 +1,5 @@
 -- A name failed after the ones before it.
-use Rattle.rs_io.proofs.Faults.{failed_each, on_fault}
+use Rattle.rs_script.proofs.FromBelow.{failed_each, on_fault}
 use Rattle.rs_script.specs.Answers.{damaged_line}
 use Rattle.rs_script.proofs.answer.write_damaged.Goals as goal
 

@@ -1,7 +1,7 @@
 -- The damaged names, and how many are sound.
 use Rattle.std.proofs.Common.{◌++◌, codes, decimal, refl}
 use Rattle.std.specs.List.{flat_map}
-use Rattle.rs_io.proofs.Faults.{stops_first, writes_then}
+use Rattle.rs_script.proofs.FromBelow.{stops_first, writes_then}
 use Rattle.rs_script.specs.Answers.{damaged_line, verified_text}
 use Rattle.rs_script.proofs.answer.write_verified.Goals as goal
 

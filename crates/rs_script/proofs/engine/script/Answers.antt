@@ -2,7 +2,7 @@
 use Rattle.std.proofs.Common.{rules, ℕ, [], ◌++◌, take, arith, inl, inr, refl, subst, ◌∙◌}
 use Rattle.std.proofs.KnownBytes.{Consumes-nil, Consumes-kept, Appends-kept}
 use Rattle.rs_io.specs.Watch.{watched, seen_by}
-use Rattle.rs_io.proofs.Faults.{later_fault}
+use Rattle.rs_script.proofs.FromBelow.{later_fault}
 use Rattle.rs_script.specs.Answers.{output_of}
 use Rattle.rs_script.specs.Finished.{bytes_of}
 use Rattle.rs_script.specs.Progress.{IsCalled, stand}

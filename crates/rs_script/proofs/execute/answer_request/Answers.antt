@@ -1,5 +1,5 @@
 -- Each request, as its own function answers it.
-use Rattle.rs_io.proofs.Faults.{writes_either}
+use Rattle.rs_script.proofs.FromBelow.{writes_either}
 use Rattle.rs_script.specs.Answers.{outcome_text}
 use Rattle.rs_script.specs.Session.{moment_set}
 use Rattle.rs_script.proofs.AnswerLemmas.{moment_answered}

@@ -1,7 +1,7 @@
 -- Each number of fields.
 use Rattle.std.proofs.Common.{◌≡◌, ◌∷◌, [], ◌∙◌, ap, inl}
 use Rattle.rs_items.specs.Fields.{fields}
-use Rattle.rs_items.proofs.FieldLemmas.{fields-zero}
+use Rattle.rs_script.proofs.FromBelow.{fields-zero}
 use Rattle.rs_script.specs.Requests.{request_of}
 use Rattle.rs_script.proofs.RoomLemmas.{argument_length, longer, or_longer}
 use Rattle.rs_script.proofs.request.parse_request.Goals as goal

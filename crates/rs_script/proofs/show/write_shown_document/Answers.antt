@@ -2,8 +2,7 @@
 use Rattle.std.proofs.Common.{ap, Err, ℕ, List, [], ◌∷◌, ◌++◌, ◌∙◌, codes, decimal, append_assoc, subst, Option}
 use Rattle.std.specs.Prelude.{IfSome}
 use Rattle.rs_io.specs.Watch.{FailedWithin, Wrote}
-use Rattle.rs_io.proofs.Growth.{wrote_then}
-use Rattle.rs_io.proofs.Faults.{stops_first, failed_then, writes_last}
+use Rattle.rs_script.proofs.FromBelow.{wrote_then, stops_first, failed_then, writes_last}
 use Rattle.rs_caps.specs.DocumentTexts.{document_text}
 use Rattle.rs_script.specs.Answers.{shown_text}
 use Rattle.rs_script.proofs.AnswerLemmas.{is_there, shown_head}

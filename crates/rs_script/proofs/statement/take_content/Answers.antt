@@ -1,7 +1,7 @@
 -- A line in no group, the last line of a group, or one before it.
 use Rattle.std.proofs.Common.{◌-◌, ◌∙◌, Some, refl, sym, subst, arith, Option}
 use Rattle.rs_io.specs.Watch.{Wrote}
-use Rattle.rs_io.proofs.Growth.{wrote_nothing}
+use Rattle.rs_script.proofs.FromBelow.{wrote_nothing}
 use Rattle.rs_script.specs.declared.group.Taking.{Taking}
 use Rattle.rs_script.specs.Session.{script_state}
 use Rattle.rs_script.specs.Taken.{KeepsGroup}

@@ -1,7 +1,7 @@
 -- A group is begun, or a line is answered by itself.
 use Rattle.std.proofs.Common.{◌≡◌, ◌++◌, ◌∷◌, ◌∙◌, [], ap, List, ℕ, refl, subst, sym, Some}
 use Rattle.rs_io.specs.Watch.{Wrote}
-use Rattle.rs_io.proofs.Growth.{wrote_nothing}
+use Rattle.rs_script.proofs.FromBelow.{wrote_nothing}
 use Rattle.rs_script.specs.Session.{script_state}
 use Rattle.rs_script.specs.Statements.{single}
 use Rattle.rs_script.specs.Taken.{KeepsGroup}

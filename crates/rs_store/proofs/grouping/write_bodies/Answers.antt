@@ -6,8 +6,7 @@ use Rattle.rs_disk.specs.Medium.{DiskState}
 use Rattle.rs_extent.specs.declared.Extent.{Extent}
 use Rattle.rs_extent.specs.Extents.{in_some, IsSubset}
 use Rattle.rs_body.specs.Outside.{WritesOnly, WritesPart}
-use Rattle.rs_body.proofs.Only.{only_on, part_only}
-use Rattle.rs_body.proofs.Sets.{fits_sized}
+use Rattle.rs_store.proofs.FromBelow.{only_on, part_only, fits_sized}
 use Rattle.rs_model.specs.declared.command.Item.{Item}
 use Rattle.rs_plan.specs.Room.{bodies_kept}
 use Rattle.rs_plan.specs.Turned.{no_body}

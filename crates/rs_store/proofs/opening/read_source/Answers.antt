@@ -2,7 +2,7 @@ use Rattle.std.proofs.Common.{◌≡◌, ◌<◌, ℕ, List, Option, Some, IsTru
 use Rattle.std.specs.Prelude.{IsSome}
 use Rattle.std.proofs.lemmas.Result.{err_from_is_err_and}
 use Rattle.rs_disk.specs.Medium.{Medium}
-use Rattle.rs_disk.proofs.Runs.{reading_as, reading_then}
+use Rattle.rs_store.proofs.FromBelow.{reading_as, reading_then}
 use Rattle.rs_commit.specs.Slots.{Standing, current}
 use Rattle.rs_commit.specs.declared.root.Root.{Root}
 use Rattle.rs_image.specs.StateOfImage.{Tells}

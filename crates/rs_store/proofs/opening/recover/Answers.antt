@@ -1,8 +1,7 @@
 use Rattle.std.proofs.Common.{true≢false, ◌≡◌, List, ℕ, false, get_or, sym, ap, subst, Result, Ok, Err}
 use Rattle.std.specs.Prelude.{IfOk, IfErr, IsTrue}
 use Rattle.rs_disk.specs.Medium.{Medium, DiskState}
-use Rattle.rs_disk.proofs.Images.{resting_off}
-use Rattle.rs_disk.proofs.Runs.{runs_one, nothing_read, nothing_synced, nothing_then}
+use Rattle.rs_store.proofs.FromBelow.{resting_off, runs_one, nothing_read, nothing_synced, nothing_then}
 use Rattle.rs_commit.specs.Slots.{Standing}
 use Rattle.rs_commit.specs.Commit.{AreSettled}
 use Rattle.rs_image.specs.declared.contents.Loaded.{Loaded}

@@ -5,7 +5,7 @@ use Rattle.std.proofs.lemmas.Result.{err_from_is_err_and}
 use Rattle.std.specs.Io.KnownBytes.{Consumes}
 use Rattle.rs_fixity.specs.Hashed.{HasTaken}
 use Rattle.rs_body.specs.Blocks.{part}
-use Rattle.rs_body.proofs.Only.{only_on, only_then}
+use Rattle.rs_store.proofs.FromBelow.{only_on, only_then}
 use Rattle.rs_io.specs.Watch.{watched}
 use Rattle.rs_store.proofs.Received.{stops_behind}
 use Rattle.rs_store.proofs.receiving.receive.Goals as goal

@@ -1,6 +1,6 @@
 use Rattle.std.proofs.lemmas.Result.{err_from_is_err_and}
 use Rattle.std.proofs.Common.{true≢false, ◌≡◌, [], ◌∷◌, length, refl, sym, ◌∙◌}
-use Rattle.rs_body.proofs.Only.{only_none, only_as, part_only}
+use Rattle.rs_store.proofs.FromBelow.{only_none, only_as, part_only}
 use Rattle.rs_io.specs.Watch.{watched}
 use Rattle.rs_store.specs.declared.refusal.Refusal.TheVariants.{Device}
 use Rattle.rs_store.proofs.Received.{cut_stops, cut_not_device}

@@ -2,7 +2,7 @@ use Rattle.std.proofs.Common.{◌≡◌, ◌<◌, ◌+◌, ◌++◌, ◌∷◌, 
 use Rattle.std.proofs.lemmas.List.{take_more}
 use Rattle.std.proofs.lemmas.Option.{get_or_from_slice_get}
 use Rattle.rs_disk.specs.Medium.{Medium}
-use Rattle.rs_disk.proofs.Runs.{reading_on}
+use Rattle.rs_store.proofs.FromBelow.{reading_on}
 use Rattle.rs_record.specs.declared.record.Record.{Record}
 use Rattle.rs_catalogue.specs.Catalogue.{records_of}
 use Rattle.rs_image.specs.StateOfImage.{held_in}

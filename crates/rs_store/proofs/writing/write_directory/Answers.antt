@@ -1,6 +1,5 @@
 use Rattle.std.proofs.Common.{rules, [], ◌∷◌}
-use Rattle.rs_extent.proofs.Sets.{beside_first}
-use Rattle.rs_body.proofs.Only.{only_as, part_only}
+use Rattle.rs_store.proofs.FromBelow.{beside_first, only_as, part_only}
 use Rattle.rs_store.proofs.writing.write_directory.Goals as goal
 
 pub returns-in_err-write_body-clause-writes : goal.returns-in_err-write_body-clause-writes

@@ -2,7 +2,7 @@ use Rattle.std.proofs.Common.{rules, arith, ◌≡◌, ◌*◌, ◌+◌, ◌≤�
 use Rattle.std.specs.Prelude.{OnOk}
 use Rattle.rs_disk.specs.Medium.{DiskState}
 use Rattle.rs_body.specs.Blocks.{part}
-use Rattle.rs_body.proofs.Only.{only_then}
+use Rattle.rs_store.proofs.FromBelow.{only_then}
 use Rattle.rs_plan.specs.Plans.{places}
 use Rattle.rs_image.specs.declared.contents.Contents.{Contents}
 use Rattle.rs_directory.specs.Directory.{written_format}

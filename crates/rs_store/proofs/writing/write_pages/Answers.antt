@@ -1,11 +1,8 @@
 use Rattle.std.proofs.Common.{rules, arith, ◌++◌}
 use Rattle.rs_extent.specs.Extents.{in_some}
-use Rattle.rs_body.proofs.Only.{only_as, only_then}
+use Rattle.rs_store.proofs.FromBelow.{only_as, only_then, written_stay, some_front, some_behind, beside_front, apart_front, apart_behind, beside_between}
 use Rattle.rs_page.specs.Items.{record_format}
 use Rattle.rs_page.specs.Pages.{placed_extents}
-use Rattle.rs_page.proofs.Standing.{written_stay}
-use Rattle.rs_extent.proofs.Sets.{some_front, some_behind}
-use Rattle.rs_extent.proofs.Sets.{beside_front, apart_front, apart_behind, beside_between}
 use Rattle.rs_store.proofs.writing.write_pages.Goals as goal
 
 pub store_touched-requires-clause-room : goal.store_touched-requires-clause-room

@@ -1,5 +1,5 @@
 use Rattle.std.proofs.Common.{sym, ap, ◌∙◌, subst}
-use Rattle.rs_pages.proofs.Joined.{same_joined}
+use Rattle.rs_catalogue.proofs.FromBelow.{same_joined}
 use Rattle.rs_catalogue.specs.Catalogue.{AreHeld, StandsUnstored, records_of}
 use Rattle.rs_catalogue.proofs.MovedPages.{stands_again}
 use Rattle.rs_catalogue.proofs.catalogue.Catalogue.place_touched.Goals as goal

@@ -1,7 +1,6 @@
 use Rattle.std.proofs.Common.{sym, subst}
 use Rattle.rs_page.specs.Items.{record_format}
-use Rattle.rs_pages.proofs.Joined.{same_joined}
-use Rattle.rs_pages.proofs.Writing.{items_kept}
+use Rattle.rs_catalogue.proofs.FromBelow.{same_joined, items_kept}
 use Rattle.rs_catalogue.specs.Catalogue.{AreHeld}
 use Rattle.rs_catalogue.proofs.catalogue.Catalogue.store_touched.Goals as goal
 

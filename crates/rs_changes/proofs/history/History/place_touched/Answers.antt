@@ -1,5 +1,5 @@
 use Rattle.std.proofs.Common.{sym, ap, ◌∙◌, subst}
-use Rattle.rs_pages.proofs.Joined.{same_joined}
+use Rattle.rs_changes.proofs.FromBelow.{same_joined}
 use Rattle.rs_changes.specs.History.{AreKept, Numbered, EndsUnstored, changes_of}
 use Rattle.rs_changes.proofs.MovedPages.{ends_again}
 use Rattle.rs_changes.proofs.history.History.place_touched.Goals as goal

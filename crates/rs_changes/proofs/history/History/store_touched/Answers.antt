@@ -1,7 +1,6 @@
 use Rattle.std.proofs.Common.{sym, ap, ◌∙◌, subst}
 use Rattle.rs_page.specs.Items.{change_format}
-use Rattle.rs_pages.proofs.Joined.{same_joined}
-use Rattle.rs_pages.proofs.Writing.{items_kept}
+use Rattle.rs_changes.proofs.FromBelow.{same_joined, items_kept}
 use Rattle.rs_changes.specs.History.{AreKept, Numbered, changes_of}
 use Rattle.rs_changes.proofs.history.History.store_touched.Goals as goal
 

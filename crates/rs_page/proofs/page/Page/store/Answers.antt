@@ -4,7 +4,7 @@ use Rattle.std.specs.List.{cons_option}
 use Rattle.rs_disk.specs.Medium.{DiskState}
 use Rattle.rs_extent.specs.declared.Extent.{Extent}
 use Rattle.rs_body.specs.Outside.{WritesOnly, WritesPart}
-use Rattle.rs_body.proofs.Only.{only_as, part_only}
+use Rattle.rs_page.proofs.FromBelow.{only_as, part_only}
 use Rattle.rs_page.specs.declared.place.Place.{Place}
 use Rattle.rs_page.specs.declared.place.Place.TheVariants.{Placed}
 use Rattle.rs_page.specs.Pages.{placed_extent}

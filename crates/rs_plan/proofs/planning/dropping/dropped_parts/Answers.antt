@@ -1,5 +1,5 @@
 use Rattle.std.proofs.Common.{[]}
-use Rattle.rs_model.proofs.DropLemmas.{dropped_within}
+use Rattle.rs_plan.proofs.FromBelow.{dropped_within}
 use Rattle.rs_image.specs.StateOfImage.{state_in}
 use Rattle.rs_plan.proofs.planning.dropping.dropped_parts.Goals as goal
 

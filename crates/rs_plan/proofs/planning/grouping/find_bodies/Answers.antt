@@ -1,6 +1,6 @@
 use Rattle.std.proofs.Common.{sym, subst}
 use Rattle.rs_extent.specs.Extents.{AreTaken}
-use Rattle.rs_extent.proofs.InTurn.{taken_is_given_back}
+use Rattle.rs_plan.proofs.FromBelow.{taken_is_given_back}
 use Rattle.rs_plan.proofs.planning.grouping.find_bodies.Goals as goal
 
 pub returns-in_err-taken-clause-same : goal.returns-in_err-taken-clause-same

@@ -4,7 +4,7 @@ use Rattle.std.proofs.lemmas.List.{append-nil}
 use Rattle.rs_body.specs.Blocks.{blocks_of}
 use Rattle.rs_extent.specs.declared.Extent.{Extent}
 use Rattle.rs_extent.specs.Extents.{AreTaken}
-use Rattle.rs_extent.proofs.Taken.{taken_both}
+use Rattle.rs_plan.proofs.FromBelow.{taken_both}
 use Rattle.rs_model.specs.declared.command.Item.{Item}
 use Rattle.rs_plan.specs.Allowed.{IsShort}
 use Rattle.rs_plan.specs.Room.{Takes, HasNoRoom, TakesEach, bodies_kept, bodies_needed}

@@ -6,7 +6,7 @@ use Rattle.rs_page.specs.Pages.{placed_extents}
 use Rattle.rs_directory.specs.Directory.{directory_length}
 use Rattle.rs_extent.specs.declared.Extent.{Extent}
 use Rattle.rs_extent.specs.Extents.{AreTaken}
-use Rattle.rs_extent.proofs.Taken.{taken_both}
+use Rattle.rs_plan.proofs.FromBelow.{taken_both}
 use Rattle.rs_image.specs.declared.contents.Contents.{Contents}
 use Rattle.rs_image.specs.StateOfImage.{directory_bytes_of}
 use Rattle.rs_plan.specs.Room.{HasNoRun, HasNoRoom, lists_needed, pages_needed}

@@ -2,7 +2,7 @@
 use Rattle.std.proofs.Common.{◌≡◌, Result, Ok, Err, OnErr}
 use Rattle.rs_io.specs.declared.watch.Watched.{Watched}
 use Rattle.rs_io.specs.Watch.{failures, EndFailed}
-use Rattle.rs_io.proofs.Faults.{later_fault}
+use Rattle.rs_script.proofs.FromBelow.{later_fault}
 use Rattle.rs_script.specs.Progress.{stand}
 use Rattle.rs_script.proofs.Endings.{end_whole, cut_ok, cut_err}
 use Rattle.rs_script.proofs.pending.Pending.take_end.Goals as goal

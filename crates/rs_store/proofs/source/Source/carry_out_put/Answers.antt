@@ -1,5 +1,5 @@
 use Rattle.std.proofs.Common.{true≢false, ◌≡◌, ℕ, [], ◌∷◌, length, sym, ◌∙◌, ap, subst}
-use Rattle.rs_body.proofs.Only.{part_only}
+use Rattle.rs_store.proofs.FromBelow.{part_only}
 use Rattle.rs_model.specs.declared.command.Command.{Command}
 use Rattle.rs_model.specs.declared.command.Command.TheVariants.{Put}
 use Rattle.rs_image.specs.Rooted.{Rooted, rooted}

@@ -2,7 +2,7 @@ use Rattle.std.proofs.Common.{rules, ◌≡◌, ℕ, ◌<◌, ◌+◌, ◌*◌, 
 use Rattle.std.specs.Prelude.{replicate}
 use Rattle.rs_io.specs.Watch.{watched}
 use Rattle.rs_body.specs.Blocks.{part}
-use Rattle.rs_body.proofs.Sets.{fits_sized}
+use Rattle.rs_store.proofs.FromBelow.{fits_sized}
 use Rattle.rs_fixity.specs.declared.Digests.{Digests}
 use Rattle.rs_fixity.specs.Digests.{digests}
 use Rattle.rs_model.specs.Step.{moment_at}
