@@ -27,7 +27,7 @@ lies e at n size some fits inside = let room = has_room e (at + n) size (grind (
 pub apart_from : (kept : ℕ → Bool) (e : Extent) → IsBeside kept e → (b : ℕ) → kept b ≡ true → (b < e.first) ⊎ (e.first + e.blocks ≤ b)
 apart_from kept e beside b is = outside e b (turned (within e) kept beside b is)
 
--- Blocks are kept where nothing changes, by one change and then another, and in a set of fewer.
+-- Blocks are kept where nothing changes, by two changes in turn, and in a subset.
 pub keeps_same : (kept : ℕ → Bool) (bytes : List ℕ) → Keeps kept bytes bytes
 keeps_same kept bytes = record { size = refl; same = λ b i is lt. refl }
 
@@ -37,7 +37,7 @@ keeps_on kept a b c first behind = record { size = behind.size ∙ first.size; s
 pub keeps_less : (kept more : ℕ → Bool) → ((b : ℕ) → kept b ≡ true → more b ≡ true) → (a b : List ℕ) → Keeps more a b → Keeps kept a b
 keeps_less kept more from a b keeps = record { size = keeps.size; same = λ k i is lt. keeps.same k i (from k is) lt }
 
--- What is torn in an extent alone keeps each set beside it.
+-- A list torn only within an extent keeps each set beside it.
 pub keeps_torn : (kept : ℕ → Bool) (e : Extent) (at n : ℕ) → IsBeside kept e → at + n ≤ block_size * e.blocks → (old new : List ℕ) → Torn (block_size * e.first + at) n old new → Keeps kept old new
 keeps_torn kept e at n beside fits old new torn = record {
   size = torn.size;
@@ -62,7 +62,7 @@ keeps_marked kept e at n beside fits set room = record {
   ];
 }
 
--- a run of no call
+-- a run without calls
 pub outside_none : (kept : ℕ → Bool) (disk : DiskState) → WritesOutside kept disk disk
 outside_none kept disk = record {
   seen = keeps_same kept disk.now.seen;
@@ -82,7 +82,7 @@ outside_on kept old mid new first behind = record {
       behind.leaves);
 }
 
--- in a set of fewer blocks
+-- in a subset
 pub outside_less : (kept more : ℕ → Bool) → ((b : ℕ) → kept b ≡ true → more b ≡ true) → (old new : DiskState) → WritesOutside more old new → WritesOutside kept old new
 outside_less kept more from old new run = record {
   seen = keeps_less kept more from old.now.seen new.now.seen run.seen;

@@ -1,4 +1,4 @@
--- Runs that write some extents alone: of no call, one after another, and by another answer.
+-- Runs that write only some extents: without calls, one after another, and by another answer.
 use Rattle.std.proofs.Common.{◌⊎◌, inr, ℕ, List, [], ◌∷◌}
 use Rattle.rs_disk.specs.Medium.{DiskState}
 use Rattle.rs_body.proofs.FromBelow.{writing_none, writing_as, writing_on, beside_first}
@@ -26,6 +26,6 @@ pub only_then : {A B : Type 0} (xs ys zs : List Extent) (old mid new : DiskState
     → ¬ A → WritesOnly xs A old mid → WritesOnly ys B mid new → WritesOnly zs B old new
 only_then xs ys zs old mid new first second well one two = only_on xs ys zs old mid new first second (λ told. absurd (well told)) (λ told. told) (λ told. inr told) one two
 
--- what writes a part of an extent writes that extent alone
+-- a run that writes a part of an extent writes only that extent
 pub part_only : {A : Type 0} (e : Extent) (at n : ℕ) (old new : DiskState) → WritesPart e at n A old new → WritesOnly (e ∷ []) A old new
 part_only e at n old new run = record { runs = run.within.writes; outside = λ kept beside. run.outside kept (beside_first kept e [] beside) }

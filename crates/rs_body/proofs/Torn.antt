@@ -1,4 +1,4 @@
--- What one write leaves of what is held.
+-- What one write leaves on the disk.
 use Rattle.std.proofs.Common.{◌≡◌, ◌⊎◌, inl, inr, ℕ, ◌+◌, ◌≤◌, List, length, refl, sym, subst, arith, Result, Ok, Err, OnOk, OnErr}
 use Rattle.rs_disk.specs.Medium.{Medium, DiskState, over, written}
 use Rattle.rs_disk.specs.Calls.{Writes, Tears}

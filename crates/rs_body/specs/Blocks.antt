@@ -7,7 +7,7 @@ use Rattle.rs_extent.specs.Blocks.{block_size}
 abbrev pub blocks_of : ℕ → ℕ
 blocks_of n = (n + block_size - 1) / block_size
 
--- the extent is of the size for n bytes, and begins at block 0 where it has no block
+-- the extent has exactly the blocks that n bytes need, and begins at block 0 where they need none
 abbrev pub IsSized : Extent → ℕ → Type 0
 IsSized e n = (e.blocks ≡ blocks_of n) × (n ≡ 0 → e.first ≡ 0)
 

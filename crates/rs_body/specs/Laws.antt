@@ -12,43 +12,43 @@ use Rattle.rs_body.specs.Outside.{Keeps, WritesOutside, WritesOnly, WritesPart}
 abbrev pub BesideEach : Type 0
 BesideEach = (kept : ℕ → Bool) (e : Extent) (es : List Extent) → AreBeside kept (e ∷ es) ↔ (IsBeside kept e × AreBeside kept es)
 
--- The fewest blocks that have room for n bytes are those that they need.
+-- Blocks have room for n bytes exactly where they are as many as these need, or more.
 abbrev pub FewestBlocks : Type 0
 FewestBlocks = (n blocks : ℕ) → (n ≤ block_size * blocks) ↔ (blocks_of n ≤ blocks)
 
--- A run of no call writes outside every set.
+-- A run without calls writes outside every set.
 abbrev pub NoCallOutside : Type 0
 NoCallOutside = (kept : ℕ → Bool) (disk : DiskState) → WritesOutside kept disk disk
 
--- A run and then another that both write outside a set write outside it as one run.
+-- Two runs in turn that both write outside a set write outside it as one run.
 abbrev pub OutsideGoesOn : Type 0
 OutsideGoesOn = (kept : ℕ → Bool) (old mid new : DiskState) → WritesOutside kept old mid → WritesOutside kept mid new → WritesOutside kept old new
 
--- What writes outside a set writes outside each set of fewer blocks.
+-- A run that writes outside a set writes outside each of its subsets.
 abbrev pub OutsideLess : Type 0
 OutsideLess = (kept more : ℕ → Bool) → ((b : ℕ) → kept b ≡ true → more b ≡ true) → (old new : DiskState) → WritesOutside more old new → WritesOutside kept old new
 
--- What rests writes outside every set.
+-- A run that changes nothing writes outside every set.
 abbrev pub OutsideRests : Type 0 → Type 0
 OutsideRests A = (kept : ℕ → Bool) (old new : DiskState) → RunsReading A old new → WritesOutside kept old new
 
--- The first n bytes of an extent whose blocks are all in a set stay where the set's blocks hold what they held.
+-- If each block of an extent is in a set, its first n bytes stay where the set's blocks keep what they held.
 abbrev pub PartKept : Type 0
 PartKept = (kept : ℕ → Bool) (e : Extent) (n : ℕ) → n ≤ block_size * e.blocks → ((b : ℕ) → within e b ≡ true → kept b ≡ true)
     → (old new : List ℕ) → Keeps kept old new → part e n new ≡ part e n old
 
--- Of a run that writes outside this set, each image of a crash holds there what an image of the run's entry holds.
+-- If a run writes outside this set, each image of a crash within it has there what an image of the run's entry has.
 abbrev pub ImagePartKept : Type 0
 ImagePartKept = (kept : ℕ → Bool) (e : Extent) (n : ℕ) → n ≤ block_size * e.blocks → ((b : ℕ) → within e b ≡ true → kept b ≡ true)
     → (old new : DiskState) → WritesOutside kept old new → (m : ℕ) (image : List ℕ) → old.calls ≤ m → m ≤ new.calls → IsImageAt new m image
     → (entry : List ℕ) × IsImage old.now entry × (part e n image ≡ part e n entry)
 
--- A run that writes some extents alone, and then another, write alone each list of extents that has all their blocks. The answer of
--- both tells of the device where one of theirs does.
+-- Two runs in turn that each write only some extents write, as one run, only those of any list that has all their
+-- blocks. The answer of both reports the device where one of theirs does.
 abbrev pub OnlyJoins : Type 0 → Type 0 → Type 0 → Type 0
 OnlyJoins A B C = (xs ys zs : List Extent) (old mid new : DiskState) → IsSubset (in_some xs) (in_some zs) → IsSubset (in_some ys) (in_some zs)
     → (A → C) → (B → C) → (C → A ⊎ B) → WritesOnly xs A old mid → WritesOnly ys B mid new → WritesOnly zs C old new
 
--- What writes a part of an extent writes that extent alone.
+-- A run that writes a part of an extent writes only that extent.
 abbrev pub PartIsOnly : Type 0 → Type 0
 PartIsOnly A = (e : Extent) (at n : ℕ) (old new : DiskState) → WritesPart e at n A old new → WritesOnly (e ∷ []) A old new

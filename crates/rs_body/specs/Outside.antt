@@ -1,4 +1,4 @@
--- What a run of device calls keeps of a set of blocks, which it writes outside of; and runs that write some extents alone.
+-- Runs of device calls that write outside a set of blocks, and what they keep of it; runs that write only some extents.
 use Rattle.std.specs.Prelude.{◌≡◌, ℕ, ◌+◌, ◌*◌, ◌<◌, Bool, true, false, List, length, get_or}
 use Rattle.rs_disk.specs.Medium.{Medium, DiskState, IsImage}
 use Rattle.rs_disk.specs.Leaves.{Leaves}
@@ -8,7 +8,7 @@ use Rattle.rs_extent.specs.Blocks.{block_size}
 use Rattle.rs_extent.specs.Extents.{IsBeside, AreBeside}
 use Rattle.rs_body.specs.Blocks.{place_of}
 
--- The blocks of the set hold what they held.
+-- The blocks of the set keep what they held.
 pub record Keeps (kept : ℕ → Bool) (old new : List ℕ) : Type 0 where
   pub size : length new ≡ length old
   pub same : (b i : ℕ) → kept b ≡ true → i < block_size → get_or new (block_size * b + i) 0 ≡ get_or old (block_size * b + i) 0
@@ -17,7 +17,7 @@ pub record Keeps (kept : ℕ → Bool) (old new : List ℕ) : Type 0 where
 pub record KeepsMarks (kept : ℕ → Bool) (old new : List Bool) : Type 0 where
   pub same : (b i : ℕ) → kept b ≡ true → i < block_size → get_or new (block_size * b + i) false ≡ get_or old (block_size * b + i) false
 
--- an image of what was held, but for the blocks outside the set
+-- an image of what was held, with any bytes outside the set
 abbrev pub KeptFrom : (ℕ → Bool) → Medium → List ℕ → Type 0
 KeptFrom kept held image = (entry : List ℕ) × IsImage held entry × Keeps kept entry image
 
@@ -28,13 +28,13 @@ pub record WritesOutside (kept : ℕ → Bool) (old new : DiskState) : Type 0 wh
   pub marks : KeepsMarks kept old.now.unsettled new.now.unsettled
   pub leaves : Leaves old new (λ _. KeptFrom kept old.now)
 
--- A run that writes these extents alone, whatever its answer tells of the device: each set of blocks beside them stays.
+-- A run that writes only these extents, whatever its answer reports: each set of blocks beside them stays.
 pub record WritesOnly (extents : List Extent) (told : Type 0) (old new : DiskState) : Type 0 where
   pub runs : RunsWriting told old new
   pub outside : (kept : ℕ → Bool) → AreBeside kept extents → WritesOutside kept old new
 
--- A run that writes n bytes of an extent, counted from a place in it on, by one call, or by none where there are none. It writes
--- nothing else, whatever its answer tells of the device: nothing within the extent, and no block beside it.
+-- A run that writes n bytes of an extent, from a place in it on, by one call, or by none where n is 0. It writes
+-- nothing else, whatever its answer reports: nothing within the extent, and no block beside it.
 pub record WritesPart (e : Extent) (at n : ℕ) (told : Type 0) (old new : DiskState) : Type 0 where
   pub within : WritesWithin (place_of e at) n told old new
   pub outside : (kept : ℕ → Bool) → IsBeside kept e → WritesOutside kept old new

@@ -1,4 +1,4 @@
--- What it is to read a body.
+-- Reading a body, or a part of one.
 use Rattle.std.specs.Prelude.{◌≡◌, ℕ, List, [], ◌++◌, length, take, drop, Result, OnOk, OnErr, IsErr, IsErrOf, IsTrue}
 use Rattle.rs_disk.specs.Medium.{DiskState}
 use Rattle.rs_disk.specs.Runs.{RunsReading, CallsAtMost}
@@ -8,18 +8,19 @@ use Rattle.rs_body.specs.declared.read.LoadFault.{LoadFault}
 use Rattle.rs_body.specs.declared.read.LoadFault.TheVariants.{Device, Damaged}
 use Rattle.rs_body.specs.Blocks.{part}
 
--- A body as it is named: its extent, its length in bytes, and its SHA-256.
+-- How a record names a body: its extent, its length in bytes, and its SHA-256.
 pub record Named : Type 0 where
   pub extent : Extent
   pub length : ℕ
   pub sha256 : List ℕ
 
 -- A body was read into `bytes`, or was not.
--- `found`: of a device that has followed the model, the bytes are those of the extent.
--- `long`, `digest`: of every device, they have the length and the SHA-256 of the body.
+-- `found`: if the device has followed the model, the bytes are those of the extent.
+-- `long`, `digest`: on every device, they have the length and the SHA-256 of the body.
 -- `empty`: where it was not read, there are none.
--- `damaged`: of a device that has followed the model, Damaged is answered only where the extent holds other bytes.
--- `runs`: nothing changes, and the device is told of where it failed.
+-- `damaged`: if the device has followed the model, Damaged comes only where the bytes of the extent have another
+-- SHA-256.
+-- `runs`: nothing changes, and Device is answered only where the device failed.
 -- `no_call`: a body of no bytes needs no call.
 pub record ReadsBody (body : Named) (old new : DiskState) (bytes : List ℕ) (result : Result (Unit {0}) LoadFault) : Type 0 where
   pub found : OnOk result (IsTrue new.honest → bytes ≡ part body.extent body.length old.now.seen)
@@ -30,15 +31,15 @@ pub record ReadsBody (body : Named) (old new : DiskState) (bytes : List ℕ) (re
   pub runs : RunsReading (IsErrOf result Device) old new
   pub no_call : body.length ≡ 0 → new ≡ old
 
--- The first n bytes of an extent were read, or were not: of a device that has followed the model they are those that stand there,
--- of every device they are as many. Nothing changes, and no bytes need no call.
+-- The first n bytes of an extent were read, or were not. On every device there are n of them, and they are the extent's
+-- if the device has followed the model. Nothing changes, and 0 bytes need no call.
 pub record ReadsPart {T E : Type 0} (extent : Extent) (n : ℕ) (old new : DiskState) (bytes : List ℕ) (result : Result T E) : Type 0 where
   pub found : OnOk result (IsTrue new.honest → bytes ≡ part extent n old.now.seen)
   pub long : OnOk result (length bytes ≡ n)
   pub runs : RunsReading (IsErr result) old new
   pub no_call : n ≡ 0 → new ≡ old
 
--- n bytes are read by one call, or by none where there are none: nothing changes.
+-- n bytes are read by one call, or by none where n is 0: nothing changes.
 pub record ReadsOnce (n : ℕ) (told : Type 0) (old new : DiskState) : Type 0 where
   pub runs : RunsReading told old new
   pub one_call : CallsAtMost 1 old new

@@ -13,8 +13,8 @@ pub fn blocks_for(length: u32) -> u32
     length.div_ceil(BLOCK_SIZE as u32)
 }
 
-/// Whether `extent` has the size for a body of `length` bytes: exactly the blocks that it needs,
-/// and where it needs none, 0 for its first block.
+/// Whether `extent` has exactly the blocks that a body of `length` bytes needs, and begins at block 0
+/// where it needs none.
 pub fn is_sized(extent: Extent, length: u32) -> bool
     ensures { IsTrue result ↔ IsSized extent length }
 {
@@ -22,8 +22,8 @@ pub fn is_sized(extent: Extent, length: u32) -> bool
 }
 
 /// Whether each block of `extent` lies on a disk of `size` bytes, as
-/// [`write_body`](crate::write_body) and [`read_body`](crate::read_body) ask. An extent of no
-/// blocks lies on every disk.
+/// [`write_body`](crate::write_body) and [`read_body`](crate::read_body) require. An empty extent
+/// lies on every disk.
 pub fn is_on_disk(extent: Extent, size: u64) -> bool
     ensures { IsTrue result ↔ IsOnDisk extent size }
 {

@@ -13,15 +13,15 @@ use rs_disk::{Disk, Fault};
 use rs_extent::Extent;
 use rs_fixity::Sha256Hashing;
 
-/// How many bytes are read at once, but for the last piece: 512 blocks.
+/// The size of each piece but the last, in bytes: 512 blocks.
 const PIECE_SIZE: u32 = 262_144;
 
-/// Reads a body as [`read_body`](crate::read_body) does, in pieces of 262,144 bytes, the last of
-/// which may have fewer, each by one device call. Each is hashed while it is near, so that a large
-/// body takes less time.
+/// Reads a body as [`read_body`](crate::read_body) does, but in pieces of 262,144 bytes, each by one
+/// device call. The last piece may have fewer. It hashes each piece while that is in the cache, so a
+/// large body takes less time.
 ///
 /// The blocks of the extent have to lie on the disk, and the bytes have to fit into them. Bytes
-/// past the length are not read. The memory is asked for once, for exactly the length, and not
+/// past the length are not read. Memory is allocated once, for exactly the length, and not at all
 /// where the vector has room. The disk stays as it is.
 ///
 /// # Errors
@@ -56,8 +56,8 @@ pub fn read_in_pieces<D: Disk>(
     }
 }
 
-/// Appends the bytes of an extent to an empty vector that has room for them, a piece at a time, and
-/// gives their SHA-256.
+/// Appends the bytes of an extent to an empty vector with room for them, piece by piece, and gives
+/// their SHA-256.
 fn append_pieces<D: Disk>(
     disk: &mut D,
     extent: Extent,

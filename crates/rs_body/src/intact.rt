@@ -1,4 +1,4 @@
-//! Looking at a body, in memory that does not grow with it.
+//! Checking a body, in memory that does not grow with it.
 ghost use Rattle.std.specs.Prelude.{◌≡◌, ◌↔◌, ◌+◌, ◌*◌, ◌/◌, ◌≤◌, length, IfOk, IsErr, IsTrue};
 ghost use Rattle.rs_disk.specs.Runs.{RunsReading, CallsAtMost};
 ghost use Rattle.rs_fixity.specs.Digests.{digests};
@@ -11,12 +11,12 @@ use rs_disk::{Disk, Fault};
 use rs_extent::Extent;
 use rs_fixity::Sha256Hashing;
 
-// How many bytes are read at once, but for the last piece: 32 blocks.
+/// The size of each piece but the last, in bytes: 32 blocks.
 const PIECE_SIZE: usize = 16_384;
 
-/// Whether the body of `length` bytes at the front of an extent has this SHA-256. It is read in
-/// pieces of 16,384 bytes, the last of which may have fewer, each by one device call, and takes no
-/// memory but for one piece. A body of no bytes needs no call.
+/// Whether the body of `length` bytes at the front of an extent has this SHA-256. It reads pieces of
+/// 16,384 bytes, each by one device call, and holds one piece in memory at a time. The last piece
+/// may have fewer bytes. A body of no bytes needs no call.
 ///
 /// The blocks of the extent have to lie on the disk, and the bytes have to fit into them. The disk
 /// stays as it is.
@@ -32,7 +32,7 @@ pub fn is_intact<D: Disk>(
     requires room { IsOnDisk extent (D.state disk.old).size }
     requires fits { length ≤ block_size * extent.blocks }
 
-    // It is said of a device that has followed the model.
+    // The device has to have followed the model.
     ensures tells { IfOk result (λ intact. IsTrue (D.state disk.new).honest → (IsTrue intact
         ↔ ((digests (part extent length (D.state disk.old).now.seen)).sha256 ≡ sha256.now))) }
     ensures runs { RunsReading (IsErr result) (D.state disk.old) (D.state disk.new) }

@@ -17,35 +17,35 @@ pub fn fewest_blocks()
     ensures { FewestBlocks }
 {}
 
-/// A run of no call writes outside every set of blocks.
+/// A run without calls writes outside every set of blocks.
 pub fn outside_none()
     ensures { NoCallOutside }
 {}
 
-/// Runs that write outside a set of blocks, one after another, write outside it as one.
+/// Two runs in turn that write outside a set of blocks write outside it as one run.
 pub fn outside_goes_on()
     ensures { OutsideGoesOn }
 {}
 
-/// What writes outside a set of blocks writes outside each set of fewer.
+/// A run that writes outside a set of blocks writes outside each of its subsets.
 pub fn outside_less()
     ensures { OutsideLess }
 {}
 
-/// What changes nothing writes outside every set of blocks.
+/// A run that changes nothing writes outside every set of blocks.
 pub fn outside_rests<A: Told>()
     ensures { OutsideRests A.told }
 {}
 
-/// Runs that write some extents alone, one after another, write all of them alone.
+/// Two runs in turn that each write only some extents write only these as one run.
 pub fn only_goes_on<A: Told, B: Told, C: Told>()
     ensures joins { OnlyJoins A.told B.told C.told }
     ensures part { PartIsOnly A.told }
 {}
 
-/// What stands in blocks of a set stays, where the set's blocks hold what they held; and in each
-/// image of a crash within a run that writes outside the set, it is what an image from before the
-/// run has there.
+/// The bytes of an extent within a set of blocks stay where the set's blocks keep what they held. In
+/// each image of a crash within a run that writes outside the set, they are those of an image from
+/// before the run.
 pub fn part_kept()
     ensures part { PartKept }
     ensures image { ImagePartKept }

@@ -1,11 +1,11 @@
 //! Bodies in extents of a disk.
 //!
-//! A body is bytes of a known length and SHA-256. [`write_body`] puts one at the front of an
-//! extent, or [`write_piece`] does so piece by piece, and [`read_body`] reads it back, or finds it
-//! damaged; [`read_in_pieces`] does so piece by piece. [`read_piece`] reads a piece of it and asks for
-//! no digest, and [`is_intact`] looks at it in memory that does not grow with it. What else the disk
-//! holds stays: the contracts say it of each set of blocks beside the extent, also where the device
-//! fails and of a crash in between. [`laws`] states what follows from their definitions alone.
+//! A body is bytes of a known length and SHA-256. [`write_body`] puts one at the front of an extent,
+//! and [`write_piece`] does so piece by piece. [`read_body`] reads it back, or finds it damaged, and
+//! [`read_in_pieces`] does so piece by piece. [`read_piece`] reads a piece of it and checks no digest.
+//! [`is_intact`] checks a body in memory that does not grow with it. All else on the disk stays: the
+//! contracts say so of each set of blocks beside the extent, also where the device fails, and at a
+//! crash in between. [`laws`] states what follows from the definitions alone.
 #![tactic(auto)]
 
 mod blocks;

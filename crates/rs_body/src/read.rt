@@ -19,11 +19,10 @@ pub enum LoadFault {
     /// The device failed.
     #[error("the device failed")]
     Device,
-    /// What stands there is damaged: its bytes do not have the SHA-256 that names it, or they are
-    /// not in its format.
+    /// It is damaged: its bytes do not have its SHA-256, or are not in its format.
     #[error("what stands there is damaged")]
     Damaged,
-    /// The memory for it was refused.
+    /// Memory for it was refused.
     #[error("out of memory")]
     NoMemory,
 }
@@ -38,15 +37,15 @@ impl From<AllocError> for LoadFault {
     }
 }
 
-/// Reads the body of `length` bytes at the front of an extent into a vector, in place of what it
-/// held, by one device call. A body of no bytes needs none.
+/// Reads the body of `length` bytes at the front of an extent into a vector, in place of what the
+/// vector held, by one device call. A body of no bytes needs none.
 ///
 /// The blocks of the extent have to lie on the disk, and the bytes have to fit into them. Bytes
-/// past the length are not read. The memory is asked for once, for exactly the length, and not
+/// past the length are not read. Memory is allocated once, for exactly the length, and not at all
 /// where the vector has room. The disk stays as it is.
 ///
 /// # Errors
-/// - [`LoadFault::NoMemory`] where that memory is refused; the device is not called then.
+/// - [`LoadFault::NoMemory`] where that memory is refused. The device is then not called.
 /// - [`LoadFault::Device`] where the device fails.
 /// - [`LoadFault::Damaged`] where the bytes that were read do not have this SHA-256.
 ///
@@ -111,7 +110,7 @@ pub(crate) fn append_piece<D: Disk>(
 /// from where the last one ended, join to the body. The disk stays as it is.
 ///
 /// # Errors
-/// [`Fault`] where the device fails. Nothing is known of what the buffer holds then.
+/// [`Fault`] where the device fails. The buffer may then hold any bytes.
 pub fn read_piece<D: Disk>(
     disk: &mut D,
     extent: Extent,
@@ -121,7 +120,7 @@ pub fn read_piece<D: Disk>(
     requires room { IsOnDisk extent (D.state disk.old).size }
     requires fits { at + length into.old ≤ block_size * extent.blocks }
 
-    // What was read is said of a device that has followed the model.
+    // The device has to have followed the model.
     ensures gives { OnOk result (IsTrue (D.state disk.new).honest
         → part extent (at + length into.old) (D.state disk.old).now.seen
         ≡ part extent at (D.state disk.old).now.seen ++ into.new) }

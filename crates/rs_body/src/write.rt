@@ -13,8 +13,8 @@ use rs_extent::Extent;
 ///
 /// The blocks of the extent have to lie on the disk, and the bytes have to fit into them. A read
 /// gives the bytes from then on; a crash may leave anything in their place until the next sync.
-/// Nothing else on the disk changes, whether it succeeds or not, at every moment of the call: not
-/// the rest of the extent, and none of the blocks beside it.
+/// Nothing else on the disk changes at any moment of the call, whether it succeeds or not: neither
+/// the rest of the extent nor the blocks beside it.
 ///
 /// # Errors
 /// [`Fault`] where the device fails. The place of the bytes may then hold anything.
@@ -33,12 +33,12 @@ pub fn write_body<D: Disk>(disk: &mut D, extent: Extent, bytes: &[u8]) -> Result
 /// needs none.
 ///
 /// The place is counted in bytes from the front of the extent. The blocks of the extent have to
-/// lie on the disk, and the piece has to end within them. A read gives the piece from then on,
-/// behind the bytes that stood before it, so pieces that are written one after the other, each
-/// where the last one ended, spell the body. A crash may leave anything in the place of a piece
-/// until the next sync. Nothing else on the disk changes, whether it succeeds or not: a read gives
-/// what it gave before the piece and behind it, within the extent too, and a crash at any moment of
-/// the call leaves what it could have left before, but for the place of the piece.
+/// lie on the disk, and the piece has to end within them. A read gives the piece from then on, after
+/// the bytes before it. So pieces that are written one after the other, each where the last one
+/// ended, spell the body. A crash may leave anything in the place of a piece until the next sync.
+/// Nothing else on the disk changes, whether it succeeds or not: outside the place of the piece, a
+/// read gives what it gave, and a crash at any moment of the call leaves what it could have left
+/// before it.
 ///
 /// # Errors
 /// [`Fault`] where the device fails. The place of the piece may then hold anything.

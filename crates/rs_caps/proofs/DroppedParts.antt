@@ -1,21 +1,17 @@
 -- Parts of a list whose first parts were dropped.
-use Rattle.std.proofs.Common.{◌≡◌, ℕ, ◌+◌, ◌*◌, List, [], ◌∷◌, ◌++◌, take, drop, refl, sym, ap, ◌∙◌, arith}
+use Rattle.std.proofs.Common.{◌≡◌, ℕ, ◌+◌, ◌*◌, List, take, drop, sym, ap, ◌∙◌, arith}
 use Rattle.std.proofs.lemmas.List.{drop-drop}
 use Rattle.std.proofs.Math.Seq.{take-add}
 use Rattle.rs_record.specs.Changes.{last_moment}
 use Rattle.rs_record.specs.declared.change.Change.{Change}
 use Rattle.rs_lists.specs.Chunks.{part_at}
+use Rattle.rs_caps.proofs.FromBelow.{last_joined}
 
 -- part k of what is left without the first g parts is part g + k of all
 pub part_dropped : {A : Type 0} (g k limit : ℕ) (items : List A) → part_at k limit (drop (g * limit) items) ≡ part_at (g + k) limit items
 part_dropped g k limit items =
     let e : g * limit + k * limit ≡ (g + k) * limit = grind arith in
     ap (take limit) (drop-drop (k * limit) (g * limit) items) ∙ ap (λ n. take limit (drop n items)) e
-
--- the last moment of changes that come after others
-pub last_joined : (t : ℕ) (a b : List Change) → last_moment t (a ++ b) ≡ last_moment (last_moment t a) b
-last_joined t [] b = refl
-last_joined t (c ∷ a) b = last_joined c.moment a b
 
 -- and that part begins at the same moment
 pub moment_dropped : (g k limit t : ℕ) (changes : List Change)

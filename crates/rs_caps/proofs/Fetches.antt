@@ -77,8 +77,8 @@ resources_fetched laws s events when done l all f =
     (paths_in_index (nat_le count 1) Part (ResourceList v.at (map listed_of v.published)) (ResourceListIndex v.at (map (resource_entry_of v) numbers)) e parts))) in
     resources_from_head r fetched lawful refl ∙ resources_from_parts laws.listed_chunks v fetched (nat_le count 1) shown each
 
--- What is gathered of the Change List is all changes up to number n, at least those that its head knew, without the parts
--- that were dropped when the head was fetched.
+-- What is gathered of the Change List is all changes up to number n, at least those that its head knew, without the
+-- parts that were dropped when the head was fetched.
 pub record AreKeptChanges (s : Source) (events : List Event) (when : List ℕ → ℕ) (last : ℕ) : Type 0 where
   pub n : ℕ
   pub low : count_at s events (when (codes "/changelist.xml")) ≤ n
@@ -86,12 +86,16 @@ pub record AreKeptChanges (s : Source) (events : List Event) (when : List ℕ �
   pub gathered : let head = state_at s events (when (codes "/changelist.xml")) in
       gather_changes (fetched_at s events when) ≡ Some (head.begin, drop (head.first * s.limit) (take n (recorded s events)))
 
--- a Change List of one document
-changes_whole : AreLaws → (base : List ℕ) (limit moment : ℕ) (events : List Event) (when : List ℕ → ℕ) (last : ℕ)
+-- So where the fetched Change List is one document, and where it is an index.
+abbrev AreKeptWhere : Bool → Type 0
+AreKeptWhere one =
+    AreLaws → (base : List ℕ) (limit moment : ℕ) (events : List Event) (when : List ℕ → ℕ) (last : ℕ)
     → let s = start_of base limit moment in
     IsLawful s → AllByRecursion IsLawfulEvent events → IsFetched s events when last (codes "/changelist.xml")
-    → nat_le (change_parts_of (shown_of (state_at s events (when (codes "/changelist.xml"))))) 1 ≡ true
+    → nat_le (change_parts_of (shown_of (state_at s events (when (codes "/changelist.xml"))))) 1 ≡ one
     → AreKeptChanges s events when last
+
+changes_whole : AreKeptWhere true
 changes_whole laws base limit moment events when last l all f e =
     let s : Source = start_of base limit moment in
     let i : ℕ = when (codes "/changelist.xml") in
@@ -110,11 +114,7 @@ changes_whole laws base limit moment events when last l all f e =
     }
 
 -- A Change List in parts: what its last part shows is where the changes end.
-changes_in_parts : AreLaws → (base : List ℕ) (limit moment : ℕ) (events : List Event) (when : List ℕ → ℕ) (last : ℕ)
-    → let s = start_of base limit moment in
-    IsLawful s → AllByRecursion IsLawfulEvent events → IsFetched s events when last (codes "/changelist.xml")
-    → nat_le (change_parts_of (shown_of (state_at s events (when (codes "/changelist.xml"))))) 1 ≡ false
-    → AreKeptChanges s events when last
+changes_in_parts : AreKeptWhere false
 changes_in_parts laws base limit moment events when last l all f e =
     let s : Source = start_of base limit moment in
     let i : ℕ = when (codes "/changelist.xml") in
@@ -186,13 +186,9 @@ changes_in_parts laws base limit moment events when last l all f e =
           ∙ ap (λ m. Some (h.begin, drop (h.first * m) (take n changes))) kept.same_limit;
     }
 
-changes_by : AreLaws → (b : Bool) (base : List ℕ) (limit moment : ℕ) (events : List Event) (when : List ℕ → ℕ) (last : ℕ)
-    → let s = start_of base limit moment in
-    IsLawful s → AllByRecursion IsLawfulEvent events → IsFetched s events when last (codes "/changelist.xml")
-    → nat_le (change_parts_of (shown_of (state_at s events (when (codes "/changelist.xml"))))) 1 ≡ b
-    → AreKeptChanges s events when last
-changes_by laws true base limit moment events when last l all f e = changes_whole laws base limit moment events when last l all f e
-changes_by laws false base limit moment events when last l all f e = changes_in_parts laws base limit moment events when last l all f e
+changes_by : (b : Bool) → AreKeptWhere b
+changes_by true = changes_whole
+changes_by false = changes_in_parts
 
 pub changes_fetched : AreLaws → (base : List ℕ) (limit moment : ℕ) (events : List Event) (when : List ℕ → ℕ) (last : ℕ)
     → let s = start_of base limit moment in
@@ -200,5 +196,5 @@ pub changes_fetched : AreLaws → (base : List ℕ) (limit moment : ℕ) (events
     → AreKeptChanges s events when last
 changes_fetched laws base limit moment events when last l all f =
     let s : Source = start_of base limit moment in
-    changes_by laws (nat_le (change_parts_of (shown_of (state_at s events (when (codes "/changelist.xml"))))) 1)
-    base limit moment events when last l all f refl
+    changes_by (nat_le (change_parts_of (shown_of (state_at s events (when (codes "/changelist.xml"))))) 1)
+    laws base limit moment events when last l all f refl

@@ -20,11 +20,11 @@ use Rattle.rs_lists.specs.Laws.{PartsAreChunks}
 use Rattle.rs_lists.specs.Shown.{Shown, resource_parts_of, change_parts_of}
 use Rattle.rs_lists.specs.Text.{list_text, numbers_from, resource_list, change_part_text, part_links, resource_part_path, change_part_path}
 use Rattle.rs_caps.specs.Cut.{◌>>=◌}
-use Rattle.rs_caps.specs.Paths.{doc_of}
+use Rattle.rs_caps.specs.Paths.{path_of, doc_of, HasCounts}
 use Rattle.rs_model.specs.Listed.{record_of}
 use Rattle.rs_caps.specs.Shows.{shown_of}
 use Rattle.rs_caps.specs.DocumentTexts.{document_text}
-use Rattle.rs_caps.specs.Readings.{Listed}
+use Rattle.rs_caps.specs.Readings.{Listed, Document}
 use Rattle.rs_caps.specs.Readings.Document.{ResourceList, ChangeList, ResourceListIndex, ChangeListIndex}
 use Rattle.rs_caps.specs.Reads.{reads}
 use Rattle.rs_caps.specs.Answer.{answer, document_or_body, listed_of, resource_entry_of, change_entry_of, change_part_of, resource_head_of, change_head_of, reading_of}
@@ -134,24 +134,43 @@ head_text : (s : Shown) → (text : List ℕ) × (list_text s ResourceHead ≡ S
 unfolding list_text
 head_text s = (_, refl)
 
--- the head of a Resource List, as it is answered and read
+change_head_text : (s : Shown) → (text : List ℕ) × (list_text s ChangeHead ≡ Some text)
+unfolding list_text
+change_head_text s = (_, refl)
+
+-- the head of a list, as it is answered and read
+head_read : (s : Source) (doc : Doc) → IsLawful s → IsList doc → HasCounts doc → (text : List ℕ) × (list_text (shown_of s) doc ≡ Some text)
+    → (text : List ℕ) × (answer s (path_of doc) ≡ Some text) × (reads text ≡ reading_of (shown_of s) doc)
+head_read s doc l list counts head = (
+  head.0,
+  answer_at s (path_of doc) doc list (doc_of-path_of doc counts) ∙ head.1,
+  text_reads (shown_of s) doc head.0 (shown_lawful s l) head.1,
+)
+
 pub resource_head_read : (s : Source) → IsLawful s
     → (text : List ℕ) × (answer s (codes "/resourcelist.xml") ≡ Some text) × (reads text ≡ Some (resource_head_of (shown_of s)))
-resource_head_read s l =
-    let head = head_text (shown_of s) in (
-      head.0,
-      answer_at s (codes "/resourcelist.xml") ResourceHead tt (doc_of-path_of ResourceHead tt) ∙ head.1,
-      text_reads (shown_of s) ResourceHead head.0 (shown_lawful s l) head.1,
-    )
+resource_head_read s l = head_read s ResourceHead l tt tt (head_text (shown_of s))
 
--- what is gathered where the head is answered as of this state
+pub change_head_read : (s : Source) → IsLawful s
+    → (text : List ℕ) × (answer s (codes "/changelist.xml") ≡ Some text) × (reads text ≡ Some (change_head_of (shown_of s)))
+change_head_read s l = head_read s ChangeHead l tt tt (change_head_text (shown_of s))
+
+-- what is gathered from a head that is answered as in some state
+from_head : {A : Type 0} (gathered : Document → Option A) (fetched answered : Option (List ℕ)) (head : Document)
+    → (text : List ℕ) × (answered ≡ Some text) × (reads text ≡ Some head) → fetched ≡ answered
+    → (fetched >>= λ text. reads text >>= λ d. gathered d) ≡ gathered head
+from_head gathered fetched answered head read same =
+    then_some fetched _ read.0 _ (same ∙ read.1) (then_some (reads read.0) _ head _ read.2 refl)
+
 pub resources_from_head : (s : Source) (fetched : List ℕ → Option (List ℕ)) → IsLawful s
     → fetched (codes "/resourcelist.xml") ≡ answer s (codes "/resourcelist.xml")
     → gather_resources fetched ≡ gathered_resources fetched (resource_head_of (shown_of s))
-resources_from_head s fetched l same =
-    let head = resource_head_read s l in
-    then_some (fetched (codes "/resourcelist.xml")) _ head.0 _ (same ∙ head.1)
-    (then_some (reads head.0) _ (resource_head_of (shown_of s)) _ head.2 refl)
+resources_from_head s fetched l same = from_head (gathered_resources fetched) _ _ _ (resource_head_read s l) same
+
+pub changes_from_head : (s : Source) (fetched : List ℕ → Option (List ℕ)) → IsLawful s
+    → fetched (codes "/changelist.xml") ≡ answer s (codes "/changelist.xml")
+    → gather_changes fetched ≡ gathered_changes fetched (change_head_of (shown_of s))
+changes_from_head s fetched l same = from_head (gathered_changes fetched) _ _ _ (change_head_read s l) same
 
 pub resources_gathered : PartsAreChunks Record → (s : Source) → IsLawful s → gather_resources (answer s) ≡ Some (s.at, map listed_of (map record_of s.listed))
 resources_gathered chunks s l =
@@ -212,28 +231,6 @@ changes_by chunks s false e l =
     changes_from_parts chunks v (answer s) v.changes count l.low refl
     (all_so (λ k. k < count) Part (λ k h. change_part s k l (more_than_one count e) h (omega arith)) (numbers_from 0 count)
     (numbers_below 0 count count (omega arith)))
-
-change_head_text : (s : Shown) → (text : List ℕ) × (list_text s ChangeHead ≡ Some text)
-unfolding list_text
-change_head_text s = (_, refl)
-
--- the head of a Change List, as it is answered and read
-pub change_head_read : (s : Source) → IsLawful s
-    → (text : List ℕ) × (answer s (codes "/changelist.xml") ≡ Some text) × (reads text ≡ Some (change_head_of (shown_of s)))
-change_head_read s l =
-    let head = change_head_text (shown_of s) in (
-      head.0,
-      answer_at s (codes "/changelist.xml") ChangeHead tt (doc_of-path_of ChangeHead tt) ∙ head.1,
-      text_reads (shown_of s) ChangeHead head.0 (shown_lawful s l) head.1,
-    )
-
-pub changes_from_head : (s : Source) (fetched : List ℕ → Option (List ℕ)) → IsLawful s
-    → fetched (codes "/changelist.xml") ≡ answer s (codes "/changelist.xml")
-    → gather_changes fetched ≡ gathered_changes fetched (change_head_of (shown_of s))
-changes_from_head s fetched l same =
-    let head = change_head_read s l in
-    then_some (fetched (codes "/changelist.xml")) _ head.0 _ (same ∙ head.1)
-    (then_some (reads head.0) _ (change_head_of (shown_of s)) _ head.2 refl)
 
 pub changes_gathered : PartsAreChunks Change → (s : Source) → IsLawful s → gather_changes (answer s) ≡ Some (s.begin, s.changes)
 changes_gathered chunks s l = changes_from_head s (answer s) l refl ∙ changes_by chunks s _ refl l

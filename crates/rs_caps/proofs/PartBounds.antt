@@ -1,44 +1,22 @@
 -- The changes of a part lie between its bounds.
-use Rattle.std.proofs.Common.{◌≡◌, ℕ, ◌+◌, ◌*◌, ◌<◌, ◌≤◌, List, [], ◌∷◌, ◌++◌, take, drop, refl, sym, ap, ◌∙◌, arith, nat_lt, subst}
-use Rattle.std.specs.Prelude.{IsTrue, Bool}
-use Rattle.std.specs.Cmp.{first_so, second_so}
-use Rattle.std.proofs.lemmas.Bool.{and_from, ltb-true, lt-ltb}
+use Rattle.std.proofs.Common.{◌≡◌, ℕ, ◌+◌, ◌*◌, ◌<◌, ◌≤◌, List, [], ◌∷◌, ◌++◌, take, drop, sym, ap, ◌∙◌, arith, subst}
+use Rattle.std.specs.Prelude.{IsTrue}
 use Rattle.std.specs.List.{AllByRecursion}
 use Rattle.std.proofs.lemmas.List.{take-append-drop}
 use Rattle.std.proofs.Math.Seq.{take-add}
 use Rattle.rs_record.specs.declared.change.Change.{Change}
 use Rattle.rs_record.specs.Changes.{last_moment}
 use Rattle.rs_model.specs.State.{Source}
-use Rattle.rs_model.specs.Regular.{IsRegular, IsAfter, is_rising, rises_from}
+use Rattle.rs_model.specs.Regular.{IsRegular, rises_from}
 use Rattle.rs_lists.specs.Chunks.{part_at}
 use Rattle.rs_lists.specs.Text.{from_of}
 use Rattle.rs_caps.specs.Shows.{shown_of}
-use Rattle.rs_caps.proofs.Elements.{all_so, all_taken, all_both}
-use Rattle.rs_caps.proofs.DroppedParts.{last_joined}
-
--- the first change is after the bound, and the rest rise from it on
-first_rises : (low : ℕ) (c : Change) (cs : List Change) → IsTrue (rises_from low (c ∷ cs)) → (low < c.moment) × IsTrue (rises_from c.moment cs)
-first_rises low c cs h =
-    let rises : Bool = rises_from c.moment cs in
-    (ltb-true low c.moment (first_so (nat_lt low c.moment) rises h), second_so (nat_lt low c.moment) rises h)
-
--- changes that rise, all after a moment, rise from it
-rises_after : (low : ℕ) (cs : List Change) → IsTrue (is_rising cs) → AllByRecursion (IsAfter low) cs → IsTrue (rises_from low cs)
-rises_after low [] h after = refl
-rises_after low (c ∷ cs) h after = and_from (nat_lt low c.moment) (rises_from c.moment cs) (lt-ltb low c.moment after.0) h
+use Rattle.rs_caps.proofs.Elements.{all_both}
+use Rattle.rs_caps.proofs.FromBelow.{all_after, all_taken, first_rises, last_joined, rises_after}
 
 rising_after : (low : ℕ) (a b : List Change) → IsTrue (rises_from low (a ++ b)) → IsTrue (rises_from (last_moment low a) b)
 rising_after low [] b h = h
 rising_after low (c ∷ a) b h = rising_after c.moment a b (first_rises low c (a ++ b) h).1
-
-above : (low : ℕ) (cs : List Change) → IsTrue (rises_from low cs) → AllByRecursion (λ c. low < c.moment) cs
-above low [] h = tt
-above low (c ∷ cs) h =
-    let first = first_rises low c cs h in (
-      first.0,
-      all_so (λ x. c.moment < x.moment) (λ x. low < x.moment) (λ x later. omega (arith, later, first.0)) cs
-          (above c.moment cs first.1),
-    )
 
 not_before : (low : ℕ) (a b : List Change) → IsTrue (rises_from low (a ++ b)) → low ≤ last_moment low a
 not_before low [] b h = omega arith
@@ -66,5 +44,5 @@ parts_bounded s k r =
     ∙ last_joined s.begin front part) in
     let UpTo : ℕ → Type 0 = λ t. AllByRecursion (λ c. c.moment ≤ t) part in
     all_both (λ c. low < c.moment) (λ c. c.moment ≤ from_of (shown_of s) (k + 1)) part
-    (all_taken (λ c. low < c.moment) s.limit rest (above low rest rising))
+    (all_taken (λ c. low < c.moment) s.limit rest (all_after low low rest (omega arith) rising))
     (subst UpTo end (up_to low part (drop s.limit rest) split))

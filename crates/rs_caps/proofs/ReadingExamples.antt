@@ -123,8 +123,8 @@ pub texts :
 unfolding digits encode_with decode_pairs block_words rounds compress hash_after digest_bytes md5 first_words schedule rounds_256 compress_256 hash_after_256 digest_bytes_256 sha256 date_of period_of days_of moment_text read_moment moment_digits read_hash list_text strip cut lines_of characters read_number doc_of read_count last_part resource_part change_part document_text read_facts read_resource read_bound read_deleted read_end read_resource_entry read_change_entry before_end read_up read_resource_md read_change_md reads read_list read_index read_children read_resource_list read_change_list read_resource_index read_change_index
 texts = (refl, refl, refl, refl, refl, refl, refl, refl, refl, refl, refl, refl, refl, refl)
 
--- The Change List of these: each publication drops the full parts that end at the publication before it or earlier, and the
--- others keep their numbers.
+-- The Change List of these: each publication drops the full parts that end at the publication before it or earlier, and
+-- the others keep their numbers.
 pub kept_parts :
     (reads_at (in_turn 2) (codes "/changelist.xml") ≡ Some
     (ChangeList 0 None (put_of (codes "a") 1 ∷ put_of (codes "b") 2 ∷ [])))
@@ -159,7 +159,8 @@ pub part_stays_where_another_goes :
 unfolding digits encode_with decode_pairs block_words rounds compress hash_after digest_bytes md5 first_words schedule rounds_256 compress_256 hash_after_256 digest_bytes_256 sha256 date_of period_of days_of moment_text read_moment moment_digits read_hash list_text strip cut lines_of characters read_number doc_of read_count last_part resource_part change_part document_text read_facts read_resource read_bound read_deleted read_end read_resource_entry read_change_entry before_end read_up read_resource_md read_change_md reads read_list read_index read_children read_resource_list read_change_list read_resource_index read_change_index
 part_stays_where_another_goes = (refl, refl, refl, refl, refl)
 
--- A history of which nothing was dropped yet, as all five changes of these are kept: its next publication leaves the last.
+-- A history of which nothing was dropped yet, as all five changes of these are kept: its next publication leaves the
+-- last.
 pub all_at_once :
     ((fold_of undropped ((Publish, 0) ∷ [])).first ≡ 2) × ((fold_of undropped ((Publish, 0) ∷ [])).begin ≡ 6)
     × ((fold_of undropped ((Publish, 0) ∷ [])).changes ≡ put_of (codes "e") 8 ∷ [])

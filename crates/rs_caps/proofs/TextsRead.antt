@@ -26,7 +26,8 @@ use Rattle.rs_caps.specs.ReadLines.{read_resource, read_change, read_resource_en
 use Rattle.rs_caps.specs.Reads.{reads, next_line, read_children, read_resource_list, read_change_list, read_resource_index, read_change_index}
 use Rattle.rs_caps.specs.Answer.{listed_of, resource_entry_of, change_entry_of, change_part_of, reading_of}
 use Rattle.rs_model.specs.Lawful.{AreFacts, IsEntry, IsChange, IsLawful}
-use Rattle.rs_caps.proofs.Elements.{all_so, all_mapped, all_taken, all_dropped, numbers_below}
+use Rattle.rs_caps.proofs.Elements.{all_so, all_mapped, numbers_below}
+use Rattle.rs_caps.proofs.FromBelow.{all_taken, all_dropped}
 use Rattle.rs_caps.proofs.Lines.{IsLine, AreLines, onto, children_lines, read_children-map}
 use Rattle.rs_caps.proofs.LinesRead.{IsEnd, resource_line_read, change_line_read, resource_md_read, change_md_read, resource_entry_read, change_entry_read}
 use Rattle.rs_caps.proofs.WrittenLines.{resource_is_line, change_is_line, resource_md_is_line, change_md_is_line, resource_entry_is_line, change_entry_is_line, link_is_line}

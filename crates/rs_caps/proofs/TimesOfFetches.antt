@@ -99,8 +99,8 @@ part_last false k limit c items e =
     part_whole k limit c items past ∙ sym (part_whole k limit ((k + 1) * limit) items (omega arith))
     ∙ ap (λ n. part_at k limit (take n items)) same
 
--- A part that an index of `parts` parts names, fetched when there are c items: it is that part of the first n, which end
--- with the last part that was fetched.
+-- A part that an index of `parts` parts names, fetched when there are c items: it is that part of the first n, which
+-- end with the last part that was fetched.
 pub same_part : {A : Type 0} (last : Bool) (k limit c n parts head : ℕ) (items : List A) → (k + 1 == parts) ≡ last → k < parts
     → parts * limit < head + limit → head ≤ c → head ≤ n
     → (k + 1 ≡ parts → n ≡ min c (parts * limit)) → part_at k limit (take c items) ≡ part_at k limit (take n items)

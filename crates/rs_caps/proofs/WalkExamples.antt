@@ -30,7 +30,7 @@ use Rattle.rs_caps.specs.Readings.Document.{ResourceList, ChangeList, ChangeList
 use Rattle.rs_caps.specs.ReadLines.{read_facts, read_resource, read_bound, read_deleted, read_end, read_resource_entry, read_change_entry, before_end, read_up, read_resource_md, read_change_md}
 use Rattle.rs_caps.specs.Reads.{reads, read_list, read_index, read_children, read_resource_list, read_change_list, read_resource_index, read_change_index}
 use Rattle.rs_caps.specs.Gather.{parts_at, gather_resources, gather_changes}
-use Rattle.rs_caps.specs.Destination.{part_paths, fetched_at, IsFetchedPart, HaveNoGap, IsFollowed}
+use Rattle.rs_caps.specs.Destination.{part_paths, fetched_at, IsFetchedPart, IsFetched, HaveNoGap, IsFollowed}
 use Rattle.rs_caps.proofs.ListsRead.{same_pair}
 
 -- a source of item limit 2, formatted at the first moment
@@ -40,8 +40,8 @@ source = start_of (codes "http://127.0.0.1:8080") 2 0
 abbrev put : List ℕ → Command
 put name = Put name (codes "text/plain") []
 
--- `a` is put and published, and the Resource List fetched; `b` is put and `a` deleted, and the Change List's head fetched;
--- then comes this event, `d` is put, and the Change List's two parts are fetched
+-- `a` is put and published, and the Resource List fetched; `b` is put and `a` deleted, and the Change List's head
+-- fetched; then comes this event, `d` is put, and the Change List's two parts are fetched
 abbrev with_event : Event → List Event
 with_event event =
     Tried (put (codes "a")) 0 ∷ Tried Publish 0 ∷ Fetch ∷ Tried (put (codes "b")) 0 ∷ Tried (Delete (codes "a")) 0 ∷ Fetch
@@ -81,8 +81,8 @@ read_by events when path = fetched_at source events when path >>= reads
 abbrev read_at : List Event → List ℕ → Option Document
 read_at events path = read_by events when path
 
--- Four changes are gathered of five, and mirrored they are `b` and `c`: the catalogue after 4 changes, and what was held
--- after seven of the events.
+-- Four changes are gathered of five, and mirrored they are `b` and `c`: the catalogue after 4 changes, and what was
+-- held after seven of the events.
 pub walk_with_c :
     (read_at with_c (codes "/changelist.xml") ≡ Some (ChangeListIndex 0 None
     (between (codes "/changelist/0.xml") 0 (Some 3) ∷ between (codes "/changelist/1.xml") 3 None ∷ [])))
@@ -112,8 +112,8 @@ pub walk_stopped :
 unfolding digits encode_with decode_pairs block_words rounds compress hash_after digest_bytes md5 first_words schedule rounds_256 compress_256 hash_after_256 digest_bytes_256 sha256 date_of period_of days_of moment_text read_moment moment_digits read_hash list_text strip cut lines_of characters read_number doc_of read_count last_part resource_part change_part document_text read_facts read_resource read_bound read_deleted read_end read_resource_entry read_change_entry before_end read_up read_resource_md read_change_md reads read_list read_index read_children read_resource_list read_change_list read_resource_index read_change_index parts_at
 walk_stopped = (refl, refl, refl, refl, refl, refl)
 
--- `a` and `b` are put and published, and the Resource List fetched; `c` is put, and a publication drops part 0; then `d` is
--- put, and of two publications the second drops part 1.
+-- `a` and `b` are put and published, and the Resource List fetched; `c` is put, and a publication drops part 0; then
+-- `d` is put, and of two publications the second drops part 1.
 abbrev with_drops : List Event
 with_drops =
     Tried (put (codes "a")) 0 ∷ Tried (put (codes "b")) 0 ∷ Tried Publish 0 ∷ Fetch ∷ Tried (put (codes "c")) 0 ∷ Tried Publish 0
@@ -123,8 +123,8 @@ with_drops =
 abbrev at_last : ℕ → List ℕ → ℕ
 at_last n path = if same_bytes path (codes "/resourcelist.xml") then 3 else n
 
--- Between the drops the Change List begins at a moment that the Resource List has, and the two make what is held. After both
--- there is a gap: `c` and `d` are missing.
+-- Between the drops the Change List begins at a moment that the Resource List has, and the two make what is held. After
+-- both there is a gap: `c` and `d` are missing.
 pub walk_with_drops :
     (gather_resources (fetched_at source with_drops (at_last 6)) ≡ Some
     (3, record { name = codes "a"; facts = no_bytes; moment = 1 } ∷ record { name = codes "b"; facts = no_bytes; moment = 2 } ∷ []))
@@ -150,6 +150,17 @@ same_document events when head text known document k h r =
     let same : Some known ≡ Some document = sym k ∙ ap (λ (o : Option (List ℕ)). o >>= reads) h ∙ r in
     cc
 
+-- a list that is fetched whole
+fetched_whole : (events : List Event) (when : List ℕ → ℕ) (last : ℕ) (head : List ℕ) (known : Document) → when head ≤ last
+    → read_by events when head ≡ Some known → part_paths known ≡ [] → IsFetched source events when last head
+fetched_whole events when last head known by_last read none =
+    let AreParts : List (List ℕ) → Type 0 = AllByRecursion (IsFetchedPart source events when (when head) last) in
+    record {
+      by_last = by_last;
+      parts = λ text document h r.
+          subst AreParts (sym none ∙ ap part_paths (same_document events when head text known document read h r)) tt;
+    }
+
 part_of_head : (path : List ℕ) → 5 ≤ when path → when path ≤ 9 → IsTrue (is_some (fetched_at source with_c when path))
     → IsFetchedPart source with_c when 5 9 path
 part_of_head path after by there = record { after_head = after; by_last = by; answered = there }
@@ -159,13 +170,8 @@ unfolding digits encode_with decode_pairs block_words rounds compress hash_after
 walk_followed =
     record {
       resources =
-          record {
-            by_last = omega arith;
-            parts = λ text document h r.
-                subst (λ d. AllByRecursion (IsFetchedPart source with_c when 2 2) (part_paths d))
-                (same_document with_c when (codes "/resourcelist.xml") text (ResourceList 2 (record { name = codes "a"; facts = no_bytes; moment = 1 } ∷ [])) document refl h r)
-                tt;
-          };
+          fetched_whole with_c when 2 (codes "/resourcelist.xml") (ResourceList 2 (record { name = codes "a"; facts = no_bytes; moment = 1 } ∷ []))
+          (omega arith) refl refl;
       order = omega arith;
       changes =
           record {
@@ -190,23 +196,12 @@ unfolding digits encode_with decode_pairs block_words rounds compress hash_after
 walk_with_drops_followed =
     record {
       resources =
-          record {
-            by_last = omega arith;
-            parts = λ text document h r.
-                subst (λ d. AllByRecursion (IsFetchedPart source with_drops (at_last 6) 3 3) (part_paths d))
-                (same_document with_drops (at_last 6) (codes "/resourcelist.xml") text (ResourceList 3 (record { name = codes "a"; facts = no_bytes; moment = 1 }
-                ∷ record { name = codes "b"; facts = no_bytes; moment = 2 } ∷ [])) document refl h r)
-                tt;
-          };
+          fetched_whole with_drops (at_last 6) 3 (codes "/resourcelist.xml")
+          (ResourceList 3 (record { name = codes "a"; facts = no_bytes; moment = 1 } ∷ record { name = codes "b"; facts = no_bytes; moment = 2 } ∷ []))
+          (omega arith) refl refl;
       order = omega arith;
       changes =
-          record {
-            by_last = omega arith;
-            parts = λ text document h r.
-                subst (λ d. AllByRecursion (IsFetchedPart source with_drops (at_last 6) 6 6) (part_paths d))
-                (same_document with_drops (at_last 6) (codes "/changelist.xml") text (ChangeList 2 None (put_at (codes "c") 4 ∷ [])) document refl h r)
-                tt;
-          };
+          fetched_whole with_drops (at_last 6) 6 (codes "/changelist.xml") (ChangeList 2 None (put_at (codes "c") 4 ∷ [])) (omega arith) refl refl;
       no_gap = λ at start listed changes h g.
           let resources = same_pair (3, _) (at, listed) (sym walk_with_drops.0 ∙ h) in
           let followed = same_pair (2, _) (start, changes) (sym walk_with_drops.1 ∙ g) in

@@ -1,8 +1,7 @@
 -- Walks cut in two: the states at their points, what is recorded by then, and what is kept of it.
-use Rattle.std.proofs.Common.{◌≡◌, ℕ, ◌-◌, ◌*◌, ◌≤◌, List, [], ◌∷◌, ◌++◌, length, take, drop, refl, sym, ap, ◌∙◌, subst, arith, append_assoc, length-append, length-take, length-drop}
+use Rattle.std.proofs.Common.{◌≡◌, ℕ, ◌-◌, ◌*◌, ◌≤◌, List, ◌++◌, length, take, drop, sym, ap, ◌∙◌, subst, arith, length-append, length-take, length-drop}
 use Rattle.std.specs.List.{AllByRecursion}
 use Rattle.std.proofs.lemmas.List.{take-append-drop, take-take}
-use Rattle.std.proofs.Math.Seq.{take-append_seam}
 use Rattle.rs_record.specs.declared.record.Record.{Record}
 use Rattle.rs_record.specs.declared.change.Change.{Change}
 use Rattle.rs_model.specs.declared.event.Event.{Event}
@@ -10,10 +9,10 @@ use Rattle.rs_model.specs.LaterChanges.{KeepsChanges}
 use Rattle.rs_model.specs.Lawful.{IsLawful}
 use Rattle.rs_model.specs.State.{Source, start_of}
 use Rattle.rs_model.specs.Step.{fold_of}
-use Rattle.rs_model.specs.Walk.{after_event, walk_of, state_at, commands_of, IsLawfulEvent, recorded_by, recorded, count_at}
+use Rattle.rs_model.specs.Walk.{walk_of, state_at, commands_of, IsLawfulEvent, recorded, count_at}
 use Rattle.rs_model.specs.WalkLaws.{WalksAreFolds, WalksStayLawful, ChangesAreRecorded, HeldThenIsCatalogued, KeptListIsFollowed, EachCountIsPassed}
 use Rattle.rs_lists.specs.Laws.{PartsAreChunks}
-use Rattle.rs_caps.proofs.Elements.{all_taken}
+use Rattle.rs_caps.proofs.FromBelow.{all_taken, recorded-append, recorded_first, walk-append}
 
 -- the laws of walks and of parts that a destination's stand on
 pub record AreLaws : Type 0 where
@@ -25,10 +24,6 @@ pub record AreLaws : Type 0 where
   pub held_then : HeldThenIsCatalogued
   pub followed : KeptListIsFollowed
   pub passed : EachCountIsPassed
-
-walk-append : (s : Source) (a b : List Event) → walk_of s (a ++ b) ≡ walk_of (walk_of s a) b
-walk-append s [] b = refl
-walk-append s (event ∷ a) b = walk-append (after_event s event) a b
 
 -- the first j events are the first i of them, and then others
 cut : (events : List Event) (i j : ℕ) → i ≤ j → take j events ≡ take i events ++ drop i (take j events)
@@ -45,18 +40,6 @@ folded folds s events i j h =
 pub lawful_at : WalksStayLawful → (s : Source) (events : List Event) (i : ℕ) → IsLawful s → AllByRecursion IsLawfulEvent events
     → IsLawful (state_at s events i)
 lawful_at lawful s events i l h = lawful s (take i events) l (all_taken IsLawfulEvent i events h)
-
-recorded-append : (s : Source) (a b : List Event) → recorded s (a ++ b) ≡ recorded s a ++ recorded (walk_of s a) b
-recorded-append s [] b = refl
-recorded-append s (event ∷ a) b =
-    ap (λ l. recorded_by s event ++ l) (recorded-append (after_event s event) a b)
-    ∙ sym (append_assoc (recorded_by s event) (recorded (after_event s event) a) (recorded (walk_of (after_event s event) a) b))
-
--- what is recorded by the first i events comes first
-recorded_first : (s : Source) (events : List Event) (i : ℕ) → take (count_at s events i) (recorded s events) ≡ recorded s (take i events)
-recorded_first s events i =
-    ap (take (count_at s events i)) (ap (recorded s) (sym (take-append-drop i events)) ∙ recorded-append s (take i events) (drop i events))
-    ∙ take-append_seam (recorded s (take i events)) (recorded (state_at s events i) (drop i events))
 
 -- no fewer are recorded later, and no more than all
 pub count_between : (s : Source) (events : List Event) (i j : ℕ) → i ≤ j → count_at s events i ≤ count_at s events j

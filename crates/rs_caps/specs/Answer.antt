@@ -1,4 +1,4 @@
--- What a source answers at a path, and what its lists are to read as.
+-- What a source answers at a path, and what its lists read as.
 use Rattle.std.specs.Prelude.{ℕ, ◌+◌, ◌-◌, nat_le, if◌then◌else◌, List, map, codes, Option, Some, None}
 use Rattle.rs_record.specs.Format.{facts_in}
 use Rattle.rs_record.specs.declared.record.Record.{Record}
@@ -19,7 +19,7 @@ use Rattle.rs_caps.specs.Readings.Document.{ResourceList, ChangeList, ResourceLi
 abbrev pub body_at : Source → List ℕ → Option (List ℕ)
 body_at s path = strip (codes "/resource/") path >>= λ name. body_of name s
 
--- the bytes at a path that is this document's, or none's
+-- the bytes at a path that has this document, or none
 abbrev pub document_or_body : Source → List ℕ → Option Doc → Option (List ℕ)
 document_or_body s path None = body_at s path
 document_or_body s path (Some doc) = document_text (shown_of s) doc
@@ -36,11 +36,11 @@ listed_of r = record { name = r.name; facts = facts_in r; moment = r.moment }
 abbrev pub resource_entry_of : Shown → ℕ → ResourceEntry
 resource_entry_of s k = record { path = resource_part_path s.number k; at = s.at }
 
--- part k of the Change List, of those kept, as its index has it
+-- kept part k of the Change List, as its index has it
 abbrev pub change_entry_of : Shown → ℕ → ChangeEntry
 change_entry_of s k = record { path = change_part_path (s.first + k); start = from_of s k; until = until_of s k }
 
--- part k of the Change List, of those kept
+-- kept part k of the Change List
 abbrev pub change_part_of : Shown → ℕ → Document
 change_part_of s k = ChangeList (from_of s k) (until_of s k) (part_at k s.limit s.changes)
 
@@ -56,7 +56,7 @@ change_head_of s =
     if nat_le (change_parts_of s) 1 then ChangeList s.begin None s.changes
     else ChangeListIndex s.begin None (map (change_entry_of s) (numbers_from 0 (change_parts_of s)))
 
--- what the text of a list, a part or an index is to read as
+-- what the text of a list, a part or an index reads as
 abbrev pub reading_of : Shown → Doc → Option Document
 reading_of s ResourceHead = Some (resource_head_of s)
 reading_of s (ResourcePart publication k) = Some (ResourceList s.at (map listed_of (part_at k s.limit s.published)))

@@ -1,14 +1,14 @@
--- Cutting a text into its values: what stands before a mark, what follows some bytes, the lines of a text, the five
+-- Cutting a text into its values: the bytes before a mark, the bytes after some others, the lines of a text, the five
 -- references of XML undone, and decimal numbers.
 use Rattle.std.specs.Prelude.{ℕ, zero, suc, Bool, true, false, ◌&&◌, ◌||◌, not, ◌==◌, if◌then◌else◌, List, [], ◌∷◌, length, codes, Option, Some, None}
 use Rattle.std.specs.List.{list_all}
 use Rattle.rs_time.specs.ReadMoment.{number_after}
 use Rattle.rs_record.specs.Bytes.{is_digit}
--- the next step of a reading, what follows some bytes, and what stands before a mark
+-- the next step of a reading, the bytes after some others, and the bytes before a mark
 pub use Rattle.rs_fixity.specs.Cut.{◌>>=◌, with_first}
 unfoldable pub use Rattle.rs_fixity.specs.Cut.{strip, cut}
 
--- what this reading gives, or where it gives nothing, the other
+-- what this reading gives, or what the other gives where this gives nothing
 infixr 4 ◌or_else◌
 abbrev pub ◌or_else◌ : {A : Type 0} → Option A → Option A → Option A
 None or_else b = b
@@ -27,7 +27,7 @@ whole x rest = if is_empty rest then Some x else None
 abbrev pub value_to : {A : Type 0} → ℕ → (List ℕ → Option A) → List ℕ → Option (A × List ℕ)
 value_to mark read text = read (cut mark text).0 >>= λ x. Some (x, (cut mark text).1)
 
--- a value that stands between these bytes and a mark, and the rest from the mark on
+-- a value between these bytes and a mark, and the rest from the mark on
 abbrev pub value_after : {A : Type 0} → List ℕ → ℕ → (List ℕ → Option A) → List ℕ → Option (A × List ℕ)
 value_after before mark read text = strip before text >>= λ rest. value_to mark read rest
 
@@ -35,7 +35,7 @@ value_after before mark read text = strip before text >>= λ rest. value_to mark
 abbrev pub ending : {A : Type 0} → List ℕ → A → List ℕ → Option A
 ending last x text = strip last text >>= λ rest. whole x rest
 
--- one more byte before these lines: a line feed ends a line, and any other byte stands in the first of them
+-- one more byte before these lines: a line feed ends a line, and any other byte goes into the first line
 abbrev pub onto_lines : Bool → ℕ → Option (List (List ℕ)) → Option (List (List ℕ))
 onto_lines feed c None = None
 onto_lines true c (Some lines) = Some ([] ∷ lines)
@@ -63,7 +63,7 @@ character c text =
     if c == 38 then reference text
     else if (c == 39) || (c == 34) || (c == 62) || (c == 60) then None else Some (c, text)
 
--- the characters of a text, in at most so many turns
+-- the characters of a text, in at most this many turns
 unfoldable pub characters : ℕ → List ℕ → Option (List ℕ)
 characters turns [] = Some []
 characters zero (c ∷ text) = None

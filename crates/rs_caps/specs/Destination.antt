@@ -1,4 +1,4 @@
--- What a destination makes of documents that it fetches one by one, while commands, refusals and stops go on.
+-- What a destination makes of documents that it fetches one by one, amid commands, refusals and stops.
 use Rattle.std.specs.Prelude.{◌≡◌, ℕ, ◌≤◌, List, [], map, codes, Option, Some, is_some, IsTrue}
 use Rattle.std.specs.List.{AllByRecursion}
 use Rattle.rs_record.specs.declared.change.Change.{Change}
@@ -24,39 +24,40 @@ part_paths (ChangeList start until children) = []
 part_paths (ResourceListIndex at parts) = map (λ p. p.path) parts
 part_paths (ChangeListIndex start until parts) = map (λ p. p.path) parts
 
--- what is answered at each path, where each is fetched after a number of events of its own
+-- the answer at each path, where each is fetched after its own number of events
 abbrev pub fetched_at : Source → List Event → (List ℕ → ℕ) → List ℕ → Option (List ℕ)
 fetched_at s events when path = answer (state_at s events (when path)) path
 
--- A part is fetched with its head or later, not after that many events, and is answered.
+-- A part is fetched with its head or later, after at most `last` events, and gets an answer.
 pub record IsFetchedPart (s : Source) (events : List Event) (when : List ℕ → ℕ) (head last : ℕ) (path : List ℕ) : Type 0 where
   pub after_head : head ≤ when path
   pub by_last : when path ≤ last
   pub answered : IsTrue (is_some (fetched_at s events when path))
 
--- A head is fetched, and so are all parts that it names as it is fetched, in any order among them.
+-- A head is fetched, and so are all parts that it then names, in any order.
 pub record IsFetched (s : Source) (events : List Event) (when : List ℕ → ℕ) (last : ℕ) (head : List ℕ) : Type 0 where
   pub by_last : when head ≤ last
   pub parts : (text : List ℕ) (document : Document) → fetched_at s events when head ≡ Some text → reads text ≡ Some document
       → AllByRecursion (IsFetchedPart s events when (when head) last) (part_paths document)
 
--- No change between the two lists that are gathered so is missing: the Resource List's moment is not before the one at which the
--- Change List begins. (It may be where publications come between the two, which drop changes.)
+-- No change between the two gathered lists is missing: the Resource List's moment is not before the begin of the Change
+-- List. (It may be before it where publications between the two fetches drop changes.)
 abbrev pub HaveNoGap : Source → List Event → (List ℕ → ℕ) → Type 0
 HaveNoGap s events when =
     (at start : ℕ) (listed : List Listed) (changes : List Change)
     → gather_resources (fetched_at s events when) ≡ Some (at, listed)
     → gather_changes (fetched_at s events when) ≡ Some (start, changes) → start ≤ at
 
--- A destination fetches the Resource List's head and parts, and the Change List's: its head with the other head or later.
+-- A destination fetches the Resource List's head and parts, and the Change List's: its head with the other head or
+-- later.
 pub record IsFollowed (s : Source) (events : List Event) (when : List ℕ → ℕ) (done last : ℕ) : Type 0 where
   pub resources : IsFetched s events when done (codes "/resourcelist.xml")
   pub order : when (codes "/resourcelist.xml") ≤ when (codes "/changelist.xml")
   pub changes : IsFetched s events when last (codes "/changelist.xml")
   pub no_gap : HaveNoGap s events when
 
--- Both lists read, and the one mirrored with the other is the catalogue after n changes:
--- at least those recorded when the Change List's head was fetched, and at most those when the last of its documents was.
+-- Both lists read, and the one mirrored with the other is the catalogue after n changes: at least those recorded when
+-- the Change List's head was fetched, and at most those when the last of its documents was.
 pub record Mirrors (s : Source) (events : List Event) (when : List ℕ → ℕ) (last : ℕ) : Type 0 where
   pub at : ℕ
   pub listed : List Listed
@@ -69,7 +70,7 @@ pub record Mirrors (s : Source) (events : List Event) (when : List ℕ → ℕ) 
   pub high : n ≤ count_at s events last
   pub mirrored : mirror_of (map listed_entry listed) at changes ≡ catalogue s events n
 
--- Whatever commands, refusals and stops come between its fetches, a destination that fetches both lists so mirrors a
+-- Whatever commands, refusals and stops come between its fetches, a destination that follows both lists mirrors a
 -- catalogue.
 abbrev pub DestinationMirrors : Type 0
 DestinationMirrors =
@@ -77,9 +78,8 @@ DestinationMirrors =
     → let s = start_of base limit moment in
     IsLawful s → AllByRecursion IsLawfulEvent events → IsFollowed s events when done last → Mirrors s events when last
 
--- A map is what was held at a point of a walk: after the events before the fetch of the Change List's head, and not after those
--- before the fetch of the last of its documents. Where the next event there is a group, the map may be what was held, followed by
--- the first changes of that.
+-- A map is what was held at a point of a walk, from the fetch of the Change List's head to the fetch of the last of its
+-- documents. Where the next event there is a group, the map may be what was held followed by the group's first changes.
 -- `passed`: the point, and the number of changes that the map is made of; `mirrored`: it is what these make.
 -- `held`: where the number is that of the point, it is what was held then.
 pub record WasHeld (s : Source) (events : List Event) (when : List ℕ → ℕ) (last : ℕ) (mirror : Names Entry) : Type 0 where
@@ -88,7 +88,7 @@ pub record WasHeld (s : Source) (events : List Event) (when : List ℕ → ℕ) 
   pub mirrored : mirror ≡ catalogue s events n
   pub held : count_at s events passed.point ≡ n → mirror ≡ entries (state_at s events passed.point).held
 
--- What it gathers makes what was held so: each name with its facts and moment.
+-- What the destination gathers makes what was held: each name with its facts and moment.
 abbrev pub MirrorWasHeld : Type 0
 MirrorWasHeld =
     (base : List ℕ) (limit moment : ℕ) (events : List Event) (when : List ℕ → ℕ) (done last : ℕ)
@@ -106,7 +106,7 @@ FetchedListedPartsStay =
     → doc_of path ≡ Some (ResourcePart publication k)
     → answer (state_at s events i) path ≡ Some x → answer (state_at s events j) path ≡ Some y → x ≡ y
 
--- And so are two at the path of one part of the Change List, where the first has an `until`.
+-- Two answers at the path of one part of the Change List are equal, where the first has an `until`.
 abbrev pub FetchedClosedPartsStay : Type 0
 FetchedClosedPartsStay =
     (s : Source) (events : List Event) (i j : ℕ) (path x y : List ℕ) (k start until : ℕ) (children : List Change)

@@ -24,7 +24,7 @@ HasCounts (ResourcePart publication k) = (publication < 2 ^ 64) × (k < 2 ^ 64)
 HasCounts ChangeHead = Unit {0}
 HasCounts (ChangePart k) = k < 2 ^ 64
 
--- the document, where this is its path
+-- the document, if this is its path
 abbrev pub if_path_of : Doc → List ℕ → Option Doc
 if_path_of doc path = if same_bytes path (path_of doc) then Some doc else None
 
@@ -51,7 +51,7 @@ resource_part path = do
 unfoldable pub change_part : List ℕ → Option Doc
 change_part path = strip (codes "/changelist/") path >>= λ a. last_part ChangePart a
 
--- the document that has this path, be it there or not
+-- the document that has this path, whether it exists or not
 unfoldable pub doc_of : List ℕ → Option Doc
 doc_of path =
     resource_part path or_else change_part path or_else if_path_of ResourceHead path or_else if_path_of ChangeHead path

@@ -95,7 +95,7 @@ read_change_entry base text = do
   until ← read_until rest
   ending (codes "/></sitemap>") (record { path = path.0; start = start.0; until = until.0 }) until.1
 
--- what stands before these bytes, where the text ends with them
+-- the bytes before these, where the text ends with them
 unfoldable pub before_end : List ℕ → List ℕ → Option (List ℕ)
 before_end end [] = None
 before_end end (c ∷ text) = if same_bytes (c ∷ text) end then Some [] else (before_end end text >>= λ rest. Some (c ∷ rest))

@@ -1,4 +1,4 @@
--- What the documents say, as their reader takes it.
+-- What the documents say to their reader.
 use Rattle.std.specs.Prelude.{ℕ, List, Option}
 use Rattle.rs_record.specs.declared.facts.Facts.{Facts}
 use Rattle.rs_record.specs.declared.change.Change.{Change}
@@ -14,7 +14,7 @@ pub record ResourceEntry : Type 0 where
   pub path : List ℕ
   pub at : ℕ
 
--- a part that a Change List Index names: its path, and its bounds, of which an open part has the first alone
+-- a part that a Change List Index names: its path, and its bounds; an open part has only the first
 pub record ChangeEntry : Type 0 where
   pub path : List ℕ
   pub start : ℕ

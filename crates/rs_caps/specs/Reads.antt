@@ -1,4 +1,4 @@
--- What a text reads as: a grammar on its lines, apart from the text's definition.
+-- What a text reads as: a grammar on its lines, which does not use the definition of the text.
 use Rattle.std.specs.Prelude.{ℕ, if◌then◌else◌, List, [], ◌∷◌, ◌++◌, codes, Option, Some, None}
 use Rattle.rs_time.specs.ReadMoment.{same_bytes}
 use Rattle.rs_caps.specs.Cut.{◌>>=◌, ◌or_else◌, lines_of}
@@ -6,13 +6,13 @@ use Rattle.rs_caps.specs.Readings.{Document}
 use Rattle.rs_caps.specs.Readings.Document.{ResourceList, ChangeList, ResourceListIndex, ChangeListIndex}
 use Rattle.rs_caps.specs.ReadLines.{read_up, read_resource_md, read_change_md, read_resource, read_change, read_resource_entry, read_change_entry}
 
--- what each line reads as, up to the line that closes the document, which is the last
+-- what each line reads as, up to the line that closes the document, which is the last line
 unfoldable pub read_children : {A : Type 0} → (List ℕ → Option A) → List ℕ → List (List ℕ) → Option (List A)
 read_children read end [] = None
 read_children read end (l ∷ []) = if same_bytes l end then Some [] else None
 read_children read end (l ∷ m ∷ lines) = read l >>= λ x. read_children read end (m ∷ lines) >>= λ xs. Some (x ∷ xs)
 
--- the lines after the first, which is this one
+-- the lines after the first, which is this line
 abbrev pub after_line : List ℕ → List (List ℕ) → Option (List (List ℕ))
 after_line l [] = None
 after_line l (m ∷ lines) = if same_bytes m l then Some lines else None

@@ -22,22 +22,22 @@ use Rattle.rs_caps.specs.Gather.{gather_resources, gather_changes, listed_entry}
 use Rattle.rs_caps.specs.DocumentTexts.{document_text}
 use Rattle.rs_model.specs.Lawful.{IsLawful, IsLawfulTimed}
 
--- The text of a list, a part or an index that is there is what is answered at its path.
+-- The answer at the path of an existing list, part or index is its text.
 abbrev pub TextsAreAnswered : Type 0
 TextsAreAnswered =
     (s : Source) (path text : List ℕ) (doc : Doc) → doc_of path ≡ Some doc → list_text (shown_of s) doc ≡ Some text
     → answer s path ≡ Some text
 
--- It reads as exactly that document.
+-- The text reads as exactly that document.
 abbrev pub TextsRead : Type 0
 TextsRead =
     (s : Source) (text : List ℕ) (doc : Doc) → IsLawful s → list_text (shown_of s) doc ≡ Some text → reads text ≡ reading_of (shown_of s) doc
 
--- What is gathered from the Resource List is the latest publication, whole.
+-- The Resource List gives the whole latest publication.
 abbrev pub ResourcesAreGathered : Source → Type 0
 ResourcesAreGathered s = gather_resources (answer s) ≡ Some (s.at, map listed_of (map record_of s.listed))
 
--- What is gathered from the Change List is where the kept history begins, and all its changes.
+-- The Change List gives the moment at which the kept history begins, and all its changes.
 abbrev pub ChangesAreGathered : Source → Type 0
 ChangesAreGathered s = gather_changes (answer s) ≡ Some (s.begin, s.changes)
 
@@ -55,7 +55,7 @@ ListedPartsStay =
     → doc_of path ≡ Some (ResourcePart publication k)
     → answer (fold_of s earlier) path ≡ Some x → answer (fold_of s (earlier ++ later)) path ≡ Some y → x ≡ y
 
--- And so are two at the path of one part of the Change List, once the first has an `until`.
+-- Two answers at the path of one part of the Change List are equal, once the first has an `until`.
 abbrev pub ClosedPartsStay : Type 0
 ClosedPartsStay =
     (s : Source) (earlier later : List (Command × ℕ)) (path x y : List ℕ) (k start until : ℕ) (children : List Change)

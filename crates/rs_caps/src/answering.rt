@@ -1,4 +1,4 @@
-//! What is answered at a path.
+//! The answer at a path.
 
 ghost use Rattle.std.specs.Prelude.{◌≡◌, IfOk, option_copied, option_map};
 ghost use Rattle.rs_model.specs.State.{body_of};
@@ -11,12 +11,12 @@ use crate::path_reading::{doc_of, strip};
 use crate::state_view::StateView;
 use rs_io::Watched;
 use rs_lists::{Doc, ListError};
-use rs_model::State;
+use rs_model::{State, states_are_lawful};
 use rs_record::{Name, NameError};
 use std::alloc::{AllocError, Global};
 
-/// What is answered at this path: the text of the document that has it, or the bytes of the resource that has it.
-/// None where there is no such document, or the resource is not held.
+/// The answer at this path: the text of the document that has it, or the bytes of the resource that has it. `None`
+/// where the document does not exist, or the resource is not held.
 ///
 /// # Errors
 ///
@@ -31,7 +31,7 @@ pub fn answer(alloc: Global, state: &State, path: &[u8]) -> Result<Option<Vec<u8
     }
 }
 
-// The text of a document, where there is one.
+/// The text of a document, if it exists.
 fn document(alloc: Global, state: &State, doc: Doc) -> Result<Option<Vec<u8>>, AllocError>
     ensures { IfOk result (λ text.
         option_map (λ bytes. bytes.items) text ≡ document_text (shown_of state.now) doc) }
@@ -45,7 +45,7 @@ fn document(alloc: Global, state: &State, doc: Doc) -> Result<Option<Vec<u8>>, A
     }
 }
 
-// The bytes of the resource that has this path, where it is held.
+/// The bytes of the resource that has this path, if it is held.
 fn resource(alloc: Global, state: &State, path: &[u8]) -> Result<Option<Vec<u8>>, AllocError>
     ensures { IfOk result
         (λ body. option_map (λ bytes. bytes.items) body ≡ body_at state.now path.now) }
@@ -56,13 +56,12 @@ fn resource(alloc: Global, state: &State, path: &[u8]) -> Result<Option<Vec<u8>>
     }
 }
 
-// The bytes of the resource of this name, where it is held. Bytes that are no lawful name are held by no state.
+/// The bytes of the resource of this name, if it is held. No state holds a name that is not lawful.
 fn body(alloc: Global, state: &State, name: &[u8]) -> Result<Option<Vec<u8>>, AllocError>
     ensures { IfOk result
         (λ body. option_map (λ bytes. bytes.items) body ≡ body_of name.now state.now) }
 {
-    // Reading it shows what the type of a state keeps.
-    let _limit = state.limit();
+    states_are_lawful(state);
     match Name::new(alloc, name) {
         Ok(name) => copied(alloc, state.body(&name)),
         Err(NameError::BadName) => Ok(None),
@@ -70,7 +69,7 @@ fn body(alloc: Global, state: &State, name: &[u8]) -> Result<Option<Vec<u8>>, Al
     }
 }
 
-// The bytes once more.
+/// A copy of the bytes.
 fn copied(alloc: Global, bytes: Option<&[u8]>) -> Result<Option<Vec<u8>>, AllocError>
     ensures { IfOk result
         (λ copied. option_map (λ copy. copy.items) copied ≡ option_copied bytes.entry) }

@@ -13,13 +13,13 @@ use std::io::Write;
 
 /// Writes the whole text of a document: UTF-8, each line ended by a line feed.
 ///
-/// The Source Description and the Capability List always exist; the lists' heads too. A part exists only where its
+/// The Source Description, the Capability List and the heads of both lists always exist. A part exists only where its
 /// head is an index, and a part of a Resource List only under the number of the latest publication.
 ///
 /// # Errors
 ///
-/// `NoSuchDocument` exactly where the document does not exist; nothing is written then. `WriteFault` only where a
-/// call of the writer failed in this one; a beginning of the text is written then, and no other byte.
+/// `NoSuchDocument` exactly where the document does not exist; then it writes nothing. `WriteFault` only where the
+/// writer failed in this call; then it has written a beginning of the text and no other byte.
 pub fn write_document<V: View, W: Write>(
     view: &V,
     doc: Doc,
@@ -41,8 +41,8 @@ pub fn write_document<V: View, W: Write>(
     }
 }
 
-/// The length in bytes of what [`write_document`] writes, or None where the document does not exist. No text is made
-/// and no memory taken.
+/// The length in bytes of what [`write_document`] writes, or `None` where the document does not exist. It makes no text
+/// and takes no memory.
 pub fn document_length<V: View>(view: &V, doc: Doc) -> Option<u64>
     ensures { result ≡ option_map length (document_text (V.shown view.now) doc) }
 {
@@ -53,7 +53,7 @@ pub fn document_length<V: View>(view: &V, doc: Doc) -> Option<u64>
     }
 }
 
-// Writes pieces that make a document.
+/// Writes pieces that make a document.
 fn write_pieces<W: Write>(pieces: &[Piece<'_>], out: &mut Watched<W>) -> Result<(), ListError>
     ensures written { OnOk result (Wrote W.contents out.old out.new (pieces_text pieces.now)) }
     ensures exists { ¬ IsErrOf result ListError.NoSuchDocument }
@@ -65,7 +65,7 @@ fn write_pieces<W: Write>(pieces: &[Piece<'_>], out: &mut Watched<W>) -> Result<
     Ok(())
 }
 
-// The Source Description, in pieces.
+/// The Source Description, in pieces.
 fn description(base: &Base) -> [Piece<'_>; 6]
     ensures text { pieces_text result ≡ description_text base.now }
     ensures lawful { IsTrue (is_base base.now) }
@@ -82,7 +82,7 @@ fn description(base: &Base) -> [Piece<'_>; 6]
     ]
 }
 
-// The Capability List, in pieces.
+/// The Capability List, in pieces.
 fn capabilities(base: &Base) -> [Piece<'_>; 10]
     ensures text { pieces_text result ≡ capabilities_text base.now }
     ensures lawful { IsTrue (is_base base.now) }

@@ -1,9 +1,8 @@
-//! Laws of what is served: public functions that do nothing, each proved to have its law as contract.
+//! Laws of what is served. Each function does nothing: its contract is the law.
 //!
-//! A *reading* takes a text apart by a grammar of its own, apart from the definition of the texts
-//! that are written. The laws say that each text reads as exactly the document that it is the text
-//! of, that the lists together say all that the source holds, and that a part once served stays as
-//! it was.
+//! A *reading* parses a text by a grammar of its own, which does not use the definition of the written texts. The laws
+//! say that each text reads as exactly its document, that the lists together say all that the source holds, and that a
+//! part once served stays as it was.
 
 pub mod answered;
 pub mod destination;

@@ -1,4 +1,4 @@
-//! The documents of a source: where each stands, its exact text, and the laws that what is served says what the
+//! The documents of a source: the path and the exact text of each, and the laws that the served documents say what the
 //! source holds.
 #![tactic(auto)]
 

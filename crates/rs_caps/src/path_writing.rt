@@ -1,4 +1,4 @@
-//! Writing a path: where a document stands.
+//! Writing the path of a document.
 
 ghost use Rattle.std.specs.Prelude.{◌≡◌, OnOk, OnErr, IfOk};
 ghost use Rattle.rs_io.specs.Watch.{EndFailed, FailedWithin, Wrote};
@@ -9,12 +9,12 @@ use rs_lists::{Doc, Piece, put_pieces};
 use std::alloc::{AllocError, Global};
 use std::io::Write;
 
-/// Writes the path of a document, from its first `/` on, also of a part that does not exist.
+/// Writes the path of a document, from its first `/` on. It also writes the path of a part that does not exist.
 ///
 /// # Errors
 ///
-/// [`WriteFault`] only where a call of the writer failed in this one; a beginning of the path is written then, and no
-/// other byte.
+/// [`WriteFault`] only where the writer failed in this call. It has then written a beginning of the path and no other
+/// byte.
 pub fn write_path<W: Write>(doc: Doc, out: &mut Watched<W>) -> Result<(), WriteFault>
     ensures written { OnOk result (Wrote W.contents out.old out.new (path_text doc)) }
     ensures fault { OnErr result (EndFailed out.old out.new) }
@@ -50,7 +50,7 @@ pub fn write_path<W: Write>(doc: Doc, out: &mut Watched<W>) -> Result<(), WriteF
 ///
 /// # Errors
 ///
-/// Only want of memory.
+/// An error where a growth of memory is refused.
 pub fn path_of(alloc: Global, doc: Doc) -> Result<Vec<u8>, AllocError>
     ensures { IfOk result (λ path. path.items ≡ path_text doc) }
 {

@@ -9,8 +9,8 @@ use rs_record::{Base, Change, Record};
 use rs_time::Moment;
 use std::alloc::{AllocError, Global};
 
-/// A state as its documents show it: its latest publication and the changes that it keeps. It borrows the state and copies
-/// nothing. A listed resource has no extent of its own here, so each record's extent is empty.
+/// A state as its documents show it: its latest publication and the changes that it keeps. It borrows the state and
+/// copies nothing. A listed resource has no extent of its own here, so each record's extent is empty.
 #[derive(Drop)]
 pub struct StateView<'a> {
     state: &'a State,

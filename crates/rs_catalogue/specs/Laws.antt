@@ -1,24 +1,21 @@
 -- What follows from the definitions of catalogues alone.
-use Rattle.std.specs.Prelude.{◌≡◌, ℕ, Bool, true, List, map, option_map, All}
-use Rattle.rs_extent.specs.Extents.{in_some}
-use Rattle.rs_body.specs.Outside.{Keeps}
+use Rattle.std.specs.Prelude.{◌≡◌, ℕ, List, map, option_map, All}
 use Rattle.rs_record.specs.declared.record.Record.{Record}
 use Rattle.rs_model.specs.declared.value.Entry.{Entry}
 use Rattle.rs_model.specs.Names.{Names, value_of, bind, unbind, map_values}
-use Rattle.rs_page.specs.declared.place.PageRef.{PageRef}
 use Rattle.rs_page.specs.Items.{record_format}
-use Rattle.rs_page.specs.Pages.{Page, IsStored, extents_of, stored_refs}
+use Rattle.rs_page.specs.Pages.{Page, IsStored, stored_refs}
 use Rattle.rs_page.specs.DiskPages.{Stands}
+use Rattle.rs_page.specs.Laws.{HoldOnce, HoldByBlocks}
 use Rattle.rs_catalogue.specs.Catalogue.{IsCatalogue, HoldsCatalogue}
 
 -- Pages hold at most one catalogue.
 abbrev pub CatalogueHeldOnce : Type 0
-CatalogueHeldOnce = (refs : List PageRef) (image : List ℕ) (a b : List (List Record)) → HoldsCatalogue refs image a → HoldsCatalogue refs image b → a ≡ b
+CatalogueHeldOnce = HoldOnce HoldsCatalogue
 
 -- What pages hold depends on their blocks alone.
 abbrev pub CatalogueStays : Type 0
-CatalogueStays = (kept : ℕ → Bool) (refs : List PageRef) (old new : List ℕ) (pages : List (List Record))
-    → ((b : ℕ) → in_some (extents_of refs) b ≡ true → kept b ≡ true) → Keeps kept old new → HoldsCatalogue refs old pages → HoldsCatalogue refs new pages
+CatalogueStays = HoldByBlocks HoldsCatalogue
 
 -- Where each page of a catalogue stands on the disk, the references to them hold its records: so they load as this catalogue.
 abbrev pub StoredCatalogueIsHeld : Type 0

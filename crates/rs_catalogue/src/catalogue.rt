@@ -102,12 +102,12 @@ impl Catalogue {
         self.pages.get(name)
     }
 
-    /// The catalogue with this record bound to its name, in the place of one that the name had. This
+    /// The catalogue with this record bound to its name; it replaces the record that had the name. This
     /// catalogue stays.
     ///
     /// The record goes into the last page whose first name is not above its own, or else into the
-    /// first page. That page is touched: where it has more than 64 records, it is cut from its front
-    /// into pages of 32 until at most 64 are left. All other pages stay the same pages.
+    /// first page. That page is touched: if it has more than 64 records, pages of 32 are cut from its
+    /// front until at most 64 records are left. All other pages stay the same pages.
     ///
     /// # Errors
     ///
@@ -130,9 +130,9 @@ impl Catalogue {
         Ok(Catalogue { pages })
     }
 
-    /// The catalogue without the record of this name; the same one, where the name has none. This
-    /// catalogue stays. The page of the record is touched, and goes where it would be left empty;
-    /// pages are never joined, and all others stay the same pages.
+    /// The catalogue without the record of this name; the same catalogue if no record has it. This
+    /// catalogue stays. The page of the record is touched, and goes if it is left empty. Pages are
+    /// never joined, and all others stay the same pages.
     ///
     /// # Errors
     ///
@@ -153,7 +153,7 @@ impl Catalogue {
         Ok(Catalogue { pages })
     }
 
-    /// The same catalogue once more, in the same pages.
+    /// A copy of the catalogue, in the same pages.
     ///
     /// # Errors
     ///
@@ -165,8 +165,8 @@ impl Catalogue {
         Ok(Catalogue { pages })
     }
 
-    /// Gives the record of this name these digests. It stands in a page that was not stored, as it
-    /// does after [`Catalogue::with`] bound it. It takes no memory.
+    /// Sets the digests of the record of this name. Its page is not stored, as after
+    /// [`Catalogue::with`] bound the record. It takes no memory.
     pub fn fill(&mut self, name: &Name, digests: Digests)
         requires { StandsUnstored name.now self.old }
         ensures filled { IfSome (value_of name.now (named (records_of self.old)))
@@ -193,8 +193,8 @@ impl Catalogue {
         self.pages.pages(alloc)
     }
 
-    /// The entry of the page that a record of this name goes into or stands in, where that page is on
-    /// the disk.
+    /// The entry of the page that has, or would take, a record of this name, where that page is on the
+    /// disk.
     pub fn entry_for(&self, name: &Name) -> Option<PageRef>
         ensures { result ≡ entry_at (home (λ (r : Record). r.name) name.now self.now) self.now }
     {

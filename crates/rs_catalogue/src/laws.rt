@@ -20,15 +20,15 @@ pub fn catalogue_stays()
     pages_stay::<Record>();
 }
 
-/// A catalogue whose pages all stand on the disk is what the references to them hold: so
-/// [`crate::Catalogue::load`] of these gives its records, wherever the device and the memory allow.
+/// If all pages of a catalogue are on the disk, the references to them hold this catalogue: so
+/// [`crate::Catalogue::load`] gives its records, as far as the device and the memory allow.
 pub fn stored_catalogue_is_held()
     ensures { StoredCatalogueIsHeld }
 {
     stored_pages_stand::<Record>();
 }
 
-/// What is shown of each record is bound, unbound and found as the records are.
+/// Entries that show records are bound, unbound and found as the records are.
 pub fn shown_records_are_a_map()
     ensures bound { ShownIsBound }
     ensures unbound { ShownIsUnbound }

@@ -39,8 +39,8 @@ impl Catalogue {
         self.pages.place_touched(used)
     }
 
-    /// Adds the blocks that pages were given, and are not written to yet, in the order of the pages, to
-    /// a list that has room for as many as there are pages. It takes no memory.
+    /// Adds the blocks of the placed pages that are not written yet, in the order of the pages, to a
+    /// list that has room for an extent of each page. It takes no memory.
     pub fn list_placed(&self, extents: &mut Vec<Extent>)
         requires { vec_len extents.old + length self.now ≤ vec_capacity extents.old }
         ensures items { extents.new.items ≡ extents.old.items ++ placed_extents self.now }
@@ -99,7 +99,7 @@ impl Catalogue {
     ) -> Result<Catalogue, LoadFault>
         ensures pages { IfOk result (AreStoredAt pages.now) }
 
-        // What the disk holds is said of a device that has followed the model.
+        // Where the device has followed the model:
         ensures found { IfOk result (λ loaded. IsTrue (D.state disk.new).honest
             → HoldsCatalogue pages.now (D.state disk.new).now.seen (items_by_page loaded)) }
         ensures damaged { IsErrOf result LoadFault.Damaged → IsTrue (D.state disk.new).honest
@@ -134,8 +134,7 @@ impl Catalogue {
     ) -> Result<Catalogue, LoadFault>
         ensures pages { IfOk result (AreStoredAt pages.now) }
 
-        // What the disk holds is said of a device that has followed the model, on which the pages of
-        // the catalogue that is held stand.
+        // Where the device has followed the model, and the pages of the catalogue in memory are on it:
         ensures found { IfOk result (λ loaded. IsTrue (D.state disk.new).honest
             → All (Stands record_format (D.state disk.new).now.seen) beside.now
             → HoldsCatalogue pages.now (D.state disk.new).now.seen (items_by_page loaded)) }

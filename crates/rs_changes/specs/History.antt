@@ -43,7 +43,7 @@ pub record IsNumbered (h : Numbered) : Type 0 where
 abbrev pub with_pages : Numbered → List (Page Change) → Numbered
 with_pages h pages = record h { pages = pages }
 
--- the history without its first parts: so many, of so many changes each
+-- the history without its first `count` parts of `limit` changes each
 abbrev pub without_parts : ℕ → ℕ → Numbered → Numbered
 without_parts count limit h = record { first = h.first + count; pages = dropped_front (count * limit) h.pages }
 
@@ -65,8 +65,8 @@ pub record HoldsHistory (refs : List PageRef) (image : List ℕ) (pages : List (
 abbrev pub HoldsNoHistory : List PageRef → List ℕ → Type 0
 HoldsNoHistory refs image = (changes : List (List Change)) → ¬ HoldsHistory refs image changes
 
--- The places of n changes are dealt into parts 0, 1, 2, .. of `limit` each, as far as there are any.
--- The place of part k's first change, which is n where there is no such part.
+-- The places of n changes are dealt into parts 0, 1, 2, .. of `limit` each.
+-- The place of part k's first change, which is n where n changes make no part k.
 abbrev pub part_start : ℕ → ℕ → ℕ → ℕ
 part_start n limit k = min (k * limit) n
 

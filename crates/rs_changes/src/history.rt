@@ -176,8 +176,8 @@ impl History {
     /// The history without its first `count` parts of `limit` changes each, all of which it has. Its
     /// first number is greater by as many, and at most 253,402,300,799,999. This history stays.
     ///
-    /// The page in which the cut falls is touched: what is left of it is cut into pages of 64 changes,
-    /// of which the last has the rest. Pages before it go, and all after it stay the same pages.
+    /// The page in which the cut falls is touched: its other changes are cut into pages of 64, of which
+    /// the last has the rest. Pages before it go, and all after it stay the same pages.
     ///
     /// # Errors
     ///
@@ -222,7 +222,7 @@ impl History {
         self.pages.front_entries(alloc, dropped)
     }
 
-    /// The same history once more, in the same pages.
+    /// A copy of the history, in the same pages.
     ///
     /// # Errors
     ///
@@ -237,9 +237,8 @@ impl History {
         })
     }
 
-    /// Gives the facts of the last change these digests; a deletion, which has no facts, stays as
-    /// it is. The change stands in a page that was not stored, as it does after [`History::with`]
-    /// put it there. It takes no memory.
+    /// Sets the digests of the last change; a deletion, which has none, stays as it is. The page of
+    /// the change is not stored, as after [`History::with`] appended it. It takes no memory.
     pub fn fill_last(&mut self, digests: Digests)
         requires { EndsUnstored self.old.pages }
         ensures filled { (before : List Change) (last : Change)

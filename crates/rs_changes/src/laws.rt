@@ -20,8 +20,8 @@ pub fn history_stays()
     pages_stay::<Change>();
 }
 
-/// A history whose pages all stand on the disk is what the references to them hold: so
-/// [`crate::History::load`] of these gives its changes, wherever the device and the memory allow.
+/// If all pages of a history are on the disk, the references to them hold this history: so
+/// [`crate::History::load`] gives its changes, as far as the device and the memory allow.
 pub fn stored_history_is_held()
     ensures { StoredHistoryIsHeld }
 {

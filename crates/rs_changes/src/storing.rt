@@ -39,8 +39,8 @@ impl History {
         self.pages.place_touched(used)
     }
 
-    /// Adds the blocks that pages were given, and are not written to yet, in the order of the pages, to
-    /// a list that has room for as many as there are pages. It takes no memory.
+    /// Adds the blocks of the placed pages that are not written yet, in the order of the pages, to a
+    /// list that has room for an extent of each page. It takes no memory.
     pub fn list_placed(&self, extents: &mut Vec<Extent>)
         requires { vec_len extents.old + length self.now.pages ≤ vec_capacity extents.old }
         ensures items { extents.new.items ≡ extents.old.items ++ placed_extents self.now.pages }
@@ -82,11 +82,11 @@ impl History {
     }
 
     /// Reads the history that these references point to, whatever they say, by one device call a
-    /// page. Its first part has this number, which is at most 253,402,300,799,999. The disk stays as it
+    /// page. Its first part has the number `first`, at most 253,402,300,799,999. The disk stays as it
     /// is.
     ///
-    /// No memory is asked for a page before its extent was found to lie on the disk and to have
-    /// exactly the blocks of its length, nor for any after 50,000 changes were passed.
+    /// It asks for no memory for a page before it has checked that the extent lies on the disk and
+    /// has exactly the blocks of the length, and for none once it has passed 50,000 changes.
     ///
     /// # Errors
     ///
@@ -104,7 +104,7 @@ impl History {
         ensures first { IfOk result (λ loaded. loaded.first ≡ first) }
         ensures pages { IfOk result (λ loaded. AreStoredAt pages.now loaded.pages) }
 
-        // What the disk holds is said of a device that has followed the model.
+        // Where the device has followed the model:
         ensures found { IfOk result (λ loaded. IsTrue (D.state disk.new).honest
             → HoldsHistory pages.now (D.state disk.new).now.seen (items_by_page loaded.pages)) }
         ensures damaged { IsErrOf result LoadFault.Damaged → IsTrue (D.state disk.new).honest

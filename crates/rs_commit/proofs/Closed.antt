@@ -17,12 +17,12 @@ use Rattle.rs_commit.proofs.Payloads.{tells, length-payload, length-slot_bytes, 
 use Rattle.rs_commit.proofs.Phases.{behind_on}
 use Rattle.rs_commit.proofs.Ready.{rest_ready}
 
--- two slots that say nothing tell no root
+-- two slots that say nothing hold no root
 none_open : (image : List ℕ) → content (block image First) ≡ Closed → content (block image Second) ≡ Closed → current image ≡ None
 unfolding current
 none_open image one two = λ i. pick (one i) (two i)
 
--- Where both gates are closed, no root is told,
+-- Where both gates are closed, there is no root,
 pub shut_seen : (m : Medium) → AreShut m → current m.seen ≡ None
 shut_seen m shut = none_open m.seen (closed_gate (block m.seen First) shut.first) (closed_gate (block m.seen Second) shut.second)
 
@@ -42,30 +42,19 @@ shut_stays old new same marks shut = record {
 
 -- what closing both gates leaves
 pub gates_closed : (bytes : List ℕ) → 1024 ≤ length bytes → (new : Medium) → new ≡ resting (with_closed_gates bytes) → AreShut new
-gates_closed bytes room new are = subst AreShut (sym are) now
-  where
-    one : List ℕ
-    one = over bytes (offset First) (0 ∷ [])
-
-    two : List ℕ
-    two = over one (offset Second) (0 ∷ [])
-
-    torn_one : Torn (offset First) 1 bytes one
-    torn_one = over_torn bytes (offset First) (0 ∷ []) (omega (arith, room))
-
-    torn_two : Torn (offset Second) 1 one two
-    torn_two = over_torn one (offset Second) (0 ∷ []) (omega (arith, room, torn_one.size))
-
-    kept : Beside Second two one
-    kept = beside Second (offset Second) 1 one two (omega arith) (omega arith) torn_two
-
-    now : AreShut (resting two)
-    now = record {
+gates_closed bytes room new are =
+    let one : List ℕ = over bytes (offset First) (0 ∷ []) in
+    let two : List ℕ = over one (offset Second) (0 ∷ []) in
+    let torn_one : Torn (offset First) 1 bytes one = over_torn bytes (offset First) (0 ∷ []) (omega (arith, room)) in
+    let torn_two : Torn (offset Second) 1 one two = over_torn one (offset Second) (0 ∷ []) (omega (arith, room, torn_one.size)) in
+    let kept : Beside Second two one = beside Second (offset Second) 1 one two (omega arith) (omega arith) torn_two in
+    let now : AreShut (resting two) = record {
       room = omega (arith, room, torn_one.size, torn_two.size);
       first = ap gate kept.kept ∙ gate_put bytes First 0 room;
       second = gate_put one Second 0 (omega (arith, room, torn_one.size));
       settled = λ i lt. resting_off two i;
-    }
+    } in
+    subst AreShut (sym are) now
 
 -- what stands behind the gate of a slot that was made
 abbrev pub rest_of : List ℕ → List ℕ

@@ -10,14 +10,8 @@ use Rattle.rs_commit.specs.declared.slot.SlotContent.TheVariants.{Closed, Unknow
 use Rattle.rs_commit.specs.Slots.{other, block, gate, version, root_in, is_known, is_open, content, Standing, pick, current, OpensTo}
 use Rattle.rs_commit.proofs.Blocks.{front_blocks}
 
-is_not : (m n : ℕ) → (m ≡ n → ⊥) → nat_eq m n ≡ false
-is_not m n differs = grind (arith, nat_tests)
-
 is_same : (m n : ℕ) → m ≡ n → nat_eq m n ≡ true
 is_same m n same = grind (arith, nat_tests)
-
-same_from : (m n : ℕ) → nat_eq m n ≡ true → m ≡ n
-same_from m n is = grind (arith, nat_tests)
 
 above : (m n : ℕ) → m < n → nat_lt m n ≡ true
 above m n lt = grind (arith, nat_tests)
@@ -37,18 +31,22 @@ not_open byte zero one = let no : 0 ≡ 1 = sym zero ∙ one in absurd (omega (a
 pub closed : (bytes : List ℕ) → (gate bytes ≡ 1 → ⊥) → content bytes ≡ Closed
 unfolding content
 closed bytes shut =
-    let off : is_open bytes ≡ false = never (nat_eq (length bytes) 512) (nat_eq (gate bytes) 1) (is_not (gate bytes) 1 shut) in
+    let gate_off : nat_eq (gate bytes) 1 ≡ false = grind (arith, nat_tests) in
+    let off : is_open bytes ≡ false = never (nat_eq (length bytes) 512) (nat_eq (gate bytes) 1) gate_off in
     ap (λ (b : Bool). if b then (if is_known (version bytes) then Open (root_in bytes) else Unknown) else Closed) off
 
 pub closed_gate : (bytes : List ℕ) → gate bytes ≡ 0 → content bytes ≡ Closed
 closed_gate bytes shut = closed bytes (not_open (gate bytes) shut)
 
--- a whole one whose gate is 1 tells the root of a known version
+-- a whole one whose gate is 1 is open,
+is_on : (bytes : List ℕ) → length bytes ≡ 512 → gate bytes ≡ 1 → is_open bytes ≡ true
+is_on bytes long one = and_from (nat_eq (length bytes) 512) (nat_eq (gate bytes) 1) (is_same (length bytes) 512 long) (is_same (gate bytes) 1 one)
+
+-- and holds the root of a known version
 pub opened : (bytes : List ℕ) (root : Root) → length bytes ≡ 512 → gate bytes ≡ 1 → is_known (version bytes) ≡ true → root_in bytes ≡ root → content bytes ≡ Open root
 unfolding content
 opened bytes root long one known tells =
-    let on : is_open bytes ≡ true = and_from (nat_eq (length bytes) 512) (nat_eq (gate bytes) 1) (is_same (length bytes) 512 long) (is_same (gate bytes) 1 one) in
-    (λ i. if on i then (if known i then Open (root_in bytes) else Unknown) else Closed) ∙ ap Open tells
+    (λ i. if is_on bytes long one i then (if known i then Open (root_in bytes) else Unknown) else Closed) ∙ ap Open tells
 
 open_from : (o k : Bool) (a root : Root) → (if o then (if k then Open a else Unknown) else Closed) ≡ Open root → o ≡ true
 open_from true k a root e = refl
@@ -59,29 +57,29 @@ closed_from false k a e = refl
 closed_from true true a e = absurd cc
 closed_from true false a e = absurd cc
 
--- the gate of one that tells a root is 1
+-- the gate of a slot that holds a root is 1
 pub gate_of_open : (bytes : List ℕ) (root : Root) → content bytes ≡ Open root → gate bytes ≡ 1
 unfolding content
 gate_of_open bytes root is =
     let on : is_open bytes ≡ true = open_from (is_open bytes) (is_known (version bytes)) (root_in bytes) root is in
-    same_from (gate bytes) 1 (and_parts (nat_eq (length bytes) 512) (nat_eq (gate bytes) 1) on).1
+    let gate_on : nat_eq (gate bytes) 1 ≡ true = (and_parts (nat_eq (length bytes) 512) (nat_eq (gate bytes) 1) on).1 in
+    grind (arith, nat_tests)
 
 -- and that of a whole one that says nothing isn't
 pub gate_of_closed : (bytes : List ℕ) → length bytes ≡ 512 → content bytes ≡ Closed → gate bytes ≡ 1 → ⊥
 unfolding content
 gate_of_closed bytes long is one =
     let off : is_open bytes ≡ false = closed_from (is_open bytes) (is_known (version bytes)) (root_in bytes) is in
-    let on : is_open bytes ≡ true = and_from (nat_eq (length bytes) 512) (nat_eq (gate bytes) 1) (is_same (length bytes) 512 long) (is_same (gate bytes) 1 one) in
-    true≢false (sym on ∙ off)
+    true≢false (sym (is_on bytes long one) ∙ off)
 
--- one slot tells a root, and the other one says nothing
+-- one slot holds a root, and the other one says nothing
 pub one_open : (image : List ℕ) (s : Slot) (root : Root) → content (block image s) ≡ Open root → content (block image (other s)) ≡ Closed
     → current image ≡ Some (record { slot = s; root = root; spare_open = false })
 unfolding current
 one_open image First root here there = λ i. pick (here i) (there i)
 one_open image Second root here there = λ i. pick (there i) (here i)
 
--- both tell one, and this one is newer
+-- both hold one, and this one is newer
 pub two_open : (image : List ℕ) (s : Slot) (root spare : Root) → content (block image s) ≡ Open root → content (block image (other s)) ≡ Open spare → spare.generation < root.generation
     → current image ≡ Some (record { slot = s; root = root; spare_open = true })
 unfolding current
@@ -100,32 +98,25 @@ pub record Says (slots : Standing) (says : Slot → SlotContent) : Type 0 where
   pub told : slots.spare_open ≡ true → (root : Root) × (says (other slots.slot) ≡ Open root)
   pub shut : slots.spare_open ≡ false → says (other slots.slot) ≡ Closed
 
-says_alone : (says : Slot → SlotContent) (s : Slot) (root : Root) (slots : Standing) → says s ≡ Open root → says (other s) ≡ Closed
-    → Some (record { slot = s; root = root; spare_open = false }) ≡ Some slots → Says slots says
-says_alone says s root slots here there e =
-    let alone : Standing = record { slot = s; root = root; spare_open = false } in
-    let same : Some alone ≡ Some slots = e in
-    let is : alone ≡ slots = cc in
-    subst (λ (x : Standing). Says x says) is (record { here = here; told = λ on. absurd (true≢false (sym on)); shut = λ _. there })
-
-says_both : (says : Slot → SlotContent) (s : Slot) (root spare : Root) (slots : Standing) → says s ≡ Open root → says (other s) ≡ Open spare
-    → Some (record { slot = s; root = root; spare_open = true }) ≡ Some slots → Says slots says
-says_both says s root spare slots here there e =
-    let both : Standing = record { slot = s; root = root; spare_open = true } in
-    let same : Some both ≡ Some slots = e in
-    let is : both ≡ slots = cc in
-    subst (λ (x : Standing). Says x says) is (record { here = here; told = λ _. (spare, there); shut = λ off. absurd (true≢false off) })
+says_one : (says : Slot → SlotContent) (s : Slot) (root : Root) (spare_open : Bool) (slots : Standing) → says s ≡ Open root
+    → (spare_open ≡ true → (spare : Root) × (says (other s) ≡ Open spare)) → (spare_open ≡ false → says (other s) ≡ Closed)
+    → Some (record { slot = s; root = root; spare_open = spare_open }) ≡ Some slots → Says slots says
+says_one says s root spare_open slots here told shut e =
+    let one : Standing = record { slot = s; root = root; spare_open = spare_open } in
+    let same : Some one ≡ Some slots = e in
+    let is : one ≡ slots = cc in
+    subst (λ (x : Standing). Says x says) is (record { here = here; told = told; shut = shut })
 
 says_newer : (says : Slot → SlotContent) (a b : Root) (u v : Bool) (slots : Standing) → says First ≡ Open a → says Second ≡ Open b
     → (if u then Some (record { slot = First; root = a; spare_open = true }) else (if v then Some (record { slot = Second; root = b; spare_open = true }) else None)) ≡ Some slots
     → Says slots says
-says_newer says a b true v slots one two e = says_both says First a b slots one two e
-says_newer says a b false true slots one two e = says_both says Second b a slots two one e
+says_newer says a b true v slots one two e = says_one says First a true slots one (λ _. (b, two)) (λ off. absurd (true≢false off)) e
+says_newer says a b false true slots one two e = says_one says Second b true slots two (λ _. (a, one)) (λ off. absurd (true≢false off)) e
 says_newer says a b false false slots one two e = absurd cc
 
 says_from : (says : Slot → SlotContent) (c d : SlotContent) (slots : Standing) → says First ≡ c → says Second ≡ d → pick c d ≡ Some slots → Says slots says
-says_from says (Open a) Closed slots one two e = says_alone says First a slots one two e
-says_from says Closed (Open b) slots one two e = says_alone says Second b slots two one e
+says_from says (Open a) Closed slots one two e = says_one says First a false slots one (λ on. absurd (true≢false (sym on))) (λ _. two) e
+says_from says Closed (Open b) slots one two e = says_one says Second b false slots two (λ on. absurd (true≢false (sym on))) (λ _. one) e
 says_from says (Open a) (Open b) slots one two e = says_newer says a b (nat_lt b.generation a.generation) (nat_lt a.generation b.generation) slots one two e
 says_from says (Open a) Unknown slots one two e = absurd cc
 says_from says Closed Closed slots one two e = absurd cc
@@ -160,8 +151,7 @@ same_blocks one two Second here there = λ i. pick (content (there i)) (content 
 pub unknown : (bytes : List ℕ) → length bytes ≡ 512 → gate bytes ≡ 1 → is_known (version bytes) ≡ false → content bytes ≡ Unknown
 unfolding content
 unknown bytes long one differs =
-    let on : is_open bytes ≡ true = and_from (nat_eq (length bytes) 512) (nat_eq (gate bytes) 1) (is_same (length bytes) 512 long) (is_same (gate bytes) 1 one) in
-    λ i. if on i then (if differs i then Open (root_in bytes) else Unknown) else Closed
+    λ i. if is_on bytes long one i then (if differs i then Open (root_in bytes) else Unknown) else Closed
 
 -- a block that the disk doesn't have says nothing
 pub missing : (bytes : List ℕ) → length bytes < 512 → content bytes ≡ Closed

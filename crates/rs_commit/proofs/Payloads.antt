@@ -72,7 +72,7 @@ module _ (bytes : List ℕ) (root : Root) (stands : take 53 (drop 1 bytes) ≡ p
       let s : field bytes 22 32 ≡ root.sha256 = told 21 32 32 refl (omega arith) ∙ take_at root.sha256 [] 32 lawful.digest in
       λ i. record { version = version_told i; generation = g i; directory = record { first = f i; blocks = b i }; length = n i; sha256 = s i }
 
-  -- behind an open gate they tell the root
+  -- behind an open gate they hold the root
   pub tells : IsLawfulRoot root → length bytes ≡ 512 → gate bytes ≡ 1 → content bytes ≡ Open root
   tells lawful long one = opened bytes root long one (ap is_known version_told ∙ lawful.version) (root_told lawful)
 
@@ -80,7 +80,7 @@ module _ (bytes : List ℕ) (root : Root) (stands : take 53 (drop 1 bytes) ≡ p
 pub payloads_read : (root : Root) (byte : ℕ) (rest : List ℕ) → IsLawfulRoot root → root_in (byte ∷ (payload_of root ++ rest)) ≡ root
 payloads_read root byte rest lawful = root_told (byte ∷ (payload_of root ++ rest)) root (take_at (payload_of root) rest 53 (length-payload root lawful)) lawful
 
--- the first 54 bytes of a block tell what it tells
+-- the first 54 bytes of a block have its root
 pub first_bytes : (bytes : List ℕ) → root_in (take 54 bytes) ≡ root_in bytes
 unfolding root_in
 first_bytes bytes =

@@ -20,7 +20,7 @@ behind_on one two three first then = record { size = first.size ∙ then.size; b
 pub behind_same : (one : List ℕ) → SameBehind one one
 behind_same one = record { size = refl; bytes = refl }
 
--- Blocks 0 and 1 are settled, the old slot still tells its root, and the spare is closed.
+-- Blocks 0 and 1 are settled, the old slot still holds its root, and the spare is closed.
 pub record Shut (entry : Medium) (slot : Slot) (root : Root) (m : Medium) : Type 0 where
   pub room : 1024 ≤ length m.seen
   pub settled : AreSettled m

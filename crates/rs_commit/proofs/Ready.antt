@@ -1,8 +1,7 @@
 -- Slots that are ready, and the images of their disk.
 use Rattle.std.proofs.Common.{◌≡◌, ℕ, ◌+◌, ◌<◌, ◌≤◌, true, false, List, [], ◌∷◌, ◌++◌, length, take, drop, get_or, Some, refl, sym, ◌∙◌, ap, subst, arith, length-take, length-append}
-use Rattle.rs_disk.specs.Medium.{Medium, IsImage, IsMedium, resting}
+use Rattle.rs_disk.specs.Medium.{Medium, IsImage, IsMedium, over, resting}
 use Rattle.rs_commit.proofs.FromBelow.{settled_front, resting_off, over_torn}
-use Rattle.rs_disk.specs.Medium.{over}
 use Rattle.rs_disk.specs.Leaves.{Torn}
 use Rattle.rs_commit.specs.declared.root.Root.{Root}
 use Rattle.rs_commit.specs.declared.slot.Slot.{Slot}

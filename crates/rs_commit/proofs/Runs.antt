@@ -14,7 +14,7 @@ use Rattle.rs_commit.proofs.Blocks.{fits_slot, over_behind, over_thrice}
 use Rattle.rs_commit.proofs.Payloads.{length-payload}
 use Rattle.rs_commit.proofs.Phases.{Shut, behind_on, at_entry, closing, shut_already, shut_now, staging, staged_now, opening}
 
--- an answer that is Ok doesn't tell of the device
+-- an Ok answer does not say that the device failed
 well : ¬ (false ≡ true)
 well told = true≢false (sym told)
 
@@ -126,7 +126,7 @@ module _ (slots : Standing) (old : DiskState) (is : IsMedium old.size old.now) (
               let staged = staged_now slots old.now old.size is ready mid.now shut new lawful next.now (subst (λ (s : Slot). next.now ≡ resting (over mid.now.seen (offset s + 1) (payload_of new))) same written) in
               step next last offset 1 staged_leaves (opening slots old.now old.size is ready next.now new staged lawful greater) torn
 
--- what stands at its end: the slot is open and tells the root
+-- what is left at the end: the slot is open and holds the root
 pub all_written : (slot : Slot) (root : Root) → IsLawfulRoot root → (was_open : Bool) (old mid next last : DiskState) → 1024 ≤ length old.now.seen
     → OnTrue was_open (mid.now ≡ resting (over old.now.seen (offset slot) (0 ∷ []))) → OnFalse was_open (mid ≡ old)
     → next.now ≡ resting (over mid.now.seen (offset slot + 1) (payload_of root)) → last.now ≡ resting (over next.now.seen (offset slot) (1 ∷ []))

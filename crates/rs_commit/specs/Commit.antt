@@ -35,30 +35,30 @@ next old directory length sha256 = record { version = written_version; generatio
 abbrev pub OutsideOf : Medium → List ℕ → Type 0
 OutsideOf entry image = (e : List ℕ) × IsImage entry e × SameBehind image e
 
--- A run that writes within the slots alone: behind them a read gives what it gave, and at each m each image is as some image at
--- entry. `told` is that its answer says that the device failed.
+-- A run that writes within the slots alone: behind them a read gives what it gave, and each image at any moment is as
+-- some image at entry. `told`: its answer says that the device failed.
 pub record WritesSlots (told : Type 0) (old new : DiskState) : Type 0 where
   pub writes : RunsWriting told old new
   pub outside : SameBehind new.now.seen old.now.seen
   pub leaves : Leaves old new (λ _. OutsideOf old.now)
 
--- An image opens to the old root, and behind the slots it is as an image at entry; or it opens to the new one, and there it
--- is what a read gave at entry.
+-- An image opens to the old root, and behind the slots it is as an image at entry; or it opens to the new one, and
+-- there it is what a read gave at entry.
 abbrev pub OldOrNew : Medium → Root → Root → List ℕ → Type 0
 OldOrNew entry old new image = (OpensTo old image × OutsideOf entry image) ⊎ (OpensTo new image × SameBehind image entry.seen)
 
--- these bytes with a slot that is open and tells a root
+-- these bytes, with an open slot that holds a root
 abbrev pub with_root : List ℕ → Slot → Root → List ℕ
 with_root bytes slot root = over bytes (offset slot) (1 ∷ payload_of root)
 
--- What stands at the exit of a commit that went well: it put the root `new` in the place of that of `slots`, and `after` is how
--- the slots stand from then on.
+-- What a successful commit leaves: it replaced the root of `slots` by `new`, and `after` is how the slots stand from
+-- then on.
 pub record Committed (new : Root) (slots after : Standing) (entry exit : Medium) : Type 0 where
   -- the slots hold the new root
   pub root : after.root ≡ new
-  -- what was the spare is open and tells it, and nothing is unsettled
+  -- the former spare is open and holds it, and nothing is unsettled
   pub written : exit ≡ resting (with_root entry.seen (other slots.slot) after.root)
-  -- where the slots were ready, each image opens to it
+  -- where the slots were ready, each image opens to it,
   pub opens : IsReady slots entry → (image : List ℕ) → IsImage exit image → OpensTo after.root image
-  -- and the slots can be changed again
+  -- and another commit may follow
   pub ready : IsReady slots entry → IsReady after exit

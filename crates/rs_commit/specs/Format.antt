@@ -10,8 +10,8 @@ use Rattle.rs_commit.specs.Commit.{AreSettled, IsReady, OutsideOf, SameBehind, b
 unfoldable pub slot_bytes : ℕ → List ℕ → List ℕ
 slot_bytes gate payload = gate ∷ (payload ++ replicate (511 - length payload) 0)
 
--- blocks 0 and 1 after formatting: the first slot is open and tells the root, the second is closed and has the version that
--- is written
+-- blocks 0 and 1 after formatting: the first slot is open and holds the root, the second is closed and has the version
+-- that is written
 abbrev pub formatted : Root → List ℕ
 formatted root = slot_bytes 1 (payload_of root) ++ slot_bytes 0 (written_version ∷ [])
 
@@ -27,19 +27,20 @@ with_closed_gates bytes = over (over bytes (offset First) (0 ∷ [])) (offset Se
 abbrev pub with_first_root : List ℕ → Root → List ℕ
 with_first_root bytes root = over bytes (offset First) (slot_bytes 1 (payload_of root))
 
--- The disk has blocks 0 and 1, both gates are closed by what a read gives, and both blocks are settled. So each image tells no root.
+-- The disk has blocks 0 and 1, both gates are closed by what a read gives, and both blocks are settled. So each image
+-- opens to no root.
 pub record AreShut (m : Medium) : Type 0 where
   pub room : 1024 ≤ length m.seen
   pub first : gate (block m.seen First) ≡ 0
   pub second : gate (block m.seen Second) ≡ 0
   pub settled : AreSettled m
 
--- An image tells no root, and behind the slots it is as an image at entry; or it opens to this root, and there it is what a read
--- gave at entry.
+-- An image opens to no root, and behind the slots it is as an image at entry; or it opens to this root, and there it is
+-- what a read gave at entry.
 abbrev pub NoneOrRoot : Medium → Root → List ℕ → Type 0
 NoneOrRoot entry root image = ((current image ≡ None) × OutsideOf entry image) ⊎ (OpensTo root image × SameBehind image entry.seen)
 
--- What stands at the exit of a formatting that went well: `made` is how the slots stand.
+-- What a successful formatting leaves: `made` is how the slots stand.
 pub record AreMade (root : Root) (made : Standing) (entry exit : Medium) : Type 0 where
   -- the first slot holds the root, and the spare is closed
   pub slots : made ≡ fresh root
@@ -48,11 +49,11 @@ pub record AreMade (root : Root) (made : Standing) (entry exit : Medium) : Type 
   -- a commit may follow
   pub ready : IsReady made exit
 
--- What stands where a root was put into the first slot: `made` is how the slots stand.
+-- What is left once a root is put into the first slot: `made` is how the slots stand.
 pub record HoldsFirst (root : Root) (made : Standing) (entry exit : Medium) : Type 0 where
   -- the first slot holds the root, and the spare is closed
   pub slots : made ≡ fresh root
-  -- the first slot is open and tells it, elsewhere is what a read gave, and nothing is unsettled
+  -- the first slot is open and holds it, elsewhere is what a read gave, and nothing is unsettled
   pub written : exit ≡ resting (with_first_root entry.seen root)
   -- where both were closed, a commit may follow
   pub ready : AreShut entry → IsReady made exit

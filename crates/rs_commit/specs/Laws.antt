@@ -37,7 +37,7 @@ PayloadsRead = (root : Root) (gate : ℕ) (rest : List ℕ) → IsLawfulRoot roo
 abbrev pub FormattedStands : Type 0
 FormattedStands = (root : Root) (rest : List ℕ) → IsLawfulRoot root → current (formatted root ++ rest) ≡ Some (fresh root)
 
--- Where both slots are closed, each image tells no root.
+-- Where both slots are closed, each image opens to no root.
 abbrev pub ShutTellsNone : Type 0
 ShutTellsNone = (m : Medium) (size : ℕ) → IsMedium size m → AreShut m → (image : List ℕ) → IsImage m image → current image ≡ None
 

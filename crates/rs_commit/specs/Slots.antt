@@ -40,7 +40,7 @@ is_known v = nat_le 1 v && nat_le v 2
 abbrev pub written_version : ℕ
 written_version = 2
 
--- the root that bytes 1 to 53 tell, each number big endian
+-- the root in bytes 1 to 53; its numbers are big endian
 unfoldable pub root_in : List ℕ → Root
 root_in bytes = record {
   version = version bytes;
@@ -70,8 +70,8 @@ newer first second =
     if nat_lt second.generation first.generation then Some (record { slot = First; root = first; spare_open = true })
     else (if nat_lt first.generation second.generation then Some (record { slot = Second; root = second; spare_open = true }) else None)
 
--- The rule: the open slot holds the root, of two open ones the newer. There is none where no slot is open, where an open
--- one has an unknown version, and where both are open with equal generations.
+-- The rule: the open slot holds the root, of two open ones the newer. There is none where no slot is open, where an
+-- open one has an unknown version, and where both are open with equal generations.
 abbrev pub pick : SlotContent → SlotContent → Option Standing
 pick (Open first) Closed = Some (record { slot = First; root = first; spare_open = false })
 pick Closed (Open second) = Some (record { slot = Second; root = second; spare_open = false })
@@ -86,7 +86,7 @@ current image = pick (content (block image First)) (content (block image Second)
 abbrev pub OpensTo : Root → List ℕ → Type 0
 OpensTo root image = (slots : Standing) × (current image ≡ Some slots) × (slots.root ≡ root)
 
--- bytes 1 to 53 of a slot that tells a root: its version, and its other fields
+-- bytes 1 to 53 of a slot that holds a root: its version, and its other fields
 unfoldable pub payload_of : Root → List ℕ
 payload_of root =
     concat

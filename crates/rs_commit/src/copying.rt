@@ -5,7 +5,7 @@ ghost use Rattle.rs_disk.specs.Leaves.{Leaves};
 ghost use Rattle.rs_disk.specs.Runs.{WritesWithin, MakesCalls};
 ghost use Rattle.rs_commit.specs.Commit.{WritesSlots};
 ghost use Rattle.rs_commit.specs.Slots.{payload_of, written_version, IsLawfulRoot};
-ghost use Rattle.rs_commit.specs.Format.{slot_bytes, fresh, with_closed_gates, AreShut, NoneOrRoot, HoldsFirst};
+ghost use Rattle.rs_commit.specs.Format.{slot_bytes, with_closed_gates, AreShut, NoneOrRoot, HoldsFirst};
 
 use crate::format::closed_slot;
 use crate::root::payload;
@@ -14,23 +14,22 @@ use crate::slot::{CLOSED, OPEN, Slot};
 use crate::{Root, Slots};
 use rs_disk::{Disk, Fault};
 
-/// Closes both slots of a disk, whatever they held, and settles that: from then on the disk tells
-/// no root, until one is put there. Nothing else changes. It makes three device calls, where none
-/// fails.
+/// Closes both slots of a disk, whatever they hold, and settles them: until a root is put there, the
+/// disk opens to none. Nothing else changes. It makes three device calls, where none fails.
 ///
 /// The disk has blocks 0 and 1.
 ///
 /// # Errors
-/// [`Fault`] where a device call failed. Nothing is promised of blocks 0 and 1 then; behind them a
-/// read gives what it gave.
+/// [`Fault`] where a device call failed. Blocks 0 and 1 may then hold anything; behind them a read
+/// gives what it gave before.
 pub fn close_slots<D: Disk>(disk: &mut D) -> Result<(), Fault>
     requires { 1024 ≤ (D.state disk.old).size }
 
-    // Behind the slots a read gives what it gave, and at each moment each image is one at entry.
+    // Behind the slots a read gives what it gave, and each image at any moment is as one at entry.
     ensures runs { WritesSlots (IsErr result) (D.state disk.old) (D.state disk.new) }
     ensures calls { MakesCalls 3 (IsErr result) (D.state disk.old) (D.state disk.new) }
 
-    // After it both are closed, and nothing is unsettled.
+    // After Ok both are closed, and nothing is unsettled.
     ensures shut { OnOk result (AreShut (D.state disk.new).now) }
     ensures written { OnOk result ((D.state disk.new).now
         ≡ resting (with_closed_gates (D.state disk.old).now.seen)) }
@@ -40,9 +39,9 @@ pub fn close_slots<D: Disk>(disk: &mut D) -> Result<(), Fault>
 }
 
 /// Puts a root into the first slot of a disk whose slots are both closed, as [`close_slots`] leaves
-/// them: its bytes are settled behind the closed gate, with all that was written before, and then
-/// the gate is opened. Stopped at any moment, each image tells no root or opens to this one. It
-/// makes four device calls, where none fails.
+/// them: settles its bytes behind the closed gate, with all that was written before, and then opens
+/// the gate. Stopped at any moment, each image opens to no root or to this one. It makes four device
+/// calls, where none fails.
 ///
 /// The disk has blocks 0 and 1, and the root has the version that is written,
 /// [`VERSION`](crate::VERSION).
@@ -55,36 +54,21 @@ pub fn open_first<D: Disk>(disk: &mut D, root: &Root) -> Result<Slots, Fault>
     ensures runs { WritesSlots (IsErr result) (D.state disk.old) (D.state disk.new) }
     ensures calls { MakesCalls 4 (IsErr result) (D.state disk.old) (D.state disk.new) }
 
-    // Stopped at any moment, the disk tells no root, or opens to this one.
+    // Stopped at any moment, the disk opens to no root or to this one.
     ensures any_moment { AreShut (D.state disk.old).now
         → Leaves (D.state disk.old) (D.state disk.new)
         (λ _. NoneOrRoot (D.state disk.old).now root.now) }
 
-    // After it, it opens to this one, and nothing is unsettled.
+    // After Ok it opens to this one, and nothing is unsettled.
     ensures made { IfOk result
         (λ slots. HoldsFirst root.now slots (D.state disk.old).now (D.state disk.new).now) }
 {
-    write_first(disk, root)?;
+    stage_first(disk, root)?;
+    write_settled(disk, Slot::First.offset(), &[OPEN])?;
     Ok(Slots::fresh(*root))
 }
 
-/// Writes a root into the first slot, behind its gate, and then opens it.
-fn write_first<D: Disk>(disk: &mut D, root: &Root) -> Result<(), Fault>
-    requires size { 1024 ≤ (D.state disk.old).size }
-    requires version { root.now.version ≡ written_version }
-    ensures runs { WritesSlots (IsErr result) (D.state disk.old) (D.state disk.new) }
-    ensures calls { MakesCalls 4 (IsErr result) (D.state disk.old) (D.state disk.new) }
-    ensures any_moment { AreShut (D.state disk.old).now
-        → Leaves (D.state disk.old) (D.state disk.new)
-        (λ _. NoneOrRoot (D.state disk.old).now root.now) }
-    ensures made { OnOk result (HoldsFirst root.now (fresh root.now) (D.state disk.old).now
-        (D.state disk.new).now) }
-{
-    stage_first(disk, root)?;
-    write_settled(disk, Slot::First.offset(), &[OPEN])
-}
-
-/// Writes a root and its zeros into the first slot, behind its gate.
+/// Writes a root and the zeros behind it into the first slot, behind its gate.
 fn stage_first<D: Disk>(disk: &mut D, root: &Root) -> Result<(), Fault>
     requires size { 1024 ≤ (D.state disk.old).size }
     requires version { root.now.version ≡ written_version }

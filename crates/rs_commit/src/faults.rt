@@ -1,4 +1,4 @@
-//! Why slots were not opened, or no root was put in place of another.
+//! Why slots were not opened, or a root was not replaced.
 use rs_disk::Fault;
 use thiserror::Error;
 
@@ -25,10 +25,10 @@ impl From<Fault> for SlotFault {
     }
 }
 
-/// Why no root was put in place of another.
+/// Why a root was not replaced.
 #[derive(Clone, Copy, Debug, PartialEq, Eq, Error)]
 pub enum CommitFault {
-    /// The generation of the root is at its last value.
+    /// The generation of the root has its last value.
     #[error("no generation is left")]
     Exhausted,
     /// A device call failed.

@@ -32,12 +32,12 @@ pub fn payloads_read()
     ensures { PayloadsRead }
 {}
 
-/// Slots that were just made tell their root, whatever lies behind them.
+/// Slots that were just made hold their root, whatever lies behind them.
 pub fn formatted_opens()
     ensures { FormattedStands }
 {}
 
-/// Where both slots are closed, each image tells no root, and they stay so where blocks 0 and 1
+/// Where both slots are closed, each image opens to no root. They stay closed where blocks 0 and 1
 /// stay as they are, by what a read gives and as settled.
 pub fn shut_tells_none()
     ensures none { ShutTellsNone }

@@ -1,4 +1,4 @@
-//! How the slots are read.
+//! Reading the slots.
 ghost use Rattle.std.specs.Prelude.{◌≡◌, ◌≤◌, List, ℕ, length, take, None, Some, IfOk, IsErr, IsErrOf, IsTrue};
 ghost use Rattle.rs_disk.specs.Runs.{RunsReading, CallsAtMost};
 ghost use Rattle.rs_extent.specs.Blocks.{block_size};
@@ -11,14 +11,15 @@ use crate::{Root, SlotFault, Slots};
 use rs_disk::{Disk, Fault};
 use rs_extent::BLOCK_SIZE;
 
-/// Reads the slots of a disk, and the root that they tell.
+/// Reads the slots of a disk, and their root.
 ///
 /// It changes nothing, and makes at most two device calls. A slot is a whole block: a disk of
 /// less than 512 bytes has no slot, and one of less than 1,024 bytes no second one.
 ///
 /// # Errors
-/// [`SlotFault::NotASource`] where no slot is open, where an open one has an unknown version, and
-/// where both are open with equal generations; [`SlotFault::Device`] where a device call failed.
+/// - [`SlotFault::NotASource`] where no slot is open, where an open one has an unknown version, and
+///   where both are open with equal generations.
+/// - [`SlotFault::Device`] where a device call failed.
 pub fn open_slots<D: Disk>(disk: &mut D) -> Result<(Slots, Root), SlotFault>
     ensures runs { RunsReading (IsErrOf result SlotFault.Device) (D.state disk.old)
         (D.state disk.new) }
@@ -31,7 +32,7 @@ pub fn open_slots<D: Disk>(disk: &mut D) -> Result<(Slots, Root), SlotFault>
     ensures none { IsErrOf result SlotFault.NotASource → IsTrue (D.state disk.new).honest
         → current (D.state disk.old).now.seen ≡ None }
 
-    // Where blocks 0 and 1 are there and settled, a commit may follow.
+    // Where the disk has blocks 0 and 1 and both are settled, a commit may follow.
     ensures ready { IfOk result (λ opened. IsTrue (D.state disk.new).honest
         → 1024 ≤ (D.state disk.old).size → AreSettled (D.state disk.old).now
         → IsReady opened.0 (D.state disk.new).now) }
@@ -47,7 +48,7 @@ pub fn open_slots<D: Disk>(disk: &mut D) -> Result<(Slots, Root), SlotFault>
     }
 }
 
-/// Reads what a slot says.
+/// Reads a slot.
 fn read_slot<D: Disk>(disk: &mut D, slot: Slot) -> Result<SlotContent, Fault>
     ensures runs { RunsReading (IsErr result) (D.state disk.old) (D.state disk.new) }
     ensures calls { CallsAtMost 1 (D.state disk.old) (D.state disk.new) }

@@ -1,4 +1,4 @@
-//! A root, and how a slot spells it.
+//! A root, and its bytes in a slot.
 ghost use Rattle.std.specs.Prelude.{◌≡◌, ◌+◌, ◌≤◌, length, IsTrue};
 ghost use Rattle.std.specs.Int.{from_be_bytes, w32, w64};
 ghost use Rattle.rs_disk.specs.Medium.{over};
@@ -9,20 +9,20 @@ use rs_extent::Extent;
 /// The version of the format that formatting and every commit write. Versions 1 and 2 are known.
 pub const VERSION: u8 = 2;
 
-/// Is this a version of the format that is known?
+/// Whether this version of the format is known.
 pub(crate) fn is_known(version: u8) -> bool
     ensures { result ≡ known version }
 {
     1 <= version && version <= VERSION
 }
 
-/// What a slot says: which commit it came by, and where the directory lies.
+/// What an open slot holds: the number of its commit, and where the directory lies.
 #[derive(Clone, Copy, Debug, PartialEq, Eq)]
 pub struct Root {
     /// The version of the format, 1 or 2, by which its directory is read.
     pub version: u8,
-    /// One more than that of the root before it. Of two open slots the one with the greater
-    /// generation holds the root.
+    /// One more than the generation of the root before it. Of two open slots, the one with the
+    /// greater generation holds the root.
     pub generation: u64,
     /// The blocks of the directory.
     pub directory: Extent,
@@ -32,7 +32,7 @@ pub struct Root {
     pub sha256: [u8; 32],
 }
 
-/// The bytes 1 to 53 of a slot that tells a root.
+/// Bytes 1 to 53 of a slot that holds this root.
 pub(crate) fn payload(root: Root) -> [u8; 53]
     requires { IsTrue (known root.version) }
     ensures bytes { result ≡ payload_of root }
@@ -48,7 +48,7 @@ pub(crate) fn payload(root: Root) -> [u8; 53]
     bytes
 }
 
-/// Puts a field in place of the bytes from `at` on.
+/// Writes a field over the bytes from `at` on.
 pub(crate) fn put(bytes: &mut [u8], at: usize, field: &[u8])
     requires { at + length field.now ≤ length bytes.old }
     ensures { bytes.new ≡ over bytes.old at field.now }
@@ -56,7 +56,7 @@ pub(crate) fn put(bytes: &mut [u8], at: usize, field: &[u8])
     bytes[at..at + field.len()].copy_from_slice(field);
 }
 
-/// The root that the first 54 bytes of a slot tell, each number big endian.
+/// The root in the first 54 bytes of a slot. Its numbers are big endian.
 pub(crate) fn root_in(bytes: &[u8; 54]) -> Root
     ensures version { result.version ≡ version_of bytes.now }
     ensures generation { result.generation ≡ from_be_bytes w64 (field_of bytes.now 2 8) }

@@ -5,10 +5,10 @@ ghost use Rattle.rs_commit.specs.Slots.{offset as offset_of, other as other_of};
 use crate::Root;
 use rs_extent::BLOCK_SIZE;
 
-/// The gate of a slot that is open; every other value is a closed gate.
+/// The gate of an open slot. Every other value is a closed gate.
 pub(crate) const OPEN: u8 = 1;
 
-/// The gate of a slot that is closed by a commit or by formatting.
+/// The gate that closes a slot, in a commit and in formatting.
 pub(crate) const CLOSED: u8 = 0;
 
 /// One of the two slots: block 0 or block 1 of the disk.
@@ -45,8 +45,8 @@ impl Slot {
 pub(crate) enum SlotContent {
     /// Nothing: its gate is closed, or the disk has no such block.
     Closed,
-    /// It is open, and of a version that isn't known.
+    /// It is open, and its version is not known.
     Unknown,
-    /// It is open and tells a root.
+    /// It is open and holds a root.
     Open(Root),
 }

@@ -55,7 +55,7 @@ impl Slots {
         }
     }
 
-    /// The slots by what they say, or `None` where they tell no root.
+    /// The slots that say this, or `None` where they hold no root.
     pub(crate) fn of(first: SlotContent, second: SlotContent) -> Option<Slots>
         ensures { result ≡ pick first second }
     {
@@ -91,18 +91,18 @@ impl Slots {
         })
     }
 
-    /// Puts the root of the next generation in the place of this one, in one step: stopped at any
-    /// moment, each image opens to the old root or to the new one. The new one has the version
-    /// [`VERSION`](crate::VERSION), whatever that of the old one.
+    /// Replaces the root by one of the next generation, in one step: stopped at any moment, each
+    /// image opens to the old root or to the new one. The new root has the version
+    /// [`VERSION`](crate::VERSION), whatever version the old one has.
     ///
-    /// The disk has blocks 0 and 1. The promise is for slots that are as a read gives them, where
-    /// both blocks are settled (`IsReady`): after [`open_slots`](crate::open_slots) on a disk that
-    /// was synced, and after each commit that succeeded. It makes six device calls at most.
+    /// The disk has blocks 0 and 1. The promise holds where the slots are as a read gives them and
+    /// both blocks are settled (`IsReady`): after [`open_slots`](crate::open_slots) on a synced
+    /// disk, and after each successful commit. It makes at most six device calls.
     ///
     /// # Errors
-    /// [`CommitFault::Exhausted`] exactly where the generation is at its last value, which changes
-    /// nothing; [`CommitFault::Device`] where a device call failed. After that the slots must be
-    /// settled by a sync and opened again.
+    /// - [`CommitFault::Exhausted`] exactly where the generation has its last value. Nothing changes.
+    /// - [`CommitFault::Device`] where a device call failed. Sync the disk and open the slots again
+    ///   before the next commit.
     pub fn commit<D: Disk>(
         &mut self,
         disk: &mut D,
@@ -112,7 +112,7 @@ impl Slots {
     ) -> Result<(), CommitFault>
         requires { 1024 ≤ (D.state disk.old).size }
 
-        // What holds of every device, whatever the slots are: nothing is written behind them.
+        // On every device, whatever the slots are: nothing behind them is written.
         ensures runs { WritesSlots (IsErrOf result CommitFault.Device) (D.state disk.old)
             (D.state disk.new) }
         ensures calls { CallsAtMost 6 (D.state disk.old) (D.state disk.new) }
@@ -122,12 +122,12 @@ impl Slots {
             → Leaves (D.state disk.old) (D.state disk.new) (λ _. OldOrNew (D.state disk.old).now
             self.old.root (next self.old.root directory length sha256.now)) }
 
-        // After it, to the new one, nothing is unsettled, and the slots can be changed again.
+        // After Ok it opens to the new one, nothing is unsettled, and another commit may follow.
         ensures committed { OnOk result
             (Committed (next self.old.root directory length sha256.now) self.old self.new
             (D.state disk.old).now (D.state disk.new).now) }
 
-        // Without a generation to give it, nothing changes.
+        // Where no generation is left, nothing changes.
         ensures exhausted { IsErrOf result CommitFault.Exhausted
             ↔ (2 ^ 64 ≤ self.old.root.generation + 1) }
         ensures untouched { IsErrOf result CommitFault.Exhausted
@@ -153,8 +153,8 @@ impl Slots {
         Ok(())
     }
 
-    /// Puts a root into the spare. The spare is closed before its other bytes are written, and
-    /// opened after they are settled.
+    /// Puts a root into the spare: closes it, writes its other bytes, and opens it once they are
+    /// settled.
     fn put_root<D: Disk>(&self, disk: &mut D, root: Root) -> Result<(), Fault>
         requires size { 1024 ≤ (D.state disk.old).size }
         requires lawful { IsLawfulRoot root }
@@ -173,8 +173,8 @@ impl Slots {
     }
 }
 
-/// Closes a slot. One that is closed already is settled so, and is not written: its other bytes may
-/// be torn, and within a write its gate may be anything.
+/// Closes a slot. A closed slot is not written: its gate is settled as closed, its other bytes may be
+/// torn, and a write that stops halfway could leave any gate.
 fn close_gate<D: Disk>(disk: &mut D, slot: Slot, is_open: bool) -> Result<(), Fault>
     requires { 1024 ≤ (D.state disk.old).size }
     ensures writes { WritesWithin (offset slot) 1 (IsErr result) (D.state disk.old)

@@ -22,7 +22,7 @@ use Rattle.rs_copy.specs.declared.faults.CopyFault.{CopyFault}
 use Rattle.rs_copy.specs.declared.faults.CopyFault.TheVariants.{Device, Damaged}
 use Rattle.rs_copy.specs.declared.laying_out.Layout.{Layout}
 use Rattle.rs_copy.specs.Laying.{IsLaidOut, all_stored}
-use Rattle.rs_copy.specs.Copies.{HasItsBody}
+use Rattle.rs_copy.specs.Copies.{Disks, HasItsBody}
 use Rattle.rs_copy.specs.Copying.{CopiesOnly, CopyStands, IsBehindRoot, IsOfWriting, NoneOrState, RunsCopying, WritesCopy, copied_root, is_slot, written_in}
 use Rattle.rs_copy.proofs.Handed.{handed_err, told_on}
 use Rattle.rs_copy.proofs.Laid.{bodies_among, room}
@@ -32,18 +32,19 @@ use Rattle.rs_copy.proofs.Runs.{copying_as, copying_then, copying_write}
 use Rattle.rs_copy.proofs.Told.{tells_copied}
 use Rattle.rs_copy.proofs.Whole.{whole_copied, sound_copied}
 
--- where a run ended before the first sync that succeeded, nothing is said of any moment
+-- a run that ended before its first sync succeeded
 pub not_yet : (old new : DiskState) (P : List ℕ → Type 0) (Q : ℕ → List ℕ → Type 0) → Leaves old new (λ _. P) → new.calls < old.calls + 3
     → Leaves old new (λ m image. old.calls + 3 ≤ m → Q m image)
 not_yet old new P Q left short =
     record { later = left.later; before = left.before; each = λ m image from until at late. absurd (omega (arith, until, late, short)) }
 
--- What a copy leaves that ends in a fault.
-pub ends_badly : {S : Type 0} {c : Contents} {l l' : Layout} {before after old new : DiskState} (result : Result Standing CopyFault) (fault : CopyFault) → IsErrAnd result (λ y. y ≡ fault)
-    → RunsCopying (IsErrOf {T = S} (Err fault) Device) before after old new → IsOfWriting fault
-    → (IsErrOf {T = S} (Err fault) Damaged → IsTrue after.honest → ¬ All (HasItsBody before.now.seen) (records_of c.catalogue))
-    → ((s : Source) → IsTrue after.honest → state_in before.now.seen c ≡ s → (old.calls + 3 < new.calls) ⊎ (new.faults ≡ old.faults) → Leaves old new (λ m image. old.calls + 3 ≤ m → NoneOrState s image))
-    → WritesCopy c l l' before after old new result
+-- What a copy leaves that ended in a fault.
+pub ends_badly : {S : Type 0} {c : Contents} {l l' : Layout} {old new : Disks} (result : Result Standing CopyFault) (fault : CopyFault) → IsErrAnd result (λ y. y ≡ fault)
+    → RunsCopying (IsErrOf {T = S} (Err fault) Device) old new → IsOfWriting fault
+    → (IsErrOf {T = S} (Err fault) Damaged → IsTrue new.from.honest → ¬ All (HasItsBody old.from.now.seen) (records_of c.catalogue))
+    → ((s : Source) → IsTrue new.from.honest → state_in old.from.now.seen c ≡ s → (old.to.calls + 3 < new.to.calls) ⊎ (new.to.faults ≡ old.to.faults)
+    → Leaves old.to new.to (λ m image. old.to.calls + 3 ≤ m → NoneOrState s image))
+    → WritesCopy c l l' old new result
 ends_badly (Ok x) fault handed runs of damaged any = absurd handed
 ends_badly {S} (Err y) fault handed runs of damaged any =
     record {
@@ -59,7 +60,7 @@ ends_badly {S} (Err y) fault handed runs of damaged any =
       any_moment = any;
     }
 
--- What stands behind the slots of the new disk, which a read gives there.
+-- What stands behind the slots of the second disk.
 module _ (c : Contents) (l : Layout) (size size' : ℕ) (laid : IsLaidOut size c l.contents l.directory l.used) (behind : IsBehindRoot size' c)
     (seen : List ℕ) (long : length seen ≡ size) (stands : CopyStands l.contents l.directory seen) where
   whole_here : IsWhole (length seen) (copied_root l.directory (all_stored l.contents)) (all_stored l.contents)
@@ -67,7 +68,7 @@ module _ (c : Contents) (l : Layout) (size size' : ℕ) (laid : IsLaidOut size c
       subst (λ (n : ℕ). IsWhole n (copied_root l.directory (all_stored l.contents)) (all_stored l.contents)) (sym long)
       (whole_copied size c l.contents l.directory l.used laid size' behind.root behind.whole stands.listed.long)
 
-  -- each image tells the state that was copied once the root was put into the first slot
+  -- once the root is in the first slot, each image tells the copied state
   pub told_there : (s : Source) (m : Medium) (new image : List ℕ) → Tells (copied_root l.directory (all_stored l.contents)) (all_stored l.contents) seen s
       → m ≡ resting new → SameBehind m.seen seen → IsImage m image → Tells (copied_root l.directory (all_stored l.contents)) (all_stored l.contents) image s
   told_there s m new image tells made same at =
@@ -93,18 +94,19 @@ module _ (c : Contents) (l : Layout) (size size' : ℕ) (laid : IsLaidOut size c
       subst (λ (k : ℕ). MemoryIsSound (rooted k (copied_root l.directory (all_stored l.contents)) (all_stored l.contents)) l.used) (sym is)
       (sound_copied size c l.contents l.directory l.used laid size' behind.root behind.whole room stands.listed.long stands.listed.listable)
 
--- What is reached of a copy once all but its root is written.
-pub record Reached (c : Contents) (l : Layout) (before after old new : DiskState) : Type 0 where
-  pub runs : RunsCopying ⊥ before after old new
-  pub long : length new.now.seen ≡ old.size
-  pub shut : AreShut new.now
-  pub none : (s : Source) → Leaves old new (λ m image. old.calls + 3 ≤ m → NoneOrState s image)
-  pub told : (s : Source) → IsTrue after.honest → state_in before.now.seen c ≡ s → Tells (copied_root l.directory (all_stored l.contents)) (all_stored l.contents) new.now.seen s
+-- What holds of a copy once everything but its root is written.
+pub record Reached (c : Contents) (l : Layout) (old new : Disks) : Type 0 where
+  pub runs : RunsCopying ⊥ old new
+  pub long : length new.to.now.seen ≡ old.to.size
+  pub shut : AreShut new.to.now
+  pub none : (s : Source) → Leaves old.to new.to (λ m image. old.to.calls + 3 ≤ m → NoneOrState s image)
+  pub told : (s : Source) → IsTrue new.from.honest → state_in old.from.now.seen c ≡ s → Tells (copied_root l.directory (all_stored l.contents)) (all_stored l.contents) new.to.now.seen s
 
 pub reached : {A B : Type 0} {before after old one two : DiskState} (c : Contents) (l : Layout) → ShutTellsNone → ShutStays → IsMedium one.size one.now → IsMedium two.size two.now
     → IsLaidOut old.size c l.contents l.directory l.used → IsBehindRoot before.size c → ¬ A → ¬ B → WritesSlots A old one → MakesCalls 3 A old one → AreShut one.now
-    → CopiesOnly (written_in l.contents l.directory) B before after one two → CopyStands l.contents l.directory two.now.seen
-    → (IsTrue after.honest → map (held_in two.now.seen) (records_of l.contents.catalogue) ≡ map (held_in before.now.seen) (records_of c.catalogue)) → Reached c l before after old two
+    → CopiesOnly (written_in l.contents l.directory) B (record { from = before; to = one }) (record { from = after; to = two }) → CopyStands l.contents l.directory two.now.seen
+    → (IsTrue after.honest → map (held_in two.now.seen) (records_of l.contents.catalogue) ≡ map (held_in before.now.seen) (records_of c.catalogue))
+    → Reached c l (record { from = before; to = old }) (record { from = after; to = two })
 reached {before = before} {old = old} {one = one} {two = two} c l none stays is_one is_two laid behind well well_too closed calls shut copies stands copied =
     let outside = copies.outside is_slot (room old.size c l.contents l.directory l.used laid).behind in
     let long : length two.now.seen ≡ old.size = omega (arith, is_two.image.size, is_two.settled, copies.runs.advances.runs.size, closed.writes.runs.size) in

@@ -6,6 +6,6 @@ pub use Rattle.rs_body.proofs.ForCallers.{fits_sized, only_as, only_none, only_t
 pub use Rattle.rs_page.proofs.ForCallers.{standing_are_pages, written_stand, written_stay}
 pub use Rattle.rs_pages.proofs.ForCallers.{settled_places, taken_places}
 pub use Rattle.rs_catalogue.proofs.ForCallers.{joined}
-pub use Rattle.rs_changes.proofs.ForCallers.{joined as joined_changes}
+pub use Rattle.rs_changes.proofs.ForCallers.{joined_changes}
 pub use Rattle.rs_image.proofs.ForCallers.{each_at_end, each_more, is_behind, keeps_behind, shared_blocks, tells_behind}
-pub use Rattle.rs_plan.proofs.ForCallers.{all_stored as pages_stored, length_stored, needed, places_items, places_length, room_after, room_none, same_taken, stored_items, taken_lowest}
+pub use Rattle.rs_plan.proofs.ForCallers.{length_stored, needed, pages_stored, places_items, places_length, room_after, room_none, same_taken, stored_items, taken_lowest}

@@ -1,4 +1,4 @@
--- Pages that items are cut into, once they were given blocks and were stored.
+-- Pages of 64 items, after they were given blocks and stored.
 use Rattle.std.proofs.Common.{◌≡◌, ◌≤◌, ℕ, zero, suc, Bool, true, false, cond, not, List, [], ◌∷◌, ◌++◌, length, take, drop, map, refl, sym, ◌∙◌, ap, subst, arith}
 use Rattle.std.specs.Prelude.{All, IfSome, nat_le}
 use Rattle.std.specs.List.{cons_option, list_any}
@@ -9,7 +9,6 @@ use Rattle.rs_extent.specs.Extents.{within, in_some, AreDisjoint}
 use Rattle.rs_copy.proofs.FromBelow.{within_true, some_first, some_rest, not_true, not_both, needed, shared_blocks}
 use Rattle.rs_page.specs.declared.place.PageRef.{PageRef}
 use Rattle.rs_page.specs.declared.place.Place.{Place}
-use Rattle.rs_page.specs.declared.place.Place.TheVariants.{Placed}
 use Rattle.rs_page.specs.Format.{ItemFormat}
 use Rattle.rs_page.specs.Pages.{Page, items_of, placed_extent, placed_extents, stored_ref, stored_refs, extents_of, place_stored, stored, ref_at, same_page}
 use Rattle.rs_page.specs.DiskPages.{IsPage, Stands}
@@ -44,7 +43,7 @@ touched_unplaced (piece ∷ pieces) = touched_unplaced pieces
 pub full_unplaced : {T : Type 0} (items : List T) → placed_extents (full_pages items) ≡ []
 full_unplaced items = touched_unplaced (cut_full items)
 
--- Once they were given blocks, they are where they were placed after they are stored, ..
+-- Once they have blocks, storing keeps them where they are, ..
 placed_extents_are : {T : Type 0} (format : ItemFormat T) (used used' : List Bool) (pieces : List (List T)) (ys : List (Page T)) → Places format used (map touched pieces) used' ys
     → extents_of (stored_refs (stored format ys)) ≡ placed_extents ys
 placed_extents_are format used used' [] [] places = refl

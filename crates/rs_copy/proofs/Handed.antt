@@ -1,4 +1,4 @@
--- Faults that are handed on, and facts of what comes well.
+-- Faults that are handed on, and facts of successes.
 use Rattle.std.proofs.Common.{◌≡◌, Result, Ok, Err, sym, ◌∙◌, subst}
 use Rattle.std.specs.Prelude.{OnOk, OnErr, IfOk, IfErr, IsErrOf}
 use Rattle.std.specs.Result.{IsErrAnd}
@@ -26,7 +26,7 @@ pub no_err : {T E : Type 0} (P : E → Type 0) (r : Result T E) (fault : E) → 
 no_err P (Ok x) fault others none is = absurd cc
 no_err P (Err e) fault others none is = let same : e ≡ fault = cc in none (subst P same others)
 
--- where one thing comes well, so does what follows from it
+-- what follows from a fact of success is one
 pub on_ok : {T E : Type 0} {P Q : Type 0} (r : Result T E) → (P → Q) → OnOk r P → OnOk r Q
 on_ok (Ok x) f p = f p
 on_ok (Err e) f p = tt

@@ -1,4 +1,4 @@
--- What is laid out has room: all of it was free, and no two things have a block in common.
+-- A layout has room: all its blocks were free, and no two parts have a block in common.
 use Rattle.std.proofs.Common.{◌≡◌, ◌≤◌, ◌<◌, ◌+◌, ◌*◌, ℕ, Bool, true, false, nat_lt, List, [], ◌∷◌, ◌++◌, length, map, sym, ◌∙◌, ap, ap₂, subst, arith}
 use Rattle.std.specs.Prelude.{All}
 use Rattle.std.specs.List.{AllZip}

@@ -1,4 +1,5 @@
 mod FromBelow
+pub mod ForCallers
 pub mod Answered
 pub mod Ended
 pub mod FullPages

@@ -1,4 +1,4 @@
--- What each image of the new disk tells while a source is copied to it.
+-- What each image of the second disk tells while a source is copied to it.
 use Rattle.std.proofs.Common.{◌≡◌, inl, inr, ℕ, ◌+◌, ◌*◌, ◌/◌, ◌%◌, ◌<◌, ◌≤◌, true, false, nat_lt, List, take, get_or, None, sym, ◌∙◌, subst, arith, length-take}
 use Rattle.std.proofs.lemmas.Bool.Decides.{nat_tests}
 use Rattle.std.proofs.lemmas.List.{ext_get_or, get_or-take}
@@ -52,7 +52,7 @@ module _ (none : ShutTellsNone) (old one two : DiskState) (is : IsMedium one.siz
   shut_still stays =
       stays one.now two.now (front_kept one.now.seen two.now.seen writing.seen) (same_front one.now.unsettled two.now.unsettled false writing.marks.same) shut
 
--- From then on each image tells no root, or stands for the state that the root tells.
+-- From then on each image tells no root, or represents the state that the root tells.
 pub state_opened : {old two new : DiskState} (s : Source) (root : Root) (c : Contents) → Leaves old two (λ m image. old.calls + 3 ≤ m → NoneOrState s image)
     → Leaves two new (λ _. NoneOrRoot two.now root) → Tells root c two.now.seen s → Leaves old new (λ m image. old.calls + 3 ≤ m → NoneOrState s image)
 state_opened {old} {two} {new} s root c so_far opening tells =

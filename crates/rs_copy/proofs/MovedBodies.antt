@@ -6,7 +6,6 @@ use Rattle.std.specs.List.{AllZip}
 use Rattle.std.proofs.lemmas.List.{take-append-drop, map-append, map_more, take_more}
 use Rattle.std.proofs.lemmas.List.Elements.{All-nil, All-cons, All-head, All-tail, All-get_or, AllZip-get_or}
 use Rattle.std.proofs.lemmas.Option.{slice_get_within, get_or_from_slice_get}
-use Rattle.rs_disk.specs.Medium.{DiskState}
 use Rattle.rs_fixity.specs.Digests.{digests}
 use Rattle.rs_extent.specs.declared.Extent.{Extent}
 use Rattle.rs_extent.specs.Extents.{in_some, AreApart, AreBeside, IsSubset}
@@ -21,7 +20,7 @@ use Rattle.rs_image.specs.StateOfImage.{held_in}
 use Rattle.rs_copy.specs.declared.faults.CopyFault.{CopyFault}
 use Rattle.rs_copy.specs.declared.faults.CopyFault.TheVariants.{Damaged}
 use Rattle.rs_copy.specs.Laying.{IsMoved}
-use Rattle.rs_copy.specs.Copies.{HasItsBody}
+use Rattle.rs_copy.specs.Copies.{Disks, HasItsBody}
 use Rattle.rs_copy.specs.Copying.{CopiesBodies, HasPlace}
 use Rattle.rs_copy.proofs.Handed.{handed_err}
 
@@ -57,8 +56,8 @@ pub each_of : (P : Record → Type 0) (rs : List Record) (i : ℕ) (r : Record) 
 each_of P rs i r at all = subst P (get_or_from_slice_get rs i r r at) (All-get_or P rs i r (slice_get_within rs i r at) all)
 
 -- What ends in a fault copied no bodies.
-pub ends_bodies : {S T : Type 0} {rs moved : List Record} {before after new : DiskState} (r : Result T CopyFault) (e : CopyFault) → IsErrAnd r (λ y. y ≡ e)
-    → (IsErrOf {T = S} (Err e) Damaged → IsTrue after.honest → ¬ All (HasItsBody before.now.seen) rs) → CopiesBodies rs moved before after new r
+pub ends_bodies : {S T : Type 0} {rs moved : List Record} {old new : Disks} (r : Result T CopyFault) (e : CopyFault) → IsErrAnd r (λ y. y ≡ e)
+    → (IsErrOf {T = S} (Err e) Damaged → IsTrue new.from.honest → ¬ All (HasItsBody old.from.now.seen) rs) → CopiesBodies rs moved old new r
 ends_bodies (Ok x) e handed damaged = absurd handed
 ends_bodies {S} (Err y) e handed damaged = record { copied = tt; intact = tt; damaged = λ is. damaged (handed_err {S = S} (Err y) e Damaged handed is) }
 

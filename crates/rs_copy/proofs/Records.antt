@@ -55,7 +55,7 @@ held_moved rs moved all held =
       room = omega (arith, AllZip-long IsMoved rs moved all, held.room);
     }
 
--- what is told of them but for their blocks is the same
+-- but for their blocks their entries are the same
 pub entries_moved : (rs moved : List Record) → AllZip IsMoved rs moved → map entry_of moved ≡ map entry_of rs
 entries_moved [] [] all = refl
 entries_moved [] (m ∷ moved) all = absurd all

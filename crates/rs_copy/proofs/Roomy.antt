@@ -1,4 +1,4 @@
--- What was laid out had room: the lowest run of a length is one, so where all things took theirs, none of them had none.
+-- A disk that has a layout had room: there is one lowest run of a length, so where each part took its run, each had one.
 use Rattle.std.proofs.Common.{◌≡◌, inl, inr, ◌<◌, ℕ, zero, suc, Bool, true, List, [], ◌∷◌, ◌++◌, map, refl, sym, ◌∙◌, ap₂, subst, arith, append_assoc}
 use Rattle.std.proofs.lemmas.Bool.{cases_lt}
 use Rattle.std.proofs.lemmas.List.{ext_get_or}

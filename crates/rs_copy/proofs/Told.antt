@@ -1,4 +1,4 @@
--- What stands of a copy tells the state that was copied.
+-- The pages and the directory of a copy tell the copied state.
 use Rattle.std.proofs.Common.{◌≡◌, ℕ, Bool, List, [], ◌∷◌, length, map, refl, sym, ◌∙◌, ap, subst}
 use Rattle.std.specs.Prelude.{All}
 use Rattle.rs_disk.specs.Medium.{DiskState}
@@ -53,12 +53,12 @@ module _ {A B : Type 0} (size : ℕ) (c : Contents) (directory : Extent) (room :
       }
 
 -- The lists are on the disk.
-held_catalogue : (pages : List (Page Record)) (image : List ℕ) → IsCatalogue pages → All IsStored pages
+pub held_catalogue : (pages : List (Page Record)) (image : List ℕ) → IsCatalogue pages → All IsStored pages
     → All (PageStands record_format image) pages → HoldsCatalogue (stored_refs pages) image (map (λ page. page.items) pages)
 held_catalogue pages image is all stand =
     record { hold = standing_are_pages record_format pages image all stand; held = subst AreHeld (sym (joined pages)) is.held }
 
-held_history : (pages : List (Page Change)) (image : List ℕ) → IsHistory pages → All IsStored pages
+pub held_history : (pages : List (Page Change)) (image : List ℕ) → IsHistory pages → All IsStored pages
     → All (PageStands change_format image) pages → HoldsHistory (stored_refs pages) image (map (λ page. page.items) pages)
 held_history pages image is all stand =
     record { hold = standing_are_pages change_format pages image all stand; kept = subst AreKept (sym (joined_changes pages)) is.kept }

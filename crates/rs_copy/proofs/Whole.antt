@@ -1,11 +1,11 @@
--- What the root of a copy reaches keeps all rules, and is what is used.
+-- What the root of a copy reaches keeps all rules, and its blocks are the used ones.
 use Rattle.std.proofs.Common.{◌≡◌, ◌≤◌, ◌||◌, ℕ, Bool, true, false, max, nat_lt, List, ◌∷◌, ◌++◌, length, map, refl, sym, ◌∙◌, ap, subst, arith}
 use Rattle.std.specs.Prelude.{All, MatchOption}
 use Rattle.std.proofs.lemmas.Bool.{or_right}
 use Rattle.rs_extent.specs.declared.Extent.{Extent}
 use Rattle.rs_extent.specs.Blocks.{is_used}
 use Rattle.rs_extent.specs.Extents.{in_some, AreApart, AreDisjoint}
-use Rattle.rs_copy.proofs.FromBelow.{none_front, some_behind, apart_front, apart_behind, beside_between, stored_items, length_stored, all_stored as pages_stored}
+use Rattle.rs_copy.proofs.FromBelow.{none_front, some_behind, apart_front, apart_behind, beside_between, stored_items, length_stored, pages_stored}
 use Rattle.rs_commit.specs.declared.root.Root.{Root}
 use Rattle.rs_record.specs.declared.change.Change.{Change}
 use Rattle.rs_page.specs.Items.{record_format, change_format}

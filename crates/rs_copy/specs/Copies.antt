@@ -24,8 +24,8 @@ use Rattle.rs_copy.specs.Laying.{IsLaidOut, LacksCopyRoom, all_stored}
 abbrev pub HasItsBody : List ℕ → Record → Type 0
 HasItsBody image r = (digests (part r.extent r.length image)).sha256 ≡ r.digests.sha256
 
--- A copy stands on a disk: its root is of the first generation and in the version that is written, the slots can be changed, what
--- is kept in memory is sound, and each body has its SHA-256.
+-- A copy stands on a disk: its root has generation 1 and the version that is written, the slots can be changed, memory is sound,
+-- and each body has its SHA-256.
 pub record StandsCopied (disk : DiskState) (copied : Copied) : Type 0 where
   pub slots : copied.slots ≡ fresh copied.slots.root
   pub generation : copied.slots.root.generation ≡ 1
@@ -40,29 +40,35 @@ pub record LiesCopied (size : ℕ) (c : Contents) (copied : Copied) : Type 0 whe
   pub laid_out : IsLaidOut size c placed copied.slots.root.directory copied.used
   pub contents : copied.contents ≡ all_stored placed
 
--- What a copy of what a root reaches leaves, of the old disk between `before` and `after`, and of the new one between `old` and `new`.
--- `rests`: the old disk is only read; `advances`: the new one has its size, and its counts do not fall.
+-- The two disks of a copy at one moment: the one that it is made from, and the one that it is written to.
+pub record Disks : Type 0 where
+  pub from : DiskState
+  pub to : DiskState
+
+-- What copying a root's source does to both disks, from the moment `old` to the moment `new`.
+-- `rests`: it only reads the first disk; `advances`: the second keeps its size, and its counts do not fall.
 -- `too_small`, `full`: the causes of these; `untouched`: they come before a call of either disk.
--- `room`: Device and Damaged come only where the new disk has room for all that is written.
--- `failed`, `sound`: Device comes only where a call of one of the two failed, and where anything else is answered none did.
--- `damaged`: a body has not its recorded SHA-256, of an old disk that has followed the model.
--- `copied`, `lies`: what is answered otherwise; `holds`: each image of the new disk tells the state then that the old disk told.
--- `any_moment`: from the first sync that succeeded on, which is the third call of the new disk, each image of it tells no root, or
--- stands for that state.
-pub record Copies (root : Rooted) (before after old new : DiskState) (result : Result Copied CopyFault) : Type 0 where
-  pub rests : Rests before after
-  pub advances : Advances old new
-  pub too_small : IsErrOf result TooSmall ↔ (blocks_of_disk old.size < 16)
-  pub full : IsErrOf result Full → LacksCopyRoom old.size root.contents
-  pub untouched : IsErrOf result TooSmall ⊎ IsErrOf result Full → (after ≡ before) × (new ≡ old)
-  pub room : IsErrOf result Device ⊎ IsErrOf result Damaged → ¬ LacksCopyRoom old.size root.contents
-  pub failed : IsErrOf result Device → HasFailed before after ⊎ HasFailed old new
-  pub sound : ¬ IsErrOf result Device → (after.faults ≡ before.faults) × (new.faults ≡ old.faults)
-  pub damaged : IsErrOf result Damaged → IsTrue after.honest → ¬ All (HasItsBody before.now.seen) (records_of root.contents.catalogue)
-  pub copied : IfOk result (StandsCopied new)
-  pub lies : IfOk result (LiesCopied old.size root.contents)
-  pub holds : (s : Source) → IsTrue after.honest → Tells root.root root.contents before.now.seen s
-      → IfOk result (λ copied. (image : List ℕ) → IsImage new.now image → Tells copied.slots.root copied.contents image s)
-  pub any_moment : (s : Source) → IsTrue after.honest → Tells root.root root.contents before.now.seen s
-      → (old.calls + 3 < new.calls) ⊎ (new.faults ≡ old.faults)
-      → Leaves old new (λ m image. old.calls + 3 ≤ m → (current image ≡ None) ⊎ StandsFor image s)
+-- `room`: Device and Damaged come only where the second disk has room for the whole copy.
+-- `failed`, `sound`: Device comes only where a call of one of them failed, and any other answer only where none did.
+-- `damaged`: a body lacks its recorded SHA-256, if the first disk has followed the model.
+-- `copied`, `lies`: what Ok leaves; `holds`: then each image of the second disk tells the state that the first one told.
+-- `any_moment`: once a first sync of the second disk has succeeded, which is its third call, each of its images tells no root, or
+-- represents that state.
+pub record Copies (root : Rooted) (old new : Disks) (result : Result Copied CopyFault) : Type 0 where
+  pub rests : Rests old.from new.from
+  pub advances : Advances old.to new.to
+  pub too_small : IsErrOf result TooSmall ↔ (blocks_of_disk old.to.size < 16)
+  pub full : IsErrOf result Full → LacksCopyRoom old.to.size root.contents
+  pub untouched : IsErrOf result TooSmall ⊎ IsErrOf result Full → new ≡ old
+  pub room : IsErrOf result Device ⊎ IsErrOf result Damaged → ¬ LacksCopyRoom old.to.size root.contents
+  pub failed : IsErrOf result Device → HasFailed old.from new.from ⊎ HasFailed old.to new.to
+  pub sound : ¬ IsErrOf result Device → (new.from.faults ≡ old.from.faults) × (new.to.faults ≡ old.to.faults)
+  pub damaged : IsErrOf result Damaged → IsTrue new.from.honest
+      → ¬ All (HasItsBody old.from.now.seen) (records_of root.contents.catalogue)
+  pub copied : IfOk result (StandsCopied new.to)
+  pub lies : IfOk result (LiesCopied old.to.size root.contents)
+  pub holds : (s : Source) → IsTrue new.from.honest → Tells root.root root.contents old.from.now.seen s
+      → IfOk result (λ copied. (image : List ℕ) → IsImage new.to.now image → Tells copied.slots.root copied.contents image s)
+  pub any_moment : (s : Source) → IsTrue new.from.honest → Tells root.root root.contents old.from.now.seen s
+      → (old.to.calls + 3 < new.to.calls) ⊎ (new.to.faults ≡ old.to.faults)
+      → Leaves old.to new.to (λ m image. old.to.calls + 3 ≤ m → (current image ≡ None) ⊎ StandsFor image s)

@@ -1,6 +1,6 @@
--- Words of the copier's own contracts: what a step of a copy leaves, and what stands once it is made.
+-- The words of the contracts within rs_copy: what each step of a copy leaves, and what stands on the disk after it.
 use Rattle.std.specs.Prelude.{◌≡◌, ◌⊎◌, ◌<◌, ◌≤◌, ◌+◌, ◌*◌, ◌++◌, ℕ, Bool, [], nat_lt, ◌∷◌, List, length, map, All, None, Result, IfErr, IfOk, OnOk, IsErrOf, IsTrue}
-use Rattle.rs_disk.specs.Medium.{DiskState, IsImage}
+use Rattle.rs_disk.specs.Medium.{IsImage}
 use Rattle.rs_disk.specs.Leaves.{Leaves}
 use Rattle.rs_disk.specs.Runs.{Advances, HasFailed, Rests}
 use Rattle.rs_fixity.specs.Digests.{digests}
@@ -31,14 +31,14 @@ use Rattle.rs_copy.specs.declared.faults.CopyFault.{CopyFault}
 use Rattle.rs_copy.specs.declared.faults.CopyFault.TheVariants.{TooSmall, Full, Device, Damaged, NoMemory}
 use Rattle.rs_copy.specs.declared.laying_out.Layout.{Layout}
 use Rattle.rs_copy.specs.Laying.{all_stored}
-use Rattle.rs_copy.specs.Copies.{HasItsBody}
+use Rattle.rs_copy.specs.Copies.{Disks, HasItsBody}
 
--- a page that was not stored
+-- the fault of a copy for the fault of a page
 abbrev pub copy_fault_of : StoreFault → CopyFault
 copy_fault_of NoDevice = Device
 copy_fault_of NoPageMemory = NoMemory
 
--- what may end the search for blocks
+-- the faults of the search for blocks
 abbrev pub IsOfLaying : CopyFault → Type 0
 IsOfLaying TooSmall = ⊥
 IsOfLaying Full = Unit {0}
@@ -46,7 +46,7 @@ IsOfLaying Device = ⊥
 IsOfLaying Damaged = ⊥
 IsOfLaying NoMemory = Unit {0}
 
--- what may end the writing
+-- the faults of the writing
 abbrev pub IsOfWriting : CopyFault → Type 0
 IsOfWriting TooSmall = ⊥
 IsOfWriting Full = ⊥
@@ -54,7 +54,7 @@ IsOfWriting Device = Unit {0}
 IsOfWriting Damaged = Unit {0}
 IsOfWriting NoMemory = Unit {0}
 
--- what may end the writing of the directory, beside it
+-- the faults of the directory's writing
 abbrev pub IsOfListing : CopyFault → Type 0
 IsOfListing TooSmall = ⊥
 IsOfListing Full = ⊥
@@ -62,60 +62,60 @@ IsOfListing Device = Unit {0}
 IsOfListing Damaged = ⊥
 IsOfListing NoMemory = Unit {0}
 
--- no page has blocks that it is not written to
+-- no page waits to be written to blocks of its own
 pub record AreAllUnplaced (c : Contents) : Type 0 where
   pub catalogue : placed_extents c.catalogue ≡ []
   pub history : placed_extents c.history.pages ≡ []
   pub published : placed_extents c.published ≡ []
 
--- A run of calls of both disks of a copy: the old one is only read, and the new one is written. The answer tells of a device only where
--- a call of one of the two failed, and where it doesn't tell of one, none did.
-pub record RunsCopying (told : Type 0) (before after old new : DiskState) : Type 0 where
-  pub rests : Rests before after
-  pub advances : Advances old new
-  pub failed : told → HasFailed before after ⊎ HasFailed old new
-  pub sound : ¬ told → (after.faults ≡ before.faults) × (new.faults ≡ old.faults)
+-- A run of calls of both disks of a copy reads the first one and writes the second. The answer blames a device exactly where a call
+-- of one of them failed.
+pub record RunsCopying (blames : Type 0) (old new : Disks) : Type 0 where
+  pub rests : Rests old.from new.from
+  pub advances : Advances old.to new.to
+  pub failed : blames → HasFailed old.from new.from ⊎ HasFailed old.to new.to
+  pub sound : ¬ blames → (new.from.faults ≡ old.from.faults) × (new.to.faults ≡ old.to.faults)
 
--- Such a run that writes these extents of the new disk alone: each set of blocks beside them stays.
-pub record CopiesOnly (extents : List Extent) (told : Type 0) (before after old new : DiskState) : Type 0 where
-  pub runs : RunsCopying told before after old new
-  pub outside : (kept : ℕ → Bool) → AreBeside kept extents → WritesOutside kept old new
+-- Such a run writes these extents of the second disk alone: each set of blocks beside them stays.
+pub record CopiesOnly (extents : List Extent) (blames : Type 0) (old new : Disks) : Type 0 where
+  pub runs : RunsCopying blames old new
+  pub outside : (kept : ℕ → Bool) → AreBeside kept extents → WritesOutside kept old.to new.to
 
--- Bodies of one disk were copied to the extents that these records have on another one, or were not.
--- `copied`: of an old disk that has followed the model, they are the bodies that it holds.
--- `intact`: of every old disk, each has its SHA-256.
--- `damaged`: of an old disk that has followed the model, Damaged is answered only where a body of it has not.
-pub record CopiesBodies {T : Type 0} (rs moved : List Record) (before after new : DiskState) (result : Result T CopyFault) : Type 0 where
-  pub copied : OnOk result (IsTrue after.honest → map (held_in new.now.seen) moved ≡ map (held_in before.now.seen) rs)
-  pub intact : OnOk result (All (HasItsBody new.now.seen) moved)
-  pub damaged : IsErrOf result Damaged → IsTrue after.honest → ¬ All (HasItsBody before.now.seen) rs
+-- The bodies of these records are copied to the extents of `moved` on the second disk, or a fault is answered.
+-- `copied`: they are the bodies that the first disk holds, if it has followed the model.
+-- `intact`: each has its SHA-256, whatever the first disk gave.
+-- `damaged`: Damaged comes only where a body on the first disk lacks its SHA-256, if that disk has followed the model.
+pub record CopiesBodies {T : Type 0} (rs moved : List Record) (old new : Disks) (result : Result T CopyFault) : Type 0 where
+  pub copied : OnOk result (IsTrue new.from.honest → map (held_in new.to.now.seen) moved ≡ map (held_in old.from.now.seen) rs)
+  pub intact : OnOk result (All (HasItsBody new.to.now.seen) moved)
+  pub damaged : IsErrOf result Damaged → IsTrue new.from.honest → ¬ All (HasItsBody old.from.now.seen) rs
 
 -- the blocks of the slots
 abbrev pub is_slot : ℕ → Bool
 is_slot b = nat_lt b 2
 
--- The extent of a record has room for its body on a disk of this many bytes.
+-- A record's extent lies on a disk of this many bytes, and has room for the body.
 pub record HasPlace (size : ℕ) (r : Record) : Type 0 where
   pub room : IsOnDisk r.extent size
   pub fits : r.length ≤ block_size * r.extent.blocks
 
--- the blocks of the pages that are not written yet
+-- the blocks of the pages that are still to be written
 abbrev pub pages_in : Contents → List Extent
 pages_in c = placed_extents c.catalogue ++ placed_extents c.history.pages ++ placed_extents c.published
 
--- no page is touched
+-- each page has a place
 pub record AreUntouched (c : Contents) : Type 0 where
   pub catalogue : All (λ page. ¬ IsTouched page.place) c.catalogue
   pub history : All (λ page. ¬ IsTouched page.place) c.history.pages
   pub published : All (λ page. ¬ IsTouched page.place) c.published
 
--- the pages that were given blocks stand in them
+-- each page that was given blocks stands in them
 pub record ArePagesWritten (image : List ℕ) (c : Contents) : Type 0 where
   pub catalogue : All (IsWritten record_format image) c.catalogue
   pub history : All (IsWritten change_format image) c.history.pages
   pub published : All (IsWritten record_format image) c.published
 
--- the root of a copy: the directory of these lists lies in this extent
+-- the root of a copy whose directory, of these lists, lies in this extent
 abbrev pub copied_root : Extent → Contents → Root
 copied_root directory c =
     record {
@@ -126,19 +126,19 @@ copied_root directory c =
       sha256 = (digests (listing written_format c)).sha256;
     }
 
--- The directory of these lists stands in its extent, and they can be those of a directory.
+-- The directory of these lists stands in this extent, and a directory can name such lists.
 pub record IsListed (directory : Extent) (c : Contents) (image : List ℕ) : Type 0 where
   pub lists : AreLists c
   pub listable : AreListable written_format c
   pub long : length (listing written_format c) ≡ directory_bytes_of c
   pub reads : part directory (length (listing written_format c)) image ≡ listing written_format c
 
--- all that a copy writes behind the slots, in the order in which a root reaches it
+-- the extents that a copy writes behind the slots, in the order in which a root reaches them
 abbrev pub written_in : Contents → Extent → List Extent
 written_in c directory = directory ∷ pages_in c ++ bodies_of (records_of c.catalogue)
 
--- What a copy writes has room on a disk of this many bytes: it lies behind the slots, no two things with a block in common, each page
--- has its place, and the directory has exactly its blocks.
+-- A disk of this many bytes has room for a copy: the extents lie behind the slots, no two with a block in common, each page has its
+-- place, and the directory has exactly its blocks.
 pub record HasRoom (size : ℕ) (c : Contents) (directory : Extent) : Type 0 where
   pub bodies : All (HasPlace size) (records_of c.catalogue)
   pub on_disk : AreOnDisk (written_in c directory) size
@@ -147,39 +147,42 @@ pub record HasRoom (size : ℕ) (c : Contents) (directory : Extent) : Type 0 whe
   pub untouched : AreUntouched c
   pub sized : IsSized directory (directory_bytes_of c)
 
--- What stands of the lists of a copy: their pages and their directory.
+-- The pages and the directory of a copy's lists stand in an image.
 pub record CopyStands (c : Contents) (directory : Extent) (image : List ℕ) : Type 0 where
   pub pages : ArePagesWritten image c
   pub listed : IsListed directory (all_stored c) image
 
--- All but the root of a copy is written as it was laid out: `made` is the root that names it, and the layout has the stored lists.
+-- Everything but the root is written as it was laid out: `made` is the root that names it, and the layout has the stored lists.
 pub record IsWrittenBehind (l l' : Layout) (made : Root) (image : List ℕ) : Type 0 where
   pub root : made ≡ copied_root l.directory (all_stored l.contents)
   pub layout : l' ≡ record l { contents = all_stored l.contents }
   pub stands : CopyStands l.contents l.directory image
 
--- these lists stand behind some root of a disk of this many bytes, and all rules are kept
+-- some root of a disk of this many bytes leads to these lists, and they keep all rules
 pub record IsBehindRoot (size : ℕ) (c : Contents) : Type 0 where
   pub root : Root
   pub whole : IsWhole size root c
 
--- what an image of a new disk may say of a state while it is copied
+-- an image of the second disk tells no root, or represents the state
 abbrev pub NoneOrState : Source → List ℕ → Type 0
 NoneOrState s image = (current image ≡ None) ⊎ StandsFor image s
 
--- What the writing of a copy leaves, as it was laid out: `runs` of both disks; `damaged` where a body has not its SHA-256; what
--- stands where it went well; and of the state that the old lists tell, what each image tells then and at any moment.
-pub record WritesCopy (c : Contents) (l l' : Layout) (before after old new : DiskState) (result : Result Standing CopyFault) : Type 0 where
-  pub runs : RunsCopying (IsErrOf result Device) before after old new
+-- What writing a copy of these lists as it was laid out leaves.
+-- `runs`, `others`, `damaged`: what it does to both disks, and which faults it answers.
+-- `slots` to `intact`: what Ok leaves: the root leads to the stored lists, memory is sound, and each body has its SHA-256.
+-- `holds`, `any_moment`: what each image of the second disk tells of the state of the old lists, in the end and meanwhile.
+pub record WritesCopy (c : Contents) (l l' : Layout) (old new : Disks) (result : Result Standing CopyFault) : Type 0 where
+  pub runs : RunsCopying (IsErrOf result Device) old new
   pub others : IfErr result IsOfWriting
-  pub damaged : IsErrOf result Damaged → IsTrue after.honest → ¬ All (HasItsBody before.now.seen) (records_of c.catalogue)
+  pub damaged : IsErrOf result Damaged → IsTrue new.from.honest → ¬ All (HasItsBody old.from.now.seen) (records_of c.catalogue)
   pub slots : IfOk result (λ slots. slots ≡ fresh (copied_root l.directory (all_stored l.contents)))
-  pub ready : IfOk result (λ slots. IsReady slots new.now)
+  pub ready : IfOk result (λ slots. IsReady slots new.to.now)
   pub layout : OnOk result (l' ≡ record l { contents = all_stored l.contents })
-  pub sound : OnOk result (MemoryIsSound (rooted new.size (copied_root l.directory (all_stored l.contents)) (all_stored l.contents)) l.used)
-  pub intact : OnOk result (All (HasItsBody new.now.seen) (records_of (all_stored l.contents).catalogue))
-  pub holds : (s : Source) → IsTrue after.honest → state_in before.now.seen c ≡ s
-      → OnOk result ((image : List ℕ) → IsImage new.now image → Tells (copied_root l.directory (all_stored l.contents)) (all_stored l.contents) image s)
-  pub any_moment : (s : Source) → IsTrue after.honest → state_in before.now.seen c ≡ s
-      → (old.calls + 3 < new.calls) ⊎ (new.faults ≡ old.faults)
-      → Leaves old new (λ m image. old.calls + 3 ≤ m → NoneOrState s image)
+  pub sound : OnOk result (MemoryIsSound (rooted new.to.size (copied_root l.directory (all_stored l.contents)) (all_stored l.contents)) l.used)
+  pub intact : OnOk result (All (HasItsBody new.to.now.seen) (records_of (all_stored l.contents).catalogue))
+  pub holds : (s : Source) → IsTrue new.from.honest → state_in old.from.now.seen c ≡ s
+      → OnOk result ((image : List ℕ) → IsImage new.to.now image
+      → Tells (copied_root l.directory (all_stored l.contents)) (all_stored l.contents) image s)
+  pub any_moment : (s : Source) → IsTrue new.from.honest → state_in old.from.now.seen c ≡ s
+      → (old.to.calls + 3 < new.to.calls) ⊎ (new.to.faults ≡ old.to.faults)
+      → Leaves old.to new.to (λ m image. old.to.calls + 3 ≤ m → NoneOrState s image)

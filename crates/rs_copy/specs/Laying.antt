@@ -1,4 +1,4 @@
--- How a copy is laid out: each thing that is written is given the lowest run of its size, in one order.
+-- How a copy is laid out: each part in turn takes the lowest run of free blocks of its size.
 use Rattle.std.specs.Prelude.{◌≡◌, ◌⊎◌, ◌<◌, ◌&&◌, ℕ, Bool, nat_eq, nat_lt, if◌then◌else◌, List, [], ◌∷◌, ◌++◌, length, map, Option, Some, None}
 use Rattle.rs_extent.specs.declared.Extent.{Extent}
 use Rattle.rs_extent.specs.Blocks.{is_used}
@@ -17,24 +17,24 @@ use Rattle.rs_image.specs.Reach.{blocks_of_disk}
 use Rattle.rs_image.specs.StateOfImage.{directory_bytes_of}
 use Rattle.rs_plan.specs.Room.{HasNoRoom, Takes, TakesEach, pages_needed}
 
--- the records with these extents, one for each
+-- the records, each with the extent at its place
 abbrev pub with_extents : List Record → List Extent → List Record
 with_extents [] extents = []
 with_extents (r ∷ records) [] = r ∷ records
 with_extents (r ∷ records) (extent ∷ extents) = record r { extent = extent } ∷ with_extents records extents
 
--- the same record but for its extent
+-- the same record, but perhaps for its extent
 abbrev pub IsMoved : Record → Record → Type 0
 IsMoved r moved = moved ≡ record r { extent = moved.extent }
 
--- the extent of a published record, where this is the record that is held of its name: that one's, if it has the same moment and
--- length; else first block 0 and the blocks of its own length
+-- the extent of a published record beside the held record of its name: that one's extent, if moment and length agree; else block 0
+-- and the number of blocks for its own length
 abbrev pub extent_beside : Option Record → Record → Extent
 extent_beside None r = record { first = 0; blocks = blocks_of r.length }
 extent_beside (Some held) r =
     if nat_eq held.moment r.moment && nat_eq held.length r.length then held.extent else record { first = 0; blocks = blocks_of r.length }
 
--- the extent of a published record, where these records are held
+-- the extent of a published record in a copy that holds these records
 abbrev pub extent_published : List Record → Record → Extent
 extent_published held r = extent_beside (value_of r.name (named held)) r
 
@@ -42,7 +42,7 @@ extent_published held r = extent_beside (value_of r.name (named held)) r
 abbrev pub as_published : List Record → Record → Record
 as_published held r = record r { extent = extent_published held r }
 
--- The lists of a copy whose bodies stand in these extents, before their pages have places: pages of 64, none of them shared.
+-- The lists of a copy whose bodies stand in these extents. Each has its own pages of 64 items, which have no places yet.
 abbrev pub copied_lists : Contents → List Extent → Contents
 copied_lists c bodies =
     let held = with_extents (records_of c.catalogue) bodies in
@@ -53,12 +53,12 @@ copied_lists c bodies =
       published = full_pages (map (as_published held) (records_of c.published));
     }
 
--- how many blocks the bodies of these records need
+-- how many blocks each body of these records needs
 abbrev pub records_needed : List Record → List ℕ
 records_needed records = map (λ r. blocks_of r.length) records
 
--- how many blocks the pages of the lists of a copy and their directory need, in the order in which they are found: the catalogue, the
--- changes, the published pages, the directory
+-- how many blocks each page of a copy's lists needs, and then the directory, in the order in which they take them: catalogue,
+-- changes, publication, directory
 abbrev pub copy_needed : Contents → List ℕ
 copy_needed c =
     pages_needed record_format c.catalogue
@@ -66,13 +66,13 @@ copy_needed c =
     ++ pages_needed record_format c.published
     ++ blocks_of (directory_bytes_of c) ∷ []
 
--- Of a disk of this many bytes the blocks of the slots are used, and no others.
+-- Of a disk of this many bytes only the blocks of the slots are used.
 pub record HasSlotsAlone (size : ℕ) (used : List Bool) : Type 0 where
   pub blocks : length used ≡ blocks_of_disk size
   pub slots : (b : ℕ) → b < blocks_of_disk size → is_used used b ≡ nat_lt b 2
 
--- The pages of these lists took blocks of a disk, first those of the catalogue, then those of the history, then the published ones;
--- and then the directory did. Nothing else of the lists changed.
+-- The pages of these lists took blocks in turn, those of the catalogue, of the history and of the publication, and then the
+-- directory did. Nothing else of the lists changed.
 pub record ArePlacedInTurn (used : List Bool) (c placed : Contents) (directory : Extent) (after : List Bool) : Type 0 where
   pub after_catalogue : List Bool
   pub after_history : List Bool
@@ -84,8 +84,8 @@ pub record ArePlacedInTurn (used : List Bool) (c placed : Contents) (directory :
   pub published : Places record_format after_history c.published after_published placed.published
   pub last : Takes after_published (blocks_of (directory_bytes_of c)) directory after
 
--- A copy of these lists is laid out on a disk of this many bytes: with the slots used alone, the bodies took blocks in the order
--- of their names, and then the lists of the copy and their directory did.
+-- A copy of these lists is laid out on a disk of this many bytes: behind the slots the bodies took blocks in the order of their
+-- names, and then the lists of the copy and their directory did.
 pub record IsLaidOut (size : ℕ) (c placed : Contents) (directory : Extent) (used : List Bool) : Type 0 where
   pub start : List Bool
   pub after_bodies : List Bool
@@ -94,8 +94,8 @@ pub record IsLaidOut (size : ℕ) (c placed : Contents) (directory : Extent) (us
   pub held : TakesEach start (records_needed (records_of c.catalogue)) bodies after_bodies
   pub lists : ArePlacedInTurn after_bodies (copied_lists c bodies) placed directory used
 
--- A disk of this many bytes lacks room for a copy of these lists: with the slots used alone, a body, a page or the directory has no
--- run, each being given the lowest of its own size in turn.
+-- A disk of this many bytes lacks room for a copy of these lists: where each part in turn takes the lowest run of its size behind
+-- the slots, a body, a page or the directory finds none.
 pub record LacksCopyRoom (size : ℕ) (c : Contents) : Type 0 where
   pub start : List Bool
   pub slots_alone : HasSlotsAlone size start
@@ -103,7 +103,7 @@ pub record LacksCopyRoom (size : ℕ) (c : Contents) : Type 0 where
       ⊎ ((used : List Bool) × (bodies : List Extent) × TakesEach start (records_needed (records_of c.catalogue)) bodies used
       × HasNoRoom used (copy_needed (copied_lists c bodies)))
 
--- the lists once all pages that were given blocks are stored
+-- the lists after each page that was given blocks is stored
 abbrev pub all_stored : Contents → Contents
 all_stored c =
     record {

@@ -1,4 +1,4 @@
-//! Copying bodies from one disk to another.
+//! The bodies of a copy.
 
 ghost use Rattle.std.specs.Prelude.{◌≡◌, [], ◌∷◌, All, IfOk, IfErr, OnOk, IsErr, IsErrOf, IsTrue};
 ghost use Rattle.std.specs.List.{AllZip};
@@ -19,16 +19,16 @@ use rs_extent::Extent;
 use rs_fixity::Sha256Hashing;
 use rs_record::Record;
 
-// How many bytes are copied at once, but for the last piece of a body: 32 blocks.
+// The bytes of a piece of a body: 32 blocks. The last piece may be shorter.
 const PIECE_SIZE: usize = 16_384;
 
-/// Copies the body of each record of a catalogue to the extent of the same record of another one,
+/// Copies the body of each record of one catalogue to the extent of the same record of another one,
 /// in the order of their names.
 ///
 /// # Errors
 ///
-/// - [`CopyFault::Device`] where a call of one of the disks fails.
-/// - [`CopyFault::Damaged`] where a body does not have its recorded SHA-256.
+/// - [`CopyFault::Device`] if a call of either disk fails.
+/// - [`CopyFault::Damaged`] if a body does not have its recorded SHA-256.
 pub(crate) fn copy_bodies<D: Disk, E: Disk>(
     from: &mut D,
     old: &Catalogue,
@@ -40,9 +40,11 @@ pub(crate) fn copy_bodies<D: Disk, E: Disk>(
     requires rooms { All (HasPlace (E.state to.old).size) (records_of new.now) }
     requires apart { AreApart (bodies_of (records_of new.now)) }
     ensures copies { CopiesOnly (bodies_of (records_of new.now)) (IsErrOf result CopyFault.Device)
-        (D.state from.old) (D.state from.new) (E.state to.old) (E.state to.new) }
+        (record { from = D.state from.old; to = E.state to.old })
+        (record { from = D.state from.new; to = E.state to.new }) }
     ensures bodies { CopiesBodies (records_of old.now) (records_of new.now)
-        (D.state from.old) (D.state from.new) (E.state to.new) result }
+        (record { from = D.state from.old; to = E.state to.old })
+        (record { from = D.state from.new; to = E.state to.new }) result }
     ensures others { IfErr result IsOfWriting }
 {
     for i in 0..old.len() {
@@ -51,7 +53,7 @@ pub(crate) fn copy_bodies<D: Disk, E: Disk>(
     Ok(())
 }
 
-// Copies the body of a record to the front of an extent.
+/// Copies the body of a record to the front of an extent, and checks its SHA-256.
 fn copy_body<D: Disk, E: Disk>(
     from: &mut D,
     held: &Record,
@@ -61,9 +63,11 @@ fn copy_body<D: Disk, E: Disk>(
     requires place { HasPlace (D.state from.old).size held.now }
     requires room { HasPlace (E.state to.old).size (record held.now { extent = extent }) }
     ensures copies { CopiesOnly (extent ∷ []) (IsErrOf result CopyFault.Device)
-        (D.state from.old) (D.state from.new) (E.state to.old) (E.state to.new) }
+        (record { from = D.state from.old; to = E.state to.old })
+        (record { from = D.state from.new; to = E.state to.new }) }
     ensures bodies { CopiesBodies (held.now ∷ []) (record held.now { extent = extent } ∷ [])
-        (D.state from.old) (D.state from.new) (E.state to.new) result }
+        (record { from = D.state from.old; to = E.state to.old })
+        (record { from = D.state from.new; to = E.state to.new }) result }
     ensures others { IfErr result IsOfWriting }
 {
     let sha256 = copy_pieces(from, held, to, extent)?;
@@ -74,8 +78,8 @@ fn copy_body<D: Disk, E: Disk>(
     }
 }
 
-// Copies the body of a record to the front of an extent, in pieces of 16,384 bytes, the last of
-// which may have fewer. The SHA-256 of what was copied.
+/// Copies the body of a record to the front of an extent, in pieces of at most 16,384 bytes, and
+/// returns the SHA-256 of its copy.
 fn copy_pieces<D: Disk, E: Disk>(
     from: &mut D,
     held: &Record,
@@ -85,7 +89,8 @@ fn copy_pieces<D: Disk, E: Disk>(
     requires place { HasPlace (D.state from.old).size held.now }
     requires room { HasPlace (E.state to.old).size (record held.now { extent = extent }) }
     ensures copies { CopiesOnly (extent ∷ []) (IsErr result)
-        (D.state from.old) (D.state from.new) (E.state to.old) (E.state to.new) }
+        (record { from = D.state from.old; to = E.state to.old })
+        (record { from = D.state from.new; to = E.state to.new }) }
     ensures copied { OnOk result (IsTrue (D.state from.new).honest
         → part extent held.now.length (E.state to.new).now.seen
         ≡ part held.now.extent held.now.length (D.state from.old).now.seen) }

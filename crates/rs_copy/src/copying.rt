@@ -16,26 +16,25 @@ use std::alloc::Global;
 // The bytes of 16 blocks.
 const SMALLEST_DISK: u64 = 8192;
 
-/// A source that was copied: how the slots of its disk stand, the lists behind its root, and the
-/// blocks that it uses.
+/// A copy of a source, as its disk and the memory hold it.
 #[derive(Drop)]
 pub struct Copied {
-    /// The slots, of which the first holds the root.
+    /// The slots. The first one holds the root.
     pub slots: Slots,
-    /// The lists, all of whose pages are stored.
+    /// The lists behind the root. All their pages are stored.
     pub contents: Contents,
     /// The blocks that the root reaches.
     pub used: Used,
 }
 
-/// Copies what a root reaches to another disk, as a source of the same state whose generation is 1,
-/// in the version that is written. Bodies are copied in pieces, so memory grows with the lists
-/// alone. The old disk is only read.
+/// Copies the source of a root to the disk `to`. The copy has the same state, generation 1 and the
+/// version that is written. Bodies pass through a buffer of 16,384 bytes, so memory grows with the
+/// lists alone. The disk `from` is only read.
 ///
 /// # Errors
 ///
-/// See [`CopyFault`]. After `TooSmall` and `Full` both disks are as they were, and `Device` and
-/// `Damaged` come only where there is room.
+/// See [`CopyFault`]. `TooSmall` and `Full` leave both disks as they were. `Device` and `Damaged`
+/// come only if `to` has room.
 pub fn copy_source<D: Disk, E: Disk>(
     alloc: Global,
     from: &mut D,
@@ -43,10 +42,10 @@ pub fn copy_source<D: Disk, E: Disk>(
     to: &mut E,
 ) -> Result<Copied, CopyFault>
     requires { old.now.size ≡ (D.state from.old).size }
-    ensures copies { Copies old.now (D.state from.old) (D.state from.new)
-        (E.state to.old) (E.state to.new) result }
+    ensures copies { Copies old.now (record { from = D.state from.old; to = E.state to.old })
+        (record { from = D.state from.new; to = E.state to.new }) result }
 
-    // The disks themselves are as they were, where no call of either was made.
+    // After these two the disks themselves are as they were.
     ensures unread { IsErrOf result CopyFault.TooSmall ⊎ IsErrOf result CopyFault.Full
         → from.new ≡ from.old }
     ensures untouched { IsErrOf result CopyFault.TooSmall ⊎ IsErrOf result CopyFault.Full

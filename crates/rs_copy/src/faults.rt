@@ -1,4 +1,4 @@
-//! Why a source was not copied.
+//! Why a source is not copied.
 
 ghost use Rattle.std.specs.Prelude.{◌≡◌};
 
@@ -7,18 +7,17 @@ use rs_page::{Full, StoreFault};
 use std::alloc::AllocError;
 use thiserror::Error;
 
-/// Why a source was not copied, in the order in which the causes count: `TooSmall` and `Full` are
-/// found before a call of either disk, `Device` and `Damaged` are answered as they are met.
-/// `NoMemory` stands outside this order.
+/// Why a source is not copied. `TooSmall` comes first and `Full` second, both before a call of
+/// either disk. `Device` and `Damaged` come as the copy meets them. `NoMemory` may come at any point.
 #[derive(Clone, Copy, Debug, PartialEq, Eq, Error)]
 pub enum CopyFault {
     /// The new disk has fewer than 16 blocks of 512 bytes.
     #[error("the disk has fewer than 8192 bytes")]
     TooSmall,
-    /// The new disk has no run of free blocks for something that has to be written.
+    /// The new disk has no run of free blocks for a body, a page or the directory.
     #[error("the disk is full")]
     Full,
-    /// A call of one of the two disks failed.
+    /// A call of either disk failed.
     #[error("the device failed")]
     Device,
     /// A body does not have its recorded SHA-256.

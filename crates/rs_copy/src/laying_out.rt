@@ -13,29 +13,28 @@ use rs_extent::{BLOCK_SIZE, Extent, Used};
 use rs_image::Contents;
 use std::alloc::Global;
 
-// The greatest number of blocks of a disk that are used.
+// The most blocks that a source uses of its disk.
 const MOST_BLOCKS: u64 = 8_388_608;
 
 /// Where everything that a copy writes goes.
 #[derive(Drop)]
 pub(crate) struct Layout {
-    /// The lists of the copy: the records of the bodies have their extents, and all pages have
-    /// places.
+    /// The lists of the copy. Its records have the new extents, and each page has a place.
     pub contents: Contents,
     /// The blocks of the directory.
     pub directory: Extent,
-    /// The blocks of the slots, and of all that is written.
+    /// The blocks of the slots and of everything that the copy writes.
     pub used: Used,
 }
 
-/// Finds the blocks on a disk of `size` bytes for all that a copy of these lists writes: for each
-/// the lowest run of free blocks of its size, in the order of the bodies by their names, the pages
-/// of the catalogue, of the changes, and of what was published, and the directory.
+/// Lays out a copy of these lists on a disk of `size` bytes. Each part takes the lowest run of free
+/// blocks of its size, in this order: the bodies by their names, the pages of the catalogue, of the
+/// changes and of the publication, the directory.
 ///
 /// # Errors
 ///
-/// - [`CopyFault::Full`] where one of them has no such run.
-/// - [`CopyFault::NoMemory`] where a growth of memory is refused.
+/// - [`CopyFault::Full`] if a part has no such run.
+/// - [`CopyFault::NoMemory`] if memory runs out.
 pub(crate) fn lay_out(alloc: Global, size: u64, old: &Contents) -> Result<Layout, CopyFault>
     requires { 1024 ≤ size }
     ensures laid_out { IfOk result
@@ -54,7 +53,7 @@ pub(crate) fn lay_out(alloc: Global, size: u64, old: &Contents) -> Result<Layout
     })
 }
 
-// How many blocks of a disk of `size` bytes are used: whole ones, and no more than 8,388,608.
+/// How many blocks a source uses of a disk of `size` bytes: the whole ones, at most 8,388,608.
 fn block_count(size: u64) -> u32
     ensures { result ≡ blocks_of_disk size }
 {

@@ -1,9 +1,9 @@
 //! Copying a source to another disk.
 //!
-//! [`copy_source`] writes all that a root reaches to another disk, as a source of the same state:
-//! the bodies in the order of their names, the pages of the lists, their directory, and at last a
-//! root. What the other disk held goes with the first sync; from then on each image of it tells no
-//! root, or stands for the state that is copied.
+//! [`copy_source`] writes a source of the same state to another disk: the bodies in the order of
+//! their names, the pages of the lists, the directory, and last the root. Its first sync removes
+//! what that disk held. From then on each image of the disk tells no root, or represents the copied
+//! state.
 #![tactic(auto)]
 
 mod bodies;

@@ -20,13 +20,13 @@ use rs_page::Full;
 use rs_record::Record;
 use std::alloc::{AllocError, Global};
 
-/// The records of a catalogue, each with the lowest run of free blocks for its body, one after the
-/// other in the order of their names.
+/// The records of a catalogue with new extents. Each body takes the lowest run of free blocks of its
+/// size, in the order of the names.
 ///
 /// # Errors
 ///
-/// - [`CopyFault::Full`] where a body has no such run.
-/// - [`CopyFault::NoMemory`] where the memory is refused.
+/// - [`CopyFault::Full`] if a body has no such run.
+/// - [`CopyFault::NoMemory`] if memory runs out.
 pub(crate) fn place_bodies(
     alloc: Global,
     catalogue: &Catalogue,
@@ -48,7 +48,7 @@ pub(crate) fn place_bodies(
     Ok(held)
 }
 
-// Puts a record behind the others.
+/// Puts a record behind the others.
 fn add(records: &mut Vec<Record>, new: Record) -> Result<(), AllocError>
     ensures { OnOk result (records.new.items ≡ records.old.items ++ new ∷ []) }
 {
@@ -56,7 +56,7 @@ fn add(records: &mut Vec<Record>, new: Record) -> Result<(), AllocError>
     Ok(())
 }
 
-// The record with the lowest run of free blocks for its body.
+/// The record, with the lowest run of free blocks for its body.
 fn placed(alloc: Global, old: &Record, used: &mut Used) -> Result<Record, CopyFault>
     ensures same { IfOk result (IsMoved old.now) }
     ensures found { IfOk result
@@ -70,13 +70,12 @@ fn placed(alloc: Global, old: &Record, used: &mut Used) -> Result<Record, CopyFa
     Ok(new)
 }
 
-/// Gives the touched pages of these lists blocks, and then finds those of the directory: each the
-/// lowest run of free blocks of its size, in the order of the catalogue, the history, what was
-/// published, and the directory.
+/// Places the touched pages of these lists, and then the directory. Each takes the lowest run of free
+/// blocks of its size, in this order: catalogue, changes, publication, directory.
 ///
 /// # Errors
 ///
-/// [`Full`] where a page or the directory has no such run.
+/// [`Full`] if a page or the directory has no such run.
 pub(crate) fn place_lists(used: &mut Used, lists: &mut Contents) -> Result<Extent, Full>
     requires { AreAllUnplaced lists.old }
     ensures placed { IfOk result
@@ -90,7 +89,7 @@ pub(crate) fn place_lists(used: &mut Used, lists: &mut Contents) -> Result<Exten
     take_lowest(used, length)
 }
 
-// Takes the lowest run of free blocks for so many bytes, and no block for none.
+/// Takes the lowest run of free blocks for `length` bytes. No bytes take no blocks.
 fn take_lowest(used: &mut Used, length: u32) -> Result<Extent, Full>
     ensures found { IfOk result (λ extent. Takes used.old (blocks_of length) extent used.new) }
     ensures full { OnErr result (HasNoRun used.old (blocks_of length)) }

@@ -25,16 +25,14 @@ use rs_image::Contents;
 use rs_page::StoreFault;
 use std::alloc::Global;
 
-/// Writes a copy of these lists as it was laid out: it closes the slots, copies the bodies, writes
-/// the pages and the directory, and puts the root into the first slot. The layout has the stored
-/// lists then.
+/// Writes a copy of these lists as it was laid out: closes the slots, copies the bodies, writes the
+/// pages and the directory, and puts the root into the first slot. The layout gets the stored lists.
 ///
 /// # Errors
 ///
-/// - [`CopyFault::Device`] where a call of one of the disks fails.
-/// - [`CopyFault::Damaged`] where a body does not have its recorded SHA-256.
-/// - [`CopyFault::NoMemory`] where the memory for the bytes of a page or of the directory is
-///   refused.
+/// - [`CopyFault::Device`] if a call of either disk fails.
+/// - [`CopyFault::Damaged`] if a body does not have its recorded SHA-256.
+/// - [`CopyFault::NoMemory`] if memory for the bytes of a page or of the directory runs out.
 pub(crate) fn write_copy<D: Disk, E: Disk>(
     alloc: Global,
     from: &mut D,
@@ -46,8 +44,9 @@ pub(crate) fn write_copy<D: Disk, E: Disk>(
     requires laid_out { IsLaidOut (E.state to.old).size old.now layout.old.contents
         layout.old.directory layout.old.used }
     requires size { 1024 ≤ (E.state to.old).size }
-    ensures { WritesCopy old.now layout.old layout.new (D.state from.old) (D.state from.new)
-        (E.state to.old) (E.state to.new) result }
+    ensures { WritesCopy old.now layout.old layout.new
+        (record { from = D.state from.old; to = E.state to.old })
+        (record { from = D.state from.new; to = E.state to.new }) result }
 {
     shut_tells_none();
     close_slots(to)?;
@@ -55,8 +54,8 @@ pub(crate) fn write_copy<D: Disk, E: Disk>(
     Ok(open_first(to, &root)?)
 }
 
-// Writes what lies behind the slots: the bodies, the pages, and the directory. The root that names
-// it.
+/// Writes what lies behind the slots: the bodies, the pages and the directory. Returns the root that
+/// names the directory.
 fn write_behind<D: Disk, E: Disk>(
     alloc: Global,
     from: &mut D,
@@ -70,10 +69,12 @@ fn write_behind<D: Disk, E: Disk>(
     requires room { HasRoom (E.state to.old).size layout.old.contents layout.old.directory }
     ensures copies { CopiesOnly (written_in layout.old.contents layout.old.directory)
         (IsErrOf result CopyFault.Device)
-        (D.state from.old) (D.state from.new) (E.state to.old) (E.state to.new) }
+        (record { from = D.state from.old; to = E.state to.old })
+        (record { from = D.state from.new; to = E.state to.new }) }
     ensures bodies { CopiesBodies (records_of old.now.catalogue)
         (records_of layout.old.contents.catalogue)
-        (D.state from.old) (D.state from.new) (E.state to.new) result }
+        (record { from = D.state from.old; to = E.state to.old })
+        (record { from = D.state from.new; to = E.state to.new }) result }
     ensures made { IfOk result
         (λ root. IsWrittenBehind layout.old layout.new root (E.state to.new).now.seen) }
     ensures others { IfErr result IsOfWriting }
@@ -83,7 +84,7 @@ fn write_behind<D: Disk, E: Disk>(
     write_directory(alloc, to, layout.directory, &layout.contents)
 }
 
-// Writes each page that was given blocks.
+/// Writes each page that was given blocks.
 fn write_pages<E: Disk>(
     alloc: Global,
     to: &mut E,
@@ -102,7 +103,7 @@ fn write_pages<E: Disk>(
     contents.published.store_touched(alloc, to)
 }
 
-// Writes the directory of these lists, all of whose pages are stored. The root that names it.
+/// Writes the directory of these lists, whose pages are all stored. Returns the root that names it.
 fn write_directory<E: Disk>(
     alloc: Global,
     to: &mut E,

@@ -39,7 +39,7 @@ no_bytes : (xs : List ℕ) → length xs ≡ 0 → xs ≡ []
 no_bytes [] e = refl
 no_bytes (x ∷ xs) e = absurd (omega arith)
 
--- where there are bytes for n entries, and fewer than one has are left, n of them were read
+-- from bytes for n entries, n were read, where fewer bytes are left than an entry has
 pub all_read : (refs : List PageRef) (n : ℕ) (bytes rest : List ℕ) → All IsLawfulRef refs → bytes ≡ flat_map ref_bytes refs ++ rest → length rest < 44
     → length bytes ≡ 44 * n → (length refs ≡ n) × (bytes ≡ flat_map ref_bytes refs)
 all_read refs n bytes rest lawful found fewer size =
@@ -119,7 +119,7 @@ begins_with bytes page after fits read = let taken = ref.takes bytes (page, afte
 pub same_entry : (r s : PageRef) (x y : List ℕ) → IsLawfulRef r → IsLawfulRef s → ref_bytes r ++ x ≡ ref_bytes s ++ y → (r ≡ s) × (x ≡ y)
 same_entry r s x y = alone page_entry_at ref_bytes IsLawfulRef ref r s x y
 
--- so many entries are read in one way
+-- equally many entries are read in one way
 pub same_refs : (a b : List PageRef) (x y : List ℕ) → All IsLawfulRef a → All IsLawfulRef b → length a ≡ length b
     → flat_map ref_bytes a ++ x ≡ flat_map ref_bytes b ++ y → (a ≡ b) × (x ≡ y)
 same_refs [] [] x y a_lawful b_lawful long same = (refl, same)

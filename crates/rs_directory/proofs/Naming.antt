@@ -11,11 +11,11 @@ use Rattle.rs_directory.proofs.PartLaws.{counts_bytes}
 use Rattle.rs_directory.specs.Reading.{counts_of, all_entries}
 use Rattle.rs_directory.proofs.OneDirectory.{directory_parts}
 
--- how many bytes stand before the entries, beside the base
+-- the number of bytes before the entries, without the base
 abbrev pub others : Bool → ℕ
 others untold = if untold then 47 else 63
 
--- the length of what version 1 has not
+-- the length of what version 2 adds
 length-history : (version : ℕ) (h : Header) → length (history_bytes version h) + 47 ≡ others (nat_eq version 1)
 length-history version h = by_cases (nat_eq version 1) refl
   where
@@ -27,7 +27,7 @@ length-history version h = by_cases (nat_eq version 1) refl
 length-header : (version : ℕ) (h : Header) → length (header_bytes version h) + 12 ≡ others (nat_eq version 1) + length h.base
 length-header version h = simp length-append (omega (arith, length-history version h))
 
--- the length of the base stands in byte 2
+-- the length of the base is in byte 2
 pub base_at : (version : ℕ) (bytes : List ℕ) (pages : List PageRef) (names : Names version bytes pages) → get_or bytes 2 0 ≡ length names.header.base
 base_at version bytes pages names = ap (λ (l : List ℕ). get_or l 2 0) names.directory.spelled
 

@@ -127,7 +127,7 @@ one_directory version h h' catalogue catalogue' changes changes' published publi
     (append-nil _ ∙ second.1 ∙ sym (append-nil _)) in
     (ap (λ x. x.0) head, first.0, second.0, third.0)
 
--- lists of entries, of which there are as many bytes as the numbers of pages say
+-- lists of entries, whose lengths are the numbers of pages
 record HasLists (n : PageCounts) (bytes : List ℕ) : Type 0 where
   catalogue : List PageRef
   changes : List PageRef
@@ -138,7 +138,7 @@ entries_joined : (a b c : List PageRef) (entries x y : List ℕ) → entries ≡
     → entries ≡ all_entries a b c
 entries_joined a b c entries x y e f g = e ∙ ap (λ xs. flat_map ref_bytes a ++ xs) (f ∙ ap (λ xs. flat_map ref_bytes b ++ xs) g)
 
--- how many bytes follow so many entries
+-- the number of bytes after n entries
 after_entries : (refs : List PageRef) (n : ℕ) (bytes rest : List ℕ) → length refs ≡ n → All IsLawfulRef refs → bytes ≡ flat_map ref_bytes refs ++ rest
     → length bytes ≡ 44 * n + length rest
 after_entries refs n bytes rest count lawful parts =

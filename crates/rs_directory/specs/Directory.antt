@@ -1,4 +1,4 @@
--- The directory of a source: what a root points to, and how it is spelled on the disk.
+-- The directory of a source: what a root points to, and its bytes on the disk.
 use Rattle.std.specs.Prelude.{◌≡◌, ◌<◌, ◌≤◌, ◌+◌, ◌*◌, ◌^◌, ℕ, nat_eq, if◌then◌else◌, List, [], ◌∷◌, ◌++◌, length, flat_map, All, IsTrue}
 use Rattle.std.specs.List.{concat}
 use Rattle.std.specs.Int.{w16, w32, w64, to_be_bytes}
@@ -8,13 +8,13 @@ use Rattle.rs_record.specs.Format.{counted_text}
 use Rattle.rs_page.specs.declared.place.PageRef.{PageRef}
 use Rattle.rs_directory.specs.declared.header.Header.{Header}
 
--- what version 2 has and version 1 has not: the number of the first kept part of the Change List, and the moment at which the
+-- what version 2 adds to version 1: the number of the first kept part of the Change List, and the moment at which the
 -- kept history begins, in 8 bytes each
 abbrev pub history_bytes : ℕ → Header → List ℕ
 history_bytes version h = if nat_eq version 1 then [] else concat (to_be_bytes w64 h.first ∷ to_be_bytes w64 h.begin ∷ [])
 
--- limit in 2 bytes; the base, after its length in one; start, last, publication number and its moment in 8 bytes each; then
--- what came with version 2; each number big endian
+-- limit in 2 bytes; the base, after its length in one; start, last, publication number and its moment in 8 bytes each;
+-- then what version 2 adds. Each number is big endian.
 abbrev pub header_bytes : ℕ → Header → List ℕ
 header_bytes version h =
     concat
@@ -30,8 +30,8 @@ ref_bytes r =
 abbrev pub count_bytes : List PageRef → List ℕ
 count_bytes refs = to_be_bytes w32 (length refs)
 
--- A directory of a version: its header; how many catalogue pages, change pages and published pages there are; then an entry
--- of each page, in this order. Nothing follows.
+-- A directory of a version: its header; the numbers of catalogue pages, change pages and published pages; then an entry
+-- for each page, in this order. Nothing follows.
 abbrev pub directory_bytes : ℕ → Header → List PageRef → List PageRef → List PageRef → List ℕ
 directory_bytes version h catalogue changes published =
     concat
@@ -42,7 +42,7 @@ directory_bytes version h catalogue changes published =
 abbrev pub written_format : ℕ
 written_format = 2
 
--- how many bytes a directory with so many entries has, as it is written
+-- the length in bytes of a directory with this number of entries, as it is written
 abbrev pub directory_length : Header → ℕ → ℕ
 directory_length h entries = 63 + length h.base + 44 * entries
 
@@ -51,8 +51,8 @@ pub record HasAllHistory (h : Header) : Type 0 where
   pub first : h.first ≡ 0
   pub begin : h.begin ≡ h.start
 
--- what every header of a version keeps: a lawful base, a limit from 2 to 4,000, moments that exist, numbers of 64 bits; and of
--- version 1, which doesn't tell them, that no part was dropped
+-- what every header of a version keeps: a lawful base, a limit from 2 to 4,000, moments that exist, numbers of 64 bits;
+-- and in version 1, that no part was dropped
 pub record IsLawfulHeader (version : ℕ) (h : Header) : Type 0 where
   pub base : IsTrue (is_base h.base)
   pub low : 2 ≤ h.limit
@@ -84,7 +84,7 @@ pub record AreLawful (version : ℕ) (h : Header) (catalogue changes published :
   pub of_changes : AreLawfulRefs changes
   pub of_published : AreLawfulRefs published
 
--- Bytes are the directory of this header and these entries in a version: it can have them, and is spelled so.
+-- Bytes are the directory of this header and these entries, in a version that can have them.
 pub record IsDirectory (version : ℕ) (bytes : List ℕ) (h : Header) (catalogue changes published : List PageRef) : Type 0 where
   pub lawful : AreLawful version h catalogue changes published
   pub spelled : bytes ≡ directory_bytes version h catalogue changes published

@@ -1,5 +1,5 @@
--- Words of the readers' own contracts: each takes a part of a directory off the front of some bytes, and gives a value and
--- the bytes after it, or nothing. What the public reader owes is said by Directory.
+-- Words of the readers' own contracts: each reads a part of a directory from the front of bytes, and gives a value and
+-- the bytes after it, or nothing. Directory has what the public reader promises.
 use Rattle.std.specs.Prelude.{◌≡◌, ℕ, ◌+◌, ◌*◌, ◌==◌, nat_eq, List, ◌++◌, length, flat_map, Option, Some, None, if◌then◌else◌}
 use Rattle.std.specs.Int.{w16, w32, w64}
 use Rattle.rs_record.specs.Reading.{◌>>=◌, piece_at, number_in, counted_at, moment_in}
@@ -17,7 +17,7 @@ limit_at bytes = do
   limit ← limit_of items.0
   Some (limit, items.1)
 
--- the first kept part and the begin of the history: in version 1 they are not told, and are 0 and the start
+-- the first kept part and the begin of the history; version 1 has neither: they are 0 and the start
 unfoldable pub history_at : ℕ → ℕ → List ℕ → Option ((ℕ × ℕ) × List ℕ)
 history_at version start bytes =
     if nat_eq version 1 then Some ((0, start), bytes)
@@ -26,7 +26,7 @@ history_at version start bytes =
       begin ← moment_in first.1
       Some ((first.0, begin.0), begin.1))
 
--- a header of a version, its base any text
+-- a header of a version, whose base is any text
 unfoldable pub header_at : ℕ → List ℕ → Option (Header × List ℕ)
 header_at version bytes = do
   limit ← limit_at bytes
@@ -58,11 +58,11 @@ counts_at bytes = do
   published ← number_in w32 changes.1
   Some (record { catalogue = catalogue.0; changes = changes.0; published = published.0 }, published.1)
 
--- how many pages there are
+-- the number of pages
 abbrev pub pages_of : PageCounts → ℕ
 pages_of counts = counts.catalogue + counts.changes + counts.published
 
--- how many there are in three lists
+-- the numbers of entries of three lists
 abbrev pub counts_of : List PageRef → List PageRef → List PageRef → PageCounts
 counts_of catalogue changes published = record { catalogue = length catalogue; changes = length changes; published = length published }
 
@@ -70,7 +70,7 @@ counts_of catalogue changes published = record { catalogue = length catalogue; c
 abbrev pub all_entries : List PageRef → List PageRef → List PageRef → List ℕ
 all_entries catalogue changes published = flat_map ref_bytes catalogue ++ (flat_map ref_bytes changes ++ flat_map ref_bytes published)
 
--- Bytes are the entries of three lists that a directory can have, as many of each as the numbers of pages say.
+-- Bytes are the entries of three lists that a directory can have, and their lengths are the numbers of pages.
 pub record AreListsOf (n : PageCounts) (bytes : List ℕ) (catalogue changes published : List PageRef) : Type 0 where
   pub of_catalogue : AreLawfulRefs catalogue
   pub of_changes : AreLawfulRefs changes
@@ -87,13 +87,13 @@ page_entry_at bytes = do
   sha256 ← piece_at 32 len.1
   Some (record { extent = record { first = first.0; blocks = blocks.0 }; length = len.0; sha256 = sha256.0 }, sha256.1)
 
--- the numbers of pages, and as many bytes of entries as these say
+-- the numbers of pages, and the bytes of that many entries
 unfoldable pub entries_at : List ℕ → Option (PageCounts × List ℕ)
 entries_at bytes = do
   counts ← counts_at bytes
   if length counts.1 == 44 * pages_of counts.0 then Some counts else None
 
--- a header that was read, without where its base lies in memory
+-- a header that was read, without the place of its base in memory
 abbrev pub header_seen : HeaderFields → Header
 header_seen h = record {
   base = h.base.now;

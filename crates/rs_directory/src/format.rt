@@ -1,4 +1,4 @@
-//! A directory as bytes on the disk.
+//! Writing a directory as bytes.
 
 ghost use Rattle.std.specs.Prelude.{◌≡◌, ◌≤◌, ◌+◌, ◌*◌, ◌++◌, vec_len, vec_capacity, length, flat_map, All, IfOk};
 ghost use Rattle.rs_record.specs.Limits.{most_items};
@@ -8,10 +8,10 @@ use crate::Header;
 use rs_page::PageRef;
 use std::alloc::{AllocError, Global};
 
-/// How many bytes an entry of a page has.
+/// The size of a page's entry in bytes.
 pub(crate) const ENTRY_SIZE: usize = 44;
 
-/// How many bytes a directory with this header and so many entries has in all, as it is written: at
+/// The size in bytes of a directory with this header and this number of entries, as it is written: at
 /// most 191, and 44 for each entry.
 pub fn directory_size(header: &Header, entries: usize) -> u32
     requires { entries ≤ 3 * most_items }
@@ -21,15 +21,15 @@ pub fn directory_size(header: &Header, entries: usize) -> u32
     (63 + header.base.bytes().len() + ENTRY_SIZE * entries) as u32
 }
 
-/// The bytes of a directory, in the version that is written, which is 2: its header, the number of
+/// The bytes of a directory in version 2, the version that is written: its header, the number of
 /// entries of each kind, and the entries. Each kind has at most
-/// [`MOST_ITEMS`](rs_record::MOST_ITEMS) of them.
+/// [`MOST_ITEMS`](rs_record::MOST_ITEMS) entries.
 ///
-/// Memory is asked for once, for exactly as many bytes as the directory has.
+/// It asks for memory once, for exactly the bytes of the directory.
 ///
 /// # Errors
 ///
-/// An error where this memory was refused.
+/// [`AllocError`] where the memory is refused.
 pub fn directory_bytes(
     alloc: Global,
     header: &Header,
@@ -57,7 +57,7 @@ pub fn directory_bytes(
     Ok(out)
 }
 
-/// Appends a header, for which there is room.
+/// Appends a header. The vector has room for it.
 fn append_header(header: &Header, out: &mut Vec<u8>)
     requires { vec_len out.old + 51 + length header.now.base ≤ vec_capacity out.old }
     ensures items { out.new.items ≡ out.old.items ++ header_bytes written_format header.now }
@@ -77,7 +77,7 @@ fn append_header(header: &Header, out: &mut Vec<u8>)
     append(&header.begin.ms().to_be_bytes(), out);
 }
 
-/// Appends the number of the entries, for which there is room.
+/// Appends the number of entries. The vector has room for it.
 fn append_count(refs: &[PageRef], out: &mut Vec<u8>)
     requires most { length refs.now ≤ most_items }
     requires room { vec_len out.old + 4 ≤ vec_capacity out.old }
@@ -88,7 +88,7 @@ fn append_count(refs: &[PageRef], out: &mut Vec<u8>)
     append(&(refs.len() as u32).to_be_bytes(), out);
 }
 
-/// Appends the entries, for which there is room.
+/// Appends the entries. The vector has room for them.
 fn append_refs(refs: &[PageRef], out: &mut Vec<u8>)
     requires { vec_len out.old + 44 * length refs.now ≤ vec_capacity out.old }
     ensures items { out.new.items ≡ out.old.items ++ flat_map ref_bytes refs.now }
@@ -101,7 +101,7 @@ fn append_refs(refs: &[PageRef], out: &mut Vec<u8>)
     }
 }
 
-/// Appends an entry, for which there is room.
+/// Appends an entry. The vector has room for it.
 fn append_ref(entry: &PageRef, out: &mut Vec<u8>)
     requires { vec_len out.old + 44 ≤ vec_capacity out.old }
     ensures items { out.new.items ≡ out.old.items ++ ref_bytes entry.now }
@@ -115,7 +115,7 @@ fn append_ref(entry: &PageRef, out: &mut Vec<u8>)
     append(&entry.sha256, out);
 }
 
-/// Appends bytes for which there is room, and so takes no memory.
+/// Appends bytes. The vector has room for them, so no memory is asked for.
 fn append(bytes: &[u8], out: &mut Vec<u8>)
     requires room { vec_len out.old + length bytes.now ≤ vec_capacity out.old }
     ensures items { out.new.items ≡ out.old.items ++ bytes.now }

@@ -4,8 +4,8 @@ use crate::Limit;
 use rs_record::Base;
 use rs_time::Moment;
 
-/// What a source keeps beside its lists: how it was formatted, how far its commands have come, and
-/// which publication is the latest.
+/// What a source keeps beside its lists: how it was formatted, when its last command came, and which
+/// publication is the latest.
 #[derive(Debug, Drop)]
 pub struct Header {
     /// The front of each URI of the source.
@@ -16,13 +16,13 @@ pub struct Header {
     pub start: Moment,
     /// The moment of the last accepted command, or of formatting.
     pub last: Moment,
-    /// The number of the latest publication, which is 0 at first.
+    /// The number of the latest publication, 0 at first.
     pub number: u64,
     /// The moment of the latest publication, or of formatting.
     pub at: Moment,
-    /// The number of the first part of the Change List that is kept: how many were dropped.
+    /// The number of the first kept part of the Change List: how many parts were dropped.
     pub first: u64,
-    /// The moment at which the kept history begins: that of the last dropped change, or of
+    /// The moment at which the kept history begins: the moment of the last dropped change, or of
     /// formatting.
     pub begin: Moment,
 }

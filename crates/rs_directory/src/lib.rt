@@ -1,9 +1,9 @@
-//! The directory of a source: what a root points to, and how it is spelled on the disk.
+//! The directory of a source: what the root points to, and its bytes on the disk.
 //!
-//! A [`Directory`] has the [`Header`] of the source and an entry of each page of its three lists.
-//! [`directory_bytes`] spells it and [`read_directory`] reads it back in either version of the
-//! format, or finds that the bytes are no lawful directory; [`laws`] states that bytes are the
-//! directory of one source at most.
+//! A [`Directory`] has the [`Header`] of the source and an entry for each page of its three lists.
+//! [`directory_bytes`] writes it. [`read_directory`] reads it in either version of the format, or
+//! finds that the bytes are no lawful directory. [`laws`] states that bytes are the directory of at
+//! most one source.
 #![tactic(auto)]
 
 mod directory;

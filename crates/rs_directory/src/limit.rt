@@ -25,7 +25,7 @@ impl Model for Limit {
 }
 
 impl Limit {
-    /// The limit of so many items, or `None` where they are fewer than 2 or more than 4,000.
+    /// The limit of `items` items, or `None` below 2 and above 4,000.
     pub fn new(items: u16) -> Option<Limit>
         ensures { result ≡ limit_of items }
     {
@@ -36,7 +36,7 @@ impl Limit {
         }
     }
 
-    /// How many items it is, 2 to 4,000.
+    /// The number of items, 2 to 4,000.
     pub fn items(self) -> u16
         ensures value { result ≡ self }
         ensures low { 2 ≤ self }

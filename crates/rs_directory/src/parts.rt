@@ -1,4 +1,4 @@
-//! The parts of a directory, read off the front of some bytes.
+//! Reading the parts of a directory from the front of bytes.
 
 ghost use Rattle.rs_record.specs.Reading.{IsSeenAs};
 ghost use Rattle.rs_directory.specs.Reading.{header_at as header_read, history_at as history_read, counts_at as counts_read, entries_at as entries_read, header_seen};
@@ -8,7 +8,7 @@ use crate::format::ENTRY_SIZE;
 use rs_record::fields::{counted_at, u16_at, u32_at, u64_at};
 use rs_time::Moment;
 
-/// A header that was read. Whether its base is lawful was not looked at.
+/// A header that was read. Its base may not be lawful.
 #[derive(Clone, Copy)]
 pub struct HeaderFields<'a> {
     pub base: &'a [u8],
@@ -21,7 +21,7 @@ pub struct HeaderFields<'a> {
     pub begin: Moment,
 }
 
-/// How many pages of each kind there are.
+/// The number of pages of each kind.
 #[derive(Clone, Copy)]
 pub struct PageCounts {
     pub catalogue: u32,
@@ -60,8 +60,8 @@ pub fn header_at(version: u8, bytes: &[u8]) -> Option<(HeaderFields<'_>, &[u8])>
     Some((header, rest))
 }
 
-/// The first kept part and the begin of the history, and the bytes after them. Version 1 doesn't
-/// tell them: they are 0 and the start.
+/// The first kept part and the begin of the history, and the bytes after them. Version 1 has neither:
+/// they are 0 and the start.
 #[tactic(auto, unfolding(crate::specs::Reading::history_at, rs_record::specs::Reading::moment_in))]
 fn history_at(version: u8, start: Moment, bytes: &[u8]) -> Option<((u64, Moment), &[u8])>
     ensures { IsSeenAs (λ x. (x.0, x.1.now)) result (history_read version start bytes.now) }
@@ -91,7 +91,7 @@ fn counts_at(bytes: &[u8]) -> Option<(PageCounts, &[u8])>
     Some((counts, rest))
 }
 
-/// The numbers of pages, and the bytes of their entries: as many as the numbers say, and no more.
+/// The numbers of pages, and the bytes of exactly that many entries.
 #[tactic(auto, unfolding(crate::specs::Reading::entries_at))]
 pub fn entries_at(bytes: &[u8]) -> Option<(PageCounts, &[u8])>
     ensures { IsSeenAs (λ x. (x.0, x.1.now)) result (entries_read bytes.now) }

@@ -1,4 +1,4 @@
-//! A directory as it is read.
+//! Reading a directory.
 
 ghost use Rattle.std.specs.Prelude.{◌≡◌, ◌<◌, ◌+◌, ◌*◌, ◌++◌, ◌↔◌, ℕ, List, length, flat_map, All, false, IsTrue, IfOk, OnOk, IsErrOf};
 ghost use Rattle.rs_directory.specs.Directory.{ref_bytes, IsDirectory, IsNoDirectory, IsLawfulRef};
@@ -13,16 +13,16 @@ use rs_page::PageRef;
 use rs_record::{Base, BaseError, FieldFault};
 use std::alloc::{AllocError, Global};
 
-/// The directory that the bytes are in this version of the format: version 1 has no `first` and no
-/// `begin`, which are then 0 and the start; every other version is read as version 2.
+/// The directory that these bytes are in this version of the format. Version 1 has no `first` and no
+/// `begin`: they are 0 and the start. Every other version is read as version 2.
 ///
-/// The numbers of entries are held against the number of bytes before any memory is asked for, so
-/// no more of it is asked for than the bytes have entries.
+/// It compares the numbers of entries with the number of bytes before it asks for memory, so it asks
+/// for memory for no more entries than the bytes have.
 ///
 /// # Errors
 ///
-/// `Malformed` exactly where the bytes are no lawful directory; `NoMemory` where the memory for the
-/// base or the entries was refused.
+/// - [`FieldFault::Malformed`] exactly where the bytes are no lawful directory.
+/// - [`FieldFault::NoMemory`] where the memory for the base or the entries is refused.
 pub fn read_directory(alloc: Global, version: u8, bytes: &[u8]) -> Result<Directory, FieldFault>
     ensures found { IfOk result (λ d. IsDirectory version bytes.now
         d.header d.catalogue.items d.changes.items d.published.items) }
@@ -46,7 +46,7 @@ pub fn read_directory(alloc: Global, version: u8, bytes: &[u8]) -> Result<Direct
     })
 }
 
-/// The header with memory of its own, where its base is lawful.
+/// The header in memory of its own. It is `Malformed` where its base is not lawful.
 fn header_of(alloc: Global, fields: HeaderFields<'_>) -> Result<Header, FieldFault>
     ensures value { IfOk result (λ header. header ≡ header_seen fields.entry) }
     ensures lawful { OnOk result (IsTrue (is_base fields.entry.base.now)) }
@@ -70,7 +70,7 @@ fn header_of(alloc: Global, fields: HeaderFields<'_>) -> Result<Header, FieldFau
     })
 }
 
-/// The entries of each kind: as many as the counts say, which are all that there are.
+/// The entries of each kind. The bytes have exactly as many as the counts say.
 fn lists_of(
     alloc: Global,
     counts: PageCounts,
@@ -89,7 +89,7 @@ fn lists_of(
     ))
 }
 
-/// The entries that the bytes begin with, as many as there are. Fewer bytes than one has may follow.
+/// All the entries that the bytes begin with. Fewer bytes than an entry has may follow.
 fn refs_of(alloc: Global, bytes: &[u8]) -> Result<Vec<PageRef>, AllocError>
     ensures lawful { IfOk result (λ refs. All IsLawfulRef refs.items) }
     ensures found { IfOk result (λ refs. (rest : List ℕ)

@@ -1,11 +1,12 @@
--- A call of a memory disk from its parts: it is counted, may change what is held, and is counted as a fault where it failed.
+-- A call of a memory disk from its parts: it is counted, may change what the disk holds, and counts as a fault if it
+-- failed.
 use Rattle.std.proofs.Common.{◌≡◌, inl, inr, ℕ, ◌+◌, ◌-◌, ◌≤◌, List, ◌++◌, length, take, drop, sym, ◌∙◌, ap, subst, arith, length-append, length-take, length-drop, Result, Ok, Err, OnOk, OnErr, is_ok, true≢false}
 use Rattle.rs_disk.specs.Medium.{Medium, DiskState, IsMedium, over, marked, widened, partly_written}
 use Rattle.rs_disk.specs.Calls.{Passes, Stays, Tears}
 use Rattle.rs_disk.specs.Memory.{Changes, SameContents}
 use Rattle.rs_disk.proofs.Images.{over_front}
 
--- what is said of one result, said of another that is of the same variant
+-- what holds of one result holds of another of the same variant
 pub ok_from : {A B E F : Type 0} {P Q : Type 0} (r : Result A E) (s : Result B F) → is_ok s ≡ is_ok r → (P → Q) → OnOk r P → OnOk s Q
 ok_from (Ok a) (Ok b) same from p = from p
 ok_from (Err e) (Ok b) same from p = absurd (true≢false same)
@@ -16,7 +17,7 @@ err_from (Err e) (Err f) same from p = from p
 err_from (Ok a) (Err f) same from p = absurd (true≢false (sym same))
 err_from r (Ok b) same from p = tt
 
--- what is said of a result that is an error, and of any
+-- a claim on a result that is an error, and on any
 pub not_ok : {A E : Type 0} (P : Type 0) (r : Result A E) (e : E) → r ≡ Err e → OnOk r P
 not_ok P (Ok a) e is = absurd (true≢false (ap is_ok is))
 not_ok P (Err f) e is = tt
@@ -50,7 +51,7 @@ tears_from old new at n front is fits le changes =
 pub refuses_from : (old new : DiskState) (at n : ℕ) → Stays old new → Tears at n old new
 refuses_from old new at n stays = inr (record { now = stays.now; passes = inl stays.passes })
 
--- what a call did between being counted and being counted as a fault
+-- what a call did after it was counted, and before it was counted as a fault
 module _ (old begun done mid new : DiskState) (call faults : ℕ) (first : call ≡ old.calls) (starts : begun ≡ record old { calls = old.calls + 1 }) (same : mid ≡ done) (ends : new ≡ record mid { faults = faults }) where
   ends_done : new ≡ record done { faults = faults }
   ends_done = ends ∙ ap (λ (s : DiskState). record s { faults = faults }) same

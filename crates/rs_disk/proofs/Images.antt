@@ -69,7 +69,7 @@ over_part old at bytes le =
 pub over_byte : (old : List ℕ) (at byte : ℕ) → at ≤ length old → get_or (over old at (byte ∷ [])) at 0 ≡ byte
 over_byte old at byte le = get_or_at (take at old) byte (drop (at + 1) old) 0 at (length-take-le at old le)
 
--- A write of bytes and then of those that stood behind them is a write of the first alone.
+-- A write of bytes and of those that were behind them is a write of the first alone.
 pub over_front : (old : List ℕ) (at k : ℕ) (bytes : List ℕ) → at + (length bytes + k) ≤ length old → over old at (bytes ++ take k (drop (at + length bytes) old)) ≡ over old at bytes
 over_front old at k bytes fits =
     let rest : List ℕ = drop (at + length bytes) old in

@@ -1,7 +1,7 @@
--- What a run of device calls leaves of the disk's figures: a run of no call, one call, one run and then another.
-use Rattle.std.proofs.Common.{true≢false, ◌≡◌, ◌⊎◌, inl, inr, ⊎_elim, ℕ, ◌+◌, ◌<◌, ◌≤◌, ◌^◌, refl, sym, ◌∙◌, ap, subst, arith, Result, Ok, Err, IsErr, OnOk, OnErr}
+-- What a run of device calls leaves of the disk's counts: a run of no call, one call, and two runs in turn.
+use Rattle.std.proofs.Common.{true≢false, ◌≡◌, ◌⊎◌, inl, inr, ⊎_elim, ◌+◌, ◌≤◌, ◌^◌, refl, sym, ◌∙◌, ap, subst, arith, Result, Ok, Err, IsErr, OnOk, OnErr}
 use Rattle.std.proofs.lemmas.Bool.{cases_lt}
-use Rattle.rs_disk.specs.Medium.{Medium, DiskState, IsImage, IsMedium, resting}
+use Rattle.rs_disk.specs.Medium.{Medium, DiskState, IsImage, IsMedium}
 use Rattle.rs_disk.specs.Calls.{CountsCall, Stays, Settles}
 use Rattle.rs_disk.specs.Leaves.{Leaves}
 use Rattle.rs_disk.specs.Runs.{HasFailed, Runs, RunsWriting, RunsReading, Advances, Rests, WritesNothing}
@@ -31,7 +31,7 @@ runs_one old new (Err e) counts = elim (cases_lt (old.calls + 1) (2 ^ 64)) [
       record { size = counts.size; lasts = counts.lasts; calls = omega arith; faults = omega arith; failed = λ _. inr (omega arith); sound = λ not. absurd (not refl) }
 ]
 
--- an answer that tells of the device where the first one does
+-- an answer that reports the device where the first one does
 pub runs_as : {A B : Type 0} (old new : DiskState) → (A → B) → (B → A) → Runs A old new → Runs B old new
 runs_as old new to from run = record {
   size = run.size;
@@ -42,7 +42,7 @@ runs_as old new to from run = record {
   sound = λ not. run.sound (λ told. not (to told));
 }
 
--- a run and then another: the answer tells of the device where one of theirs does
+-- two runs in turn: the answer reports the device where one of theirs does
 pub runs_on : {A B C : Type 0} (old mid new : DiskState) → (A → C) → (B → C) → (C → A ⊎ B) → Runs A old mid → Runs B mid new → Runs C old new
 runs_on old mid new left right split one two = record {
   size = two.size ∙ one.size;
@@ -56,7 +56,7 @@ runs_on old mid new left right split one two = record {
   sound = λ not. two.sound (λ told. not (right told)) ∙ one.sound (λ told. not (left told));
 }
 
--- a run that went well and then another, whose answer is the answer of both
+-- a run that went well and then another, whose answer is that of both
 pub runs_then : {A B : Type 0} (old mid new : DiskState) → ¬ A → Runs A old mid → Runs B mid new → Runs B old new
 runs_then old mid new well one two = runs_on old mid new (λ told. absurd (well told)) (λ told. told) (λ told. inr told) one two
 
@@ -102,7 +102,7 @@ reading_on old mid new left right split one two = record {
 pub reading_then : {A B : Type 0} (old mid new : DiskState) → ¬ A → RunsReading A old mid → RunsReading B mid new → RunsReading B old new
 reading_then old mid new well one two = reading_on old mid new (λ told. absurd (well told)) (λ told. told) (λ told. inr told) one two
 
--- runs of which it doesn't matter what they answer
+-- runs whose answers do not matter
 unmet : (old new : DiskState) → old.faults ≤ new.faults → ¬ HasFailed old new → new.faults ≡ old.faults
 unmet old new up none = elim (cases_lt old.faults new.faults) [ inl rose ↦ absurd (none (inl rose)) | inr same ↦ omega (arith, up, same) ]
 
@@ -121,7 +121,7 @@ advances_on old mid new one two = advances old new (writing_on old mid new (λ f
 pub rests_on : (old mid new : DiskState) → Rests old mid → Rests mid new → Rests old new
 rests_on old mid new one two = rests old new (reading_on old mid new (λ first. inl first) (λ then. inr then) (λ either. either) one two)
 
--- A run that changes nothing writes nothing, also behind one that writes nothing.
+-- A run that changes nothing writes nothing.
 pub nothing_read : {A : Type 0} (old new : DiskState) → RunsReading A old new → WritesNothing A old new
 nothing_read old new run = record { runs = run.runs; seen = ap (λ (m : Medium). m.seen) run.now; leaves = run.leaves }
 
@@ -138,9 +138,6 @@ nothing_synced old new result counts is ok err =
       seen = seen_synced old new result ok err;
       leaves = sync_leaves old new (IsImage old.now) result counts is ok err (λ image left. left);
     }
-
-pub nothing_as : {A B : Type 0} (old new : DiskState) → (A → B) → (B → A) → WritesNothing A old new → WritesNothing B old new
-nothing_as old new to from run = record { runs = runs_as old new to from run.runs; seen = run.seen; leaves = run.leaves }
 
 pub nothing_on : {A B C : Type 0} (old mid new : DiskState) → (A → C) → (B → C) → (C → A ⊎ B) → WritesNothing A old mid → WritesNothing B mid new → WritesNothing C old new
 nothing_on old mid new left right split one two = record {

@@ -1,7 +1,7 @@
--- What a run of device calls leaves of a crash within it.
-use Rattle.std.proofs.Common.{true≢false, ◌≡◌, inl, inr, ⊎_elim, ℕ, ◌+◌, ◌<◌, ◌≤◌, ◌^◌, List, length, refl, sym, ◌∙◌, ◌↔◌, ap, subst, arith, Result, Ok, Err, IsErr, OnOk, OnErr}
+-- What a run of device calls leaves at a crash within it.
+use Rattle.std.proofs.Common.{◌≡◌, inl, inr, ⊎_elim, ℕ, ◌+◌, ◌<◌, ◌≤◌, ◌^◌, List, length, sym, ap, subst, arith, Result, Ok, Err, OnOk, OnErr}
 use Rattle.std.proofs.lemmas.Bool.{cases_lt}
-use Rattle.rs_disk.specs.Medium.{Medium, DiskState, IsImage, IsImageAt, IsMedium, widened, written}
+use Rattle.rs_disk.specs.Medium.{Medium, DiskState, IsImage, IsMedium, widened, written}
 use Rattle.rs_disk.specs.Calls.{CountsCall, Passes, Stays, Writes, Tears, Settles}
 use Rattle.rs_disk.specs.Leaves.{Leaves, TornFrom}
 use Rattle.rs_disk.proofs.Images.{torn_from, written_image, image_widened, resting_image}
@@ -108,7 +108,7 @@ pub exit_images : (old new : DiskState) (P : ℕ → List ℕ → Type 0) → Le
 exit_images old new P so_far image is =
     so_far.each new.calls image so_far.later (omega arith) (record { past = λ lt. absurd (omega (arith, lt)); now = λ _. is })
 
--- a run and then another, where what is said of the first changes with the second
+-- two runs in turn, where the claim on the first changes with the second
 pub goes_further : (old mid new : DiskState) (P Q : ℕ → List ℕ → Type 0) → Leaves old mid P → ((m : ℕ) (image : List ℕ) → m < mid.calls → P m image → Q m image) → Leaves mid new Q → Leaves old new Q
 goes_further old mid new P Q first from behind = record {
   later = omega (arith, first.later, behind.later);
@@ -118,10 +118,3 @@ goes_further old mid new P Q first from behind = record {
     | inr late ↦ behind.each m image late le left
   ];
 }
-
--- What was held within earlier calls stays, and so do the images of those moments.
-pub past_images : (old new : DiskState) (held : Medium) → Passes old new held → old.calls ≤ new.calls → (m : ℕ) (image : List ℕ) → m < old.calls → IsImageAt old m image ↔ IsImageAt new m image
-past_images old new held passes later m image lt = (
-  (λ was. record { past = λ _. subst (λ (k : Medium). IsImage k image) (sym (passes.past m lt)) (was.past lt); now = λ ge. absurd (omega (arith, ge, lt, later)) }),
-  (λ is. record { past = λ _. subst (λ (k : Medium). IsImage k image) (passes.past m lt) (is.past (omega (arith, lt, later))); now = λ ge. absurd (omega (arith, ge, lt)) }),
-)

@@ -2,8 +2,9 @@
 use Rattle.std.specs.Prelude.{◌≡◌, ◌⊎◌, ℕ, ◌+◌, ◌<◌, ◌≤◌, ◌^◌, List, length, Result, OnOk, OnErr, IsErr, IsTrue}
 use Rattle.rs_disk.specs.Medium.{Medium, DiskState, widened, written, resting}
 
--- What holds of a call of every device: the size stays, no call makes a device honest again, and the call is counted, as a fault where it fails.
--- Where the calls stand at their last value a further call answers an error and changes nothing.
+-- What holds of a call of every device: the size stays, no call makes a device honest again, and the call is counted,
+-- as a fault too if it fails. Where the count of calls has reached its last value, a further call answers an error and
+-- changes nothing.
 pub record CountsCall {T E : Type 0} (old new : DiskState) (result : Result T E) : Type 0 where
   pub size : new.size ≡ old.size
   pub lasts : IsTrue new.honest → IsTrue old.honest
@@ -12,7 +13,7 @@ pub record CountsCall {T E : Type 0} (old new : DiskState) (result : Result T E)
   pub ok : OnOk result (new.faults ≡ old.faults)
   pub fault : OnErr result (old.calls + 1 < 2 ^ 64 → new.faults ≡ old.faults + 1)
 
--- What was held within earlier calls stays, and within this one, where it was counted, the disk held this.
+-- What the disk held within earlier calls stays, and within this one, if it was counted, it held `held`.
 pub record Passes (old new : DiskState) (held : Medium) : Type 0 where
   pub past : (m : ℕ) → m < old.calls → new.within m ≡ old.within m
   pub this : old.calls < new.calls → new.within old.calls ≡ held

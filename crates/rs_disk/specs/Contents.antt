@@ -2,6 +2,6 @@
 use Rattle.rs_disk.specs.declared.contents.HeldBytes.{HeldBytes}
 use Rattle.rs_disk.specs.Medium.{Medium}
 
--- what a memory disk's contents stand for
+-- the medium of a memory disk's contents
 abbrev pub medium_of : HeldBytes → Medium
 medium_of c = record { seen = c.seen.items; settled = c.settled.items; unsettled = c.unsettled.items }

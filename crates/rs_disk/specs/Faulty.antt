@@ -7,7 +7,7 @@ use Rattle.rs_disk.specs.declared.faulty.FaultyWriter.{FaultyWriter}
 abbrev pub unread : FaultyReader → List ℕ
 unread r = r.rest.now
 
--- at most how many bytes it gives in one read
+-- the most bytes that it gives in one read
 abbrev pub piece_of : FaultyReader → ℕ
 piece_of r = r.piece
 
@@ -15,7 +15,7 @@ piece_of r = r.piece
 abbrev pub reads_left : FaultyReader → ℕ
 reads_left r = r.reads_to_go
 
--- the bytes that a writer was given
+-- the bytes that a writer keeps
 abbrev pub kept_by : FaultyWriter → List ℕ
 kept_by w = w.kept.items
 

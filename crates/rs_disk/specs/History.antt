@@ -16,15 +16,16 @@ abbrev pub after : HeldChange → Medium → Medium
 after (Write at places put) m = partly_written m at places put.items
 after Sync m = resting m.seen
 
--- what an entry adds for a crash after k counted calls: an earlier change is made, the one of the next call is under way, a later one is not begun
+-- what a crash after k counted calls sees of an entry: an earlier change is complete, that of the next call is under
+-- way, and a later one has not begun
 abbrev pub seen_from : ℕ → CallChange → Medium → Medium
 seen_from k e m = if nat_lt e.call k then after e.change m else (if nat_eq e.call k then during e.change m else m)
 
--- what such a crash sees of a medium that took these entries in turn
+-- what such a crash sees of a medium after these entries in turn
 abbrev pub replay : ℕ → Medium → List CallChange → Medium
 replay k m [] = m
 replay k m (e ∷ es) = replay k (seen_from k e m) es
 
--- what the disk held within the call after the first k counted ones, or where no such call has begun, what it holds
+-- what the disk held within the call after k counted ones; where no such call has begun, what it holds
 abbrev pub held_within : ℕ → CallHistory → Medium
 held_within k history = replay k (resting history.first.items) history.entries.items

@@ -30,7 +30,7 @@ ChoicesAreImages = (m : Medium) (size : ℕ) → IsMedium size m → (choice : L
 abbrev pub ImagesHaveChoices : Type 0
 ImagesHaveChoices = (m : Medium) (size : ℕ) → IsMedium size m → (image : List ℕ) → IsImage m image → AreBytes image → (choice : List ℕ) × AreBytes choice × (image_of choice m ≡ image)
 
--- The images of a crash after fewer calls than were counted before a call are the same after it.
+-- A call leaves the images of crashes before it as they were.
 abbrev pub PastImagesStay : Type 0
 PastImagesStay = (old new : DiskState) (held : Medium) → Passes old new held → old.calls ≤ new.calls → (m : ℕ) (image : List ℕ) → m < old.calls → IsImageAt old m image ↔ IsImageAt new m image
 
@@ -44,7 +44,7 @@ abbrev pub SyncLeaves : Type 0
 SyncLeaves = (old new : DiskState) (result : Result (Unit {0}) Fault) → CountsCall old new result → IsMedium old.size old.now
     → OnOk result (Settles old new) → OnErr result (Stays old new) → Leaves old new (λ _. IsImage old.now)
 
--- A run of no call leaves P where each image of what is held has it.
+-- A run of no call leaves P where each image of what the disk holds has it.
 abbrev pub NoCallLeaves : (ℕ → List ℕ → Type 0) → Type 0
 NoCallLeaves P = (disk : DiskState) → ((image : List ℕ) → IsImage disk.now image → P disk.calls image) → Leaves disk disk P
 
@@ -53,19 +53,19 @@ abbrev pub OneCallLeaves : (ℕ → List ℕ → Type 0) → Type 0
 OneCallLeaves P = (old new : DiskState) (held : Medium) → Passes old new held → old.calls ≤ new.calls → new.calls ≤ old.calls + 1
     → ((image : List ℕ) → IsImage held image → P old.calls image) → ((image : List ℕ) → IsImage new.now image → P new.calls image) → Leaves old new P
 
--- A run and then another that both leave P leave it as one run.
+-- Two runs in turn that both leave P leave it as one run.
 abbrev pub RunsGoOn : (ℕ → List ℕ → Type 0) → Type 0
 RunsGoOn P = (old mid new : DiskState) → Leaves old mid P → Leaves mid new P → Leaves old new P
 
--- Each image of what a run holds at its exit has what the run leaves.
+-- If a run leaves P, each image of what the disk holds at its exit has P.
 abbrev pub ExitHas : (ℕ → List ℕ → Type 0) → Type 0
 ExitHas P = (old new : DiskState) → Leaves old new P → (image : List ℕ) → IsImage new.now image → P new.calls image
 
--- What leaves P leaves each Q that follows from it.
+-- A run that leaves P leaves each Q that follows from P.
 abbrev pub WeakerIsLeft : (ℕ → List ℕ → Type 0) → (ℕ → List ℕ → Type 0) → Type 0
 WeakerIsLeft P Q = (old new : DiskState) → ((m : ℕ) (image : List ℕ) → P m image → Q m image) → Leaves old new P → Leaves old new Q
 
--- One call is a run, of every device; a write or a sync is one that writes, and a read one that changes nothing.
+-- One call is a run: a write or a sync is one that writes, and a read one that changes nothing.
 abbrev pub OneCallRuns : Type 0 → Type 0 → Type 0
 OneCallRuns T E = (old new : DiskState) (result : Result T E) → CountsCall old new result → Runs (IsErr result) old new
 
@@ -80,7 +80,7 @@ abbrev pub SyncWritesNothing : Type 0 → Type 0
 SyncWritesNothing E = (old new : DiskState) (result : Result (Unit {0}) E) → CountsCall old new result → IsMedium old.size old.now
     → OnOk result (Settles old new) → OnErr result (Stays old new) → WritesNothing (IsErr result) old new
 
--- A run and then another are one run, whose answer tells of the device where one of theirs does.
+-- Two runs in turn are one run, whose answer reports the device where one of theirs does.
 abbrev pub RunsJoin : Type 0 → Type 0 → Type 0 → Type 0
 RunsJoin A B C = (old mid new : DiskState) → (A → C) → (B → C) → (C → A ⊎ B) → Runs A old mid → Runs B mid new → Runs C old new
 

@@ -1,4 +1,4 @@
--- What a run of device calls leaves, at its exit and of a crash within it.
+-- What a run of device calls leaves at its exit, and at a crash within it.
 use Rattle.std.specs.Prelude.{◌≡◌, ℕ, ◌+◌, ◌<◌, ◌≤◌, List, length, take, drop}
 use Rattle.rs_disk.specs.Medium.{Medium, DiskState, IsImage, IsImageAt}
 

@@ -18,15 +18,15 @@ pub record IsMedium (size : ℕ) (m : Medium) : Type 0 where
   pub unsettled : length m.unsettled ≡ size
   pub image : IsImage m m.seen
 
--- a list with these bytes at this offset in place of its own
+-- the list with these bytes at this offset in place of its own
 abbrev pub over : List ℕ → ℕ → List ℕ → List ℕ
 over old at bytes = take at old ++ (bytes ++ drop (at + length bytes) old)
 
--- a set of places with the n places from this offset on
+-- the set of places with n more, from this offset on
 abbrev pub marked : List Bool → ℕ → ℕ → List Bool
 marked set at n = take at set ++ (replicate n true ++ drop (at + n) set)
 
--- within a write of n places: its range is unsettled, and no byte is put yet
+-- within a write of n places: its range is unsettled, and it has put no byte yet
 abbrev pub widened : Medium → ℕ → ℕ → Medium
 widened m at n = record { seen = m.seen; settled = m.settled; unsettled = marked m.unsettled at n }
 
@@ -43,7 +43,7 @@ abbrev pub resting : List ℕ → Medium
 resting bytes = record { seen = bytes; settled = bytes; unsettled = replicate (length bytes) false }
 
 -- A disk: its size in bytes, how many calls were counted and how many of them failed, whether it has followed the model so far,
--- what it holds now, and what it held within the call that came after m counted ones, for each m below the calls.
+-- what it holds now, and what it held within the call after m counted ones, for each m below the calls.
 pub record DiskState : Type 0 where
   pub size : ℕ
   pub calls : ℕ

@@ -7,7 +7,7 @@ use Rattle.rs_disk.specs.Contents.{medium_of}
 use Rattle.rs_disk.specs.History.{held_within}
 use Rattle.rs_disk.specs.Plan.{planned_by}
 
--- The state of a memory disk: it is honest always, and what it held within earlier calls is known from its record.
+-- The state of a memory disk: it is always honest, and its record tells what it held within earlier calls.
 abbrev pub memory_state : MemoryDisk → DiskState
 memory_state d = record {
   size = length d.contents.seen.items;
@@ -26,29 +26,29 @@ planned d = planned_by d.plan
 pub sound : (d : MemoryDisk) → IsMedium (memory_state d).size (memory_state d).now
 sound d = d.contents.sound
 
--- A call moves the plan on, where it was counted: what was planned of the next call but one is planned of the next.
+-- A counted call moves the plan on: what was planned for the next call but one is then planned for the next.
 pub record MovesOn (old new : MemoryDisk) : Type 0 where
   pub counted : old.calls + 1 < 2 ^ 64 → (i : ℕ) → planned new i ≡ planned old (i + 1)
   pub spent : 2 ^ 64 ≤ old.calls + 1 → (i : ℕ) → planned new i ≡ planned old i
 
--- A change within the call after this many counted ones: meanwhile the disk held this, and since then it holds that.
+-- A change by the call after `call` counted ones: within it the disk held `held`, and it holds `next` since.
 pub record Changes (call : ℕ) (held next : Medium) (old new : DiskState) : Type 0 where
   pub now : new.now ≡ next
   pub this : new.within call ≡ held
   pub past : (m : ℕ) → m < call → new.within m ≡ old.within m
 
--- What is held, and was held within earlier calls, is as before.
+-- What the disk holds, and what it held within earlier calls, stay as before.
 pub record SameContents (old new : DiskState) : Type 0 where
   pub now : new.now ≡ old.now
   pub past : (m : ℕ) → new.within m ≡ old.within m
 
--- The size and the counts are as before.
+-- The size and the counts stay as before.
 pub record SameCounts (old new : DiskState) : Type 0 where
   pub size : new.size ≡ old.size
   pub calls : new.calls ≡ old.calls
   pub faults : new.faults ≡ old.faults
 
--- A call was counted after this many, and nothing has changed within it yet.
+-- A call was counted after `call` others, and has changed nothing yet.
 pub record Begun (call : ℕ) (disk : DiskState) : Type 0 where
   pub calls : disk.calls ≡ call + 1
   pub this : disk.within call ≡ disk.now

@@ -6,11 +6,12 @@ use Rattle.rs_disk.specs.declared.plan.Outcome.{Outcome}
 use Rattle.rs_disk.specs.declared.plan.Outcome.TheVariants.{Works, FailsHalfway, FailsAtStart, Refused}
 use Rattle.rs_disk.specs.Medium.{Medium, widened, partly_written}
 
--- the i-th further call, counted from 0, where after k further calls every call fails: the first of them at its start, and later ones are refused
+-- the i-th further call, counted from 0, if every call after k others fails: the first at its start, and later ones are
+-- refused
 abbrev pub stops_after : ℕ → ℕ → Outcome
 stops_after k i = if nat_lt i k then Works else (if nat_eq i k then FailsAtStart else Refused)
 
--- the i-th further call, counted from 0, where after k further calls one call fails, and fails halfway
+-- the i-th further call, counted from 0, if one call after k others fails, halfway
 abbrev pub fails_once : ℕ → ℕ → Outcome
 fails_once k i = if nat_eq i k then FailsHalfway else Works
 
@@ -21,8 +22,8 @@ planned_by (StopsAfter k) i = stops_after k i
 planned_by Stopped i = Refused
 planned_by (FailsAfter k) i = fails_once k i
 
--- what a failing write of these bytes leaves: the first half of them is there and its whole range unsettled; none of them and its range unsettled;
--- or what was there, where it was refused or was to work and its record was refused memory
+-- What a failing write of these bytes leaves: the first half of them and the whole range unsettled; none of them and
+-- the range unsettled; or what was there, if it was refused, or was to work and its record got no memory.
 abbrev pub left_by_write : Outcome → ℕ → List ℕ → Medium → Medium
 left_by_write Works at bytes m = m
 left_by_write FailsHalfway at bytes m = partly_written m at (length bytes) (take (length bytes / 2) bytes)

@@ -1,15 +1,16 @@
--- What any run of device calls leaves of the disk: its size, its honesty and its counts. `told` is that the answer of the run says
--- that the device failed.
+-- What any run of device calls leaves of the disk: its size, its honesty and its counts. `told` is the claim that the
+-- run's answer reports a failure of the device.
 use Rattle.std.specs.Prelude.{◌≡◌, ◌⊎◌, ℕ, ◌+◌, ◌<◌, ◌≤◌, ◌^◌, IsTrue}
 use Rattle.rs_disk.specs.Medium.{DiskState, IsImage}
 use Rattle.rs_disk.specs.Leaves.{Leaves, Torn, TornFrom}
 
--- a call of the device failed in between, or the calls stand at their last value
+-- a call of the device failed in between, or the count of calls has reached its last value
 abbrev pub HasFailed : DiskState → DiskState → Type 0
 HasFailed old new = (old.faults < new.faults) ⊎ (2 ^ 64 ≤ new.calls + 1)
 
--- A run of calls of any device. The size stays, the counts do not fall, and no call makes the device honest again. The answer tells
--- of the device only where a call of it failed, or the calls stand at their last value; where it doesn't tell of it, no call failed.
+-- A run of calls of any device. The size stays, the counts do not fall, and no call makes the device honest again. The
+-- answer reports a failure only where a call failed, or the count of calls has reached its last value. Where it reports
+-- none, no call failed.
 pub record Runs (told : Type 0) (old new : DiskState) : Type 0 where
   pub size : new.size ≡ old.size
   pub lasts : IsTrue new.honest → IsTrue old.honest
@@ -18,12 +19,12 @@ pub record Runs (told : Type 0) (old new : DiskState) : Type 0 where
   pub failed : told → HasFailed old new
   pub sound : ¬ told → new.faults ≡ old.faults
 
--- A run that writes and syncs, and doesn't look at what a read gives: the device is as honest as it was.
+-- A run that writes and syncs, and ignores what a read gives: the device is as honest as it was.
 pub record RunsWriting (told : Type 0) (old new : DiskState) : Type 0 where
   pub runs : Runs told old new
   pub keeps : new.honest ≡ old.honest
 
--- A run that changes nothing but what the disk counts: at each m each image is one of what is held.
+-- A run that changes nothing but the counts: at each m each image is one of what the disk holds.
 pub record RunsReading (told : Type 0) (old new : DiskState) : Type 0 where
   pub runs : Runs told old new
   pub now : new.now ≡ old.now
@@ -36,7 +37,7 @@ Advances old new = RunsWriting (HasFailed old new) old new
 abbrev pub Rests : DiskState → DiskState → Type 0
 Rests old new = RunsReading (HasFailed old new) old new
 
--- A run that writes nothing, though it may settle what is held: a read gives what it gave, and at each m each image is one of the
+-- A run that writes nothing, though it may settle: a read gives what it gave, and at each m each image is one of the
 -- entry.
 pub record WritesNothing (told : Type 0) (old new : DiskState) : Type 0 where
   pub runs : Runs told old new
@@ -54,8 +55,8 @@ pub record WritesWithin (at n : ℕ) (told : Type 0) (old new : DiskState) : Typ
 abbrev pub CallsAtMost : ℕ → DiskState → DiskState → Type 0
 CallsAtMost n old new = new.calls ≤ old.calls + n
 
--- A run makes n calls where none of them fails. It makes fewer where its answer tells of the device and yet no call failed: the
--- calls stood at their last value.
+-- A run makes n calls where none of them fails. It makes fewer where its answer reports a failure and yet no call
+-- failed: the count of calls had reached its last value.
 pub record MakesCalls (n : ℕ) (told : Type 0) (old new : DiskState) : Type 0 where
   pub most : CallsAtMost n old new
   pub all : ¬ told → new.calls ≡ old.calls + n

@@ -1,5 +1,5 @@
-//! What a memory disk holds: the bytes that a read gives, the settled bytes, and which places are
-//! unsettled.
+//! What a memory disk holds: the bytes that a read gives, the settled bytes, and the unsettled
+//! places.
 ghost use Rattle.std.specs.Prelude.{◌≡◌, ◌+◌, ◌≤◌, ◌<◌, length, take, drop, IfOk};
 ghost use Rattle.rs_disk.specs.Medium.{IsMedium, over, marked, resting, partly_written, filled, image_of};
 
@@ -17,7 +17,7 @@ pub(crate) struct HeldBytes {
 impl HeldBytes {
     ghost use Rattle.rs_disk.specs.Contents.{medium_of};
 
-    // These bytes, all settled.
+    /// These bytes, all settled.
     pub(crate) fn resting(alloc: Global, bytes: &[u8]) -> Result<Self, AllocError>
         ensures { IfOk result (λ c. medium_of c ≡ resting bytes.now) }
     {
@@ -34,7 +34,7 @@ impl HeldBytes {
         self.seen.len()
     }
 
-    // Reads the bytes from an offset on.
+    /// Reads the bytes from an offset on.
     pub(crate) fn get(&self, at: usize, into: &mut [u8])
         requires { at + length into.old ≤ length self.now.seen.items }
         ensures { into.new ≡ take (length into.old) (drop at self.now.seen.items) }
@@ -42,7 +42,7 @@ impl HeldBytes {
         into.copy_from_slice(&self.seen[at..at + into.len()]);
     }
 
-    // Puts the bytes at an offset, and makes this many places from there unsettled.
+    /// Puts the bytes at an offset, and makes `places` places from there on unsettled.
     pub(crate) fn put(&mut self, at: usize, places: usize, bytes: &[u8])
         requires range { at + places ≤ length self.old.seen.items }
         requires front { length bytes.now ≤ places }
@@ -52,7 +52,7 @@ impl HeldBytes {
         mark(&mut self.unsettled, at, places);
     }
 
-    // Settles what a read gives.
+    /// Settles what a read gives.
     pub(crate) fn settle(&mut self)
         ensures { medium_of self.new ≡ resting self.old.seen.items }
     {
@@ -60,8 +60,8 @@ impl HeldBytes {
         self.unsettled.fill(false);
     }
 
-    // The image where the unsettled places hold the choice's bytes in turn; with an empty choice,
-    // what a read gives.
+    /// The image in which the unsettled places hold the choice's bytes in turn. An empty choice gives
+    /// what a read gives.
     pub(crate) fn image(&self, alloc: Global, choice: &[u8]) -> Result<Vec<u8>, AllocError>
         ensures { IfOk result (λ v. v.items ≡ image_of choice.now (medium_of self.now)) }
     {
@@ -73,7 +73,7 @@ impl HeldBytes {
     }
 }
 
-// Puts the bytes at an offset.
+/// Puts the bytes at an offset.
 fn write_over(bytes: &mut [u8], at: usize, new: &[u8])
     requires { at + length new.now ≤ length bytes.old }
     ensures { bytes.new ≡ over bytes.old at new.now }
@@ -81,7 +81,7 @@ fn write_over(bytes: &mut [u8], at: usize, new: &[u8])
     bytes[at..at + new.len()].copy_from_slice(new);
 }
 
-// Adds n places from an offset on to a set of places.
+/// Adds `n` places from an offset on to a set of places.
 fn mark(places: &mut [bool], at: usize, n: usize)
     requires { at + n ≤ length places.old }
     ensures { places.new ≡ marked places.old at n }
@@ -89,7 +89,7 @@ fn mark(places: &mut [bool], at: usize, n: usize)
     places[at..at + n].fill(true);
 }
 
-// The settled bytes, with the choice's in the unsettled places.
+/// The settled bytes, with the choice's bytes in the unsettled places.
 fn fill(
     alloc: Global,
     settled: &[u8],

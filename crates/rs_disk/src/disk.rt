@@ -14,18 +14,18 @@ pub struct Fault;
 ///
 /// A write makes its range unsettled, and a sync settles what a read gives. A crash leaves an
 /// *image*: any bytes in the unsettled places, and the settled bytes in all others. The ghost
-/// `state` holds what a read gives, the settled bytes and the unsettled places, now and within
-/// each counted call, so it determines the images of a crash after every number of calls.
+/// `state` has what a read gives, the settled bytes and the unsettled places, now and within each
+/// counted call. So it determines the images of a crash after every number of calls.
 ///
 /// Every call of `read`, `write` and `sync` adds one to `calls`, and one that fails adds one to
-/// `faults`. Where `calls` stands at `u64::MAX`, each further call answers [`Fault`], does
-/// nothing and adds to neither.
+/// `faults`. Once `calls` is `u64::MAX`, each further call answers [`Fault`], does nothing and adds
+/// to neither.
 ///
-/// What a call does to the state holds of every device. What a read *gave* is said of a device
-/// that has followed the model so far, which `honest` of the state tells: no call makes it true
-/// again, and only a read that succeeds with other bytes than the model's makes it false.
+/// What a call does to the state holds of every device. What a read *gave* holds only while the
+/// device has followed the model, which `honest` of the state says: no call makes it true again,
+/// and only a read that succeeds with other bytes than the model's makes it false.
 pub trait Disk {
-    // What the model says of the disk: its size and counts, and what it holds and held.
+    // The model of the disk: its size and counts, what it holds, and what it held.
     ghost state: { Self → DiskState };
 
     /// The disk's size in bytes, which never changes.
@@ -45,7 +45,7 @@ pub trait Disk {
     /// The range has to lie within the disk. A read changes nothing that the disk holds.
     ///
     /// # Errors
-    /// Answers [`Fault`] where the device fails; nothing is known of `into` then.
+    /// [`Fault`] where the device fails. `into` may then have any bytes.
     fn read(&mut self, at: u64, into: &mut [u8]) -> Result<(), Fault>
         requires { at + length into.old ≤ (state self.old).size }
         ensures counts { CountsCall (state self.old) (state self.new) result }
@@ -62,8 +62,8 @@ pub trait Disk {
     /// The range has to lie within the disk.
     ///
     /// # Errors
-    /// Answers [`Fault`] where the device fails. The range may then hold any bytes and is
-    /// unsettled, or nothing has changed.
+    /// [`Fault`] where the device fails. Either the range is then unsettled and may hold any bytes,
+    /// or nothing has changed.
     fn write(&mut self, at: u64, bytes: &[u8]) -> Result<(), Fault>
         requires { at + length bytes.now ≤ (state self.old).size }
         ensures counts { CountsCall (state self.old) (state self.new) result }
@@ -75,7 +75,7 @@ pub trait Disk {
     /// Settles what a read gives: after it no place is unsettled.
     ///
     /// # Errors
-    /// Answers [`Fault`] where the device fails; nothing is settled then.
+    /// [`Fault`] where the device fails. It has then settled nothing.
     fn sync(&mut self) -> Result<(), Fault>
         ensures counts { CountsCall (state self.old) (state self.new) result }
         ensures settles { OnOk result (Settles (state self.old) (state self.new)) }

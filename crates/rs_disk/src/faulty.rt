@@ -1,4 +1,4 @@
-//! The ends of a stream, which fail from a chosen call on.
+//! A reader and a writer that fail from a chosen call on.
 ghost use Rattle.std.specs.Prelude.{◌≡◌, ◌-◌, ◌<◌, ◌↔◌, Some, [], length, min, IsErr, IsOk, IfOk, IfErr, OnErr};
 ghost use Rattle.std.specs.Io.{ReadsAtMost, WritesAtMost};
 ghost use Rattle.std.specs.IoError.{error_kind};
@@ -13,7 +13,7 @@ use std::io::{ErrorKind, Read, Write};
 pub struct FaultyReader<'a> {
     rest: &'a [u8],
     piece: usize,
-    // How many further reads succeed.
+    /// How many further reads succeed.
     reads_to_go: u64,
     ghost moves_on: { 0 < piece },
 }
@@ -21,8 +21,8 @@ pub struct FaultyReader<'a> {
 impl<'a> FaultyReader<'a> {
     ghost use Rattle.rs_disk.specs.Faulty.{unread, piece_of, reads_left};
 
-    /// Gives at most `piece` of these bytes in a read, which has to be at least 1. Reads are
-    /// counted from 0, and each from number `fail_at` on fails.
+    /// Gives at most `piece` of these bytes in a read, and `piece` is at least 1. Reads are counted
+    /// from 0, and each from number `fail_at` on fails.
     pub fn new(bytes: &'a [u8], piece: usize, fail_at: u64) -> FaultyReader<'a>
         requires { 0 < piece }
         ensures unread { unread result ≡ bytes.now }
@@ -42,10 +42,10 @@ impl Read for FaultyReader<'_> {
 
     ghost remaining = { λ r. Some (unread r) };
 
-    /// Gives the next bytes: as many as the piece, the buffer and what is left allow.
+    /// Gives the next bytes: as many as the piece, the buffer and the rest allow.
     ///
     /// # Errors
-    /// Of the kind `Other` from read number `fail_at` on; nothing is given then.
+    /// Of the kind `Other` from read number `fail_at` on. Such a read gives nothing.
     fn read(&mut self, buf: &mut [u8]) -> io::Result<usize>
         ensures bound { ReadsAtMost result buf.new }
         ensures bytes { ReadConsumes (Some (unread self.old)) (Some (unread self.new))
@@ -69,11 +69,11 @@ impl Read for FaultyReader<'_> {
     }
 }
 
-/// Keeps what it is given, and fails from a chosen write on.
+/// Keeps the bytes that it gets, and fails from a chosen write on.
 #[derive(Drop)]
 pub struct FaultyWriter {
     kept: Vec<u8>,
-    // How many further writes are taken.
+    /// How many further writes succeed.
     writes_to_go: u64,
 }
 
@@ -91,7 +91,7 @@ impl FaultyWriter {
         }
     }
 
-    /// What it was given by the writes that succeeded, in order.
+    /// The bytes of the writes that succeeded, in order.
     pub fn bytes(&self) -> &[u8]
         ensures { result.now ≡ kept_by self.now }
     {
@@ -107,8 +107,8 @@ impl Write for FaultyWriter {
     /// Takes all of the bytes.
     ///
     /// # Errors
-    /// Of the kind `Other` from write number `fail_at` on, and else of the kind `OutOfMemory`
-    /// where memory is refused. A write that fails keeps nothing, and is counted.
+    /// Of the kind `Other` from write number `fail_at` on, and before it of the kind `OutOfMemory`
+    /// where memory is refused. A write that fails keeps nothing, and counts as a write.
     fn write(&mut self, buf: &[u8]) -> io::Result<usize>
         ensures bound { WritesAtMost result buf.now }
         ensures bytes { WriteAppends (Some (kept_by self.old)) (Some (kept_by self.new))
@@ -129,7 +129,7 @@ impl Write for FaultyWriter {
         Ok(buf.len())
     }
 
-    /// Does nothing, always succeeds and is not counted as a write.
+    /// Does nothing, always succeeds, and doesn't count as a write.
     fn flush(&mut self) -> io::Result<()>
         ensures bytes { Keeps (Some (kept_by self.old)) (Some (kept_by self.new)) }
         ensures left { writes_left self.new ≡ writes_left self.old }

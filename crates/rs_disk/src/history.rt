@@ -1,5 +1,5 @@
-//! The record that a memory disk keeps of its writes and syncs, from which what it held within
-//! each earlier call is known.
+//! A memory disk's record of its writes and syncs. It tells what the disk held within each earlier
+//! call.
 ghost use Rattle.std.specs.Prelude.{◌≡◌, ℕ, ◌<◌, OnOk, OnErr, IfOk};
 ghost use Rattle.rs_disk.specs.Medium.{resting};
 
@@ -7,24 +7,24 @@ use std::alloc::{AllocError, Global};
 
 #[derive(Drop)]
 pub(crate) enum HeldChange {
-    // These bytes were put at an offset, and this many places from there became unsettled.
+    /// These bytes were put at an offset, and this many places from there on became unsettled.
     Write {
         at: usize,
         places: usize,
         put: Vec<u8>,
     },
-    // What a read gives was settled.
+    /// What a read gives was settled.
     Sync,
 }
 
-// A change, and how many calls were counted before its own.
+/// A change, and the number of calls before its own.
 #[derive(Drop)]
 pub(crate) struct CallChange {
     call: u64,
     change: HeldChange,
 }
 
-// The bytes at first, all settled, and the changes since.
+/// The bytes at first, all settled, and the changes since.
 #[derive(Drop)]
 pub(crate) struct CallHistory {
     first: Vec<u8>,
@@ -43,7 +43,7 @@ impl CallHistory {
         })
     }
 
-    // Notes a change within the call that comes after this many counted ones.
+    /// Records a change of the call that comes after `call` others.
     pub(crate) fn note(&mut self, call: u64, change: HeldChange) -> Result<(), AllocError>
         ensures before { OnOk result ((k : ℕ) → k < call
             → held_within k self.new ≡ held_within k self.old) }

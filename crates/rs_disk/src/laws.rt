@@ -12,32 +12,32 @@ pub fn settled_disk_has_one_image()
     ensures { SettledImage }
 {}
 
-/// A write makes its range unsettled: within it and after it the images are those from before it,
-/// with any bytes in its range.
+/// A write makes its range unsettled: within the write and after it, the images are those from
+/// before it with any bytes in the range.
 pub fn write_unsettles_its_range()
     ensures within { ImagesWithinWrite }
     ensures after { ImagesAfterWrite }
 {}
 
-/// The image of each choice is an image, and each image of bytes is that of a choice of bytes: what
-/// a memory disk's `image` can give is exactly what the model allows.
+/// The image of each choice is an image, and each image of bytes is that of a choice of bytes. So a
+/// memory disk's `image` can give exactly what the model allows.
 pub fn choices_reach_each_image()
     ensures sound { ChoicesAreImages }
     ensures complete { ImagesHaveChoices }
 {}
 
-/// The images of earlier moments stay as they were.
+/// A call leaves the images of earlier moments as they were.
 pub fn past_images_stay()
     ensures { PastImagesStay }
 {}
 
-/// What one call of a disk leaves at each moment from its entry to its exit, whatever it answers.
+/// What a write and a sync leave at each moment from entry to exit, whatever they answer.
 pub fn one_call_leaves()
     ensures write { WriteLeaves }
     ensures sync { SyncLeaves }
 {}
 
-/// Images of a disk of eight zero bytes, on which 1, 2 and 3 are written at offset 2.
+/// Images of a disk of eight zero bytes after a write of 1, 2 and 3 at offset 2.
 pub fn worked_images()
     ensures one { image_of (9 ∷ []) three_written ≡ 0 ∷ 0 ∷ 9 ∷ 9 ∷ 9 ∷ 0 ∷ 0 ∷ 0 ∷ [] }
     ensures two { image_of (7 ∷ 8 ∷ []) three_written ≡ 0 ∷ 0 ∷ 7 ∷ 8 ∷ 7 ∷ 0 ∷ 0 ∷ 0 ∷ [] }
@@ -50,7 +50,7 @@ pub fn worked_images()
         ≡ 0 ∷ 0 ∷ 1 ∷ 2 ∷ 9 ∷ 9 ∷ 0 ∷ 0 ∷ [] }
 {}
 
-/// The same write where it is planned to fail: halfway, at its start, and refused.
+/// The same write where it fails: halfway, at its start, and refused.
 pub fn worked_failures()
     ensures half_seen { image_of [] (left_by_write (fails_once 0 0) 2 (1 ∷ 2 ∷ 3 ∷ []) zeros)
         ≡ 0 ∷ 0 ∷ 1 ∷ 0 ∷ 0 ∷ 0 ∷ 0 ∷ 0 ∷ [] }
@@ -65,13 +65,13 @@ pub fn worked_failures()
         ≡ replicate 8 0 }
 {}
 
-/// What a run of calls is said to leave: a claim on each image of a crash after a number of calls.
+/// A claim on each image of a crash after a number of calls.
 pub trait Claim {
     ghost of: { ℕ → List ℕ → Type 0 };
 }
 
-/// What a run of calls leaves, for every claim: a run of no call, one call, one run and then
-/// another; and what each image at its exit has.
+/// When a run of calls leaves a claim: a run of no call, one call, one run and then another. Each
+/// image at the exit of such a run has the claim.
 pub fn runs_leave<P: Claim>()
     ensures none { NoCallLeaves P.of }
     ensures one { OneCallLeaves P.of }
@@ -84,8 +84,7 @@ pub fn weaker_claim_is_left<P: Claim, Q: Claim>()
     ensures { WeakerIsLeft P.of Q.of }
 {}
 
-/// One call is a run, by what its answer tells of the device: of every device, one that writes or
-/// syncs, one that reads.
+/// One call is a run: any call, a write or a sync, a read, and a sync as a run that writes nothing.
 pub fn one_call_runs<T, E>()
     ensures any { OneCallRuns T E }
     ensures writing { OneCallWrites T E }
@@ -93,13 +92,13 @@ pub fn one_call_runs<T, E>()
     ensures syncing { SyncWritesNothing E }
 {}
 
-/// That an answer tells of a failed device.
+/// The claim that an answer reports a failure of the device.
 pub trait Told {
     ghost told: { Type 0 };
 }
 
-/// A run and then another are one run, whose answer tells of the device where one of theirs does: of
-/// every device, runs that write, runs that change nothing, and runs that write nothing.
+/// Two runs in turn are one run, whose answer reports the device where one of theirs does: any runs,
+/// runs that write, runs that change nothing, and runs that write nothing.
 pub fn runs_join<A: Told, B: Told, C: Told>()
     ensures any { RunsJoin A.told B.told C.told }
     ensures writing { WritingJoins A.told B.told C.told }

@@ -13,10 +13,10 @@ use std::alloc::{AllocError, Global};
 
 /// A disk in memory, which keeps a record of its writes and syncs.
 ///
-/// It follows the disk model by proof. It fails where its caller planned it, by
-/// [`stop_after`](MemoryDisk::stop_after) or [`fail_once`](MemoryDisk::fail_once), where its
-/// record's growth is refused memory, and at the last value of its count of calls. The record
-/// grows with each write and sync.
+/// It follows the disk model by proof. A call fails where the caller planned it, by
+/// [`stop_after`](MemoryDisk::stop_after) or [`fail_once`](MemoryDisk::fail_once), where the record
+/// gets no memory to grow, and at the last value of the count of calls. The record grows with each
+/// write and sync.
 #[derive(Drop)]
 pub struct MemoryDisk {
     alloc: Global,
@@ -34,7 +34,7 @@ impl MemoryDisk {
     ghost use Rattle.rs_disk.specs.Plan.{stops_after, fails_once};
     ghost use Rattle.rs_disk.specs.declared.plan.Outcome.TheVariants.{Works};
 
-    /// A disk with these bytes, all settled, on which no call is planned to fail.
+    /// A disk with these bytes, all settled. No call is planned to fail.
     ///
     /// # Errors
     /// [`AllocError`] where memory is refused.
@@ -55,7 +55,7 @@ impl MemoryDisk {
         })
     }
 
-    /// A disk of this many zero bytes, all settled, on which no call is planned to fail.
+    /// A disk of `size` zero bytes, all settled. No call is planned to fail.
     ///
     /// # Errors
     /// [`AllocError`] where memory is refused.
@@ -72,8 +72,8 @@ impl MemoryDisk {
 
     /// After `k` further calls every call fails.
     ///
-    /// The first failing call, if a write, leaves its range unsettled; later ones change nothing.
-    /// This replaces what `stop_after` or `fail_once` planned before.
+    /// The first of them, if it is a write, leaves its range unsettled. The later ones change
+    /// nothing. This replaces what `stop_after` or `fail_once` planned before.
     pub fn stop_after(&mut self, k: u64)
         ensures state { memory_state self.new ≡ memory_state self.old }
         ensures plan { (i : ℕ) → planned self.new i ≡ stops_after k i }
@@ -83,8 +83,8 @@ impl MemoryDisk {
 
     /// After `k` further calls one call fails, and the later ones work.
     ///
-    /// A write that fails so puts the first half of its bytes, rounded down, and leaves its whole
-    /// range unsettled. This replaces what `stop_after` or `fail_once` planned before.
+    /// If that call is a write, it puts the first half of its bytes, rounded down, and leaves its
+    /// whole range unsettled. This replaces what `stop_after` or `fail_once` planned before.
     pub fn fail_once(&mut self, k: u64)
         ensures state { memory_state self.new ≡ memory_state self.old }
         ensures plan { (i : ℕ) → planned self.new i ≡ fails_once k i }
@@ -92,9 +92,9 @@ impl MemoryDisk {
         self.plan = FaultPlan::FailsAfter(k);
     }
 
-    /// An image that a crash may leave now: the settled bytes, where the i-th unsettled place in
-    /// ascending order, counted from 0, holds `choice[i % choice.len()]`. With an empty choice it
-    /// is what a read gives.
+    /// An image that a crash may leave now: the settled bytes, but the i-th unsettled place, counted
+    /// from 0 in ascending order, holds `choice[i % choice.len()]`. An empty choice gives what a
+    /// read gives.
     ///
     /// # Errors
     /// [`AllocError`] where memory is refused.

@@ -1,5 +1,5 @@
-//! Bodies on a disk in memory, and the blocks that they need. The SHA-256 of no bytes is the one that NIST gives for
-//! FIPS 180-4, the others are by Python's `hashlib`.
+//! Bodies on a disk in memory, and the blocks that they need. The SHA-256 of no bytes is from NIST's examples for
+//! FIPS 180-4, the others are from Python's `hashlib`.
 
 use crate::images::image_is;
 use rs_body::{
@@ -71,7 +71,7 @@ fn body_of(alloc: Global, length: u32) -> Result<Vec<u8>, Fail> {
     Ok(body)
 }
 
-/// A disk of 8,192 bytes 255, with these from its block 3 on.
+/// A disk of 8,192 bytes of 255, with these bytes from block 3 on.
 fn with_body(rt: &(impl Abort + AllocGlobal), body: &[u8]) -> Vec<u8> {
     let mut bytes: Vec<u8> = vec![in rt.alloc(); 255; 3 * 512].expect(rt, "memory");
     bytes.extend_from_slice(body).expect(rt, "memory");
@@ -79,7 +79,7 @@ fn with_body(rt: &(impl Abort + AllocGlobal), body: &[u8]) -> Vec<u8> {
     bytes
 }
 
-/// Writes a body. All else stays as it was, and in a crash the bytes of the body alone are in question.
+/// Writes a body, and checks that all else stays: a crash may change the bytes of the body, and no others.
 fn write_so(rt: &(impl Abort + AllocGlobal), disk: &mut MemoryDisk, extent: Extent, body: &[u8]) {
     assert!(rt; is_on_disk(extent, disk.size()));
     assert!(rt; body.len() <= 512 * extent.blocks as usize);
@@ -89,7 +89,7 @@ fn write_so(rt: &(impl Abort + AllocGlobal), disk: &mut MemoryDisk, extent: Exte
     assert!(rt; image_is(disk, &[254], &with_body(rt, &torn)), "{extent:?}");
 }
 
-/// Reads a body in the place of what the vector held.
+/// Reads a body into a vector, in place of what it held.
 fn read_so(
     rt: &impl Abort,
     disk: &mut MemoryDisk,
@@ -126,7 +126,7 @@ fn bodies_are_read_back(rt: HostRuntime) -> Result<(), Fail> {
     Ok(())
 }
 
-/// Looks at a body.
+/// Checks a body.
 fn look_so(
     rt: &impl Abort,
     disk: &mut MemoryDisk,
@@ -233,7 +233,7 @@ const LENGTHS: [(u32, u32); 8] = [
     (u32::MAX, 8_388_608),
 ];
 
-/// The first block and the number of blocks of an extent, a length, and whether it has the size for it.
+/// The first block and the number of blocks of an extent, a length, and whether the extent has the size for it.
 const SIZED: [(u32, u32, u32, bool); 8] = [
     (0, 0, 0, true),
     (2, 0, 0, false),
@@ -245,7 +245,7 @@ const SIZED: [(u32, u32, u32, bool); 8] = [
     (2, 2, 512, false),
 ];
 
-/// The first block and the number of blocks of an extent, the size of a disk, and whether it lies on it.
+/// The first block and the number of blocks of an extent, the size of a disk, and whether the extent lies on the disk.
 const ON_DISK: [(u32, u32, u64, bool); 8] = [
     (2, 1, 1536, true),
     (2, 1, 1535, false),

@@ -1,8 +1,8 @@
-//! The laws, each called once, those with parameters at types that are there.
+//! Each law called once, with `Anything` for its type parameters.
 
 use rs_disk::Fault;
 
-/// Claims nothing of any image, and tells nothing.
+/// The claim that holds of every image and every answer.
 struct Anything;
 
 impl rs_disk::laws::Claim for Anything {

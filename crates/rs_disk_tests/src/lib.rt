@@ -1,5 +1,5 @@
-//! Tests of disks in memory and on files, of the root slots and of bodies, by their public items alone. What a command
-//! on a file can show of them is in tests/rows.
+//! Tests of disks in memory and on files, of root slots and of bodies, through their public items. What commands on a
+//! file show of them is in tests/rows.
 #![tactic(auto)]
 
 #[cfg(test)]

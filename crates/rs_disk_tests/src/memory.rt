@@ -1,11 +1,11 @@
-//! Disks in memory, whose images were worked out by hand.
+//! Disks in memory, with images worked out by hand.
 
 use crate::images::image_is;
 use rs_disk::{Disk, Fault, MemoryDisk};
 use std::process::Abort;
 use std::test::Fail;
 
-/// What is done with a disk, and what is seen of it.
+/// A call of a disk, or a look at it.
 #[derive(Debug)]
 enum Step<'a> {
     /// A write at an offset, and how it ends.
@@ -18,9 +18,9 @@ enum Step<'a> {
     ReadFails,
     /// A choice, and its image.
     Image(&'a [u8], &'a [u8]),
-    /// After so many further calls every call fails.
+    /// After this many further calls every call fails.
     StopAfter(u64),
-    /// After so many further calls one call fails.
+    /// After this many further calls one call fails.
     FailOnce(u64),
     /// How many calls were counted, and how many of them failed.
     Counts(u64, u64),
@@ -115,7 +115,7 @@ fn reads(rt: &impl Abort, disk: &mut MemoryDisk, at: u64, wanted: &[u8]) -> bool
     disk.read(at, &mut room[..n]).is_ok() && &room[..n] == wanted
 }
 
-/// Does a step, and says whether all is as it should be.
+/// Does a step, and says whether the disk does as it should.
 fn is_so(rt: &impl Abort, disk: &mut MemoryDisk, step: &Step<'_>) -> bool {
     match *step {
         Step::Write(at, bytes, wanted) => write(rt, disk, at, bytes) == wanted,

@@ -1,4 +1,4 @@
-//! Slots that are spelled by hand from the table of their bytes, and commits that are stopped at each device call.
+//! Slots spelled by hand from the table of their bytes, and commits stopped at each device call.
 
 use crate::images::image_is;
 use rs_commit::{CommitFault, Root, SlotFault, Slots, format_slots, open_slots};
@@ -42,7 +42,7 @@ const THIRD: Root = Root {
 };
 
 /// `NEXT` in an open slot: gate, version, generation (8), first block (4), number of blocks (4) and length of the
-/// directory (4), which its SHA-256 follows.
+/// directory (4). Its SHA-256 follows.
 const NEXT_FIELDS: [u8; 22] = [
     1, 2, 0, 0, 0, 0, 0, 0, 0, 5, 0, 0, 0, 3, 0, 0, 0, 2, 0, 0, 2, 1,
 ];
@@ -159,7 +159,7 @@ fn made(rt: &impl Abort, disk: &mut MemoryDisk, root: &Root) -> Slots {
     format_slots(disk, root).expect(rt, "no call fails")
 }
 
-/// Commits a root in so many calls, and finds it again.
+/// Commits a root in this many calls, and finds it again.
 fn commit_in(rt: &impl Abort, disk: &mut MemoryDisk, slots: &mut Slots, root: &Root, calls: u64) {
     let before = disk.calls();
     assert_eq!(rt; commit(rt, disk, slots, root), Ok(()));
@@ -199,7 +199,7 @@ fn roots_follow_each_other(rt: HostRuntime) -> Result<(), Fail> {
     Ok(())
 }
 
-/// Changes a root of version 1. The new one has version 2, and the old one stays as it stood.
+/// Changes a root of version 1. The new one has version 2, and the old one stays as it was.
 fn change_version_one(rt: &impl Abort, disk: &mut MemoryDisk) {
     let (mut slots, root) = open_slots(disk).expect(rt, "a root");
     assert_eq!(rt; root, Root { version: 1, ..OLD });
@@ -237,7 +237,7 @@ fn begun(rt: &impl Abort, disk: &mut MemoryDisk, spare_open: bool) -> (Slots, Ch
     }
 }
 
-/// Settles the disk, opens it, and commits once more: the root that was found.
+/// Settles the disk, opens it, and commits once more. Gives the root that it found.
 fn opened_again(rt: &impl Abort, disk: &mut MemoryDisk) -> Root {
     disk.fail_once(99);
     assert!(rt; disk.sync().is_ok());
@@ -246,8 +246,8 @@ fn opened_again(rt: &impl Abort, disk: &mut MemoryDisk) -> Root {
     root
 }
 
-/// Commits on a disk that stops after `k` calls, or of which one call fails then. Each image opens to the root before
-/// or to the one after, and once the commit has succeeded to the one after.
+/// Commits on a disk that stops after `k` calls, or fails one call after them. Each image opens to the root before or
+/// to the one after, and once the commit has succeeded, to the one after.
 fn stop_commit(
     rt: &(impl Abort + AllocGlobal),
     disk: &mut MemoryDisk,

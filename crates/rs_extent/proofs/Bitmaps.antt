@@ -1,4 +1,4 @@
--- The used blocks of a disk, and the bits that stand for the free ones.
+-- The used blocks of a disk, and the bits of the free ones.
 use Rattle.std.proofs.Common.{◌≡◌, inl, inr, ℕ, zero, suc, ◌+◌, ◌*◌, ◌/◌, ◌%◌, ◌^◌, ◌<◌, ◌≤◌, Bool, true, false, nat_eq, nat_lt, List, length, take, drop, ◌++◌, get_or, replicate, Option, Some, None, is_some, refl, sym, ◌∙◌, ap, subst, arith}
 use Rattle.std.specs.Prelude.{MatchOption}
 use Rattle.std.specs.Int.{bit_at}

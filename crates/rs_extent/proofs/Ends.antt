@@ -1,4 +1,4 @@
--- How many ones stand at the two ends of a word of 64 bits.
+-- How many ones a word of 64 bits has at its two ends.
 use Rattle.std.proofs.Common.{◌≡◌, inl, inr, ℕ, suc, ◌+◌, ◌-◌, ◌/◌, ◌^◌, ◌<◌, ◌≤◌, pow-suc, ◌∙◌, ap, arith}
 use Rattle.std.specs.Int.{bit_at, trailing_ones, leading_ones, w64}
 use Rattle.std.specs.Int.Count.{count_trailing_zeros, leading_top, leading_le, trailing_of_zero, trailing_le}

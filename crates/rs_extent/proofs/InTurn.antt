@@ -1,5 +1,5 @@
 -- Extents that are taken or given back one after the other, from the last one on.
-use Rattle.std.proofs.Common.{true≢false, ◌≡◌, ◌⊎◌, inl, inr, ℕ, suc, ◌+◌, ◌-◌, ◌<◌, ◌≤◌, Bool, true, false, List, [], ◌∷◌, ◌++◌, length, take, drop, get_or, refl, sym, ◌∙◌, ap, subst, arith}
+use Rattle.std.proofs.Common.{true≢false, ◌≡◌, ◌⊎◌, inl, inr, ℕ, suc, ◌-◌, ◌<◌, ◌≤◌, Bool, true, false, List, [], ◌∷◌, ◌++◌, length, take, drop, get_or, refl, sym, ◌∙◌, ap, subst, arith}
 use Rattle.std.proofs.Math.Seq.{drop-cons}
 use Rattle.std.proofs.lemmas.List.{ext_get_or, take-append-drop}
 use Rattle.rs_extent.specs.declared.Extent.{Extent}
@@ -36,19 +36,11 @@ one_more_taken old mid new xs i d some few can taken sets =
     let one = taken_free mid new x (next_is_free old mid xs i d some few can taken) sets in
     subst (AreTaken old new) (sym (from_before xs i d some few)) (taken_before old mid new (x ∷ []) (drop i xs) taken one)
 
--- Nothing is given back.
-pub given_none : (old new : List Bool) → new ≡ old → AreGiven old new []
-given_none old new same = record {
-  size = ap length same;
-  after = λ b is. absurd (true≢false (sym is));
-  others = λ b none. ap (λ used. is_used used b) same;
-}
-
 -- What is beside an extent stays where the extent is given back.
 beside : (old new : List Bool) (e : Extent) → Sets old new e false → (b : ℕ) → within e b ≡ false → is_used new b ≡ is_used old b
 beside old new e sets b isnt = elim (outside e b isnt) [ inl low ↦ sets.before b low | inr high ↦ sets.after b high ]
 
--- A block of an extent is free after that was given back.
+-- The blocks of an extent are free after it was given back.
 inside : (old new : List Bool) (e : Extent) → Sets old new e false → (b : ℕ) → within e b ≡ true → is_used new b ≡ false
 inside old new e sets b is = let at = within_is e b is in sets.within b at.0 at.1
 
@@ -83,7 +75,7 @@ pub one_more_given : (old mid new : List Bool) (xs : List Extent) (i : ℕ) (d :
 one_more_given old mid new xs i d some few given sets =
     subst (AreGiven old new) (sym (from_before xs i d some few)) (given_before old mid new (get_or xs (i - 1) d) (drop i xs) given sets)
 
--- What was taken and is given back leaves the set as it was.
+-- Taking extents and giving them back leaves the set as it was.
 pub taken_is_given_back : (old mid new : List Bool) (extents : List Extent) → AreTaken old mid extents → AreGiven mid new extents → new ≡ old
 taken_is_given_back old mid new extents taken given =
     ext_get_or true new old (given.size ∙ taken.size) (λ b lt. same b (in_some extents b) refl)

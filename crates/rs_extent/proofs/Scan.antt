@@ -37,15 +37,6 @@ head_set bits base word place w from until =
 pub head_end : (bits : ℕ → ℕ) (base word : ℕ) → IsWord bits base word → word + 1 < 2 ^ 64 → bits (base + trailing_ones w64 word) ≡ 0
 head_end bits base word w partial = let ends = trailing_end word partial in w.at (trailing_ones w64 word) ends.0 ∙ ends.1
 
--- nothing is set below the first word that is looked at
-pub scan_begins : (bits : ℕ → ℕ) (n base : ℕ) → 1 ≤ n → ((place : ℕ) → place < base → bits place ≡ 0) → IsScanned bits n base 0
-scan_begins bits n base some empty = record {
-  short = omega arith;
-  back = omega arith;
-  is_set = λ place lt le. absurd (omega arith);
-  none = λ lower lt run. let set = run lower (omega arith) (omega arith) in let off = empty lower (omega arith) in absurd (omega arith);
-}
-
 -- the run before the word goes on in it far enough
 pub scan_seam : (bits : ℕ → ℕ) (n base run head : ℕ) → IsScanned bits n base run → n ≤ run + head
     → ((place : ℕ) → base ≤ place → place < base + head → bits place ≡ 1) → IsLowestRun bits n (base - run)

@@ -1,14 +1,10 @@
 -- Sets of blocks as tests: of one extent, and of several.
-use Rattle.std.proofs.Common.{true≢false, ◌≡◌, ◌⊎◌, inl, inr, ℕ, ◌+◌, ◌<◌, ◌≤◌, Bool, true, false, ◌||◌, List, [], ◌∷◌, ◌++◌, refl, sym, ◌∙◌, arith}
-use Rattle.std.proofs.lemmas.Bool.{cases_lt}
+use Rattle.std.proofs.Common.{true≢false, ◌≡◌, ◌⊎◌, inl, inr, ℕ, ◌+◌, ◌<◌, ◌≤◌, Bool, true, false, List, [], ◌∷◌, ◌++◌, sym, ◌∙◌, arith}
+pub use Rattle.std.proofs.lemmas.Bool.{false_from_ne_true as not_true}
+use Rattle.std.proofs.lemmas.Bool.{cases_lt, or_left, or_right, or_cases}
 use Rattle.std.proofs.lemmas.Bool.Decides.{nat_tests}
 use Rattle.rs_extent.specs.declared.Extent.{Extent}
 use Rattle.rs_extent.specs.Extents.{within, in_some, AreDisjoint, IsSubset, AreApart, IsBeside, AreBeside}
-
--- a test that is not true is false
-pub not_true : (t : Bool) → (t ≡ true → ⊥) → t ≡ false
-not_true true none = absurd (none refl)
-not_true false _ = refl
 
 pub not_both : (t : Bool) → t ≡ true → t ≡ false → ⊥
 not_both t is isnt = true≢false (sym is ∙ isnt)
@@ -34,19 +30,6 @@ outside e b isnt =
       | inr above ↦ elim (cases_lt b (e.first + e.blocks)) [ inl below ↦ absurd (not_both (within e b) (within_true e b above below) isnt) | inr high ↦ inr high ]
     ]
 
--- one or the other
-or_left : (a b : Bool) → a ≡ true → (a || b) ≡ true
-or_left true b is = refl
-or_left false b is = absurd (true≢false (sym is))
-
-or_right : (a b : Bool) → b ≡ true → (a || b) ≡ true
-or_right true b is = refl
-or_right false b is = is
-
-or_split : (a b : Bool) → (a || b) ≡ true → (a ≡ true) ⊎ (b ≡ true)
-or_split true b is = inl refl
-or_split false b is = inr is
-
 -- a block of the first extent, and of the others
 pub some_first : (e : Extent) (es : List Extent) (b : ℕ) → within e b ≡ true → in_some (e ∷ es) b ≡ true
 some_first e es b is = or_left (within e b) (in_some es b) is
@@ -55,7 +38,7 @@ pub some_rest : (e : Extent) (es : List Extent) (b : ℕ) → in_some es b ≡ t
 some_rest e es b is = or_right (within e b) (in_some es b) is
 
 pub some_split : (e : Extent) (es : List Extent) (b : ℕ) → in_some (e ∷ es) b ≡ true → (within e b ≡ true) ⊎ (in_some es b ≡ true)
-some_split e es b is = or_split (within e b) (in_some es b) is
+some_split e es b is = or_cases (within e b) (in_some es b) is
 
 -- a block of the one extent
 pub in_one : (e : Extent) (b : ℕ) → in_some (e ∷ []) b ≡ true → within e b ≡ true
@@ -87,12 +70,6 @@ none_behind xs ys b none = not_true (in_some ys b) (λ is. not_both (in_some (xs
 -- Extents are beside a set where each of them is.
 pub beside_first : (kept : ℕ → Bool) (e : Extent) (es : List Extent) → AreBeside kept (e ∷ es) → IsBeside kept e
 beside_first kept e es beside b is = beside b (some_first e es b is)
-
-pub beside_rest : (kept : ℕ → Bool) (e : Extent) (es : List Extent) → AreBeside kept (e ∷ es) → AreBeside kept es
-beside_rest kept e es beside b is = beside b (some_rest e es b is)
-
-pub beside_all : (kept : ℕ → Bool) (e : Extent) (es : List Extent) → IsBeside kept e → AreBeside kept es → AreBeside kept (e ∷ es)
-beside_all kept e es one others b is = elim (some_split e es b is) [ inl first ↦ one b first | inr rest ↦ others b rest ]
 
 -- .. and where those in front and those behind are
 pub beside_front : (kept : ℕ → Bool) (xs ys : List Extent) → AreBeside kept (xs ++ ys) → AreBeside kept xs

@@ -1,4 +1,4 @@
--- The blocks of a disk as a list that says of each, from block 0 on, whether it is used.
+-- The blocks of a disk as a list of yes and no: whether each block is used, from block 0 on.
 use Rattle.std.specs.Prelude.{◌≡◌, ℕ, ◌+◌, ◌<◌, ◌≤◌, Bool, true, false, List, length, get_or}
 use Rattle.rs_extent.specs.declared.Extent.{Extent}
 
@@ -6,7 +6,7 @@ use Rattle.rs_extent.specs.declared.Extent.{Extent}
 abbrev pub block_size : ℕ
 block_size = 512
 
--- a block is used; past the end of the disk each is, so that no run reaches there
+-- a block is used; each block past the end of the disk counts as used, so that no run reaches there
 abbrev pub is_used : List Bool → ℕ → Bool
 is_used used b = get_or used b true
 
@@ -22,14 +22,14 @@ IsFree used e = IsFreeRun used e.first e.blocks
 abbrev pub IsTaken : List Bool → Extent → Type 0
 IsTaken used e = (b : ℕ) → e.first ≤ b → b < e.first + e.blocks → (b < length used) × (is_used used b ≡ true)
 
--- of the runs of n free blocks that the disk has, this is the lowest
+-- the extent is the lowest run of n free blocks on the disk
 pub record IsLowest (used : List Bool) (n : ℕ) (e : Extent) : Type 0 where
   pub blocks : e.blocks ≡ n
   pub inside : e.first + n ≤ length used
   pub is_free : IsFree used e
   pub lowest : (first : ℕ) → first < e.first → IsFreeRun used first n → ⊥
 
--- afterwards the blocks of an extent are used (true) or free (false), and the others are as they were
+-- the blocks of an extent become used (true) or free (false), and the others stay as they were
 pub record Sets (old new : List Bool) (e : Extent) (value : Bool) : Type 0 where
   pub size : length new ≡ length old
   pub within : (b : ℕ) → e.first ≤ b → b < e.first + e.blocks → is_used new b ≡ value

@@ -46,7 +46,8 @@ pub record CanTake (used : List Bool) (extents : List Extent) : Type 0 where
   pub apart : AreApart extents
   pub is_free : (b : ℕ) → in_some extents b ≡ true → is_used used b ≡ false
 
--- The extents were free and are used: they lie on the disk, no two of them have a block in common, and all other blocks are as they were.
+-- The extents were free and become used: they lie on the disk, no two have a block in common, and all other blocks stay
+-- as they were.
 pub record AreTaken (old new : List Bool) (extents : List Extent) : Type 0 where
   pub size : length new ≡ length old
   pub inside : (b : ℕ) → in_some extents b ≡ true → b < length old
@@ -61,7 +62,7 @@ pub record CanGive (used : List Bool) (extents : List Extent) : Type 0 where
   pub on_disk : (b : ℕ) → in_some extents b ≡ true → b < length used
   pub are_used : (b : ℕ) → in_some extents b ≡ true → is_used used b ≡ true
 
--- The extents are free now, and all other blocks are as they were.
+-- The extents become free, and all other blocks stay as they were.
 pub record AreGiven (old new : List Bool) (extents : List Extent) : Type 0 where
   pub size : length new ≡ length old
   pub after : (b : ℕ) → in_some extents b ≡ true → is_used new b ≡ false

@@ -4,7 +4,7 @@ use Rattle.rs_extent.specs.declared.Extent.{Extent}
 use Rattle.rs_extent.specs.Blocks.{IsFree, Sets}
 use Rattle.rs_extent.specs.Extents.{in_some, AreDisjoint, AreApart, CanTake, AreTaken, AreGiven}
 
--- Extents are apart where those in front are, those behind are, and no block is of both.
+-- Two lists of extents are apart together where each is, and where they have no block in common.
 abbrev pub ApartInParts : Type 0
 ApartInParts = (xs ys : List Extent) → AreApart (xs ++ ys) ↔ (AreApart xs × AreApart ys × AreDisjoint (in_some xs) (in_some ys))
 
@@ -22,6 +22,6 @@ abbrev pub CanTakeInTurn : Type 0
 CanTakeInTurn = (old mid : List Bool) (xs ys : List Extent) → CanTake old (xs ++ ys)
     → CanTake old ys × (AreTaken old mid ys → CanTake mid xs)
 
--- What was taken and is given back leaves the set as it was.
+-- Taking extents and giving them back leaves the set as it was.
 abbrev pub TakenIsGivenBack : Type 0
 TakenIsGivenBack = (old mid new : List Bool) (extents : List Extent) → AreTaken old mid extents → AreGiven mid new extents → new ≡ old

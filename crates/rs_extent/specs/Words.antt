@@ -1,4 +1,4 @@
--- A row of bits in words of 64, the lowest bit of the first word first.
+-- A row of bits in words of 64 bits, from the lowest bit of the first word on.
 use Rattle.std.specs.Prelude.{◌≡◌, ℕ, ◌+◌, ◌/◌, ◌%◌, ◌<◌, ◌≤◌, List, get_or}
 use Rattle.std.specs.Int.{bit_at}
 
@@ -19,7 +19,7 @@ pub record IsLowestRun (bits : ℕ → ℕ) (n first : ℕ) : Type 0 where
   pub is_run : IsSetRun bits first n
   pub lowest : (lower : ℕ) → lower < first → IsSetRun bits lower n → ⊥
 
--- the bits from `first` up to `end` have a value afterwards, and the others are as they were
+-- the bits from `first` up to `end` get a value, and the others stay as they were
 pub record SetsBits (old new : List ℕ) (first end value : ℕ) : Type 0 where
   pub within : (place : ℕ) → first ≤ place → place < end → bit_of new place ≡ value
   pub before : (place : ℕ) → place < first → bit_of new place ≡ bit_of old place

@@ -3,7 +3,7 @@
 //! Each function here does nothing: its contract is the law, which the check proves.
 ghost use Rattle.rs_extent.specs.Laws.{ApartInParts, FreeIsTaken, TakenInTurn, CanTakeInTurn, TakenIsGivenBack};
 
-/// Extents are apart where two parts of them are, each and from one another.
+/// Two lists of extents are apart together where each is, and where they have no block in common.
 pub fn apart_in_parts()
     ensures { ApartInParts }
 {}
@@ -13,13 +13,14 @@ pub fn free_is_taken()
     ensures { FreeIsTaken }
 {}
 
-/// What is taken one after the other is taken, and what can be taken can be in turn.
+/// Extents that are taken one after the other are taken, and those that can be taken can be taken
+/// one after the other.
 pub fn taken_in_turn()
     ensures taken { TakenInTurn }
     ensures can { CanTakeInTurn }
 {}
 
-/// What was taken and is given back leaves the set as it was.
+/// Taking extents and giving them back leaves the set as it was.
 pub fn taken_is_given_back()
     ensures { TakenIsGivenBack }
 {}

@@ -13,7 +13,7 @@ pub const BLOCK_SIZE: usize = 512;
 
 /// A run of blocks of a disk: `blocks` blocks from block `first` on, counted from 0.
 ///
-/// A run of no blocks has none, whatever its `first` is.
+/// An extent of 0 blocks is empty, whatever its `first` is.
 #[derive(Clone, Copy, Debug, PartialEq, Eq, PartialOrd, Ord)]
 pub struct Extent {
     /// The number of the first block.

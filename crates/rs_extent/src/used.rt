@@ -10,15 +10,15 @@ use std::marker::Model;
 
 /// Which blocks of a disk are used, one bit for each block.
 ///
-/// Contracts see it as a list that says of each block whether it is used. A search looks at 64
-/// blocks at a time, from the first that may have a free one on. To take or to give back costs as
-/// much as the extent has blocks.
+/// Contracts see a list with a yes or no for each block. A search looks at 64 blocks at a time,
+/// and begins at the first word that may have a free one. The cost of taking or giving back an
+/// extent grows with its number of blocks.
 #[derive(Debug, Drop)]
 pub struct Used {
-    // A bit for each block, set where it is free.
+    /// A bit for each block, set where it is free.
     free: Vec<u64>,
     block_count: u32,
-    // No block in the words below this one is free. A search begins here.
+    /// No block in the words below this one is free. A search begins here.
     full_words: usize,
 }
 
@@ -34,9 +34,9 @@ impl Model for Used {
 }
 
 impl Used {
-    /// The set for a disk of `blocks` blocks, of which the first two are used.
+    /// The set for a disk of `blocks` blocks. The first two are used, and all others free.
     ///
-    /// It takes a bit a block of memory, and no later call takes any.
+    /// It takes one bit of memory for each block. No later call takes any.
     ///
     /// # Errors
     ///
@@ -64,7 +64,7 @@ impl Used {
         self.block_count
     }
 
-    /// Whether each block of `extent` is on the disk and free, as [`Used::take`] asks.
+    /// Whether each block of `extent` is on the disk and free, as [`Used::take`] requires.
     pub fn is_free(&self, extent: Extent) -> bool
         ensures { IsTrue result ↔ IsFree self.now extent }
     {
@@ -76,7 +76,7 @@ impl Used {
         end <= self.blocks() as usize && all_set(&self.free, first, end)
     }
 
-    /// Adds the blocks of `extent`, all of which are free, and no others.
+    /// Adds the blocks of `extent`, and no others. All of them are free.
     pub fn take(&mut self, extent: Extent)
         requires { IsFree self.old extent }
         ensures { Sets self.old self.new extent true }
@@ -86,11 +86,11 @@ impl Used {
         }
         let first = extent.first as usize;
         set_bits(&mut self.free, first, first + extent.blocks as usize, false);
-        // As many steps at most as blocks were taken, so that taking costs no more than its blocks.
+        // It takes no more steps than blocks were taken, so the cost grows with these alone.
         self.full_words = skip_zeros(&self.free, self.full_words, extent.blocks);
     }
 
-    /// Removes the blocks of `extent`, all of which are on the disk and used, and no others.
+    /// Removes the blocks of `extent`, and no others. All of them are on the disk and used.
     pub fn give(&mut self, extent: Extent)
         requires { IsTaken self.old extent }
         ensures { Sets self.old self.new extent false }
@@ -103,8 +103,8 @@ impl Used {
         self.full_words = self.full_words.min(first / 64);
     }
 
-    /// Adds the blocks of each of these extents, all of which are free and no two of which have a
-    /// block in common, and no others.
+    /// Adds the blocks of each of these extents, and no others. All of them are free, and no two
+    /// extents have a block in common.
     pub fn take_each(&mut self, extents: &[Extent])
         requires { CanTake self.old extents.now }
         ensures { AreTaken self.old self.new extents.now }
@@ -116,8 +116,8 @@ impl Used {
         }
     }
 
-    /// Removes the blocks of each of these extents, all of which are used and no two of which have a
-    /// block in common, and no others.
+    /// Removes the blocks of each of these extents, and no others. All of them are used, and no two
+    /// extents have a block in common.
     pub fn give_each(&mut self, extents: &[Extent])
         requires { CanGive self.old extents.now }
         ensures { AreGiven self.old self.new extents.now }
@@ -144,7 +144,7 @@ impl Used {
         ensures some { (first : ℕ) × IsFreeRun self.now first result }
         ensures longest { (first n : ℕ) → IsFreeRun self.now first n → n ≤ result }
     {
-        // A shorter run is served where a longer one is, so halving meets the longest.
+        // Where a run of some length is free, so is each shorter one: halving finds the longest.
         let mut served = 0;
         let mut most = self.blocks();
         while served < most {

@@ -62,7 +62,7 @@ pub fn lowest_run(words: &[u64], from: usize, n: u32) -> Option<u32>
     None
 }
 
-// The lowest bit of a word from which `n` bits in a row are set.
+/// The lowest bit of a word from which `n` bits in a row are set.
 fn lowest_run_within(word: u64, n: u32) -> Option<u32>
     requires { 1 ≤ n }
     ensures { MatchOption result (HasNoSetRun (bit_at word) n) (IsLowestRun (bit_at word) n) }
@@ -78,7 +78,7 @@ fn lowest_run_within(word: u64, n: u32) -> Option<u32>
     }
 }
 
-// The bits of a word from which `n` bits in a row are set.
+/// The bits of a word from which `n` bits in a row are set.
 fn run_starts(word: u64, n: u32) -> u64
     requires some { 1 ≤ n }
     requires fits { n ≤ 64 }
@@ -95,9 +95,10 @@ fn run_starts(word: u64, n: u32) -> u64
     starts
 }
 
-/// The first word from `from` on that isn't 0, where at most `most` words are looked at.
+/// The first word from `from` on that isn't 0. It looks at `most` words at most.
 ///
-/// A search may begin there. Only that no bit is set in between matters, so no more is promised.
+/// A search may begin there. That needs only that no bit is set in between, so the contract says
+/// no more.
 pub fn skip_zeros(words: &[u64], from: usize, most: u32) -> usize
     ensures { (i : ℕ) → from ≤ i → i < result → get_or words.now i 0 ≡ 0 }
 {
@@ -111,7 +112,7 @@ pub fn skip_zeros(words: &[u64], from: usize, most: u32) -> usize
     at
 }
 
-// The word with the bits from `low` up to `high` given a value.
+/// Gives the bits of a word from `low` up to `high` a value.
 fn with_bits(word: u64, low: usize, high: usize, value: bool) -> u64
     requires order { low ≤ high }
     requires fits { high ≤ 64 }
@@ -123,7 +124,7 @@ fn with_bits(word: u64, low: usize, high: usize, value: bool) -> u64
     if value { word | mask } else { word & !mask }
 }
 
-// Whether the bits of a word from `low` up to `high` are all set.
+/// Whether the bits of a word from `low` up to `high` are all set.
 fn has_bits(word: u64, low: usize, high: usize) -> bool
     requires order { low ≤ high }
     requires fits { high ≤ 64 }
@@ -133,7 +134,7 @@ fn has_bits(word: u64, low: usize, high: usize) -> bool
     word & mask == mask
 }
 
-// A word with the bits from `low` up to `high` set.
+/// A word with the bits from `low` up to `high` set.
 fn ones_between(low: usize, high: usize) -> u64
     requires order { low ≤ high }
     requires fits { high ≤ 64 }
@@ -142,7 +143,7 @@ fn ones_between(low: usize, high: usize) -> u64
     ones_below(high) - ones_below(low)
 }
 
-// A word with its lowest `count` bits set.
+/// A word with its lowest `count` bits set.
 fn ones_below(count: usize) -> u64
     requires { count ≤ 64 }
     ensures { result ≡ 2 ^ count - 1 }

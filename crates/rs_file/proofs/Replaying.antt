@@ -1,7 +1,8 @@
 -- One call more in the record of a file.
-use Rattle.std.proofs.Common.{◌≡◌, inl, ℕ, ◌+◌, ◌<◌, ◌≤◌, nat_eq, Bool, true, false, if◌then◌else◌, IsTrue, List, [], ◌∷◌, ◌++◌, length, replicate, refl, sym, ◌∙◌, ap, subst, arith, length-append, length-take}
+use Rattle.std.proofs.Common.{◌≡◌, inl, ℕ, ◌+◌, ◌<◌, ◌≤◌, nat_eq, Bool, true, false, if◌then◌else◌, IsTrue, List, [], ◌∷◌, ◌++◌, length, replicate, refl, sym, ◌∙◌, ap, subst, arith, length-append, length-take, Result, Ok, Err, is_ok, OnErr}
 use Rattle.std.proofs.lemmas.Bool.Decides.{nat_tests}
 use Rattle.std.proofs.lemmas.List.{length-replicate, take_at}
+use Rattle.rs_disk.specs.declared.disk.Fault.{Fault}
 use Rattle.rs_disk.specs.Medium.{Medium, DiskState, IsMedium, widened, written, resting}
 use Rattle.rs_disk.specs.Calls.{Passes, Writes, Tears}
 use Rattle.rs_file.proofs.FromBelow.{resting_medium, written_medium}
@@ -42,8 +43,9 @@ module _ (first : List ℕ) (torn : ℕ → List ℕ) (size : ℕ) (events later
           written_medium size before.now at (sized (length bytes) (torn before.calls)) sound (subst (λ (k : ℕ). at + k ≤ size) (sym long) fits)
 
   -- one that failed
-  pub write_tears : later ≡ WasWritten at false bytes ∷ events → Tears at (length bytes) before behind
-  write_tears noted =
+  pub write_tears : (result : Result (Unit {0}) Fault) → later ≡ WasWritten at (is_ok result) bytes ∷ events → OnErr result (Tears at (length bytes) before behind)
+  write_tears (Ok _) noted = tt
+  write_tears (Err _) noted =
       let any = sized (length bytes) (torn before.calls) in
       let long = length-sized (length bytes) (torn before.calls) in
       let held : Medium = widened before.now at (length bytes) in
@@ -60,14 +62,14 @@ module _ (first : List ℕ) (torn : ℕ → List ℕ) (size : ℕ) (events later
 pub first_sound : (first : List ℕ) (torn : ℕ → List ℕ) (size : ℕ) (events : List Event) → events ≡ [] → IsMedium size (replay_events first torn size events).now
 first_sound first torn size events none = subst (λ (es : List Event). IsMedium size (replay_events first torn size es).now) (sym none) (resting_medium size (sized size first) (length-sized size first))
 
-equal : (m n : ℕ) → IsTrue (nat_eq m n) → m ≡ n
+pub equal : (m n : ℕ) → IsTrue (nat_eq m n) → m ≡ n
 equal m n h = grind (arith, nat_tests)
 
 whole : (bytes : List ℕ) → sized (length bytes) bytes ≡ bytes
 unfolding sized
 whole bytes = take_at bytes (replicate (length bytes) 0) (length bytes) refl
 
--- a file that has the length of what it is supposed to have held holds that
+-- a file of the length of the bytes that it is supposed to have held holds them
 pub opened_first : (first : List ℕ) (torn : ℕ → List ℕ) (size : ℕ) (events : List Event) → events ≡ [] → IsTrue (replay_events first torn size events).honest → (replay_events first torn size events).now ≡ resting first
 opened_first first torn size events none = subst (λ (es : List Event). IsTrue (replay_events first torn size es).honest → (replay_events first torn size es).now ≡ resting first) (sym none) here
   where

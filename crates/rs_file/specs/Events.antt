@@ -14,7 +14,7 @@ call_of zero at ok bytes = WasRead at ok bytes
 call_of (suc zero) at ok bytes = WasWritten at ok bytes
 call_of (suc (suc more)) at ok bytes = WasSynced ok
 
--- what the record notes: which call, its offset, 1 for success, and its bytes
+-- a call by its numbers, which are the call, its offset and 1 for success, and its bytes
 abbrev pub event_of : List ℕ → List ℕ → Event
 event_of numbers bytes = call_of (slice_index numbers 0) (slice_index numbers 1) (slice_index numbers 2 == 1) bytes
 

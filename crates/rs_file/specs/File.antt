@@ -12,7 +12,7 @@ module _ {S : Type 0} where
   abbrev pub events_of : {start : Ghosts S} → FileDisk S start → List Event
   events_of d = d.file.log.events
 
-  -- what these show of the disk
+  -- the disk that these calls show
   abbrev pub state_of : (start : Ghosts S) → FileDisk S start → DiskState
   state_of start d = replay_events start.first start.torn d.size d.file.log.events
 

@@ -1,4 +1,4 @@
--- What it is that a file has followed the model so far.
+-- When a file has followed the model so far.
 use Rattle.std.specs.Prelude.{◌≡◌, ℕ, true, false, List, [], ◌∷◌, length, take, drop}
 use Rattle.rs_disk.specs.Medium.{DiskState}
 use Rattle.rs_file.specs.Events.{Event, WasRead, WasWritten, WasSynced}
@@ -11,7 +11,7 @@ IsRight disk (WasRead at false bytes) = Unit {0}
 IsRight disk (WasWritten at ok bytes) = Unit {0}
 IsRight disk (WasSynced ok) = Unit {0}
 
--- The file had the length of what it is supposed to have held, and each read was right.
+-- The file had the length of the bytes that it is supposed to have held, and each read was right.
 abbrev pub AllRight : List ℕ → (ℕ → List ℕ) → ℕ → List Event → Type 0
 AllRight first torn size [] = size ≡ length first
 AllRight first torn size (e ∷ earlier) = AllRight first torn size earlier × IsRight (replay_events first torn size earlier) e

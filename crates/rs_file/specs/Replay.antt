@@ -30,12 +30,12 @@ after_call torn (WasWritten at ok bytes) m =
     one_more ok true (widened m.now at (length bytes)) (written m.now at (if ok then bytes else sized (length bytes) (torn m.calls))) m
 after_call torn (WasSynced ok) m = one_more ok true m.now (if ok then resting m.now.seen else m.now) m
 
--- as it was opened: a file of this length that held these bytes, all settled
+-- just opened: a file of this length that held these bytes, all settled
 abbrev pub opened : List ℕ → ℕ → DiskState
 opened first size =
     record { size = size; calls = 0; faults = 0; honest = nat_eq size (length first); now = resting (sized size first); within = λ _. resting (sized size first) }
 
--- after these calls, of which the newest comes first
+-- after these calls, the newest first
 abbrev pub replay_events : List ℕ → (ℕ → List ℕ) → ℕ → List Event → DiskState
 replay_events first torn size [] = opened first size
 replay_events first torn size (e ∷ earlier) = after_call torn e (replay_events first torn size earlier)

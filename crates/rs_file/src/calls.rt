@@ -7,9 +7,8 @@ use crate::system::SystemFile;
 use rs_disk::Fault;
 use std::fs::File;
 
-// An open file with the record of its calls. Once a sync has failed, the system may have dropped
-// what was written before it, and a later sync may succeed all the same: no further call is made,
-// and each is noted as failed.
+/// An open file with the record of its calls. After a failed sync it makes no further system call,
+/// and records each call as failed.
 #[derive(Drop)]
 pub(crate) struct RecordedFile {
     file: SystemFile,

@@ -11,15 +11,15 @@ use std::marker::PhantomData;
 
 /// A disk over a file of the operating system.
 ///
-/// Its size is the length that the file had when it was opened. It meets the contract of
-/// [`Disk`], with the replay of the record of its calls as its state: what a reader has to trust
-/// beside the proofs is that each call of `read`, `write` and `sync` makes the call of the system
-/// that it notes, that [`open`](FileDisk::open) and [`create`](FileDisk::create) settle what the
-/// file holds, and that after a crash the file holds one of the images that the state names.
+/// Its size is the length of the file when it was opened. It meets the contract of [`Disk`]: its
+/// state is the replay of a record of its calls. Beside the proofs a reader has to trust that each
+/// `read`, `write` and `sync` makes the system call that it records, that
+/// [`open`](FileDisk::open) and [`create`](FileDisk::create) settle what the file holds, and that
+/// after a crash the file holds one of the images of the state.
 ///
-/// Once a sync has failed, the system may have dropped what was written, and a later sync may
-/// succeed all the same. So no further call of the system is made: each call answers [`Fault`] and
-/// is counted. The system has no offset from 2^63 on: a call that reaches there fails.
+/// After a failed sync the system may have dropped what was written, and a later sync may still
+/// succeed. So the disk makes no further system call: each call answers [`Fault`] and is counted.
+/// The system has no offset from 2^63 on: a call that reaches there fails.
 #[derive(Drop)]
 pub struct FileDisk<S: Start> {
     file: RecordedFile,
@@ -42,7 +42,7 @@ impl<S: Start> FileDisk<S> {
     ghost use Rattle.rs_file.specs.File.{state_of, events_of};
     ghost use Rattle.std.specs.Prelude.{◌≡◌, ◌↔◌, ◌+◌, ◌≤◌, ◌^◌, [], IsTrue};
 
-    // A file of this length as a disk on which no call was made.
+    /// A disk of this size over a file, without any calls so far.
     pub(crate) fn over(file: File, size: u64) -> FileDisk<S>
         ensures state { state_of S.Start result ≡ opened S.Start.first size }
         ensures first { IsTrue (state_of S.Start result).honest
@@ -58,7 +58,7 @@ impl<S: Start> FileDisk<S> {
         }
     }
 
-    // Whether the count of calls stands at its last value.
+    /// Whether the count of calls has reached its last value.
     fn is_spent(&self) -> bool
         ensures { IsTrue result ↔ (2 ^ 64 ≤ (state_of S.Start self.now).calls + 1) }
     {
@@ -66,8 +66,8 @@ impl<S: Start> FileDisk<S> {
     }
 }
 
-// Each method has the clauses of the trait, and then its own: each counted call is noted with its
-// answer, and once a sync has failed each call fails.
+/// Each method has the clauses of the trait and two more: it records each counted call with its
+/// answer, and it fails after a failed sync.
 impl<S: Start> Disk for FileDisk<S> {
     ghost use Rattle.std.specs.Prelude.{◌≡◌, ◌+◌, ◌<◌, ◌≤◌, ◌^◌, ◌∷◌, length, take, drop, is_ok, OnOk, OnErr, IsErr, IsTrue};
     ghost use Rattle.rs_disk.specs.Calls.{CountsCall, Stays, Writes, Tears, Settles};
@@ -109,17 +109,10 @@ impl<S: Start> Disk for FileDisk<S> {
         if self.is_spent() {
             return Err(Fault);
         }
-        match self.file.read(at, into) {
-            Ok(()) => {
-                self.calls += 1;
-                Ok(())
-            }
-            Err(fault) => {
-                self.calls += 1;
-                self.faults += 1;
-                Err(fault)
-            }
-        }
+        let done = self.file.read(at, into);
+        self.calls += 1;
+        self.faults += u64::from(done.is_err());
+        done
     }
 
     fn write(&mut self, at: u64, bytes: &[u8]) -> Result<(), Fault>
@@ -138,17 +131,10 @@ impl<S: Start> Disk for FileDisk<S> {
         if self.is_spent() {
             return Err(Fault);
         }
-        match self.file.write(at, bytes) {
-            Ok(()) => {
-                self.calls += 1;
-                Ok(())
-            }
-            Err(fault) => {
-                self.calls += 1;
-                self.faults += 1;
-                Err(fault)
-            }
-        }
+        let done = self.file.write(at, bytes);
+        self.calls += 1;
+        self.faults += u64::from(done.is_err());
+        done
     }
 
     fn sync(&mut self) -> Result<(), Fault>
@@ -166,16 +152,9 @@ impl<S: Start> Disk for FileDisk<S> {
         if self.is_spent() {
             return Err(Fault);
         }
-        match self.file.sync() {
-            Ok(()) => {
-                self.calls += 1;
-                Ok(())
-            }
-            Err(fault) => {
-                self.calls += 1;
-                self.faults += 1;
-                Err(fault)
-            }
-        }
+        let done = self.file.sync();
+        self.calls += 1;
+        self.faults += u64::from(done.is_err());
+        done
     }
 }

@@ -1,13 +1,13 @@
-//! Why a file was not opened or made.
+//! Why a file was not opened or created.
 use thiserror::Error;
 
-/// Why a file was not opened or made.
+/// Why a file was not opened or created.
 #[derive(Clone, Copy, Debug, PartialEq, Eq, Error)]
 pub enum FileFault {
-    /// There is a file of that name.
+    /// Something has that name already.
     #[error("Exists")]
     Exists,
-    /// The system failed, or the name is not that of a regular file, or another has it locked.
+    /// The system failed, the name is not that of a regular file, or the file is locked.
     #[error("Device")]
     Device,
 }

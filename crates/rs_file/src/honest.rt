@@ -5,9 +5,9 @@ ghost use Rattle.rs_file.specs.Honest.{AllRight};
 
 use crate::{FileDisk, Start};
 
-/// What the premise of each clause on bytes that were read says of a file: its length at its
-/// opening was that of the bytes that its start names, and each read that succeeded gave the bytes
-/// that the disk model has there. It does nothing.
+/// A file is honest if it had the length of the bytes that its start names, and each read that
+/// succeeded gave the bytes that the disk model has there. Each clause on bytes that were read has
+/// this premise. The function does nothing.
 pub fn honest_is<S: Start>(_disk: &FileDisk<S>)
     ensures { IsTrue (state_of S.Start _disk.now).honest
         ↔ AllRight S.Start.first S.Start.torn (state_of S.Start _disk.now).size

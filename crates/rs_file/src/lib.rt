@@ -2,9 +2,9 @@
 //!
 //! [`FileDisk`] meets the contract of [`rs_disk::Disk`] over an open file. No contract can say what
 //! a file gives, so its ghost state is the replay of a record of its calls and of their answers,
-//! on a file that held what the type parameter [`Start`] names. The record lies in no memory and
-//! only clauses read it. [`honest_is`] says in plain words when a file has followed the model so
-//! far. What a reader has to trust beside the proofs stands with [`FileDisk`].
+//! on a file that held what the type parameter [`Start`] names. The record takes no memory, since
+//! only clauses read it. [`honest_is`] says when a file has followed the model so far.
+//! [`FileDisk`] says what a reader has to trust beside the proofs.
 #![tactic(auto)]
 
 mod calls;

@@ -1,4 +1,4 @@
-//! How a file is opened, and how one is made.
+//! Opening and creating a file.
 ghost use Rattle.std.specs.Prelude.{◌≡◌, ◌↔◌, ◌≤◌, ◌≤ℤ◌, ◌^◌, pos, [], length, IfOk, IfErr, IsErr, IsTrue};
 ghost use Rattle.rs_disk.specs.Medium.{resting};
 ghost use Rattle.rs_file.specs.Replay.{sized};
@@ -14,16 +14,16 @@ use std::rt::Files;
 // The last of the standard streams.
 const STANDARD_ERROR: i32 = 2;
 
-// Whether a descriptor has the number of a standard stream.
+/// Whether a descriptor has the number of a standard stream.
 fn is_standard_stream(descriptor: i32) -> bool
     ensures { IsTrue result ↔ (descriptor ≤ℤ pos 2) }
 {
     descriptor <= STANDARD_ERROR
 }
 
-// Takes a file that was just opened as one that this process alone writes: a regular file, locked.
+/// Locks a file that was just opened. It has to be a regular file.
 fn claimed(file: File) -> io::Result<File> {
-    // Where a standard stream was closed, the file got its number: what is meant for the stream
+    // If a standard stream was closed, the file may have its number. What is meant for the stream
     // must not land in the file.
     let file = if is_standard_stream(file.as_raw_fd()) {
         file.try_clone()?
@@ -37,8 +37,8 @@ fn claimed(file: File) -> io::Result<File> {
     Ok(file)
 }
 
-// Settles what the file holds, and gives its length. The system's copies of its pages are dropped,
-// since a sync of another process that failed may have left them other than the device has them.
+/// Syncs the file, and gives its length. It drops the pages that the system has cached: after a
+/// failed sync of another process they may differ from the device.
 fn settled_length(file: &File) -> io::Result<u64> {
     file.sync_all()?;
     let advised = libc::posix_fadvise(file.as_raw_fd(), 0, 0, libc::POSIX_FADV_DONTNEED);
@@ -48,7 +48,7 @@ fn settled_length(file: &File) -> io::Result<u64> {
     Ok(file.metadata()?.len())
 }
 
-// Settles the names in the folder of this path.
+/// Syncs the folder of this path, and so the names in it.
 fn settle_folder<R: Files<File = File>>(rt: &R, path: &str) -> io::Result<()> {
     let folder = match Path::new(path).parent() {
         Some(folder) if !folder.as_str().is_empty() => folder.as_str(),
@@ -57,7 +57,7 @@ fn settle_folder<R: Files<File = File>>(rt: &R, path: &str) -> io::Result<()> {
     File::open(rt, folder)?.sync_all()
 }
 
-// Opens a file that is there, and gives its length.
+/// Opens an existing file, and gives its length.
 fn open_existing<R: Files<File = File>>(rt: &R, path: &str) -> io::Result<(File, u64)> {
     let file = OpenOptions::new().read(true).write(true).open(rt, path)?;
     let file = claimed(file)?;
@@ -65,7 +65,7 @@ fn open_existing<R: Files<File = File>>(rt: &R, path: &str) -> io::Result<(File,
     Ok((file, size))
 }
 
-// Gives a new file this length; its bytes are zeros. No file is as long as 2^63 bytes.
+/// Gives a new file this length. Its bytes are zeros. A length from 2^63 on fails.
 fn filled(file: File, size: u64) -> io::Result<File>
     ensures { 2 ^ 63 ≤ size → IsErr result }
 {
@@ -78,11 +78,11 @@ fn filled(file: File, size: u64) -> io::Result<File>
 }
 
 impl<S: Start> FileDisk<S> {
-    /// Opens the file of this name as a disk of the length that it has.
+    /// Opens the file of this name as a disk of the file's length.
     ///
-    /// The file is read and written. It has to be a regular file, and stays locked against every
-    /// other `FileDisk` until the disk is dropped. It is synced once, so that what it holds is
-    /// settled.
+    /// The file has to be a regular file, and is opened for reading and writing. It stays locked
+    /// against every other `FileDisk` until the disk is dropped. It is synced once, so that what it
+    /// holds is settled.
     ///
     /// # Errors
     /// [`FileFault::Device`] where there is no such file, it is no regular file, or it cannot be
@@ -106,15 +106,15 @@ impl<S: Start> FileDisk<S> {
         }
     }
 
-    /// Makes a new file of this name and of `size` zero bytes, and opens it as a disk.
+    /// Creates a file of this name with `size` zero bytes, and opens it as a disk.
     ///
     /// The file is locked as by [`open`](FileDisk::open). It and its name in its folder are synced,
-    /// so that both outlast a crash. Its start is to name `size` zeros.
+    /// so that both survive a crash. Its start has to name `size` zeros for the disk to be honest.
     ///
     /// # Errors
-    /// [`FileFault::Exists`] where there is something of that name, which is left as it is;
+    /// [`FileFault::Exists`] where something has that name already: it is left as it is.
     /// [`FileFault::Device`] where the system fails otherwise, as it does at a size from 2^63 on.
-    /// A file that was made by then stays.
+    /// A file that was created by then stays.
     pub fn create<R: Files<File = File>>(
         rt: &R,
         path: &str,

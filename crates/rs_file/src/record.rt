@@ -13,7 +13,7 @@ pub(crate) const WRITE: u64 = 1;
 
 pub(crate) const SYNC: u64 = 2;
 
-// The calls on a file with their answers, the newest first. No memory holds them.
+/// The calls on a file with their answers, the newest first. It takes no memory.
 #[derive(Drop)]
 pub(crate) struct Record {
     marker: PhantomData<u8>,
@@ -33,7 +33,7 @@ impl Record {
         }
     }
 
-    // The numbers are which call it was, its offset, and 1 for success.
+    /// Records a call. The numbers are the call, its offset, and 1 for success.
     pub(crate) fn note(&mut self, _numbers: &[u64], _bytes: &[u8])
         ensures { self.new.events ≡ event_of _numbers.now _bytes.now ∷ self.old.events }
     {}

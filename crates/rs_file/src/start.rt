@@ -1,17 +1,17 @@
-//! What is supposed of a file as it is opened.
+//! What a file is supposed to hold when it is opened.
 ghost use Rattle.std.specs.Prelude.{ℕ, List, []};
 
 /// What a file held when it was opened, and what each write that failed left of its bytes.
 ///
 /// No code can read either. Code over any `S: Start` is proved for all of them, so also for what
-/// the file really held: `main` runs it at [`Unknown`]. Each value of a `Start` stands for one
-/// file opened once, so a program makes one value for each file that it opens.
+/// the file really held: `main` runs it at [`Unknown`]. Each value of a `Start` belongs to one
+/// opening of one file, so a program makes a value for each file that it opens.
 pub trait Start: Drop {
     // The bytes that the file held, from its first on.
     ghost first: { List ℕ };
 
-    // The bytes that a failed write left in its range, by how many calls came before it. Of more
-    // than the range has room for the first ones are meant, and where they are fewer, zeros follow.
+    // The bytes that a failed write left in its range, by the number of calls before it. The range
+    // has the first of them, and zeros where they are too few.
     ghost torn: { ℕ → List ℕ };
 }
 

@@ -1,8 +1,8 @@
-//! The calls of the system on the file of an open disk.
+//! The system calls on the file of an open disk.
 //!
-//! The file is private to this module: of an open disk the three methods here alone use it. Each
-//! makes the one call of the system that it notes, with its answer, and none may be called once a
-//! sync has failed. No proof can show that the call was made, so this page is to be read.
+//! The file is private to this module: once a disk is open, only the three methods here use it.
+//! Each makes the one system call that it records, with its answer. None may be called after a
+//! failed sync. No proof can show that the call was made, so read this page.
 ghost use Rattle.std.specs.Prelude.{◌≡◌, ◌∷◌, false, is_ok};
 ghost use Rattle.rs_file.specs.Events.{sync_failed, WasRead, WasWritten, WasSynced};
 

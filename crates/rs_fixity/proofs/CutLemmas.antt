@@ -35,7 +35,7 @@ cut_more : (b : Bool) (mark c : ℕ) (value rest : List ℕ) → IsTrue (not b &
 cut_more true mark c value rest h next = cc
 cut_more false mark c value rest h next = ap (with_first c) (next h)
 
--- a value without the mark is what stands before it
+-- a value without the mark is cut off before it
 pub cut_value : (mark : ℕ) (value rest : List ℕ) → IsTrue (lacks mark value)
     → cut mark (value ++ mark ∷ rest) ≡ (value, mark ∷ rest)
 unfolding cut
@@ -56,7 +56,7 @@ strip_gave (p ∷ front) [] rest h = cc
 strip_gave (p ∷ front) (c ∷ text) rest h =
     stripped_by (c == p) p c front text rest refl h (strip_gave front text rest)
 
--- a text cut before the mark: what stands before it lacks the mark, and the rest is empty or begins with it
+-- a text cut before the mark: the first part lacks the mark, and the rest is empty or begins with it
 pub record IsCut (mark : ℕ) (text : List ℕ) (parts : List ℕ × List ℕ) : Type 0 where
   pub joined : parts.0 ++ parts.1 ≡ text
   pub lacking : IsTrue (lacks mark parts.0)
@@ -79,7 +79,7 @@ unfolding cut
 cut_is mark [] = record { joined = refl; lacking = refl; marked = λ c rest same. cc }
 cut_is mark (c ∷ text) = cut_by (c == mark) mark c text (cut mark text) refl (cut_is mark text)
 
--- a value is given for the text that it is written as
+-- a value is read from how it is written
 pub if_written_own : {A : Type 0} (text : List ℕ) (value : A) → if_written text text value ≡ Some value
 if_written_own text value = ap (λ b. cond b (Some value) None) ((bytes_decides text text).1 refl)
 
@@ -89,7 +89,7 @@ written_by : {A : Type 0} (b : Bool) (written text : List ℕ) (value given : A)
 written_by true written text value given same e = ((bytes_decides written text).0 same, cc)
 written_by false written text value given same e = cc
 
--- what was given was written so
+-- a value that was read is written so
 pub if_written_gave : {A : Type 0} (written text : List ℕ) (value given : A)
     → if_written written text value ≡ Some given → (written ≡ text) × (value ≡ given)
 if_written_gave written text value given e = written_by _ written text value given refl e

@@ -1,4 +1,4 @@
--- The text of two digests reads as the digests, and has hexadecimal digits and its two names alone.
+-- The text of two digests reads as the digests, and has only hexadecimal digits and the two names.
 use Rattle.std.proofs.Common.{◌≡◌, ℕ, suc, zero, ◌/◌, ◌%◌, List, [], ◌∷◌, ◌++◌, refl, sym, ap, ◌∙◌, get_or, Option, Some, Bool, true, append_assoc, Result, Ok, Err, subst, arith, length, ◌*◌}
 use Rattle.std.specs.Prelude.{codes, ◌==◌, ◌&&◌, not, IsTrue}
 use Rattle.std.specs.List.{list_all, Contains}
@@ -78,7 +78,7 @@ with_md5 text rest md5 = strip (codes " sha-256:") rest >>= with_rest text md5
 abbrev with_parts : List ℕ → List ℕ × List ℕ → Option Digests
 with_parts text parts = result_ok (decode_sized parts.0 16) >>= with_md5 text parts.1
 
--- what was written is read
+-- the text of digests reads as the digests
 pub read_hash-text : (d : Digests) → AreNBytes 16 d.md5 → AreNBytes 32 d.sha256
     → read_hash (hash_text_of d) ≡ Some d
 unfolding read_hash strip
@@ -115,7 +115,7 @@ if_text_of-gave text d given md5-bytes sha256-bytes e =
     let P : Digests → Type 0 = λ x. AreNBytes 16 x.md5 × AreNBytes 32 x.sha256 × (text ≡ hash_text_of x) in
     subst P is.1 (md5-bytes, sha256-bytes, sym is.0)
 
--- and nothing else
+-- and no other text does
 pub read_hash-exact : (text : List ℕ) (d : Digests) → read_hash text ≡ Some d
     → AreNBytes 16 d.md5 × AreNBytes 32 d.sha256 × (text ≡ hash_text_of d)
 unfolding read_hash

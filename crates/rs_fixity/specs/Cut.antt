@@ -9,7 +9,7 @@ abbrev pub ◌>>=◌ : {A B : Type 0} → Option A → (A → Option B) → Opti
 None >>= f = None
 (Some x) >>= f = f x
 
--- what follows these bytes, where the text begins with them
+-- the rest of a text that begins with these bytes
 unfoldable pub strip : List ℕ → List ℕ → Option (List ℕ)
 strip [] text = Some text
 strip (p ∷ ps) [] = None
@@ -19,7 +19,7 @@ strip (p ∷ ps) (c ∷ text) = if c == p then strip ps text else None
 abbrev pub with_first : ℕ → List ℕ × List ℕ → List ℕ × List ℕ
 with_first c r = (c ∷ r.0, r.1)
 
--- what stands before the first byte that is the mark, and the rest from it on
+-- the bytes before the first mark, and the rest from it on
 unfoldable pub cut : ℕ → List ℕ → List ℕ × List ℕ
 cut mark [] = ([], [])
 cut mark (c ∷ text) = if c == mark then ([], c ∷ text) else with_first c (cut mark text)
@@ -28,6 +28,6 @@ cut mark (c ∷ text) = if c == mark then ([], c ∷ text) else with_first c (cu
 abbrev pub lacks : ℕ → List ℕ → Bool
 lacks mark text = list_all (λ c. not (c == mark)) text
 
--- a value, where the text is the one that it is written as
+-- a value, if the text is how it is written
 abbrev pub if_written : {A : Type 0} → List ℕ → List ℕ → A → Option A
 if_written written text value = if pointwise nat_eq written text then Some value else None

@@ -10,6 +10,6 @@ pub record HasTaken (h : Hashing) (m : List ℕ) : Type 0 where
   pub md5 : HoldsMd5 h.md5 m
   pub sha256 : Holds256 h.sha256 m
 
--- the same of the one that has its SHA-256 alone
+-- the same of the hasher for the SHA-256 alone
 pub record HasTakenSha256 (h : Sha256Hashing) (m : List ℕ) : Type 0 where
   pub sha256 : Holds256 h.sha256 m

@@ -6,7 +6,7 @@ use Rattle.rs_fixity.specs.Cut.{◌>>=◌, strip, cut, if_written}
 use Rattle.rs_fixity.specs.HashText.{hash_text_of}
 use Rattle.rs_fixity.specs.declared.Digests.{Digests}
 
--- these digests, where the text is theirs: so digits in upper case are refused
+-- these digests, if the text is theirs: so digits in upper case are refused
 abbrev pub if_text_of : List ℕ → Digests → Option Digests
 if_text_of text d = if_written (hash_text_of d) text d
 

@@ -15,7 +15,7 @@ pub use text::hash_text;
 /// The two digests of a message.
 #[derive(Clone, Copy, Debug, PartialEq, Eq)]
 pub struct Digests {
-    /// The MD5 of RFC 1321. It finds damage by chance and not by intent.
+    /// The MD5 of RFC 1321. It reveals damage by chance, not damage on purpose.
     pub md5: [u8; 16],
     /// The SHA-256 of FIPS 180-4.
     pub sha256: [u8; 32],

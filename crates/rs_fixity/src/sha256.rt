@@ -1,21 +1,21 @@
-//! The SHA-256 of a message alone, where its MD5 is not kept: in one call or piece by piece.
+//! The SHA-256 of a message without its MD5, in one call or piece by piece.
 
 ghost use Rattle.std.specs.Prelude.{◌≡◌, ℕ, List, [], ◌++◌};
 ghost use Rattle.rs_fixity.specs.Digests.{digests};
 
 use sha2::{Digest as _, Sha256};
 
-/// The SHA-256 (FIPS 180-4) of a message that is at hand as a whole, where its MD5 is not kept.
+/// The SHA-256 (FIPS 180-4) of a whole message.
 pub fn sha256_of(bytes: &[u8]) -> [u8; 32]
     ensures { result ≡ (digests bytes.now).sha256 }
 {
     Sha256::digest(bytes)
 }
 
-/// Takes a message piece by piece, and then gives its SHA-256 (FIPS 180-4) alone.
+/// Takes a message piece by piece, and then gives its SHA-256 (FIPS 180-4).
 ///
-/// A contract says that it holds a message, by `HasTakenSha256`: the pieces that were added so far,
-/// joined. How the message was cut makes no difference.
+/// `HasTakenSha256` says which message it holds: the pieces added so far, joined. How the message was
+/// cut makes no difference.
 #[derive(Drop)]
 pub struct Sha256Hashing {
     sha256: Sha256,

@@ -1,9 +1,9 @@
-//! A reader or a writer of which one call fails, and the ones after it would work.
+//! Readers and writers that fail at one call and work again after it.
 
 use std::io;
 use std::io::{ErrorKind, Read, Write};
 
-/// Which call failed.
+/// The kinds of calls.
 #[derive(Clone, Copy, PartialEq, Eq)]
 pub enum Call {
     Read,
@@ -11,16 +11,17 @@ pub enum Call {
     Flush,
 }
 
-/// A reader or a writer, of which the call of this number fails, counted from 0.
+/// A reader or a writer that fails at one call.
 #[derive(Drop)]
 pub struct FailsOnce<T> {
     inner: T,
-    /// How many calls come before the one that fails. None once it has.
+    /// How many calls come before the one that fails. `None` after it.
     calls_before: Option<u32>,
     failed: Option<Call>,
 }
 
 impl<T> FailsOnce<T> {
+    /// Fails at this call, counted from 0.
     pub fn new(inner: T, fails_at: u32) -> FailsOnce<T> {
         FailsOnce {
             inner,
@@ -29,11 +30,12 @@ impl<T> FailsOnce<T> {
         }
     }
 
-    /// The call that failed, if one has.
+    /// The kind of the call that failed, if one has.
     pub fn failed(&self) -> Option<Call> {
         self.failed
     }
 
+    /// Counts a call, and fails if it is the one.
     fn answer(&mut self, call: Call) -> io::Result<()> {
         self.calls_before = match self.calls_before {
             Some(0) => {

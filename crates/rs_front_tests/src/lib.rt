@@ -1,5 +1,5 @@
-//! Tests of rs_script and rs_http: scripts and requests over readers and writers that fail, wait or give one byte at a time.
-//! What else they do is shown by the worked rows of tests/rows.
+//! Tests of rs_script and rs_http: scripts and requests over readers and writers that fail, wait or give one byte at a
+//! time. The worked rows of tests/rows show the rest.
 #![tactic(auto)]
 
 #[cfg(test)]

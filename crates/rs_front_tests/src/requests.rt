@@ -1,4 +1,4 @@
-//! Requests over ends that fail, or wait.
+//! Requests over readers and writers that fail or wait.
 
 use crate::ends::{Call, FailsOnce};
 use crate::sources::{commands_of, new_source};
@@ -14,16 +14,18 @@ use std::io::{ErrorKind, Read, Write};
 use std::process::Abort;
 use std::test::Fail;
 
+/// The head of a put that waits for the word to go on.
 const HEAD: &[u8] =
     b"PUT /resource/c HTTP/1.1\r\nHost: a\r\nExpect: 100-continue\r\nContent-Length: 3\r\n\r\n";
 
+/// The whole put.
 const PUT: &[u8] =
     b"PUT /resource/c HTTP/1.1\r\nHost: a\r\nExpect: 100-continue\r\nContent-Length: 3\r\n\r\nabc";
 
-/// What is written before the body is asked for.
+/// The word to go on.
 const WORD: &[u8] = b"HTTP/1.1 100 Continue\r\n\r\n";
 
-/// What comes of the put where the ends fail from these calls on, and how many bytes are written.
+/// The result of the put where the reader and the writer fail from these calls on, and how many bytes were written.
 fn put_between(
     alloc: Global,
     source: &mut Source<MemoryDisk>,
@@ -36,7 +38,7 @@ fn put_between(
     (served, writer.get_ref().bytes().len())
 }
 
-/// Lets each read fail in turn: nothing is done, and no more than the word to go on is written.
+/// Lets each read fail in turn. The source does nothing, and at most the word to go on is written.
 fn fails_at_each_read(
     rt: &(impl Abort + AllocGlobal),
     source: &mut Source<MemoryDisk>,
@@ -57,7 +59,7 @@ fn fails_at_each_read(
     Ok(())
 }
 
-/// Lets each write fail in turn: nothing is done where the word to go on was not written, and else the put.
+/// Lets each write fail in turn. The put is done only where the word to go on was written.
 fn fails_at_each_write(
     rt: &(impl Abort + AllocGlobal),
     source: &mut Source<MemoryDisk>,
@@ -74,7 +76,8 @@ fn fails_at_each_write(
     Err("a hundred writes".into())
 }
 
-/// Lets one call of the writer fail, behind which the next ones work: the put is done where the word to go on was flushed before.
+/// Lets one call of the writer fail, and the ones after it work. The put is done where the word to go on was flushed
+/// before.
 fn fails_once_writing(
     rt: &(impl Abort + AllocGlobal),
     source: &mut Source<MemoryDisk>,
@@ -104,7 +107,7 @@ fn fails_once_writing(
     Err("a hundred calls".into())
 }
 
-/// Lets each end fail.
+/// Lets the reader and the writer fail.
 fn fails_at_each_end(
     rt: &(impl Abort + AllocGlobal),
     source: &mut Source<MemoryDisk>,
@@ -120,7 +123,7 @@ fn ends_that_fail(rt: HostRuntime) -> Result<(), Fail> {
     fails_at_each_end(&rt, &mut source)
 }
 
-/// Gives no byte past the head before the word to go on is written.
+/// A reader that gives no byte past the head before the word to go on is written.
 #[derive(Drop)]
 struct PatientReader<'a> {
     head: &'a [u8],
@@ -148,7 +151,7 @@ impl Read for PatientReader<'_> {
     }
 }
 
-/// Counts the bytes that are written.
+/// A writer that counts its bytes.
 #[derive(Drop)]
 struct CountingWriter<'a> {
     written: &'a Cell<usize>,
@@ -166,7 +169,7 @@ impl Write for CountingWriter<'_> {
     }
 }
 
-/// Asks for a put whose body waits for the word to go on.
+/// Serves a put whose body waits for the word to go on.
 fn served_patiently(alloc: Global, source: &mut Source<MemoryDisk>) -> Result<Served, FrontFault> {
     let written = Cell::new(0);
     let mut reader = Watched::new(PatientReader {

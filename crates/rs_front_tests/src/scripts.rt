@@ -1,4 +1,4 @@
-//! Scripts over ends that fail.
+//! Scripts over readers, writers and devices that fail.
 
 use crate::ends::{Call, FailsOnce};
 use crate::sources::{commands_of, new_source, new_source_on};
@@ -12,13 +12,13 @@ use std::test::Fail;
 /// Three commands. The last line ends with the input.
 const PUBLISHED: &[u8] = b"publish\npublish\npublish";
 
-/// How many lines have ended in these bytes.
+/// How many lines end in these bytes.
 fn lines_in(bytes: &[u8]) -> usize {
     bytes.iter().filter(|b| **b == b'\n').count()
 }
 
-/// Runs the three commands over a reader of such pieces, which fails from a read on: the lines that came whole before that are
-/// done and answered, and no other.
+/// Runs the three commands over a reader that gives pieces of this length and fails from a read on. The lines that came
+/// whole before it are done and answered, and no others.
 fn fails_reading(
     rt: &(impl Abort + AllocGlobal),
     source: &mut Source<MemoryDisk>,
@@ -30,7 +30,7 @@ fn fails_reading(
     let mut writer = Watched::new(Vec::new(rt.alloc()));
     let ended = script(rt.alloc(), source, &mut reader, &mut writer);
     let come = piece.saturating_mul(fail_at).min(PUBLISHED.len());
-    // The read behind the last byte finds the end.
+    // The read after the last byte finds the end.
     let (wanted, whole) = if fail_at > PUBLISHED.len().div_ceil(piece.max(1)) {
         (Ok(()), 3)
     } else {
@@ -68,9 +68,10 @@ fn a_reader_fails_at_each_read(rt: HostRuntime) -> Result<(), Fail> {
     fails_at_each_read(&rt, &mut source)
 }
 
-/// A line, its answer, and how many commands are accepted after it.
+/// A line, its answer, and how many commands have been accepted then.
 type Row<'a> = (&'a [u8], &'a [u8], u64);
 
+/// A script with one line for most statements.
 const TALK: [Row<'static>; 9] = [
     (
         b"put a 6162 a/b\n",
@@ -102,7 +103,7 @@ const TALK: [Row<'static>; 9] = [
     ),
 ];
 
-/// Looks whether these bytes are the answers up to a place in one of them, and says how many commands were accepted for them.
+/// Checks that these bytes are a beginning of the answers, and counts the commands that were accepted for them.
 fn commands_for(rt: &impl Abort, written: &[u8]) -> u64 {
     let mut rest = written;
     for (_, answer, commands) in &TALK {
@@ -117,8 +118,8 @@ fn commands_for(rt: &impl Abort, written: &[u8]) -> u64 {
     4
 }
 
-/// Runs the script of the table over a writer that fails from a call on, and tells whether it failed: the lines whose answers are
-/// written are done, and the next one.
+/// Runs the script of the table over a writer that fails from a call on, and answers whether it failed. The lines whose
+/// answers are written are done, and the next one.
 fn fails_writing(
     rt: &(impl Abort + AllocGlobal),
     source: &mut Source<MemoryDisk>,
@@ -147,7 +148,7 @@ fn fails_writing_new(
     fails_writing(rt, &mut source, input, fail_at)
 }
 
-/// Lets each write of a script fail in turn, and tells how many there are.
+/// Lets each write of a script fail in turn, and counts them.
 fn fails_at_each_write(rt: &(impl Abort + AllocGlobal), input: &[u8]) -> Result<u64, Fail> {
     for fail_at in 0..200 {
         if !fails_writing_new(rt, input, fail_at)? {
@@ -169,7 +170,7 @@ fn a_writer_fails_at_each_call(rt: HostRuntime) -> Result<(), Fail> {
     Ok(())
 }
 
-/// How many commands are accepted for the lines whose whole answers these bytes are, where they end with one.
+/// How many commands were accepted for these answers, or `None` where the bytes end within an answer.
 fn commands_answered(written: &[u8]) -> Option<u64> {
     let mut rest = written;
     let mut accepted = 0;
@@ -190,8 +191,8 @@ fn commands_answered(written: &[u8]) -> Option<u64> {
     }
 }
 
-/// Runs the script of the table, a byte a read, over a writer of which this call fails and the next one works, and tells which
-/// call failed. Behind a flush that failed no line is begun; behind a write no other line is.
+/// Runs the script of the table, one byte a read, over a writer that fails at one call, and answers the kind of that
+/// call. No line begins after the fault. Where a write failed, its own line is done.
 fn fails_once_writing(
     rt: &(impl Abort + AllocGlobal),
     source: &mut Source<MemoryDisk>,
@@ -253,7 +254,7 @@ fn a_writer_fails_once_at_each_call(rt: HostRuntime) -> Result<(), Fail> {
     Err("two hundred calls".into())
 }
 
-/// Runs the three commands, a byte a read, over a reader of which this read fails and the next one works: nothing behind it is done.
+/// Runs the three commands, one byte a read, over a reader that fails at one read. Nothing after it is done.
 fn fails_once_reading(
     rt: &(impl Abort + AllocGlobal),
     source: &mut Source<MemoryDisk>,
@@ -284,7 +285,7 @@ fn a_reader_fails_once_at_each_read(rt: HostRuntime) -> Result<(), Fail> {
     Ok(())
 }
 
-/// Runs a script that lies in memory.
+/// Runs a script from memory.
 fn is_answered(
     rt: &(impl Abort + AllocGlobal),
     source: &mut Source<MemoryDisk>,
@@ -302,7 +303,7 @@ fn a_script_lies_in_memory(rt: HostRuntime) -> Result<(), Fail> {
     is_answered(&rt, &mut source)
 }
 
-/// Two resources, of which one has no bytes, and the question for damaged ones, asked twice.
+/// Two resources, one of them empty, and `verify` twice.
 const VERIFIED: &[u8] = b"put a - a/b
 publish
 put b 616263 a/b
@@ -312,7 +313,7 @@ show /resource/b
 publish
 ";
 
-/// Runs that script over a device of which a call fails in the first `verify`: nothing changes, and the source is open.
+/// Runs that script over a device that fails in the first `verify`. Nothing changes, and the source stays open.
 fn goes_on_after_a_fault(
     rt: &(impl Abort + AllocGlobal),
     source: &mut Source<MemoryDisk>,
@@ -334,8 +335,8 @@ published 2 1970-01-01T00:00:00.004Z
 #[test]
 fn a_device_fails_in_verify(rt: HostRuntime) -> Result<(), Fail> {
     let mut disk = MemoryDisk::new(rt.alloc(), 65_536)?;
-    // The formatting makes six calls, and the commands 24. The next one is the first read of `b`; the body of no bytes
-    // needs none.
+    // The formatting makes six calls, and the commands 24. The next one is the first read of `b`: the empty body needs
+    // no read.
     disk.fail_once(30);
     let mut source = new_source_on(rt.alloc(), disk)?;
     goes_on_after_a_fault(&rt, &mut source)

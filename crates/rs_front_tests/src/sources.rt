@@ -1,4 +1,4 @@
-//! The source that is asked.
+//! Sources for the tests.
 
 use rs_disk::MemoryDisk;
 use rs_store::Source;
@@ -6,7 +6,7 @@ use rs_time::Moment;
 use std::alloc::Global;
 use std::test::Fail;
 
-/// A source formatted at the moment 0, with lists of at most two items.
+/// A source with the item limit 2, formatted at the moment 0.
 pub fn new_source(alloc: Global) -> Result<Source<MemoryDisk>, Fail> {
     new_source_on(alloc, MemoryDisk::new(alloc, 65_536)?)
 }
@@ -19,7 +19,7 @@ pub fn new_source_on(alloc: Global, disk: MemoryDisk) -> Result<Source<MemoryDis
     }
 }
 
-/// How many commands the source has accepted: each came at the moment 0, so each has the next millisecond.
+/// How many commands the source has accepted. All came at the moment 0, so each took the next millisecond.
 pub fn commands_of(source: &Source<MemoryDisk>) -> Result<u64, Fail> {
     Ok(source.status()?.last.ms())
 }

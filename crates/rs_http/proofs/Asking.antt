@@ -1,4 +1,4 @@
--- What the answers of the source come to.
+-- The outcomes by the answers of the source.
 use Rattle.std.proofs.Common.{◌≡◌, ℕ, List, [], ◌++◌, append_assoc, append-nil, codes, Option, Some, None, Result, Ok, Err, Vec, Global, Bool, true, false, ◌↔◌, length, refl, ap, sym, subst, ◌∙◌, if◌then◌else◌, IsErrOf, IsTrue, option_map}
 use Rattle.rs_disk.specs.Medium.{DiskState}
 use Rattle.rs_http.proofs.FromBelow.{reading_as}
@@ -28,7 +28,7 @@ module _ {W : Type 0} {contents : W → Option (List ℕ)} {before after : Watch
       → Responds contents before after framing comes result
   answered outcome is sends = record { outcome = outcome; comes_of_it = is; sends = sends }
 
-  -- what comes of it may be told in other words
+  -- the property of the outcome may be weaker
   pub answers_more : {comes more : RequestOutcome → Type 0} → ((outcome : RequestOutcome) → comes outcome → more outcome)
       → Responds contents before after framing comes result → Responds contents before after framing more result
   answers_more is r = record { outcome = r.outcome; comes_of_it = is r.outcome r.comes_of_it; sends = r.sends }
@@ -47,14 +47,14 @@ of_kind NotHeld is = tt
 of_kind NoMemory is = tt
 of_kind refusal is = absurd is
 
--- a refusal is one, whatever might have been given in its place
+-- a refusal is one, whatever the type of the value
 elsewhere : {A B : Type 0} (r s : stored.Refusal) (P : Type 0) → IsErrOf {T = A} (Err r) s ↔ P → IsErrOf {T = B} (Err r) s ↔ P
 elsewhere {A = A} {B = B} r s P h =
     let there : IsErrOf {T = A} (Err r) s → IsErrOf {T = B} (Err r) s = λ e. let is : r ≡ s = cc in ap Err is in
     let back : IsErrOf {T = B} (Err r) s → IsErrOf {T = A} (Err r) s = λ e. let is : r ≡ s = cc in ap Err is in
     (λ e. h.0 (back e), λ p. there (h.1 p))
 
--- what is asked of a source that gave a body is asked of the same state
+-- a source that gave a body has the same state
 module _ {D : Type 0} {device : D → DiskState} (turn : Turn device) (name : List ℕ) (bytes : Vec ℕ Global) (a : AnswersBody device turn.old turn.new name (Ok bytes)) where
   abbrev old : Stored D
   old = turn.old
@@ -76,7 +76,7 @@ module _ {D : Type 0} {device : D → DiskState} (turn : Turn device) (name : Li
     outcome_is = (k, ap (kind_of name) (sym same_state) ∙ e ∙ ap Some (sym type_is), ap (shown k) is);
   }
 
-  -- or the memory for its type is refused, and so the body is
+  -- or there is no memory for its type, and the body is refused
   pub kind_refused : (refusal : stored.Refusal) → IsErrOf {T = List ℕ} (Err refusal) Closed ↔ IsTrue new.is_closed
       → IsErrOf {T = List ℕ} (Err refusal) NotHeld ↔ ((new.is_closed ≡ false) × (is_held (state_of device new) name ≡ false)) → IsOfKind refusal → ReadComesTo turn name (refused refusal)
   kind_refused refusal closed not_held is = record {
@@ -96,7 +96,7 @@ module _ {D : Type 0} {device : D → DiskState} (turn : Turn device) (name : Li
     outcome_is = refl;
   }
 
--- a document that has a length is there
+-- a document with a length exists
 pub is_there : (found : Option (List ℕ)) (count : ℕ) → option_map length found ≡ Some count → (text : List ℕ) × (found ≡ Some text) × (length text ≡ count)
 is_there None count e = absurd cc
 is_there (Some text) count e = (text, refl, let same : Some (length text) ≡ Some count = e in cc)
@@ -116,7 +116,7 @@ document_head framing text count same =
     ap (λ (l : List ℕ). l ++ sent_body framing text) bare ∙ append_assoc first lines (sent_body framing text)
     ∙ ap (λ (n : ℕ). first ++ (content_lines (codes "application/xml") n ++ sent_body framing text)) (sym same)
 
--- one that has none is not there
+-- a document without a length does not exist
 pub shown_none : (found : Option (List ℕ)) → option_map length found ≡ None → found ≡ None
 shown_none None e = refl
 shown_none (Some text) e = absurd cc
@@ -124,7 +124,7 @@ shown_none (Some text) e = absurd cc
 when_open : (closed : Bool) (outcome : RequestOutcome) → closed ≡ false → outcome ≡ (if closed then refused Closed else outcome)
 when_open closed outcome is = sym (ap (λ b. if b then refused Closed else outcome) is)
 
--- what a view of an open source shows is what its state shows
+-- a view of an open source shows what its state shows
 pub document_is : DocumentsAreOfTheState → {D : Type 0} (device : D → DiskState) (s : Stored D) (doc : Doc) (view : Shown) (outcome : RequestOutcome) {T : Type 0} (given : T)
     → IsErrOf {E = stored.Refusal} (Ok given) Closed ↔ IsTrue s.is_closed → view ≡ views.shown_in s.contents
     → document_or_none (document_text view doc) ≡ outcome → outcome ≡ document_shown device s doc

@@ -11,7 +11,7 @@ use Rattle.rs_io.specs.declared.watch.Watched.{Watched}
 use Rattle.rs_io.specs.Watch.{watched, seen_by, failures, EndFailed, FlushFailed, Wrote, FailedWithin, TellsEnd, End, Ends, ends_of}
 use Rattle.rs_http.proofs.FromBelow.{later_fault, later_put_fault}
 use Rattle.rs_model.specs.declared.command.Reply.{Reply}
-use Rattle.rs_store.specs.Received.{AnswersFrom}
+use Rattle.rs_store.specs.Received.{AnswersFrom, coming_put}
 use Rattle.rs_store.specs.declared.refusal.Refusal.{Refusal}
 use Rattle.rs_store.specs.declared.refusal.Refusal.TheVariants.{ReadFault, ShortBody}
 use Rattle.rs_http.specs.declared.fault.FrontFault.{FrontFault}
@@ -39,7 +39,7 @@ unread (Ok status) is e = absurd cc
 unread (Err fault) is e = absurd cc
 
 module _ {W : Type 0} (contents : W → Option (List ℕ)) (before after : Watched W) where
-  -- a response that was sent, as it is seen by its bytes
+  -- a response that was sent, as its bytes show it
   seen_sends : (framing : Framing) (outcome : RequestOutcome) (result : Result ℕ FrontFault) → Sends contents before after framing outcome result
       → Sends (λ bytes. bytes) (seen_by contents before) (seen_by contents after) framing outcome result
   seen_sends framing outcome (Ok status) s = s
@@ -53,7 +53,7 @@ module _ {W : Type 0} (contents : W → Option (List ℕ)) (before after : Watch
 module _ {D R W : Type 0} {device : D → DiskState} {turn : Turn device} {plan : Result RequestPlan NoPlan} {framing : Framing} {contents : W → Option (List ℕ)}
     {before after : Watched W} {comes : RequestOutcome → Type 0} {result : Result ℕ FrontFault}
     (asked : Result RequestPlan NoPlan) (remaining : R → Option (List ℕ)) where
-  -- an answer that was sent ends a plan, for which these bytes were read
+  -- an answer that was sent ends a plan that read these bytes
   pub sent_ends : (reader left : Watched R) (more : List ℕ) → plan ≡ asked → Consumes (remaining (watched reader)) (remaining (watched left)) more → failures left ≡ failures reader
       → Responds contents before after framing comes result
       → ((outcome : RequestOutcome) → comes outcome → RequestGives turn asked more (remaining (watched left)) outcome)
@@ -70,7 +70,7 @@ module _ {D R W : Type 0} {device : D → DiskState} {turn : Turn device} {plan 
     };
   }
 
-  -- or for which no byte is read
+  -- or a plan that read no byte
   pub sent_bare : (reader : Watched R) → plan ≡ asked → Responds contents before after framing comes result
       → ((outcome : RequestOutcome) → comes outcome → RequestGives turn asked [] (remaining (watched reader)) outcome)
       → PlanEnds turn plan framing (ends_of remaining reader reader contents before after) result
@@ -79,7 +79,7 @@ module _ {D R W : Type 0} {device : D → DiskState} {turn : Turn device} {plan 
 -- what the source answered to a put is answered, unless the reader failed
 pub put_ends : {D R W : Type 0} {device : D → DiskState} {turn : Turn device} {framing : Framing} {result : Result ℕ FrontFault} {name kind : List ℕ} {n : ℕ} {waits : Bool}
     (remaining : R → Option (List ℕ)) (reader left : Watched R) (contents : W → Option (List ℕ)) (before after : Watched W) (answer : Result Reply Refusal)
-    → (came : List ℕ) × Consumes (remaining (watched reader)) (remaining (watched left)) came × AnswersFrom device turn.old turn.new name kind n turn.now came answer
+    → (came : List ℕ) × Consumes (remaining (watched reader)) (remaining (watched left)) came × AnswersFrom device turn.old turn.new (coming_put name kind n turn.now) came answer
     → (IsErrOf answer ReadFault → ⊥) → TellsEnd (IsErrOf answer ReadFault) reader left → (IsErrOf answer ShortBody → IsAtEnd (remaining (watched left)))
     → Sends contents before after framing (outcome_replied answer) result
     → PlanEnds turn (Ok (Put name kind n waits)) framing (ends_of remaining reader left contents before after) result
@@ -88,7 +88,7 @@ put_ends {turn = turn} {name = name} {kind = kind} {n = n} {waits = waits} remai
     (answered {contents = contents} {before = before} {after = after} {comes = λ outcome. RequestGives turn (Ok (Put name kind n waits)) came.0 (remaining (watched left)) outcome}
     (outcome_replied answer) (record { result = answer; answers = came.2; unbroken = unbroken; outcome_is = refl }, ended) sends) (λ o h. h)
 
--- what `?` gives of a fault
+-- the result of `?` at a fault
 pub passes : {T : Type 0} (r : Result T FrontFault) (fault : FrontFault) → IsErr r × IsErrAnd r (λ made. made ≡ fault) → r ≡ Err fault
 passes (Ok v) fault is = absurd is.1
 passes (Err made) fault is = ap Err is.1
@@ -98,7 +98,7 @@ later_flush_fault : {T : Type 0} (a b c : Watched T) → failures b ≡ failures
 later_flush_fault a b c same (inl rose) = inl (omega (arith, ap (λ f. f.flushes) same, rose))
 later_flush_fault a b c same (inr last) = inr last
 
--- a flush that failed behind the text, of which nothing was left out
+-- a flush failed after the whole text
 took_all : (before mid after : End) (first text : List ℕ) → Appends (watched before) (watched mid) (first ++ text) → failures mid ≡ failures before
     → Keeps (watched mid) (watched after) → FlushFailed mid after → TakesPart before after first text
 took_all before mid after first text put same kept failed = record {
@@ -129,9 +129,16 @@ module _ {D : Type 0} {device : D → DiskState} (turn : Turn device) (request :
   abbrev asked : Ends
   asked = record { left = left; rest = rest; before = mid; after = after }
 
-  -- what went out before, and then this text
+  -- the word to go on where it was due, and then this text
   both : (text : List ℕ) → Appends (watched mid) (watched after) text → Appends (watched before) (watched after) (preface_of request.plan ++ text)
   both text then = Appends-trans (watched before) (watched mid) (watched after) (preface_of request.plan) text preface.0 then
+
+  -- the outcome stands, and the writer failed in its response
+  cut : (more : List ℕ) (last : End) (outcome : RequestOutcome) → RequestGives turn request.plan more (watched rest) outcome
+      → TakesPart before last (preface_of request.plan) (response_text framing outcome)
+      → IsUnsaid turn request more (record { left = left; rest = rest; before = before; after = last })
+      ⊎ IsCutOff turn request more (record { left = left; rest = rest; before = before; after = last })
+  cut more last outcome gives took = inr (record { outcome = outcome; date = date; dated = dated; gives = gives; took = took })
 
   -- the plan was answered, and then the writer was flushed
   pub finished : (kept : End) (status : ℕ) (out : Result ℕ FrontFault) → PlanEnds turn request.plan framing asked (Ok status)
@@ -163,13 +170,7 @@ module _ {D : Type 0} {device : D → DiskState} (turn : Turn device) (request :
         writer = record { failed = λ _. later_fault before after kept (r.sends.1.1 ∙ preface.1) failed; sound = λ no. absurd (no refl) };
         answered = tt;
         broken = λ no. absurd cc;
-        stands = λ _. inr (record {
-          outcome = r.outcome;
-          date = date;
-          dated = dated;
-          gives = r.comes_of_it;
-          took = took_all before after kept (preface_of request.plan) text (both text r.sends.1.0) (r.sends.1.1 ∙ preface.1) k unflushed;
-        });
+        stands = λ _. cut e.more kept r.outcome r.comes_of_it (took_all before after kept (preface_of request.plan) text (both text r.sends.1.0) (r.sends.1.1 ∙ preface.1) k unflushed);
       }
 
   -- it was not
@@ -194,16 +195,16 @@ module _ {D : Type 0} {device : D → DiskState} (turn : Turn device) (request :
         writer = record { failed = λ _. later_fault before mid after preface.1 w.failed.0; sound = λ no. absurd (no refl) };
         answered = tt;
         broken = λ no. absurd cc;
-        stands = λ _. inr (record {
-          outcome = r.outcome;
-          date = date;
-          dated = dated;
-          gives = r.comes_of_it;
-          took = record { part = w.part; left_out = w.left_out; bytes_are = w.bytes_are; took = both w.part w.took; failed = inl (later_put_fault before mid after preface.1 w.failed) };
+        stands = λ _. cut e.more after r.outcome r.comes_of_it (record {
+          part = w.part;
+          left_out = w.left_out;
+          bytes_are = w.bytes_are;
+          took = both w.part w.took;
+          failed = inl (later_put_fault before mid after preface.1 w.failed);
         });
       }
 
--- the word to go on was not said
+-- the word to go on was not written
 pub unsaid : {D : Type 0} {device : D → DiskState} {turn : Turn device} (request : Request) (ends : Ends) → ends.rest ≡ ends.left → turn.new ≡ turn.old → EndFailed ends.before ends.after
     → (preface_of request.plan ≡ go_on) × TakesPart ends.before ends.after [] go_on → RequestEnds turn request ends (Err Write)
 unsaid request ends unread same failed took = record {

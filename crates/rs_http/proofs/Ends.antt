@@ -1,4 +1,4 @@
--- An end of a head depends on the bytes before it alone.
+-- Whether a head ends depends only on the bytes before.
 use Rattle.std.proofs.Common.{◌≡◌, ℕ, zero, suc, ◌+◌, ◌-◌, ◌<◌, ◌≤◌, true, false, List, [], ◌∷◌, length, take, get_or, set, refl, ap, sym, ◌∙◌, arith, subst, Option}
 use Rattle.std.proofs.lemmas.Grind.{common_steps}
 use Rattle.std.proofs.lemmas.List.{get_or-take, take-set, take_more_set}

@@ -1,4 +1,4 @@
--- What groups come to.
+-- The outcomes of groups.
 use Rattle.std.proofs.Common.{◌≡◌, ◌⊎◌, inl, inr, ℕ, ◌<◌, ◌≤◌, List, [], length, take, refl, ap, sym, ◌∙◌, subst, arith, Bool, true, false, Option, Some, None, Result, Ok, Err, if◌then◌else◌, nat_eq}
 use Rattle.std.specs.Result.{result_ok}
 use Rattle.std.proofs.lemmas.Bool.{eq-eqb, cases_lt}
@@ -7,7 +7,7 @@ use Rattle.std.proofs.lemmas.List.{take_all, length-take-le}
 use Rattle.std.specs.Prelude.{not, ◌&&◌, nat_le}
 use Rattle.rs_disk.specs.Medium.{DiskState}
 use Rattle.rs_model.specs.State.{Source}
-use Rattle.rs_model.specs.Step.{is_bad_group, refusal_of, items_causes, first_cause}
+use Rattle.rs_model.specs.Step.{is_bad_group, refusal_of, items_causes, first_cause, step}
 use Rattle.rs_model.specs.declared.command.Command.TheVariants as commands
 use Rattle.rs_model.specs.declared.command.Item.{Item}
 use Rattle.rs_model.specs.declared.command.Refusal as model
@@ -17,7 +17,7 @@ use Rattle.rs_items.specs.declared.item.ItemFault.{ItemFault}
 use Rattle.rs_store.specs.Answered.{Answers}
 use Rattle.rs_store.specs.Commands.{IsCause, Leads}
 use Rattle.rs_store.specs.Refusals.{decided, or_spent, is_spent}
-use Rattle.rs_store.specs.Source.{Stored, state_of}
+use Rattle.rs_store.specs.Source.{state_of}
 use Rattle.rs_store.specs.declared.refusal.Refusal as stored
 use Rattle.rs_store.specs.declared.refusal.Refusal.TheVariants.{Closed, BadGroup, ReadFault, ShortBody, NoMemory}
 use Rattle.rs_http.specs.Turn.{Turn}
@@ -56,7 +56,7 @@ no_memory_counts : (asked : Option (List Item)) (now : ℕ) → counted_group as
 no_memory_counts None now = refl
 no_memory_counts (Some items) now = refl
 
--- nothing counts of a group that was not asked of the source
+-- no command counts where the source did not get the group
 pub unasked_counts : (n : ℕ) (came : List ℕ) (rest : Option (List ℕ)) (outcome : RequestOutcome) (now : ℕ) → UnaskedGroup n came rest outcome
     → counted_group (items_asked n came) now outcome ≡ []
 unasked_counts n came rest outcome now (inl short) = ap (λ asked. counted_group asked now outcome) (asked_short n came short.0)
@@ -71,7 +71,7 @@ unread_unasked n came rest ShortBody other_than short = inl (short.0, short.1, r
 unread_unasked n came rest ReadFault other_than few = absurd (other_than refl)
 unread_unasked n came rest refusal other_than none = absurd none
 
--- items that were not read, by the reason that was found
+-- items that were not read, by the reason
 pub faulty_unasked : (came : List ℕ) (rest : Option (List ℕ)) (reason : NoPlan) → (reason ≡ reasons.NoMemory) ⊎ ((fault : ItemFault) × (items_in came ≡ Err fault) × (reason ≡ reason_of_fault fault))
     → UnaskedGroup (length came) came rest (unplanned reason)
 faulty_unasked came rest reason (inl lacking) = inr (inr (inr refl, ap unplanned lacking))
@@ -87,46 +87,37 @@ IsEarly BadGroup = Unit {0}
 IsEarly refusal = ⊥
 
 module _ {D : Type 0} {device : D → DiskState} (turn : Turn device) where
-  abbrev old : Stored D
-  old = turn.old
-
-  abbrev new : Stored D
-  new = turn.new
-
-  abbrev now : ℕ
-  now = turn.now
-
   module _ (one other : List Item) (bad : is_bad_group one ≡ true) (worse : is_bad_group other ≡ true) where
-    refused_bad : (items : List Item) → is_bad_group items ≡ true → refusal_of (state_of device old) (commands.Group items) now ≡ Some decides.BadGroup
-    refused_bad items is = chosen (is_bad_group items) (Some decides.BadGroup) (first_cause (items_causes (state_of device old) items now)) is
+    refused_bad : (items : List Item) → is_bad_group items ≡ true → refusal_of (state_of device turn.old) (commands.Group items) turn.now ≡ Some decides.BadGroup
+    refused_bad items is = chosen (is_bad_group items) (Some decides.BadGroup) (first_cause (items_causes (state_of device turn.old) items turn.now)) is
 
     by_closed : (items : List Item) → is_bad_group items ≡ true
-        → decided old (state_of device old) (commands.Group items) now ≡ (if old.is_closed then Some Closed else Some BadGroup)
-    by_closed items is = ap (λ (r : Option model.Refusal). if old.is_closed then Some Closed else or_spent r (is_spent old)) (refused_bad items is)
+        → decided turn.old (state_of device turn.old) (commands.Group items) turn.now ≡ (if turn.old.is_closed then Some Closed else Some BadGroup)
+    by_closed items is = ap (λ (r : Option model.Refusal). if turn.old.is_closed then Some Closed else or_spent r (is_spent turn.old)) (refused_bad items is)
 
-    decided_alike : decided old (state_of device old) (commands.Group one) now ≡ decided old (state_of device old) (commands.Group other) now
+    decided_alike : decided turn.old (state_of device turn.old) (commands.Group one) turn.now ≡ decided turn.old (state_of device turn.old) (commands.Group other) turn.now
     decided_alike = by_closed one bad ∙ sym (by_closed other worse)
 
     early : (closed : Bool) (found : Option stored.Refusal) → found ≡ (if closed then Some Closed else Some BadGroup) → (r : stored.Refusal) × IsEarly r × (found ≡ Some r)
     early true found is = (Closed, tt, is)
     early false found is = (BadGroup, tt, is)
 
-    early_cause : (r : stored.Refusal) → IsEarly r → IsCause device old new (commands.Group one) now r → IsCause device old new (commands.Group other) now r
+    early_cause : (r : stored.Refusal) → IsEarly r → IsCause device turn.old turn.new (commands.Group one) turn.now r → IsCause device turn.old turn.new (commands.Group other) turn.now r
     early_cause Closed e is = sym decided_alike ∙ is
     early_cause BadGroup e is = sym decided_alike ∙ is
     early_cause r e is = absurd e
 
-    early_leads : (r : stored.Refusal) (s : Source) → IsEarly r → Leads device old new s (commands.Group one) now (Err r) → Leads device old new s (commands.Group other) now (Err r)
+    early_leads : (r : stored.Refusal) (s : Source) → IsEarly r → Leads device turn.old turn.new s (step s (commands.Group one) turn.now) (Err r) → Leads device turn.old turn.new s (step s (commands.Group other) turn.now) (Err r)
     early_leads Closed s e led = led
     early_leads BadGroup s e led = led
     early_leads r s e led = absurd e
 
-    refused_alike : (r : stored.Refusal) → IsEarly r → Answers device old new (commands.Group one) now (Err r) → Answers device old new (commands.Group other) now (Err r)
+    refused_alike : (r : stored.Refusal) → IsEarly r → Answers device turn.old turn.new (commands.Group one) turn.now (Err r) → Answers device turn.old turn.new (commands.Group other) turn.now (Err r)
     refused_alike r e a = record {
       decides = λ r is. a.decides r (decided_alike ∙ is);
       untouched = λ r is. a.untouched r (decided_alike ∙ is);
       full = a.full;
-      refused = λ q is. let same : r ≡ q = cc in subst (λ (x : stored.Refusal). IsCause device old new (commands.Group other) now x) same (early_cause r e (a.refused r refl));
+      refused = λ q is. let same : r ≡ q = cc in subst (λ (x : stored.Refusal). IsCause device turn.old turn.new (commands.Group other) turn.now x) same (early_cause r e (a.refused r refl));
       accepted = a.accepted;
       planned = a.planned;
       generation = a.generation;
@@ -138,13 +129,13 @@ module _ {D : Type 0} {device : D → DiskState} (turn : Turn device) where
       unchanged = a.unchanged;
     }
 
-    -- two groups of a number of items that none may have are answered alike
-    answered_alike : (result : Result Reply stored.Refusal) → Answers device old new (commands.Group one) now result → Answers device old new (commands.Group other) now result
+    -- two groups with numbers of items that no group may have are answered alike
+    answered_alike : (result : Result Reply stored.Refusal) → Answers device turn.old turn.new (commands.Group one) turn.now result → Answers device turn.old turn.new (commands.Group other) turn.now result
     answered_alike result a =
-        let found = early old.is_closed (decided old (state_of device old) (commands.Group one) now) (by_closed one bad) in
+        let found = early turn.old.is_closed (decided turn.old (state_of device turn.old) (commands.Group one) turn.now) (by_closed one bad) in
         let is : result ≡ Err found.0 = a.decides found.0 found.2 in
-        let P : Result Reply stored.Refusal → Type 0 = λ r. Answers device old new (commands.Group one) now r in
-        let Q : Result Reply stored.Refusal → Type 0 = λ r. Answers device old new (commands.Group other) now r in
+        let P : Result Reply stored.Refusal → Type 0 = λ r. Answers device turn.old turn.new (commands.Group one) turn.now r in
+        let Q : Result Reply stored.Refusal → Type 0 = λ r. Answers device turn.old turn.new (commands.Group other) turn.now r in
         subst Q (sym is) (refused_alike found.0 found.1 (subst P is a))
 
     alike_comes : (outcome : RequestOutcome) → RunComesTo turn (commands.Group one) outcome → RunComesTo turn (commands.Group other) outcome
@@ -159,6 +150,6 @@ module _ {D : Type 0} {device : D → DiskState} (turn : Turn device) where
       let kept : length (take 17 all) ≡ 17 = length-take-le 17 all many in
       alike_comes (take 17 all) all (too_many (length (take 17 all)) (omega arith)) (too_many (length all) many) outcome r
 
-  -- what comes of a group of the first 17 items comes of the group of all
+  -- the outcome of a group of the first 17 items is one of the group of all
   pub whole_comes : (all : List Item) (outcome : RequestOutcome) → RunComesTo turn (commands.Group (take 17 all)) outcome → RunComesTo turn (commands.Group all) outcome
   whole_comes all outcome r = by_count all outcome (cases_lt (length all) 17) r

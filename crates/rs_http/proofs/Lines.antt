@@ -34,7 +34,7 @@ first_line bytes i e =
     let more : 0 < length (slice_split is_break (drop (i + 1) bytes)) = omega (arith, length-slice_split is_break (drop (i + 1) bytes)) in
     ap lines_between cut ∙ cut_before (take i bytes) (slice_split is_break (drop (i + 1) bytes)) more
 
--- the line that none ends
+-- the line that no line feed ends
 pub only_line : (bytes : List ℕ) → position is_break bytes ≡ None → lines_of bytes ≡ last_line bytes
 only_line bytes e =
     let le = not_found is_break bytes e in

@@ -19,7 +19,7 @@ use Rattle.rs_http.specs.Checks.{is_put, is_delete, stated_in, expects_word, put
 use Rattle.rs_http.specs.Requests.{IsPlanFor, Asks}
 use Rattle.rs_http.specs.Targets.{path_of_target, resource_place, document_place, place_of}
 
--- a document that is asked for is one that a path can name
+-- a path can name each document that a request asks for
 abbrev pub HasPath : Result RequestPlan NoPlan → Type 0
 HasPath (Ok (ShowDocument doc)) = HasCounts doc
 HasPath plan = Unit {0}
@@ -45,7 +45,7 @@ place_has path =
     (place_either (bytes_eq path (codes "/publish")) Publishing last tt
     (place_either (bytes_eq path (codes "/group")) Grouping (document_place (doc_of path)) tt (document_has path (doc_of path) refl)))
 
--- what is asked of a resource is no document
+-- a request for a resource asks for no document
 resource_has : (b c : Bool) (put : RequestPlan) (name : List ℕ) → HasPath (Ok put) → HasPath (Ok (cond b put (cond c (Delete name) (ShowBody name))))
 resource_has true c put name h = h
 resource_has false true put name h = tt

@@ -7,13 +7,13 @@ use Rattle.rs_http.specs.declared.request.NoPlan.TheVariants.{Refused, NoMemory}
 use Rattle.rs_http.specs.Checks.{Causes, first_fault}
 use Rattle.rs_http.specs.Requests.{IsPlanFor}
 
--- none of the first causes is there
+-- none of the first causes applies
 passed : (xs ys : Causes) → first_fault xs ≡ None → first_fault (xs ++ ys) ≡ first_fault ys
 passed [] ys e = refl
 passed ((true, fault) ∷ xs) ys e = absurd cc
 passed ((false, fault) ∷ xs) ys e = passed xs ys e
 
--- one of them is
+-- one of them applies
 pub met : (xs ys : Causes) (fault : RequestFault) → first_fault xs ≡ Some fault → first_fault (xs ++ ys) ≡ Some fault
 met [] ys fault e = absurd cc
 met ((true, f) ∷ xs) ys fault e = e

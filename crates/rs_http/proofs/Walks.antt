@@ -22,7 +22,7 @@ use Rattle.rs_caps.specs.Shows.{shown_of}
 use Rattle.rs_store.specs.Answered.{Answers}
 use Rattle.rs_store.specs.AnswersBody.{AnswersBody}
 use Rattle.rs_store.specs.Laws.{HeldStands}
-use Rattle.rs_store.specs.Received.{IsBodyOf, MayHaveCome, AnswersFrom}
+use Rattle.rs_store.specs.Received.{IsBodyOf, MayHaveCome, AnswersFrom, coming_put}
 use Rattle.rs_store.specs.Refusals.{named_as}
 use Rattle.rs_store.specs.Source.{Stored, Holds, state_of}
 use Rattle.rs_store.specs.declared.refusal.Refusal as stored
@@ -52,7 +52,7 @@ never_named : (reason : model.Refusal) → named_as reason ≡ NoMemory → ⊥
 never_named decides.BadGroup e = absurd cc
 never_named reason e = absurd cc
 
--- no more came than the body has: there is a body that begins so
+-- no more bytes came than the body has: some body begins so
 pub begins_one : (n : ℕ) (came : List ℕ) → length came ≤ n → (body : List ℕ) × IsBodyOf n came body
 begins_one n came le = (
   came ++ replicate (n - length came) 0,
@@ -67,7 +67,7 @@ none_or_all : (n : ℕ) (came : List ℕ) → (came ≡ []) ⊎ (length came ≡
 none_or_all n came (inl none) = rw none (omega arith)
 none_or_all n came (inr all) = omega (arith, all)
 
--- no more came of a body that was refused so than it has
+-- no more bytes came of a refused body than it has
 pub may_fit : (n : ℕ) (came : List ℕ) (refusal : stored.Refusal) → MayHaveCome n came refusal → length came ≤ n
 may_fit n came Device may = may
 may_fit n came NoMemory may = none_or_all n came may
@@ -75,7 +75,7 @@ may_fit n came refusal may = rw may (omega arith)
 
 module _ {D : Type 0} {device : D → DiskState} (turn : Turn device) where
   some_of : (name kind : List ℕ) (n : ℕ) (came : List ℕ) (result : Result Reply stored.Refusal)
-      → AnswersFrom device turn.old turn.new name kind n turn.now came result → length came ≤ n
+      → AnswersFrom device turn.old turn.new (coming_put name kind n turn.now) came result → length came ≤ n
   some_of name kind n came (Ok reply) a = omega (arith, a.0)
   some_of name kind n came (Err ReadFault) a = omega (arith, a.fewer)
   some_of name kind n came (Err ShortBody) a = omega (arith, a.fewer)
@@ -90,66 +90,57 @@ module _ {D : Type 0} {device : D → DiskState} (turn : Turn device) where
 module _ {D : Type 0} (device : D → DiskState) (sound : (disk : D) → IsMedium (device disk).size (device disk).now) (stands : HeldStands device)
     (reading : ReadingsIdle device) (commands_walk : CommandsMakeWalks device) (documents : DocumentsAreAnswered) (bodies : BodiesAreAnswered)
     (turn : Turn device) (s : Source) (holds : Holds device turn.old s) where
-  abbrev old : Stored D
-  old = turn.old
-
-  abbrev new : Stored D
-  new = turn.new
-
-  abbrev now : ℕ
-  now = turn.now
-
   -- no event
-  nothing : (M : Kind) → M [] → Holds device new s → LeavesWalk device s M new
-  nothing M none held = walked device stands s M new [] none held
+  nothing : (M : Kind) → M [] → Holds device turn.new s → LeavesWalk device s M turn.new
+  nothing M none held = walked device stands s M turn.new [] none held
 
-  same_held : new ≡ old → Holds device new s
+  same_held : turn.new ≡ turn.old → Holds device turn.new s
   same_held same = subst (λ (x : Stored D). Holds device x s) (sym same) holds
 
-  of_reply : (command : Command) (result : Result Reply stored.Refusal) → LeavesWalk device s (CommandEvents s command now result) new
-      → LeavesWalk device s (RunEvents s command now (outcome_replied result)) new
+  of_reply : (command : Command) (result : Result Reply stored.Refusal) → LeavesWalk device s (CommandEvents s command turn.now result) turn.new
+      → LeavesWalk device s (RunEvents s command turn.now (outcome_replied result)) turn.new
   of_reply command (Ok reply) walk = walk
   of_reply command (Err refusal) walk = walk
 
   run_walk : (command : Command) (outcome : RequestOutcome) → RunComesTo turn command outcome
-      → LeavesWalk device s (RunEvents s command now outcome) new
+      → LeavesWalk device s (RunEvents s command turn.now outcome) turn.new
   run_walk command outcome r =
-      let P : RequestOutcome → Type 0 = λ o. LeavesWalk device s (RunEvents s command now o) new in
-      subst P (sym r.outcome_is) (of_reply command r.result (commands_walk old new s command now r.result holds r.answers))
+      let P : RequestOutcome → Type 0 = λ o. LeavesWalk device s (RunEvents s command turn.now o) turn.new in
+      subst P (sym r.outcome_is) (of_reply command r.result (commands_walk turn.old turn.new s command turn.now r.result holds r.answers))
 
   -- a put, by its answer
   module _ (name kind : List ℕ) (n : ℕ) (came body : List ℕ) (whole : IsBodyOf n came body) where
     abbrev put : Command
     put = commands.Put name kind body
 
-    was_put : (result : Result Reply stored.Refusal) → Answers device old new put now result → LeavesWalk device s (CommandEvents s put now result) new
-    was_put result answers = commands_walk old new s put now result holds answers
+    was_put : (result : Result Reply stored.Refusal) → Answers device turn.old turn.new put turn.now result → LeavesWalk device s (CommandEvents s put turn.now result) turn.new
+    was_put result answers = commands_walk turn.old turn.new s put turn.now result holds answers
 
-    all_came : (reply : Reply) → length came ≡ n → Answers device old new (commands.Put name kind came) now (Ok reply) → Answers device old new put now (Ok reply)
+    all_came : (reply : Reply) → length came ≡ n → Answers device turn.old turn.new (commands.Put name kind came) turn.now (Ok reply) → Answers device turn.old turn.new put turn.now (Ok reply)
     all_came reply all answers =
-        subst (λ (b : List ℕ). Answers device old new (commands.Put name kind b) now (Ok reply)) (sym (whole_body n came body all whole)) answers
+        subst (λ (b : List ℕ). Answers device turn.old turn.new (commands.Put name kind b) turn.now (Ok reply)) (sym (whole_body n came body all whole)) answers
 
-    put_walk : (result : Result Reply stored.Refusal) → AnswersFrom device old new name kind n now came result
-        → LeavesWalk device s (PutEvents s put now (outcome_replied result)) new
+    put_walk : (result : Result Reply stored.Refusal) → AnswersFrom device turn.old turn.new (coming_put name kind n turn.now) came result
+        → LeavesWalk device s (PutEvents s put turn.now (outcome_replied result)) turn.new
     put_walk (Ok reply) a = was_put (Ok reply) (all_came reply a.0 a.1)
-    put_walk (Err ReadFault) a = nothing (PutEvents s put now (refused ReadFault)) refl (a.left.holds s holds).0
-    put_walk (Err ShortBody) a = nothing (PutEvents s put now (refused ShortBody)) refl (a.left.holds s holds).0
+    put_walk (Err ReadFault) a = nothing (PutEvents s put turn.now (refused ReadFault)) refl (a.left.holds s holds).0
+    put_walk (Err ShortBody) a = nothing (PutEvents s put turn.now (refused ShortBody)) refl (a.left.holds s holds).0
     put_walk (Err refusal) a = was_put (Err refusal) (a.1 body whole)
 
   -- a group, by the items that it asks for
   abbrev Grouped : RequestOutcome → Option (List Item) → Type 0
-  Grouped outcome asked = LeavesWalk device s (GroupEvents s asked now outcome) new
+  Grouped outcome asked = LeavesWalk device s (GroupEvents s asked turn.now outcome) turn.new
 
-  lacking_walk : (asked : Option (List Item)) → Holds device new s → Grouped (refused NoMemory) asked
-  lacking_walk None held = nothing (GroupEvents s None now (refused NoMemory)) refl held
+  lacking_walk : (asked : Option (List Item)) → Holds device turn.new s → Grouped (refused NoMemory) asked
+  lacking_walk None held = nothing (GroupEvents s None turn.now (refused NoMemory)) refl held
   lacking_walk (Some items) held =
       let group : Command = commands.Group items in
-      walked device stands s (RunEvents s group now (refused NoMemory)) new (Refused group ∷ []) (inr (λ refuses. never_named refuses.0 refuses.2, refl)) held
+      walked device stands s (RunEvents s group turn.now (refused NoMemory)) turn.new (Refused group ∷ []) (inr (λ refuses. never_named refuses.0 refuses.2, refl)) held
 
-  unasked_walk : (n : ℕ) (came : List ℕ) (rest : Option (List ℕ)) (outcome : RequestOutcome) → UnaskedGroup n came rest outcome → Holds device new s → Grouped outcome (items_asked n came)
-  unasked_walk n came rest outcome (inl short) held = subst (Grouped outcome) (sym (asked_short n came short.0)) (nothing (GroupEvents s None now outcome) refl held)
+  unasked_walk : (n : ℕ) (came : List ℕ) (rest : Option (List ℕ)) (outcome : RequestOutcome) → UnaskedGroup n came rest outcome → Holds device turn.new s → Grouped outcome (items_asked n came)
+  unasked_walk n came rest outcome (inl short) held = subst (Grouped outcome) (sym (asked_short n came short.0)) (nothing (GroupEvents s None turn.now outcome) refl held)
   unasked_walk n came rest outcome (inr (inl faulty)) held =
-      subst (Grouped outcome) (sym (asked_faulty n came faulty.1 faulty.0 faulty.2)) (nothing (GroupEvents s None now outcome) refl held)
+      subst (Grouped outcome) (sym (asked_faulty n came faulty.1 faulty.0 faulty.2)) (nothing (GroupEvents s None turn.now outcome) refl held)
   unasked_walk n came rest outcome (inr (inr lacking)) held =
       subst (λ (o : RequestOutcome). Grouped o (items_asked n came)) (sym lacking.1) (lacking_walk (items_asked n came) held)
 
@@ -159,58 +150,58 @@ module _ {D : Type 0} (device : D → DiskState) (sound : (disk : D) → IsMediu
       subst (Grouped outcome) (sym (asked_items n came asked.items asked.whole asked.are)) (run_walk (commands.Group asked.items) outcome asked.comes)
 
   -- what is shown
-  shown_walk : (is_head : Bool) (path kind bytes : List ℕ) → answer s path ≡ Some bytes → Holds device new s
-      → LeavesWalk device s (ShowEvents is_head s path (shown kind bytes)) new
+  shown_walk : (is_head : Bool) (path kind bytes : List ℕ) → answer s path ≡ Some bytes → Holds device turn.new s
+      → LeavesWalk device s (ShowEvents is_head s path (shown kind bytes)) turn.new
   shown_walk true path kind bytes is held = nothing (ShowEvents true s path (shown kind bytes)) refl held
-  shown_walk false path kind bytes is held = walked device stands s (ShowEvents false s path (shown kind bytes)) new (Fetch ∷ []) (is, refl) held
+  shown_walk false path kind bytes is held = walked device stands s (ShowEvents false s path (shown kind bytes)) turn.new (Fetch ∷ []) (is, refl) held
 
-  unshown_walk : (is_head : Bool) (path : List ℕ) (refusal : stored.Refusal) → Holds device new s → LeavesWalk device s (ShowEvents is_head s path (refused refusal)) new
+  unshown_walk : (is_head : Bool) (path : List ℕ) (refusal : stored.Refusal) → Holds device turn.new s → LeavesWalk device s (ShowEvents is_head s path (refused refusal)) turn.new
   unshown_walk true path refusal held = nothing (ShowEvents true s path (refused refusal)) refl held
   unshown_walk false path refusal held = nothing (ShowEvents false s path (refused refusal)) refl held
 
-  found_walk : (is_head : Bool) (path : List ℕ) (found : Option (List ℕ)) → answer s path ≡ found → Holds device new s
-      → LeavesWalk device s (ShowEvents is_head s path (document_or_none found)) new
+  found_walk : (is_head : Bool) (path : List ℕ) (found : Option (List ℕ)) → answer s path ≡ found → Holds device turn.new s
+      → LeavesWalk device s (ShowEvents is_head s path (document_or_none found)) turn.new
   found_walk is_head path (Some bytes) is held = shown_walk is_head path (codes "application/xml") bytes is held
   found_walk true path None is held = nothing (ShowEvents true s path (document_or_none None)) refl held
   found_walk false path None is held = nothing (ShowEvents false s path (document_or_none None)) refl held
 
-  document_walk : (is_head : Bool) (doc : Doc) (outcome : RequestOutcome) → HasCounts doc → outcome ≡ document_shown device old doc → new ≡ old
-      → LeavesWalk device s (ShowEvents is_head s (path_of doc) outcome) new
+  document_walk : (is_head : Bool) (doc : Doc) (outcome : RequestOutcome) → HasCounts doc → outcome ≡ document_shown device turn.old doc → turn.new ≡ turn.old
+      → LeavesWalk device s (ShowEvents is_head s (path_of doc) outcome) turn.new
   document_walk is_head doc outcome counts is same =
-      let P : RequestOutcome → Type 0 = λ o. LeavesWalk device s (ShowEvents is_head s (path_of doc) o) new in
+      let P : RequestOutcome → Type 0 = λ o. LeavesWalk device s (ShowEvents is_head s (path_of doc) o) turn.new in
       let shows : Source → RequestOutcome = λ t. document_or_none (document_text (shown_of t) doc) in
-      let open_shows : document_shown device old doc ≡ shows s =
-      ap (λ (b : Bool). cond b (refused Closed) (shows (state_of device old))) holds.is_open ∙ ap shows (told device sound old s holds) in
+      let open_shows : document_shown device turn.old doc ≡ shows s =
+      ap (λ (b : Bool). cond b (refused Closed) (shows (state_of device turn.old))) holds.is_open ∙ ap shows (told device sound turn.old s holds) in
       subst P (sym (is ∙ open_shows)) (found_walk is_head (path_of doc) (document_text (shown_of s) doc) (documents s doc counts) (same_held same))
 
-  read_walk : (is_head : Bool) (name : List ℕ) (result : Result (Vec ℕ Global) stored.Refusal) (outcome : RequestOutcome) → AnswersBody device old new name result
-      → IsShownAs (state_of device old) name result outcome → IsTrue (device new.disk).honest
-      → LeavesWalk device s (ShowEvents is_head s (body_path name) outcome) new
+  read_walk : (is_head : Bool) (name : List ℕ) (result : Result (Vec ℕ Global) stored.Refusal) (outcome : RequestOutcome) → AnswersBody device turn.old turn.new name result
+      → IsShownAs (state_of device turn.old) name result outcome → IsTrue (device turn.new.disk).honest
+      → LeavesWalk device s (ShowEvents is_head s (body_path name) outcome) turn.new
   read_walk is_head name (Ok bytes) outcome a is honest =
-      let P : RequestOutcome → Type 0 = λ o. LeavesWalk device s (ShowEvents is_head s (body_path name) o) new in
-      let here : body_of name s ≡ Some bytes.items = ap (body_of name) (sym (told device sound old s holds)) ∙ a.reads honest in
-      subst P (sym is.2) (shown_walk is_head (body_path name) is.0 bytes.items (bodies s name ∙ here) ((reading old new a.reads_only).holds s holds).0)
+      let P : RequestOutcome → Type 0 = λ o. LeavesWalk device s (ShowEvents is_head s (body_path name) o) turn.new in
+      let here : body_of name s ≡ Some bytes.items = ap (body_of name) (sym (told device sound turn.old s holds)) ∙ a.reads honest in
+      subst P (sym is.2) (shown_walk is_head (body_path name) is.0 bytes.items (bodies s name ∙ here) ((reading turn.old turn.new a.reads_only).holds s holds).0)
   read_walk is_head name (Err refusal) outcome a is honest =
-      let P : RequestOutcome → Type 0 = λ o. LeavesWalk device s (ShowEvents is_head s (body_path name) o) new in
-      subst P (sym is) (unshown_walk is_head (body_path name) refusal ((reading old new a.reads_only).holds s holds).0)
+      let P : RequestOutcome → Type 0 = λ o. LeavesWalk device s (ShowEvents is_head s (body_path name) o) turn.new in
+      subst P (sym is) (unshown_walk is_head (body_path name) refusal ((reading turn.old turn.new a.reads_only).holds s holds).0)
 
   plan_walk : (is_head : Bool) (plan : Result RequestPlan NoPlan) (more : List ℕ) (rest : Option (List ℕ)) (outcome : RequestOutcome) (body : List ℕ) → HasPath plan
-      → RequestGives turn plan more rest outcome → IsTrue (device new.disk).honest → IsBodyFor plan more body
-      → LeavesWalk device s (PlanEvents is_head s now plan body outcome) new
+      → RequestGives turn plan more rest outcome → IsTrue (device turn.new.disk).honest → IsBodyFor plan more body
+      → LeavesWalk device s (PlanEvents is_head s turn.now plan body outcome) turn.new
   plan_walk is_head (Ok (ShowBody name)) more rest outcome body has gives honest is =
       read_walk is_head name gives.1.result outcome gives.1.answers gives.1.outcome_is honest
   plan_walk is_head (Ok (ShowDocument doc)) more rest outcome body has gives honest is = document_walk is_head doc outcome has gives.1 gives.2
   plan_walk is_head (Ok (Put name kind n waits)) more rest outcome body has gives honest is =
-      let P : RequestOutcome → Type 0 = λ o. LeavesWalk device s (PutEvents s (commands.Put name kind body) now o) new in
+      let P : RequestOutcome → Type 0 = λ o. LeavesWalk device s (PutEvents s (commands.Put name kind body) turn.now o) turn.new in
       subst P (sym gives.0.outcome_is) (put_walk name kind n more body is gives.0.result gives.0.answers)
   plan_walk is_head (Ok (Delete name)) more rest outcome body has gives honest is = run_walk (commands.Delete name) outcome gives.1
   plan_walk is_head (Ok Publish) more rest outcome body has gives honest is = run_walk commands.Publish outcome gives.1
   plan_walk is_head (Ok (Group n waits)) more rest outcome body has gives honest is =
       subst (λ (b : List ℕ). Grouped outcome (items_asked n b)) (sym is) (group_walk n more rest outcome gives)
   plan_walk is_head (Err reason) more rest outcome body has gives honest is =
-      nothing (PlanEvents is_head s now (Err reason) body outcome) refl (same_held gives.2)
+      nothing (PlanEvents is_head s turn.now (Err reason) body outcome) refl (same_held gives.2)
 
-  broken_walk : (plan : Result RequestPlan NoPlan) (more : List ℕ) → IsBroken turn plan more → LeavesWalk device s (λ events. events ≡ []) new
+  broken_walk : (plan : Result RequestPlan NoPlan) (more : List ℕ) → IsBroken turn plan more → LeavesWalk device s (λ events. events ≡ []) turn.new
   broken_walk (Ok (Put name kind n waits)) more broken = nothing (λ events. events ≡ []) refl (broken.left.holds s holds).0
   broken_walk (Ok (Group n waits)) more broken = nothing (λ events. events ≡ []) refl (same_held broken.1)
   broken_walk plan more broken = absurd broken

@@ -1,4 +1,4 @@
--- Why a request is refused before the source is asked, and what it asks for otherwise.
+-- Why a request is refused before the source sees it, and what it asks for otherwise.
 use Rattle.std.specs.Prelude.{ℕ, nat_lt, ◌==◌, ◌&&◌, ◌||◌, Bool, true, false, not, is_none, List, [], ◌∷◌, ◌++◌, length, codes, bytes_eq, Option, Some, None, if◌then◌else◌, unwrap_or}
 use Rattle.std.specs.List.{list_any}
 use Rattle.std.specs.Str.{str_eq_ignore_ascii_case}
@@ -69,7 +69,7 @@ abbrev pub is_too_long : Option ℕ → Bool
 is_too_long None = false
 is_too_long (Some n) = nat_lt longest_body n
 
--- methods are told apart by case (RFC 9110, section 9.1)
+-- methods are case-sensitive (RFC 9110, section 9.1)
 abbrev pub is_get : List ℕ → Bool
 is_get method = bytes_eq method (codes "GET") || bytes_eq method (codes "HEAD")
 
@@ -86,16 +86,16 @@ is_post method = bytes_eq method (codes "POST")
 abbrev pub place_in : Parts → Place
 place_in p = place_of (path_of_target p.target)
 
--- a cause, and what a request is refused for where it is there
+-- whether causes apply, and the fault of each
 abbrev pub Causes : Type 0
 Causes = List (Bool × RequestFault)
 
--- the fault of the first cause that is there
+-- the fault of the first cause that applies
 abbrev pub first_fault : Causes → Option RequestFault
 first_fault [] = None
 first_fault (c ∷ causes) = if c.0 then Some c.1 else first_fault causes
 
--- The causes that lie in the fields of any request, in their order.
+-- the causes in the fields of any request, in their order
 abbrev pub field_causes : Parts → Causes
 field_causes p =
     (nat_lt most_fields (length p.fields), ManyFields)
@@ -103,18 +103,18 @@ field_causes p =
     ∷ (is_there (values_of (codes "transfer-encoding") p.fields), TransferEncoding)
     ∷ (is_bad_length (values_of (codes "content-length") p.fields), BadLength) ∷ []
 
--- Those of a PUT alone, in their order: no length, an unlawful type or a second one, and too long a body.
+-- the causes of a PUT, in their order: no length, an unlawful type or a second one, and too long a body
 abbrev pub put_head_causes : Option ℕ → List (List ℕ) → Causes
 put_head_causes stated kinds = (is_none stated, NoLength) ∷ (is_bad_type kinds, BadType) ∷ (is_too_long stated, TooLong) ∷ []
 
 abbrev pub put_head_causes_in : Parts → Causes
 put_head_causes_in p = put_head_causes (stated_in p) (kinds_in p.fields)
 
--- Those of a group, in their order: no length, and too long a body.
+-- the causes of a group, in their order: no length, and too long a body
 abbrev pub group_head_causes : Option ℕ → Causes
 group_head_causes stated = (is_none stated, NoLength) ∷ (is_too_long stated, TooLong) ∷ []
 
--- Those that lie in what the target names and in the method; and then those of a PUT, which resources alone allow, and of a group.
+-- the causes in the target and in the method; then those of a PUT, which only resources allow, and of a group
 abbrev pub place_causes : Place → Parts → Causes
 place_causes (Resource name) p =
     (not (is_get p.method || is_put p.method || is_delete p.method), BadMethod OfResources) ∷ (if is_put p.method then put_head_causes_in p else [])
@@ -124,7 +124,7 @@ place_causes Publishing p = (not (is_post p.method), BadMethod OfPosts) ∷ []
 place_causes Grouping p = (not (is_post p.method), BadMethod OfPosts) ∷ group_head_causes (stated_in p)
 place_causes Nowhere p = (true, NoSuchDocument) ∷ []
 
--- all of them
+-- all causes
 abbrev pub causes_of : Parts → Causes
 causes_of p = field_causes p ++ place_causes (place_in p) p
 
@@ -136,19 +136,19 @@ is_continue values = list_any (λ value. str_eq_ignore_ascii_case value (codes "
 abbrev pub expects_word : Parts → Bool
 expects_word p = (p.minor == 1) && is_continue (values_of (codes "expect") p.fields)
 
--- a body of n bytes is sent after the word to go on alone: it is expected, and there are bytes
+-- the client waits for the word to go on before it sends a body of n bytes
 abbrev pub is_waited : Bool → ℕ → Bool
 is_waited expects n = expects && nat_lt 0 n
 
--- A put: its type, its length, and whether it waits for the word to go on before it sends its body.
+-- a put: its type, its length, and whether the client waits
 abbrev pub put_plan : List ℕ → List (List ℕ) → ℕ → Bool → RequestPlan
 put_plan name kinds n expects = Put name (stated_type kinds) n (is_waited expects n)
 
--- a group: the length of its body, and whether it waits so
+-- a group: the length of its body, and whether the client waits
 abbrev pub group_plan : ℕ → Bool → RequestPlan
 group_plan n expects = Group n (is_waited expects n)
 
--- what is asked of a resource
+-- what a request for a resource asks for
 abbrev pub resource_plan : List ℕ → Parts → RequestPlan
 resource_plan name p =
     if is_put p.method then
@@ -158,7 +158,7 @@ resource_plan name p =
     else if is_delete p.method then Delete name
     else ShowBody name
 
--- what a request asks for that is not refused
+-- what a request asks for, unless it is refused
 abbrev pub plan_at : Place → Parts → Option RequestPlan
 plan_at (Resource name) p = Some (resource_plan name p)
 plan_at (Document doc) p = Some (ShowDocument doc)

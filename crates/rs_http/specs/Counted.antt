@@ -1,4 +1,4 @@
--- Which command of a request counts, and what a stop within the request leaves.
+-- Which command of a request counts, and what the disk holds after a stop within the request.
 use Rattle.std.specs.Prelude.{◌≡◌, ℕ, List, [], ◌∷◌, Option, Some, None, Result, Ok, Err}
 use Rattle.rs_disk.specs.Medium.{DiskState}
 use Rattle.rs_model.specs.declared.command.Command.{Command}
@@ -14,19 +14,19 @@ use Rattle.rs_http.specs.Groups.{items_asked}
 use Rattle.rs_http.specs.Turn.{Turn}
 use Rattle.rs_http.specs.Responses.{RequestOutcome, replied, refused}
 
--- A command counts where it was accepted, and where the device failed in it, since its step may stand then.
+-- A command counts where it was accepted, and where the device failed in it: its step may stand then.
 abbrev pub counted_with : Command → ℕ → RequestOutcome → List (Command × ℕ)
 counted_with command now (replied reply) = (command, now) ∷ []
 counted_with command now (refused Device) = (command, now) ∷ []
 counted_with command now outcome = []
 
--- A group counts as one command, of all its items; none counts where it asks for none.
+-- a group counts as one command of all its items; where it asks for none, none counts
 abbrev pub counted_group : Option (List Item) → ℕ → RequestOutcome → List (Command × ℕ)
 counted_group None now outcome = []
 counted_group (Some items) now outcome = counted_with (commands.Group items) now outcome
 
--- These are the commands of a request that count, one or none. A put that was answered before its body was read whole counts as
--- one of any body that begins so.
+-- The commands of a request that count, one or none. Where a put was answered before its whole body was read, it counts
+-- with any body that begins so.
 abbrev pub Counts : ℕ → Result RequestPlan NoPlan → List ℕ → RequestOutcome → List (Command × ℕ) → Type 0
 Counts now (Ok (Put name kind n waits)) more outcome counted =
     (body : List ℕ) × IsBodyOf n more body × (counted ≡ counted_with (commands.Put name kind body) now outcome)
@@ -37,7 +37,8 @@ Counts now (Ok (ShowBody name)) more outcome counted = counted ≡ []
 Counts now (Ok (ShowDocument doc)) more outcome counted = counted ≡ []
 Counts now (Err reason) more outcome counted = counted ≡ []
 
--- Whenever a stop comes within a request, it leaves what was held, or what the command of the request that counts makes of it.
+-- Whenever the disk stops within a request, it holds the state before, or the state after the command of the request
+-- that counts.
 abbrev pub RequestRecovers : {D : Type 0} {device : D → DiskState} → Turn device → Result RequestPlan NoPlan → List ℕ → RequestOutcome → Type 0
 RequestRecovers {device = device} turn plan more outcome =
     (counted : List (Command × ℕ)) → Counts turn.now plan more outcome counted → Recovers device turn.old counted turn.new

@@ -12,8 +12,8 @@ use Rattle.rs_http.specs.declared.fields.Lone.TheVariants.{Absent, One, Many}
 abbrev pub Pairs : Type 0
 Pairs = List (List ℕ × List ℕ)
 
--- What a head says: its method, its target, the minor number of its version, and its fields, whose values have no spaces
--- and tabs at their ends.
+-- The parts of a head: its method, its target, the minor number of its version, and its fields, whose values have no
+-- spaces and tabs at their ends.
 pub record Parts : Type 0 where
   pub method : List ℕ
   pub target : List ℕ
@@ -23,7 +23,7 @@ pub record Parts : Type 0 where
 abbrev pub head_parts : RequestHead → Parts
 head_parts h = record { method = h.method; target = h.target; minor = h.minor; fields = map name_and_value h.fields }
 
--- what lies at these places of a head
+-- the parts at these places of a head
 abbrev pub head_parts_at : List ℕ → RequestSpans → List HeaderSpan → Parts
 head_parts_at head spans headers =
     record {
@@ -37,7 +37,7 @@ head_parts_at head spans headers =
 abbrev pub values_of : List ℕ → Pairs → List (List ℕ)
 values_of name pairs = map (λ pair. pair.1) (filter (λ pair. str_eq_ignore_ascii_case pair.0 name) pairs)
 
--- the fields of one name: none, one whose value lies there in the head, or more
+-- the fields of one name: none, one with its value at this place of the head, or more
 abbrev pub LoneIs : List ℕ → Lone → List (List ℕ) → Type 0
 LoneIs head Absent values = values ≡ []
 LoneIs head (One span) values = (values ≡ span_bytes head span ∷ []) × IsWithin (length head) span

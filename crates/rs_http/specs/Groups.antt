@@ -14,14 +14,14 @@ use Rattle.rs_items.specs.declared.item.ItemFault.{ItemFault}
 abbrev pub is_break : ℕ → Bool
 is_break b = b == 10
 
--- The lines of what stands between line feeds, each of which ended what stands before it: a carriage return is cut off right before
--- a line feed alone.
+-- The lines of the texts between line feeds. A line feed ends each text but the last, and a carriage return right
+-- before it is cut off.
 abbrev pub lines_between : List (List ℕ) → List (List ℕ)
 lines_between [] = []
 lines_between (raw ∷ []) = last_line raw
 lines_between (raw ∷ next ∷ raws) = cut_return raw ∷ lines_between (next ∷ raws)
 
--- the lines of a body, as a script has lines
+-- the lines of a body, by the rules of a script
 abbrev pub lines_of : List ℕ → List (List ℕ)
 lines_of body = lines_between (slice_split is_break body)
 
@@ -31,21 +31,22 @@ item_before (Err fault) others = Err fault
 item_before (Ok item) (Err fault) = Err fault
 item_before (Ok item) (Ok items) = Ok (item ∷ items)
 
--- the items of these lines, in their order, or the fault of the first line that has one
+-- the items of these lines, in their order, or the first fault
 abbrev pub items_of_lines : List (List ℕ) → Result (List Item) ItemFault
 items_of_lines [] = Ok []
 items_of_lines (line ∷ lines) = item_before (item_of_line line) (items_of_lines lines)
 
--- the items of a body, all of them
+-- all items of a body
 abbrev pub items_in : List ℕ → Result (List Item) ItemFault
 items_in body = items_of_lines (lines_of body)
 
--- The items that a group of n bytes asks for, of which these came: none are asked for where not all came or a line has a fault.
+-- the items that a group of n bytes asks for, where these bytes came: none, where some are missing or a line has a
+-- fault
 abbrev pub items_asked : ℕ → List ℕ → Option (List Item)
 items_asked n came = if length came == n then result_ok (items_in came) else None
 
--- why n bytes of an input are not in memory, where these came and it has so much left: the reader failed or ended within them; or
--- the room for them was refused before a byte came
+-- Why n bytes of an input are not in memory, where these came and the rest is left. The reader failed or ended within
+-- them; or there was no memory for them, and no byte came.
 abbrev pub IsUnread : ℕ → Option (List ℕ) → List ℕ → Refusal → Type 0
 IsUnread n rest came NoMemory = came ≡ []
 IsUnread n rest came refusal = IsCut n rest came refusal

@@ -18,12 +18,13 @@ ends_head bytes n =
 abbrev pub HasNoEnd : List ℕ → Type 0
 HasNoEnd bytes = (k : ℕ) → k ≤ length bytes → ends_head bytes k ≡ false
 
--- these bytes are a head: they end as one does, and no fewer of them do
+-- these bytes are a head: they end as one does, and no shorter front does
 pub record IsHead (bytes : List ℕ) : Type 0 where
   pub ends : ends_head bytes (length bytes) ≡ true
   pub first : (k : ℕ) → k < length bytes → ends_head bytes k ≡ false
 
--- what the bytes at the front of an input are: a head within the limit, or as many as a head may have without its end, or all that came
+-- What the bytes at the front of an input are: a head within the limit; the longest head without its end; or the whole
+-- input, which ended within the head.
 abbrev pub HeadIs : List ℕ → HeadRead → Type 0
 HeadIs bytes Whole = (length bytes ≤ head_limit) × IsHead bytes
 HeadIs bytes TooLong = (length bytes ≡ head_limit) × HasNoEnd bytes

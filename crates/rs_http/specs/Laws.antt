@@ -15,34 +15,35 @@ use Rattle.rs_http.specs.Counted.{Counts, RequestRecovers}
 use Rattle.rs_http.specs.Walked.{MakesWalk, MakesNoEvent}
 use Rattle.rs_http.specs.Serving.{IsBroken}
 
--- What a request asks of a source is a run of its command that counts, or of none.
+-- a request is a run of its command that counts, or of none
 abbrev pub RequestsAreRuns : {D : Type 0} → (D → DiskState) → Type 0
 RequestsAreRuns device = (turn : Turn device) (plan : Result RequestPlan NoPlan) (more : List ℕ) (rest : Option (List ℕ)) (outcome : RequestOutcome)
     → RequestGives turn plan more rest outcome
     → (counted : List (Command × ℕ)) → Counts turn.now plan more outcome counted → IsRunOf device turn.old counted turn.new
 
--- A put or a group whose reader failed is a run of no command.
+-- a put or a group whose reader failed is a run of no command
 abbrev pub BrokenBodiesAreRuns : {D : Type 0} → (D → DiskState) → Type 0
 BrokenBodiesAreRuns device = (turn : Turn device) (plan : Result RequestPlan NoPlan) (more : List ℕ)
     → IsBroken turn plan more → IsRunOf device turn.old [] turn.new
 
--- Whatever comes of a request, whenever a stop comes: it leaves what the command of the request makes that counts.
+-- whatever the outcome of a request: whenever the disk stops, it holds the state before, or after the command that
+-- counts
 abbrev pub RequestsRecover : {D : Type 0} → (D → DiskState) → Type 0
 RequestsRecover device = (turn : Turn device) (plan : Result RequestPlan NoPlan) (more : List ℕ) (rest : Option (List ℕ)) (outcome : RequestOutcome)
     → RequestGives turn plan more rest outcome → RequestRecovers turn plan more outcome
 
--- A put or a group whose reader failed is not done, whenever a stop comes.
+-- a put or a group whose reader failed is not done, whenever the disk stops
 abbrev pub BrokenBodiesRecover : {D : Type 0} → (D → DiskState) → Type 0
 BrokenBodiesRecover device = (turn : Turn device) (plan : Result RequestPlan NoPlan) (more : List ℕ)
     → IsBroken turn plan more → Recovers device turn.old [] turn.new
 
--- Each request that the bytes of a head ask for makes a walk, whatever comes of it.
+-- each request that the bytes of a head ask for makes a walk, whatever its outcome
 abbrev pub RequestsMakeWalks : {D : Type 0} → (D → DiskState) → Type 0
 RequestsMakeWalks device = (turn : Turn device) (bytes : List ℕ) (read : HeadRead) (request : Request) (more : List ℕ) (rest : Option (List ℕ)) (outcome : RequestOutcome)
     → Asks bytes read (Some request) → RequestGives turn request.plan more rest outcome
     → MakesWalk turn request more outcome
 
--- A put or a group whose reader failed leaves a walk of no event.
+-- a put or a group whose reader failed leaves a walk of no event
 abbrev pub BrokenBodiesMakeNoEvent : {D : Type 0} → (D → DiskState) → Type 0
 BrokenBodiesMakeNoEvent device = (turn : Turn device) (plan : Result RequestPlan NoPlan) (more : List ℕ)
     → IsBroken turn plan more → MakesNoEvent turn

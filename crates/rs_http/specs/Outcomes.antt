@@ -1,4 +1,4 @@
--- What may come of a request that is asked of a stored source.
+-- The possible outcomes of a request to a stored source.
 use Rattle.std.specs.Prelude.{◌≡◌, ◌⊎◌, ℕ, ◌<◌, if◌then◌else◌, List, [], length, codes, Option, Some, None, Result, Ok, Err, Vec, IfOk, IfErr, IsErrOf}
 use Rattle.std.specs.Global.{Global}
 use Rattle.std.specs.Io.KnownBytes.{IsAtEnd}
@@ -15,7 +15,7 @@ use Rattle.rs_caps.specs.DocumentTexts.{document_text}
 use Rattle.rs_caps.specs.Shows.{shown_of}
 use Rattle.rs_store.specs.Answered.{Answers}
 use Rattle.rs_store.specs.AnswersBody.{AnswersBody}
-use Rattle.rs_store.specs.Received.{AnswersFrom}
+use Rattle.rs_store.specs.Received.{AnswersFrom, coming_put}
 use Rattle.rs_store.specs.Shows.{kind_of}
 use Rattle.rs_store.specs.Source.{Stored, state_of}
 use Rattle.rs_store.specs.declared.refusal.Refusal as stored
@@ -34,47 +34,46 @@ use Rattle.rs_http.specs.Groups.{items_in}
 use Rattle.rs_http.specs.Turn.{Turn}
 use Rattle.rs_http.specs.Responses.{RequestOutcome, faulted, replied, shown, refused, status_code, response_text}
 
--- what comes of an answer to a command
+-- the outcome by the answer to a command
 abbrev pub outcome_replied : Result Reply stored.Refusal → RequestOutcome
 outcome_replied (Ok reply) = replied reply
 outcome_replied (Err refusal) = refused refusal
 
--- A command was asked of the source, which answered as it may.
+-- the source got a command, and answered it
 pub record RunComesTo {D : Type 0} {device : D → DiskState} (turn : Turn device) (command : Command) (outcome : RequestOutcome) : Type 0 where
   pub result : Result Reply stored.Refusal
   pub answers : Answers device turn.old turn.new command turn.now result
   pub outcome_is : outcome ≡ outcome_replied result
 
--- A put of the next n bytes of the input was asked of the source, which answered as it may. These bytes came, and the reader did
--- not fail.
+-- the source got a put of the next n bytes of the input, and answered it; these bytes came, and the reader did not fail
 pub record PutComesTo {D : Type 0} {device : D → DiskState} (turn : Turn device) (name kind : List ℕ) (n : ℕ) (came : List ℕ) (outcome : RequestOutcome) : Type 0 where
   pub result : Result Reply stored.Refusal
-  pub answers : AnswersFrom device turn.old turn.new name kind n turn.now came result
+  pub answers : AnswersFrom device turn.old turn.new (coming_put name kind n turn.now) came result
   pub unbroken : IsErrOf result ReadFault → ⊥
   pub outcome_is : outcome ≡ outcome_replied result
 
--- what comes of an answer to the question for a body: its bytes are shown with their recorded type
+-- the outcome by the answer to a read of a body: its bytes are shown with their recorded type
 abbrev pub IsShownAs : Source → List ℕ → Result (Vec ℕ Global) stored.Refusal → RequestOutcome → Type 0
 IsShownAs s name (Ok bytes) outcome = (kind : List ℕ) × (kind_of name s ≡ Some kind) × (outcome ≡ shown kind bytes.items)
 IsShownAs s name (Err refusal) outcome = outcome ≡ refused refusal
 
--- A body was asked of the source, which answered as it may.
+-- the source was asked for a body, and answered
 pub record ReadComesTo {D : Type 0} {device : D → DiskState} (turn : Turn device) (name : List ℕ) (outcome : RequestOutcome) : Type 0 where
   pub result : Result (Vec ℕ Global) stored.Refusal
   pub answers : AnswersBody device turn.old turn.new name result
   pub outcome_is : IsShownAs (state_of device turn.old) name result outcome
 
--- a document, where it is there
+-- a document, where it exists
 abbrev pub document_or_none : Option (List ℕ) → RequestOutcome
 document_or_none (Some bytes) = shown (codes "application/xml") bytes
 document_or_none None = faulted NoSuchDocument
 
--- A document is that of the state that the source tells, unless the source is closed.
+-- the document of the state of the source, unless the source is closed
 abbrev pub document_shown : {D : Type 0} → (D → DiskState) → Stored D → Doc → RequestOutcome
 document_shown device old doc =
     if old.is_closed then refused Closed else document_or_none (document_text (shown_of (state_of device old)) doc)
 
--- why a group is not asked for, by the fault of a line
+-- why a group has no plan, by the fault of a line
 abbrev pub reason_of_fault : ItemFault → NoPlan
 reason_of_fault faults.BadLine = Refused BadLine
 reason_of_fault faults.BadName = Refused BadName
@@ -82,35 +81,35 @@ reason_of_fault faults.BadHex = Refused BadHex
 reason_of_fault faults.BadType = Refused BadType
 reason_of_fault faults.NoMemory = NoPlanMemory
 
--- what comes of a request that has no plan
+-- the outcome of a request that has no plan
 abbrev pub unplanned : NoPlan → RequestOutcome
 unplanned (Refused fault) = faulted fault
 unplanned NoPlanMemory = refused NoMemory
 
--- The source was not asked for a group of n bytes, of which these came, before this was left. The input ended within them. Or they
--- came whole, and this is the fault of the first line that has one. Or the memory was refused: for the body, before a byte
--- came, or for what its lines ask for.
+-- The source did not get a group of n bytes; these bytes came, and the rest was left. The input ended within the body.
+-- Or the body came whole, and this is its first fault. Or there was no memory: for the body, and no byte came, or for
+-- its items.
 abbrev pub UnaskedGroup : ℕ → List ℕ → Option (List ℕ) → RequestOutcome → Type 0
 UnaskedGroup n came rest outcome =
     ((length came < n) × IsAtEnd rest × (outcome ≡ refused ShortBody))
     ⊎ ((length came ≡ n) × (fault : ItemFault) × (items_in came ≡ Err fault) × (outcome ≡ unplanned (reason_of_fault fault)))
     ⊎ (((came ≡ []) ⊎ (length came ≡ n)) × (outcome ≡ refused NoMemory))
 
--- A group of n bytes that came whole was asked of the source: all items of its lines, none of which has a fault, in one command.
+-- the body of n bytes came whole and has no fault, and the source got all its items in one command
 pub record AskedGroup {D : Type 0} {device : D → DiskState} (turn : Turn device) (n : ℕ) (came : List ℕ) (outcome : RequestOutcome) : Type 0 where
   pub items : List Item
   pub whole : length came ≡ n
   pub are : items_in came ≡ Ok items
   pub comes : RunComesTo turn (commands.Group items) outcome
 
--- A group of the next n bytes of the input was read. These came, and this was left behind them. Either the source was not asked,
--- and nothing is done, or it answered as it may. The reader did not fail.
+-- A group of the next n bytes of the input was read, and the reader did not fail. These bytes came, and the rest was
+-- left. Either the source did not get the group, and nothing is done, or the source answered it.
 abbrev pub GroupComesTo : {D : Type 0} {device : D → DiskState} → Turn device → ℕ → List ℕ → Option (List ℕ) → RequestOutcome → Type 0
 GroupComesTo turn n came rest outcome =
     ((turn.new ≡ turn.old) × UnaskedGroup n came rest outcome) ⊎ AskedGroup turn n came outcome
 
--- What may come of a plan, where these bytes were read past the head and this was left behind them: a put and a group alone read
--- any. The input had ended where the body of a put is short.
+-- The possible outcomes of a plan, where these bytes were read past the head and the rest was left. Only a put and a
+-- group read any. Where the body of a put is short, the input had ended.
 abbrev pub PlanGives : {D : Type 0} {device : D → DiskState} → Turn device → RequestPlan → List ℕ → Option (List ℕ) → RequestOutcome → Type 0
 PlanGives turn (ShowBody name) more rest outcome = (more ≡ []) × ReadComesTo turn name outcome
 PlanGives {device = device} turn (ShowDocument doc) more rest outcome =
@@ -121,19 +120,19 @@ PlanGives turn (Delete name) more rest outcome = (more ≡ []) × RunComesTo tur
 PlanGives turn Publish more rest outcome = (more ≡ []) × RunComesTo turn commands.Publish outcome
 PlanGives turn (Group n waits) more rest outcome = GroupComesTo turn n more rest outcome
 
--- What may come of a request. Without a plan nothing is read or done.
+-- the possible outcomes of a request; without a plan nothing is read or done
 abbrev pub RequestGives : {D : Type 0} {device : D → DiskState} → Turn device → Result RequestPlan NoPlan → List ℕ → Option (List ℕ) → RequestOutcome → Type 0
 RequestGives turn (Ok plan) more rest outcome = PlanGives turn plan more rest outcome
 RequestGives turn (Err reason) more rest outcome = (more ≡ []) × (outcome ≡ unplanned reason) × (turn.new ≡ turn.old)
 
--- The response to an outcome was written, and its status is given; or the writer failed within it.
+-- the response to an outcome was written, and this is its status; or the writer failed within it
 abbrev pub Sends : {W : Type 0} → (W → Option (List ℕ)) → Watched W → Watched W → Framing → RequestOutcome → Result ℕ FrontFault → Type 0
 Sends contents old new framing outcome result =
     IfOk result (λ status. status ≡ status_code outcome)
     × WritesOut contents old new result (response_text framing outcome)
     × IfErr result (λ fault. fault ≡ Write)
 
--- An outcome of which this holds is answered.
+-- an outcome with this property is answered
 pub record Responds {W : Type 0} (contents : W → Option (List ℕ)) (old new : Watched W) (framing : Framing) (comes : RequestOutcome → Type 0)
     (result : Result ℕ FrontFault) : Type 0 where
   pub outcome : RequestOutcome

@@ -14,31 +14,31 @@ use Rattle.rs_http.specs.declared.request.Request.{Request}
 use Rattle.rs_http.specs.Fields.{Parts, head_parts}
 use Rattle.rs_http.specs.Checks.{Causes, first_fault, causes_of, put_head_causes, place_causes, is_bad_type, stated_type, place_in, put_plan, plan_at}
 
--- A plan of a resource holds its name, which takes memory. No other plan takes any.
+-- a plan of a resource has its name, which takes memory; no other plan takes any
 abbrev pub TakesMemory : Option RequestPlan → Type 0
 TakesMemory (Some (ShowBody name)) = Unit {0}
 TakesMemory (Some (Put name kind n waits)) = Unit {0}
 TakesMemory (Some (Delete name)) = Unit {0}
 TakesMemory plan = ⊥
 
--- A request that has these causes is refused for the first one that is there, or has this plan. Memory may be refused for a plan
--- that takes some, where no cause is there.
+-- A request with these causes is refused for the first that applies, or has this plan. Where none applies, there may be
+-- no memory for a plan that takes some.
 abbrev pub IsPlanFor : Causes → Option RequestPlan → Result RequestPlan NoPlan → Type 0
 IsPlanFor causes plan (Ok made) = (first_fault causes ≡ None) × (plan ≡ Some made)
 IsPlanFor causes plan (Err (Refused fault)) = first_fault causes ≡ Some fault
 IsPlanFor causes plan (Err NoMemory) = (first_fault causes ≡ None) × TakesMemory plan
 
--- what a put to this name has for its plan, by the length and the types that the fields state, and by whether the word to go on is
--- expected
+-- the plan of a put to this name, by the length and the types that the fields state, and by whether the client expects
+-- the word to go on
 abbrev pub IsPutPlan : List ℕ → Option ℕ → List (List ℕ) → Bool → Result RequestPlan NoPlan → Type 0
 IsPutPlan name stated kinds expects made =
     IsPlanFor (put_head_causes stated kinds) (Some (put_plan name kinds (unwrap_or stated 0) expects)) made
 
--- what a request for this place has for its plan, by the parts of its head
+-- the plan of a request for this place, by the parts of its head
 abbrev pub IsPlanAt : Place → Parts → Result RequestPlan NoPlan → Type 0
 IsPlanAt place p made = IsPlanFor (place_causes place p) (plan_at place p) made
 
--- the type of a body, which is that of the fields, or why there is none: memory may be refused for a lawful one
+-- the type that the fields state for a body, or why there is none; there may be no memory for a lawful type
 abbrev pub TypeIs : List (List ℕ) → Result (List ℕ) NoPlan → Type 0
 TypeIs kinds (Ok kind) = (is_bad_type kinds ≡ false) × (kind ≡ stated_type kinds)
 TypeIs kinds (Err (Refused fault)) = (is_bad_type kinds ≡ true) × (fault ≡ BadType)
@@ -49,7 +49,7 @@ pub record IsRequestOf (p : Parts) (request : Request) : Type 0 where
   pub is_head : request.is_head ≡ bytes_eq p.method (codes "HEAD")
   pub plan : IsPlanFor (causes_of p) (plan_at (place_in p) p) request.plan
 
--- a request of which no more is known
+-- a request that is refused before its head is known
 abbrev pub refused_for : RequestFault → Request
 refused_for fault = record { is_head = false; plan = Err (Refused fault) }
 
@@ -59,7 +59,7 @@ AsksFor head request =
     (HasNoRequest head × (request ≡ refused_for BadHead))
     ⊎ ((h : RequestHead) × (after : List ℕ) × ReadsRequest head h after × IsRequestOf (head_parts h) request)
 
--- what the bytes at the front of an input ask for; nothing, where no byte came
+-- what the bytes at the front of an input ask for: nothing, where no byte came
 abbrev pub Asks : List ℕ → HeadRead → Option Request → Type 0
 Asks bytes Whole (Some request) = AsksFor bytes request
 Asks bytes TooLong (Some request) = request ≡ refused_for HeadTooLong

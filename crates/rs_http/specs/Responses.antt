@@ -1,4 +1,4 @@
--- What comes of a request, and the text of the response to it (RFC 9110 and RFC 9112).
+-- The outcomes of requests, and the texts of the responses (RFC 9110 and RFC 9112).
 use Rattle.std.specs.Prelude.{ℕ, ◌==◌, List, [], ◌∷◌, ◌++◌, length, codes, if◌then◌else◌}
 use Rattle.std.specs.Fmt.{decimal}
 use Rattle.httpdate.specs.Date.{date_text}
@@ -14,13 +14,13 @@ use Rattle.rs_http.specs.declared.request.RequestFault.{RequestFault}
 use Rattle.rs_http.specs.declared.request.RequestFault.TheVariants.{HeadTooLong, BadHead, ManyFields, BadHost, TransferEncoding, BadLength, BadName, NoSuchDocument, BadMethod, NoLength, BadType, TooLong, BadLine, BadHex}
 use Rattle.rs_http.specs.declared.response.Framing.{Framing}
 
--- what comes of a request
+-- the outcome of a request
 pub data RequestOutcome : Type 0 where
-  -- it is refused before the source is asked
+  -- it is refused before the source sees it
   faulted : RequestFault → RequestOutcome
   -- the source accepted a command
   replied : Reply → RequestOutcome
-  -- these are the type and the bytes of a resource or of a document
+  -- the type and the bytes of a resource or of a document
   shown : List ℕ → List ℕ → RequestOutcome
   -- the source refused it
   refused : stored.Refusal → RequestOutcome
@@ -41,7 +41,7 @@ fault_status TooLong = 413
 fault_status BadLine = 400
 fault_status BadHex = 400
 
--- where a reader fails no response is sent, so that the status and the name of that refusal go nowhere
+-- where a reader fails, no response is sent: no client sees the status and the word of that refusal
 abbrev pub refusal_status : stored.Refusal → ℕ
 refusal_status refusals.BadGroup = 400
 refusal_status refusals.NotHeld = 404
@@ -87,7 +87,7 @@ reason_of status =
     else if status == 503 then codes "Service Unavailable"
     else codes "Insufficient Storage"
 
--- the word of a request that is refused before the source is asked
+-- the word of a request that is refused before the source sees it
 abbrev pub fault_word : RequestFault → List ℕ
 fault_word HeadTooLong = codes "HeadTooLong"
 fault_word BadHead = codes "BadHead"
@@ -108,7 +108,7 @@ fault_word BadHex = codes "BadHex"
 abbrev pub refusal_line : List ℕ → List ℕ
 refusal_line word = word ++ codes "\n"
 
--- a word with a space behind it, a number and a moment, and a line feed (10)
+-- a word that ends in a space, a number, a moment, and a line feed (10)
 abbrev pub reply_line : List ℕ → ℕ → ℕ → List ℕ
 reply_line word number moment = word ++ (decimal number ++ (codes " " ++ (moment_text moment ++ 10 ∷ [])))
 
@@ -116,7 +116,7 @@ reply_line word number moment = word ++ (decimal number ++ (codes " " ++ (moment
 abbrev pub published_text : ℕ → ℕ → List ℕ
 published_text number moment = reply_line (codes "published ") number moment
 
--- that of the answer to a group: how many items it has, and the moment of the first
+-- the body of the answer to a group: how many items it has, and the moment of the first
 abbrev pub grouped_text : ℕ → ℕ → List ℕ
 grouped_text count moment = reply_line (codes "grouped ") count moment
 
@@ -131,7 +131,7 @@ content_of (replied reply) = reply_content reply
 content_of (shown kind bytes) = bytes
 content_of (refused refusal) = refusal_line (refusal_word refusal)
 
--- the methods that are allowed where another was asked for
+-- the field `Allow`, with the methods that a place allows
 abbrev pub methods_text : Methods → List ℕ
 methods_text OfResources = codes "Allow: GET, HEAD, PUT, DELETE\r\n"
 methods_text OfDocuments = codes "Allow: GET, HEAD\r\n"
@@ -148,7 +148,7 @@ content_lines kind n = codes "Content-Type: " ++ (kind ++ (codes "\r\nContent-Le
 abbrev pub plain : List ℕ
 plain = codes "text/plain"
 
--- what the head of a response says of its body, and the empty line: the answers to a put and to a delete have none
+-- the header lines that describe the body, and the empty line: the answers to a put and to a delete have no body
 abbrev pub reply_lines : Reply → List ℕ
 reply_lines (Created moment) = codes "Content-Length: 0\r\n\r\n"
 reply_lines (Updated moment) = codes "\r\n"
@@ -162,7 +162,7 @@ header_lines (replied reply) = reply_lines reply
 header_lines (shown kind bytes) = content_lines kind (length bytes)
 header_lines (refused refusal) = content_lines plain (length (refusal_line (refusal_word refusal)))
 
--- the status line, the date (an IMF-fixdate of RFC 9110, section 5.6.7), and that the connection ends
+-- the status line, the date (an IMF-fixdate of RFC 9110, section 5.6.7), and `Connection: close`
 unfoldable pub first_lines : ℕ → List ℕ → List ℕ
 first_lines status date =
     codes "HTTP/1.1 " ++ (decimal status ++ (codes " " ++ (reason_of status ++ (codes "\r\nDate: " ++ (date ++ codes "\r\nConnection: close\r\n")))))
@@ -171,13 +171,13 @@ first_lines status date =
 abbrev pub sent_body : Framing → List ℕ → List ℕ
 sent_body framing body = if framing.is_head then [] else body
 
--- the whole response, where the lines that describe its body are given with it
+-- the whole response, by the header lines that describe its body
 abbrev pub framed : Framing → ℕ → List ℕ → List ℕ → List ℕ
 framed framing status lines body = first_lines status (date_text framing.date) ++ (lines ++ sent_body framing body)
 
 abbrev pub response_text : Framing → RequestOutcome → List ℕ
 response_text framing outcome = framed framing (status_code outcome) (header_lines outcome) (content_of outcome)
 
--- what goes out before a body that was waited for
+-- the word to go on
 abbrev pub go_on : List ℕ
 go_on = codes "HTTP/1.1 100 Continue\r\n\r\n"

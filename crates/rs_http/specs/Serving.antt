@@ -1,4 +1,4 @@
--- One request to a source: what was read, what was written, and what the source is then.
+-- One request to a source: what was read, what was written, and the source after it.
 use Rattle.std.specs.Prelude.{◌≡◌, ◌⊎◌, ◌/◌, ◌<◌, ℕ, true, List, [], length, ◌++◌, Option, Some, Result, Ok, IfOk, IsErrOf}
 use Rattle.std.specs.Io.KnownBytes.{Consumes, Appends, IsAtEnd}
 use Rattle.httpdate.specs.Date.{unix_secs}
@@ -6,7 +6,7 @@ use Rattle.httpdate.specs.declared.date.HttpDate.{HttpDate}
 use Rattle.rs_disk.specs.Medium.{DiskState}
 use Rattle.rs_io.specs.declared.watch.Watched.{Watched}
 use Rattle.rs_io.specs.Watch.{watched, seen_by, failures, EndFailed, PutFailed, FlushFailed, TellsEnd, End, Ends}
-use Rattle.rs_store.specs.Received.{IsCutShort}
+use Rattle.rs_store.specs.Received.{IsCutShort, coming_put}
 use Rattle.rs_recovery.specs.Prefixes.{Recovers}
 use Rattle.rs_http.specs.declared.fault.FrontFault.{FrontFault}
 use Rattle.rs_http.specs.declared.fault.FrontFault.TheVariants.{Read, Write}
@@ -27,20 +27,20 @@ use Rattle.rs_http.specs.Outcomes.{RequestGives, Responds}
 use Rattle.rs_http.specs.Counted.{RequestRecovers}
 use Rattle.rs_http.specs.Walked.{MakesWalk, MakesNoEvent}
 
--- what goes out before the source is asked: the word to go on, where a put or a group waits for it
+-- what is written before the source sees the request: the word to go on, where the client waits for it
 abbrev pub preface_of : Result RequestPlan NoPlan → List ℕ
 preface_of (Ok (Put name kind n true)) = go_on
 preface_of (Ok (Group n true)) = go_on
 preface_of plan = []
 
--- A put or a group was not done, since the reader failed within its body, of which these bytes came.
+-- a put or a group was not done: these bytes of its body came, and the reader failed
 abbrev pub IsBroken : {D : Type 0} {device : D → DiskState} → Turn device → Result RequestPlan NoPlan → List ℕ → Type 0
-IsBroken {device = device} turn (Ok (Put name kind n waits)) came = IsCutShort device turn.old turn.new name kind n turn.now came
+IsBroken {device = device} turn (Ok (Put name kind n waits)) came = IsCutShort device turn.old turn.new (coming_put name kind n turn.now) came
 IsBroken turn (Ok (Group n waits)) came = (length came < n) × (turn.new ≡ turn.old)
 IsBroken turn plan came = ⊥
 
--- A writer took the first bytes whole and a beginning of the text, and failed. Either a put failed, and no flush; or it took all of the
--- text, and a flush failed.
+-- A writer took all of `first` and a beginning of `text`, and failed. Either a write failed, and no flush; or it took
+-- all of `text`, and a flush failed.
 pub record TakesPart (before after : End) (first text : List ℕ) : Type 0 where
   pub part : List ℕ
   pub left_out : List ℕ
@@ -48,9 +48,9 @@ pub record TakesPart (before after : End) (first text : List ℕ) : Type 0 where
   pub took : Appends (watched before) (watched after) (first ++ part)
   pub failed : PutFailed before after ⊎ ((left_out ≡ []) × FlushFailed before after)
 
--- How the answer to a plan ends. These bytes were read past the head, and the answer tells of the reader only where it failed. Then it
--- failed in the body of a put or of a group, and nothing is written. Else what came of the plan is answered, and the response is
--- written, or a beginning of it, where the writer failed.
+-- How the answer to a plan ends. These bytes were read past the head, and the result is `Read` only where the reader
+-- failed: then it failed in the body of a put or of a group, and nothing is written. Otherwise the outcome of the plan
+-- is answered: its response is written, or a beginning of it where the writer failed.
 pub record PlanEnds {D : Type 0} {device : D → DiskState} (turn : Turn device) (plan : Result RequestPlan NoPlan) (framing : Framing)
     (ends : Ends) (result : Result ℕ FrontFault) : Type 0 where
   pub more : List ℕ
@@ -60,7 +60,8 @@ pub record PlanEnds {D : Type 0} {device : D → DiskState} (turn : Turn device)
   pub answered : ¬ IsErrOf result Read
       → Responds (λ bytes. bytes) ends.before ends.after framing (RequestGives turn plan more (watched ends.rest)) result
 
--- What came of a request is answered: the status is given, and after what went out before, its response is written.
+-- the outcome of a request is answered: this is its status, and its response is written, behind the word to go on where
+-- that was due
 pub record IsAnswered {D : Type 0} {device : D → DiskState} (turn : Turn device) (request : Request) (more : List ℕ) (rest : Option (List ℕ))
     (output : List ℕ) (status : ℕ) : Type 0 where
   pub outcome : RequestOutcome
@@ -70,7 +71,8 @@ pub record IsAnswered {D : Type 0} {device : D → DiskState} (turn : Turn devic
   pub status_is : status ≡ status_code outcome
   pub written : output ≡ preface_of request.plan ++ response_text (record { date = date; is_head = request.is_head }) outcome
 
--- What came of a request stands, and the writer failed in its response: it took what goes out before it, and a beginning of it.
+-- the outcome of a request stands, and the writer failed in its response: it took a beginning of it, behind the word to
+-- go on where that was due
 pub record IsCutOff {D : Type 0} {device : D → DiskState} (turn : Turn device) (request : Request) (more : List ℕ) (ends : Ends) : Type 0 where
   pub outcome : RequestOutcome
   pub date : HttpDate
@@ -78,14 +80,14 @@ pub record IsCutOff {D : Type 0} {device : D → DiskState} (turn : Turn device)
   pub gives : RequestGives turn request.plan more (watched ends.rest) outcome
   pub took : TakesPart ends.before ends.after (preface_of request.plan) (response_text (record { date = date; is_head = request.is_head }) outcome)
 
--- The writer took a beginning of the word to go on, and failed then, or in its flush: nothing is done.
+-- the writer failed in the word to go on or in its flush, and nothing is done
 abbrev pub IsUnsaid : {D : Type 0} {device : D → DiskState} → Turn device → Request → List ℕ → Ends → Type 0
 IsUnsaid turn request more ends =
     (preface_of request.plan ≡ go_on) × (more ≡ []) × (turn.new ≡ turn.old) × TakesPart ends.before ends.after [] go_on
 
--- How the answer to a request ends: these bytes were read past the head, and the answer tells of each end only where it failed. What
--- came of the request is answered. Or the reader failed in a body, and no more than the word to go on is written. Or the writer
--- failed: that word was not said, or what came of the request stands.
+-- How the answer to a request ends. These bytes were read past the head, and the result is `Read` or `Write` only where
+-- that end failed. The outcome of the request is answered. Or the reader failed in a body, and at most the word to go
+-- on is written. Or the writer failed: in that word, or in the response to an outcome that stands.
 pub record RequestEnds {D : Type 0} {device : D → DiskState} (turn : Turn device) (request : Request) (ends : Ends) (result : Result ℕ FrontFault) : Type 0 where
   pub more : List ℕ
   pub came : Consumes (watched ends.left) (watched ends.rest) more
@@ -97,8 +99,8 @@ pub record RequestEnds {D : Type 0} {device : D → DiskState} (turn : Turn devi
       → Appends (watched ends.before) (watched ends.after) (preface_of request.plan) × IsBroken turn request.plan more
   pub stands : IsErrOf result Write → IsUnsaid turn request more ends ⊎ IsCutOff turn request more ends
 
--- An input is these bytes, which ask for this request, and what was read past them. `behind` is what the reader had left
--- behind them: nothing, where they are a head that is cut.
+-- An input is the bytes of a head, which ask for this request, and the bytes that were read past it. `behind` is what
+-- the reader had left after the head: nothing, where the input ended within it.
 pub record Reads (ends : Ends) (input more : List ℕ) (request : Request) : Type 0 where
   pub bytes : List ℕ
   pub read : HeadRead
@@ -110,8 +112,9 @@ pub record Reads (ends : Ends) (input more : List ℕ) (request : Request) : Typ
   pub passed : Consumes behind (watched ends.rest) more
   pub asks : Asks bytes read (Some request)
 
--- What was written for an input: nothing where it has no byte, and else the response to the request at its front. Whenever a stop
--- comes, it leaves what the command makes that counts; and the request makes a walk, of one event or none.
+-- What was written for an input: nothing for an empty one, and otherwise the response to the request at its front.
+-- Whenever the disk stops, it holds the state before, or after the command that counts; and the request makes a walk of
+-- one event or none.
 abbrev pub IsResponse : {D : Type 0} {device : D → DiskState} → Turn device → Ends → List ℕ → List ℕ → Served → Type 0
 IsResponse turn ends input output Nothing = (input ≡ []) × IsAtEnd (watched ends.rest) × (output ≡ []) × (turn.new ≡ turn.old)
 IsResponse turn ends input output (Answered status) =
@@ -119,7 +122,7 @@ IsResponse turn ends input output (Answered status) =
     × (answered : IsAnswered turn request more (watched ends.rest) output status)
     × RequestRecovers turn request.plan more answered.outcome × MakesWalk turn request more answered.outcome
 
--- A request was served: no call of either end failed, and what was written is the response to what was read.
+-- a request was served: no call of either end failed, and the response to the input was written
 pub record Serves {D : Type 0} {device : D → DiskState} (turn : Turn device) (ends : Ends) (served : Served) : Type 0 where
   pub input : List ℕ
   pub output : List ℕ
@@ -129,15 +132,15 @@ pub record Serves {D : Type 0} {device : D → DiskState} (turn : Turn device) (
   pub writer : failures ends.after ≡ failures ends.before
   pub responds : IsResponse turn ends input output served
 
--- What was written and done where the reader failed within an input: nothing before the head had ended or was too long; and in the body of
--- a put or of a group no more than the word to go on, and it is not done, whenever a stop comes, and is no event.
+-- What was written and done where the reader failed within an input. In the head: nothing. In the body of a put or of a
+-- group: at most the word to go on was written; the request is not done, whenever the disk stops, and is no event.
 abbrev pub BreaksWithin : {D : Type 0} {device : D → DiskState} → Turn device → Ends → List ℕ → List ℕ → Type 0
 BreaksWithin {device = device} turn ends input output =
     (HasNoEnd input × (length input < head_limit) × (output ≡ []) × (turn.new ≡ turn.old))
     ⊎ ((more : List ℕ) × (request : Request) × Reads ends input more request × (output ≡ preface_of request.plan)
     × IsBroken turn request.plan more × Recovers device turn.old [] turn.new × MakesNoEvent turn)
 
--- A call of the reader failed within what was read, and none of the writer.
+-- a call of the reader failed within the input, and none of the writer
 pub record Breaks {D : Type 0} {device : D → DiskState} (turn : Turn device) (ends : Ends) : Type 0 where
   pub input : List ℕ
   pub output : List ℕ
@@ -147,13 +150,14 @@ pub record Breaks {D : Type 0} {device : D → DiskState} (turn : Turn device) (
   pub writer : failures ends.after ≡ failures ends.before
   pub within : BreaksWithin turn ends input output
 
--- What came of a request stands, whenever a stop comes: it leaves what the command makes that counts, and it makes a walk.
+-- The outcome of a request stands, and the writer failed in its response. Whenever the disk stops, it holds the state
+-- before, or after the command that counts; and the request makes a walk.
 abbrev pub Stands : {D : Type 0} {device : D → DiskState} → Turn device → Request → List ℕ → Ends → Type 0
 Stands turn request more ends =
     (cut : IsCutOff turn request more ends) × RequestRecovers turn request.plan more cut.outcome × MakesWalk turn request more cut.outcome
 
--- A call of the writer failed, and none of the reader. The writer took a beginning of the word to go on, or it failed in its flush,
--- and nothing is done. Or what the request at the front of the input comes to stands.
+-- A call of the writer failed, and none of the reader: in the word to go on, and nothing is done; or in the response to
+-- the request at the front of the input, whose outcome stands.
 pub record Halts {D : Type 0} {device : D → DiskState} (turn : Turn device) (ends : Ends) : Type 0 where
   pub input : List ℕ
   pub came : Consumes (watched ends.left) (watched ends.rest) input

@@ -3,7 +3,8 @@ use Rattle.std.specs.Prelude.{ℕ}
 use Rattle.rs_disk.specs.Medium.{DiskState}
 use Rattle.rs_store.specs.Source.{Stored}
 
--- A source is asked at a moment: what it was, the moment, and what it is then. The device is told of by what contracts see of it.
+-- A source gets a request at a moment: the source before, the moment, and the source after. `device` is what contracts
+-- see of the device.
 pub record Turn {D : Type 0} (device : D → DiskState) : Type 0 where
   pub old : Stored D
   pub now : ℕ

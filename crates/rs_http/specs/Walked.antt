@@ -1,4 +1,4 @@
--- The walk that a request makes of a source.
+-- The walk that a request makes.
 use Rattle.std.specs.Prelude.{◌≡◌, ℕ, Bool, false, List, [], ◌∷◌, Option, Some, None, Result, Ok, Err, IsTrue}
 use Rattle.rs_disk.specs.Medium.{DiskState}
 use Rattle.rs_model.specs.State.{Source}
@@ -22,29 +22,29 @@ use Rattle.rs_http.specs.Groups.{items_asked}
 use Rattle.rs_http.specs.Turn.{Turn}
 use Rattle.rs_http.specs.Responses.{RequestOutcome, replied, shown, refused}
 
--- the event of a command, by what came of it
+-- the event of a command, by its outcome
 abbrev pub RunEvents : Source → Command → ℕ → RequestOutcome → List Event → Type 0
 RunEvents s command now (replied reply) events = CommandEvents s command now (Ok reply) events
 RunEvents s command now (refused refusal) events = CommandEvents s command now (Err refusal) events
 RunEvents s command now outcome events = events ≡ []
 
--- the event of a put: where its body did not come whole, nothing was put
+-- the event of a put: none where its body did not come whole
 abbrev pub PutEvents : Source → Command → ℕ → RequestOutcome → List Event → Type 0
 PutEvents s command now (refused ReadFault) events = events ≡ []
 PutEvents s command now (refused ShortBody) events = events ≡ []
 PutEvents s command now outcome events = RunEvents s command now outcome events
 
--- the event of a group, one for all its items: where it asks for none, nothing was done
+-- the event of a group, one for all its items: none where it asks for no items
 abbrev pub GroupEvents : Source → Option (List Item) → ℕ → RequestOutcome → List Event → Type 0
 GroupEvents s None now outcome events = events ≡ []
 GroupEvents s (Some items) now outcome events = RunEvents s (commands.Group items) now outcome events
 
--- What the response to a GET shows was fetched: the bytes are those that are answered at its path. A HEAD fetches nothing.
+-- a GET fetches what its response shows, the bytes that are answered at its path; a HEAD fetches nothing
 abbrev pub ShowEvents : Bool → Source → List ℕ → RequestOutcome → List Event → Type 0
 ShowEvents false s path (shown kind bytes) events = (answer s path ≡ Some bytes) × (events ≡ Fetch ∷ [])
 ShowEvents is_head s path outcome events = events ≡ []
 
--- The events of a plan in a state and at a moment, where a put has this body, and of a group these bytes came: one, or none.
+-- the event of a plan in a state and at a moment, or none; a put has this body, and these bytes of a group came
 abbrev pub PlanEvents : Bool → Source → ℕ → Result RequestPlan NoPlan → List ℕ → RequestOutcome → (List Event → Type 0)
 PlanEvents is_head s now (Ok (Put name kind n waits)) body outcome = PutEvents s (commands.Put name kind body) now outcome
 PlanEvents is_head s now (Ok (Delete name)) body outcome = RunEvents s (commands.Delete name) now outcome
@@ -54,19 +54,20 @@ PlanEvents is_head s now (Ok (ShowBody name)) body outcome = ShowEvents is_head 
 PlanEvents is_head s now (Ok (ShowDocument doc)) body outcome = ShowEvents is_head s (path_of doc) outcome
 PlanEvents is_head s now (Err reason) body outcome = (λ events. events ≡ [])
 
--- what a put may have for its body, of which these bytes came; a group has those that came
+-- a put may have this body, where these bytes of it came; the body of a group is the bytes that came
 abbrev pub IsBodyFor : Result RequestPlan NoPlan → List ℕ → List ℕ → Type 0
 IsBodyFor (Ok (Put name kind n waits)) more body = IsBodyOf n more body
 IsBodyFor (Ok (Group n waits)) more body = body ≡ more
 IsBodyFor plan more body = Unit {0}
 
--- What came of a request to a source that held a state, of a device that has followed the model, leaves a walk of its one event or
--- none. A put that was answered before its body was read whole is the put of some body that begins so, and it holds of each.
+-- The source held a state, and its device has followed the model: then the request leaves a walk of its one event or
+-- none. Where a put was answered before its whole body was read, this holds for each body that begins so, and there is
+-- one.
 pub record MakesWalk {D : Type 0} {device : D → DiskState} (turn : Turn device) (request : Request) (more : List ℕ) (outcome : RequestOutcome) : Type 0 where
   pub some_body : (body : List ℕ) × IsBodyFor request.plan more body
   pub walks : (s : Source) (body : List ℕ) → Holds device turn.old s → IsTrue (device turn.new.disk).honest → IsBodyFor request.plan more body
       → LeavesWalk device s (PlanEvents request.is_head s turn.now request.plan body outcome) turn.new
 
--- What a source is left as that held a state is a walk of no event.
+-- a source that held a state is left with a walk of no event
 abbrev pub MakesNoEvent : {D : Type 0} {device : D → DiskState} → Turn device → Type 0
 MakesNoEvent {device = device} turn = (s : Source) → Holds device turn.old s → LeavesWalk device s (λ events. events ≡ []) turn.new

@@ -1,4 +1,4 @@
-//! The answer to a request that was read.
+//! The answer to a request.
 
 ghost use Rattle.std.specs.Prelude.{◌≡◌, ◌/◌, ℕ, List, [], length, Option, Bool, true, Ok, OnOk, OnErr, IsErrOf, MatchResult};
 ghost use Rattle.std.specs.Io.KnownBytes.{Keeps};
@@ -26,7 +26,7 @@ use rs_time::Moment;
 use std::alloc::Global;
 use std::io::{Read, Write};
 
-/// Writes the response to a request that has no plan, and gives its status.
+/// Writes the response to a request without a plan, and gives its status.
 fn write_unplanned<W: Write>(
     writer: &mut Watched<W>,
     framing: Framing,
@@ -40,7 +40,7 @@ fn write_unplanned<W: Write>(
     }
 }
 
-/// Puts the next bytes of the input, as many as `body_length`, and writes the response.
+/// Puts the next `body_length` bytes of the input, and writes the response.
 fn put<D: Disk, R: Read, W: Write>(
     source: &mut Source<D>,
     name: &Name,
@@ -91,8 +91,7 @@ fn ask_group<D: Disk, W: Write>(
     )
 }
 
-/// Reads the next bytes of the input, as many as `body_length`, does what their lines ask for, and
-/// writes the response.
+/// Reads the next `body_length` bytes of the input, does what their lines ask for, and writes the response.
 fn group<D: Disk, R: Read, W: Write>(
     alloc: Global,
     source: &mut Source<D>,
@@ -193,7 +192,7 @@ fn date_of(now: Moment) -> HttpDate
     }
 }
 
-/// Passes on what the writer holds back, and gives the status.
+/// Flushes the writer, and gives the status.
 fn finish<W: Write>(writer: &mut Watched<W>, status: u16) -> Result<u16, FrontFault>
     ensures value { MatchResult result
         (λ given. given ≡ status) (λ fault. fault ≡ FrontFault.Write) }
@@ -207,12 +206,11 @@ fn finish<W: Write>(writer: &mut Watched<W>, status: u16) -> Result<u16, FrontFa
     Ok(status)
 }
 
-/// Does what a request asks for, and writes the response, of which it gives the status.
+/// Does what a request asks for, writes the response, and gives its status.
 ///
 /// # Errors
 ///
-/// - [`FrontFault::Read`] where a read of the body of a put or of a group failed. It is not done
-///   then.
+/// - [`FrontFault::Read`] where a read failed in the body of a put or of a group. The request is not done.
 /// - [`FrontFault::Write`] where a call of the writer failed. What was done stands.
 pub(crate) fn answer<D: Disk, R: Read, W: Write>(
     alloc: Global,

@@ -21,7 +21,7 @@ use rs_store::Source;
 use rs_time::Moment;
 use std::io::Write;
 
-/// Asks a command of the source, and writes the response.
+/// Gives the source a command, and writes the response.
 pub(crate) fn run<D: Disk, W: Write>(
     source: &mut Source<D>,
     command: &Command,
@@ -58,7 +58,7 @@ pub(crate) fn show_body<D: Disk, W: Write>(
     }
 }
 
-/// Writes the response with a document that is there.
+/// Writes the response with a document that exists.
 fn write_shown_document<V: View, W: Write>(
     view: &V,
     doc: Doc,

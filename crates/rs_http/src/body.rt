@@ -10,13 +10,13 @@ use rs_store::{Refusal, read_into};
 use std::alloc::Global;
 use std::io::Read;
 
-/// Reads the next bytes of a reader, exactly this many, into memory.
+/// Reads the next `body_length` bytes of a reader into memory.
 ///
 /// # Errors
 ///
 /// - [`Refusal::ReadFault`] where a read failed,
-/// - [`Refusal::ShortBody`] where the input ended before so many came,
-/// - [`Refusal::NoMemory`] where the room for them is refused. Nothing is read then.
+/// - [`Refusal::ShortBody`] where the input ended within them,
+/// - [`Refusal::NoMemory`] where there is no memory for them. Nothing is read then.
 pub(crate) fn read_body<R: Read>(
     alloc: Global,
     reader: &mut Watched<R>,

@@ -1,4 +1,4 @@
-//! The fields that every request is checked for.
+//! The checks of fields that every request undergoes.
 
 ghost use Rattle.std.specs.Prelude.{◌≡◌, ◌<◌, ℕ, List, length, map, All, IfOk, IfErr, Some, None, codes, true, false};
 ghost use Rattle.httparse.specs.Spans.{IsHeaderWithin, header_bytes};
@@ -54,12 +54,12 @@ fn body_length(head: &[u8], lone: Lone) -> Result<Option<u64>, RequestFault>
     }
 }
 
-/// Looks at the fields that every request is checked for, and gives the length that they state.
+/// Checks the fields of any request, and gives the length that they state.
 ///
 /// # Errors
 ///
 /// The first of [`RequestFault::ManyFields`], [`RequestFault::BadHost`], [`RequestFault::TransferEncoding`] and
-/// [`RequestFault::BadLength`] whose cause is there.
+/// [`RequestFault::BadLength`] that applies.
 pub(crate) fn check_fields(
     head: &[u8],
     spans: RequestSpans,

@@ -5,11 +5,10 @@ ghost use Rattle.std.specs.Prelude.{◌≡◌};
 use rs_io::WriteFault;
 use thiserror::Error;
 
-/// Why a connection ends with no whole response. Nothing is tried again.
+/// Why a connection ends without a whole response. Nothing is tried again.
 #[derive(Clone, Copy, Debug, PartialEq, Eq, Error)]
 pub enum FrontFault {
-    /// The reader failed in the head, or in the body of a put or of a group. What the request asks
-    /// for is not done.
+    /// The reader failed in the head, or in the body of a put or of a group. The request is not done.
     #[error("the request cannot be read")]
     Read,
     /// The writer failed. A command that was accepted stands.

@@ -12,13 +12,13 @@ use httparse::spans::{HeaderSpan, Span};
 pub(crate) enum Lone {
     /// There is none.
     Absent,
-    /// There is one, whose value lies there in the head.
+    /// There is one, and its value lies here in the head.
     One(Span),
     /// There are more.
     Many,
 }
 
-/// Whether two texts are the same without case.
+/// Whether two texts are the same, apart from case.
 pub(crate) fn is_same(a: &[u8], b: &[u8]) -> bool
     ensures { result ≡ str_eq_ignore_ascii_case a.now b.now }
 {

@@ -15,11 +15,11 @@ use rs_items::item_of;
 use rs_model::{Item, MOST_GROUPED};
 use std::alloc::{AllocError, Global};
 
-/// So many items are kept: one more than a group may have, so that it is refused as it would be
-/// with all that follow.
+/// How many items are kept: one more than a group may have. The source refuses them as it would refuse
+/// all of them.
 const MOST_KEPT: usize = MOST_GROUPED + 1;
 
-/// The line before a line feed: a carriage return at its end is dropped.
+/// A line without its line feed and without a carriage return before that.
 fn cut_return(raw: &[u8]) -> &[u8]
     ensures { result.now ≡ without_return raw.now }
 {
@@ -36,7 +36,7 @@ fn first_break(bytes: &[u8]) -> Option<usize>
     bytes.iter().position(|b| *b == b'\n')
 }
 
-/// The first line of some bytes, and what follows its line feed, or `None` where there is none.
+/// The first line of some bytes and what follows its line feed, or `None` where there is no line feed.
 fn split_line(bytes: &[u8]) -> Option<(&[u8], &[u8])>
     ensures some { IfSome result (λ parts.
         lines_of bytes.now ≡ parts.0.now ∷ lines_of parts.1.now) }
@@ -49,7 +49,7 @@ fn split_line(bytes: &[u8]) -> Option<(&[u8], &[u8])>
     }
 }
 
-/// Keeps an item behind the others, where they are not so many yet.
+/// Adds an item to those that are kept, unless there are enough.
 fn keep(items: &mut Vec<Item>, item: Item) -> Result<(), AllocError>
     requires { length items.old.items ≤ 17 }
     ensures { OnOk result (items.new.items ≡ take 17 (items.old.items ++ item ∷ [])) }
@@ -61,7 +61,7 @@ fn keep(items: &mut Vec<Item>, item: Item) -> Result<(), AllocError>
     Ok(())
 }
 
-/// Reads one line more, and keeps its item among the first ones.
+/// Reads a line, and keeps its item if it is one of the first.
 fn add_item(alloc: Global, items: &mut Vec<Item>, line: &[u8]) -> Result<(), NoPlan>
     requires { length items.old.items ≤ 17 }
     ensures ok { OnOk result ((item : Item) × (item_of_line line.now ≡ Ok item)
@@ -75,7 +75,7 @@ fn add_item(alloc: Global, items: &mut Vec<Item>, line: &[u8]) -> Result<(), NoP
     Ok(())
 }
 
-/// Reads what no line feed ends, which is a line where it has bytes.
+/// Reads the bytes behind the last line feed. They are a line unless they are empty.
 fn add_last(alloc: Global, items: &mut Vec<Item>, bytes: &[u8]) -> Result<(), NoPlan>
     requires { length items.old.items ≤ 17 }
     ensures ok { OnOk result ((last : List Item) × (items_of_lines (last_line bytes.now) ≡ Ok last)
@@ -90,8 +90,7 @@ fn add_last(alloc: Global, items: &mut Vec<Item>, bytes: &[u8]) -> Result<(), No
     add_item(alloc, items, bytes)
 }
 
-/// The first 17 items of the lines of a body. Each line is looked at, also behind those of the items
-/// that are kept.
+/// The first 17 items of a body. Every line is read, those after the kept items too.
 ///
 /// # Errors
 ///

@@ -1,4 +1,4 @@
-//! The head of a request, as it comes.
+//! The head of a request.
 
 ghost use Rattle.std.specs.Prelude.{◌≡◌, ℕ, List, ◌<◌, ◌≤◌, length, take, IfOk, OnErr, IfNone, option_to_list};
 ghost use Rattle.std.specs.Io.KnownBytes.{Consumes, Keeps, IsAtEnd};
@@ -11,14 +11,14 @@ use std::io::Read;
 /// The longest head, in bytes.
 pub(crate) const HEAD_LIMIT: usize = 8192;
 
-/// What came of a head.
+/// How the reading of a head ended.
 #[derive(Clone, Copy, Debug, PartialEq, Eq)]
 pub(crate) enum HeadRead {
-    /// It came whole.
+    /// The head came whole.
     Whole,
-    /// It has not ended within the limit.
+    /// The head did not end within the limit.
     TooLong,
-    /// The input ended within it.
+    /// The input ended within the head.
     Ended,
 }
 
@@ -54,11 +54,11 @@ pub(crate) fn read_byte<R: Read>(reader: &mut Watched<R>) -> Result<Option<u8>, 
     Ok(Some(byte[0]))
 }
 
-/// Reads the head of a request and no byte after it, and says how many bytes came.
+/// Reads the head of a request and no byte after it, and gives the number of bytes read.
 ///
 /// # Errors
 ///
-/// [`ReadFault`] where a read failed. The head had not ended then, and was shorter than the limit.
+/// [`ReadFault`] where a read failed, within the head and before its limit.
 pub(crate) fn read_head<R: Read>(
     reader: &mut Watched<R>,
     buf: &mut [u8],

@@ -10,8 +10,8 @@ use rs_recovery::laws::{runs_go_on, runs_recover};
 use rs_recovery::walking::commands_make_walks;
 use rs_store::laws::held_sources_rest;
 
-/// What a request asks of a source is a run: of its one command where that counts, or of none; and of none where the reader
-/// failed in the body of a put or of a group. So requests join to runs, as the laws of rs_recovery join these.
+/// A request is a run of its one command where that counts, and of none otherwise. Where the reader failed in the body
+/// of a put or of a group, it is a run of none. So requests join to runs, as the laws of rs_recovery join runs.
 pub fn requests_are_runs<D: Disk>()
     ensures answered { RequestsAreRuns D.state }
     ensures broken { BrokenBodiesAreRuns D.state }
@@ -21,8 +21,8 @@ pub fn requests_are_runs<D: Disk>()
     runs_recover::<D>();
 }
 
-/// Whenever a stop comes within a request, it leaves what was held, or what the command of the request makes
-/// of it that counts; and of a put or a group whose reader failed, what was held.
+/// Whenever the disk stops within a request, it holds the state before, or the state after the command of the request
+/// that counts. Where the reader failed in the body of a put or of a group, it holds the state before.
 pub fn requests_recover<D: Disk>()
     ensures answered { RequestsRecover D.state }
     ensures broken { BrokenBodiesRecover D.state }
@@ -31,10 +31,10 @@ pub fn requests_recover<D: Disk>()
     runs_recover::<D>();
 }
 
-/// A request makes a walk of one event or none: a command is tried where the model decides the answer, refused where
-/// the machine does, and stopped where the device failed in it; what a GET is shown is fetched, and is what is answered
-/// at its path. At the end each image of the disk stands for the state after it. A put or a group whose reader failed
-/// is no event.
+/// A request makes a walk of one event or none. A command is tried where the model decides the answer, refused where
+/// the machine does, and stopped where the device failed in it. A GET fetches what is answered at its path. At the end
+/// each image of the disk represents the state after the walk. Where the reader failed in the body of a put or of a
+/// group, there is no event.
 pub fn requests_make_walks<D: Disk>()
     ensures answered { RequestsMakeWalks D.state }
     ensures broken { BrokenBodiesMakeNoEvent D.state }

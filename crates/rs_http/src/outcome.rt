@@ -1,4 +1,4 @@
-//! The responses to what came of requests.
+//! The responses to the outcomes of requests.
 
 ghost use Rattle.std.specs.Prelude.{◌≡◌, ◌≤◌, length, OnErr};
 ghost use Rattle.rs_io.specs.Watch.{EndFailed, WritesOut};
@@ -17,7 +17,7 @@ use rs_store::Refusal;
 use rs_time::Moment;
 use std::io::Write;
 
-/// The status of a request that is refused before the source is asked.
+/// The status of a request that is refused before the source sees it.
 fn fault_status(fault: RequestFault) -> u16
     ensures { result ≡ status_of_fault fault }
 {
@@ -39,7 +39,7 @@ fn fault_status(fault: RequestFault) -> u16
     }
 }
 
-/// The word of it.
+/// The word of such a refusal.
 fn fault_word(fault: RequestFault) -> &'static str
     ensures { result.now ≡ word_of_fault fault }
 {
@@ -61,7 +61,7 @@ fn fault_word(fault: RequestFault) -> &'static str
     }
 }
 
-/// The field with the methods that are allowed, where another was asked for.
+/// The field `Allow`, where the method is not allowed, else nothing.
 fn allow_text(fault: RequestFault) -> &'static str
     ensures { result.now ≡ allow_of fault }
 {
@@ -94,7 +94,7 @@ fn refusal_status(refusal: Refusal) -> u16
     }
 }
 
-/// Writes the response to a request that is refused before the source is asked, and gives its status.
+/// Writes the response to a request that is refused before the source sees it, and gives its status.
 pub(crate) fn write_fault<W: Write>(
     writer: &mut Watched<W>,
     framing: Framing,
@@ -136,8 +136,8 @@ pub(crate) fn write_shown<W: Write>(
     Ok(200)
 }
 
-/// Writes the response to an accepted command whose reply is this word, with a space behind it, a
-/// number and a moment.
+/// Writes the response to an accepted command. Its body is this word, which ends in a space, a number and a
+/// moment.
 #[tactic(auto, unfolding(crate::specs::Responses::content_lines))]
 fn write_line<W: Write>(
     writer: &mut Watched<W>,

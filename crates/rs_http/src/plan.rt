@@ -28,7 +28,7 @@ fn type_of(alloc: Global, text: &[u8]) -> Result<MediaType, NoPlan>
     }
 }
 
-/// The media type of a body, by the fields that state one.
+/// The media type that the fields state for a body.
 fn body_type(alloc: Global, head: &[u8], lone: Lone) -> Result<MediaType, NoPlan>
     requires { (kinds : List (List ℕ)) × LoneIs head.now lone kinds }
     ensures { (kinds : List (List ℕ)) → LoneIs head.now lone kinds → TypeIs kinds result }
@@ -40,8 +40,7 @@ fn body_type(alloc: Global, head: &[u8], lone: Lone) -> Result<MediaType, NoPlan
     }
 }
 
-/// The plan of a put to this name, or to one for which there is no memory, with the length that the fields
-/// state.
+/// The plan of a put with the length that the fields state. It has no name where there is no memory for it.
 fn put_plan(
     alloc: Global,
     head: &[u8],
@@ -99,14 +98,14 @@ fn is_post(method: &[u8]) -> bool
     method == b"POST".as_slice()
 }
 
-/// Whether a method gives what is there, with a body or without.
+/// Whether a method is `GET` or `HEAD`.
 fn is_get(method: &[u8]) -> bool
     ensures { result ≡ gets method.now }
 {
     method == b"GET".as_slice() || method == b"HEAD".as_slice()
 }
 
-/// The plan of a request for the resource of this name, or of one for which there is no memory.
+/// The plan of a request for a resource. It has no name where there is no memory for it.
 fn resource_plan(
     alloc: Global,
     head: &[u8],
@@ -137,7 +136,7 @@ fn resource_plan(
     }
 }
 
-/// The plan of a request for what stands there.
+/// The plan of a request for a place.
 fn plan_at(
     alloc: Global,
     head: &[u8],
@@ -177,7 +176,7 @@ fn plan_at(
     }
 }
 
-/// What a head asks for whose parts lie at these spans and headers.
+/// The plan of a head with its parts at these spans and headers.
 fn plan_request(
     alloc: Global,
     head: &[u8],
@@ -197,10 +196,10 @@ fn plan_request(
     }
 }
 
-/// More fields than 8,192 bytes can hold.
+/// Room for more fields than 8,192 bytes can hold.
 const ROOM: usize = 2731;
 
-/// Reads a head at the front of some bytes, with room for all its fields.
+/// Parses the head at the front of some bytes. `headers` has room for all its fields.
 fn parse_head(head: &[u8], headers: &mut [HeaderSpan]) -> Option<RequestSpans>
     requires short { length head.now ≤ 8192 }
     requires room { length headers.old ≡ 2731 }
@@ -215,7 +214,7 @@ fn parse_head(head: &[u8], headers: &mut [HeaderSpan]) -> Option<RequestSpans>
     }
 }
 
-/// A request of which no more is known.
+/// A request that is refused before its head is known.
 fn refused_request(fault: RequestFault) -> Request
     ensures { result ≡ refused_for fault }
 {

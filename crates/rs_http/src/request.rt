@@ -1,4 +1,4 @@
-//! What a request asks for, or why it is refused before the source is asked.
+//! What a request asks for, or why it is refused before the source sees it.
 
 ghost use Rattle.std.specs.Prelude.{◌≡◌};
 
@@ -8,8 +8,8 @@ use rs_lists::Doc;
 use rs_record::{MediaType, Name};
 use std::alloc::AllocError;
 
-/// Why a request is refused before the source is asked, in the order in which the causes count. Those
-/// of the lines of a group come behind all that lie in a head; there the first line with one counts.
+/// Why a request is refused before the source sees it. The first cause in this order counts. Causes in the lines of a
+/// group come after all causes in its head, and there the first line with a cause counts.
 #[derive(Clone, Copy, Debug, PartialEq, Eq)]
 pub(crate) enum RequestFault {
     /// The head has not ended in 8,192 bytes.
@@ -28,7 +28,7 @@ pub(crate) enum RequestFault {
     BadName,
     /// No document has the path, at any time.
     NoSuchDocument,
-    /// The method is not allowed there; these are.
+    /// The method is not allowed there. These are.
     BadMethod(Methods),
     /// A PUT or a group states no length.
     NoLength,
@@ -49,7 +49,8 @@ pub(crate) enum RequestPlan {
     ShowBody(Name),
     /// A document.
     ShowDocument(Doc),
-    /// A put of a body of so many bytes; whether it waits for the word to go on before it sends them.
+    /// A put: its name, its type, the length of its body in bytes, and whether the client waits for the word to go on
+    /// before it sends the body.
     Put {
         name: Name,
         kind: MediaType,
@@ -60,19 +61,19 @@ pub(crate) enum RequestPlan {
     Delete(Name),
     /// A publish.
     Publish,
-    /// A group, whose lines come in a body of so many bytes; whether it waits as a put does.
+    /// A group: the length of its body in bytes, which has its lines, and whether the client waits as in a put.
     Group {
         length: u64,
         waits: bool,
     },
 }
 
-/// Why nothing is asked of the source.
+/// Why the source sees no request.
 #[derive(Clone, Copy, Debug, PartialEq, Eq)]
 pub(crate) enum NoPlan {
     /// The request is refused.
     Refused(RequestFault),
-    /// The memory for what it asks for is refused.
+    /// There is no memory for what it asks for.
     NoMemory,
 }
 
@@ -115,7 +116,7 @@ impl From<AllocError> for NoPlan {
 /// A request.
 #[derive(Debug, Drop)]
 pub(crate) struct Request {
-    /// Its method is known to be HEAD, so that its response has no body.
+    /// Whether its method is known to be HEAD. Its response then has no body.
     pub(crate) is_head: bool,
     /// What it asks for.
     pub(crate) plan: Result<RequestPlan, NoPlan>,

@@ -14,9 +14,9 @@ use std::io::Write;
 /// What the responses to one request have in common.
 #[derive(Clone, Copy, Debug)]
 pub(crate) struct Framing {
-    /// The second in which they are made.
+    /// Their date.
     pub(crate) date: HttpDate,
-    /// The method is HEAD, so that they have no body.
+    /// Whether the method is HEAD. They then have no body.
     pub(crate) is_head: bool,
 }
 
@@ -41,7 +41,7 @@ fn reason_of(status: u16) -> &'static str
     }
 }
 
-/// Writes the status line, the date and that the connection ends.
+/// Writes the status line, the date and `Connection: close`.
 #[tactic(auto, unfolding(crate::specs::Responses::first_lines))]
 fn write_first<W: Write>(
     writer: &mut Watched<W>,
@@ -64,8 +64,8 @@ fn write_first<W: Write>(
     ])
 }
 
-/// Writes a response with these pieces of header lines, the empty line among them, and these pieces of a
-/// body, which is left out where the method is HEAD.
+/// Writes a response: header lines in pieces, the empty line included, and a body in pieces, left out where the method
+/// is HEAD.
 pub(crate) fn write_response<W: Write>(
     writer: &mut Watched<W>,
     framing: Framing,
@@ -135,7 +135,7 @@ pub(crate) fn write_word<W: Write>(
     write_response(writer, framing, status, &lines, &[word.as_bytes(), b"\n"])
 }
 
-/// Writes a response that describes no body but by these lines.
+/// Writes a response without a body, with these header lines and the empty line.
 pub(crate) fn write_bare<W: Write>(
     writer: &mut Watched<W>,
     framing: Framing,

@@ -18,7 +18,7 @@ use rs_time::Moment;
 use std::alloc::Global;
 use std::io::{Read, Write};
 
-/// What came of a connection.
+/// How a connection ended.
 #[derive(Clone, Copy, Debug, PartialEq, Eq)]
 pub enum Served {
     /// A request was answered with this status.
@@ -27,24 +27,24 @@ pub enum Served {
     Nothing,
 }
 
-/// Reads one request, does what it asks for, and writes the response, which bears the date of `now`, cut to its
-/// second (RFC 9110 and RFC 9112). A command comes at `now`.
+/// Reads one request, does what it asks for, and writes the response (RFC 9110 and RFC 9112). The date of the response
+/// is `now`, cut to its second. A command comes at `now`.
 ///
-/// The head is read byte by byte, so that no byte after the request is taken: give it a buffered reader. The lines of a
-/// group are read into memory before one of them is looked at, at most 16,777,216 bytes. The writer
-/// is flushed after the word to go on, and at the end.
+/// It reads the head byte by byte and takes no byte after the request: give it a buffered reader. It reads the whole
+/// body of a group into memory, at most 16,777,216 bytes. It flushes the writer after the word to go on, and at the
+/// end.
 ///
 /// # Errors
 ///
-/// - [`FrontFault::Read`] where a read failed in this call: nothing is done, and no more than the word to go on is
+/// - [`FrontFault::Read`] where a read failed in this call. The request is not done, and at most the word to go on is
 ///   written.
-/// - [`FrontFault::Write`] where a call of the writer failed in this one. Where the word to go on was not written and
-///   flushed, nothing is done; else a command that was accepted stands. The writer took a beginning of what was to be
-///   written, and no other byte.
+/// - [`FrontFault::Write`] where a call of the writer failed in this call. Where the word to go on was due and was not
+///   flushed, the request is not done. Otherwise an accepted command stands. The writer took a beginning of the text,
+///   and no other byte.
 ///
-/// Whenever the disk stops within the call, what it then holds is what was held at its beginning, or what the request's
-/// one command makes of it. The call makes a walk of one event or none: the command as it was answered, or the fetch of what
-/// a GET was shown; and at its end each image of the disk stands for the state after it.
+/// Whenever the disk stops within the call, it holds the state before, or the state after the request's one command.
+/// The call makes a walk of one event or none: the command as it was answered, or the fetch of what a GET was shown. At
+/// its end each image of the disk represents the state after the walk.
 pub fn serve_one<D: Disk, R: Read, W: Write>(
     alloc: Global,
     source: &mut Source<D>,
@@ -56,26 +56,24 @@ pub fn serve_one<D: Disk, R: Read, W: Write>(
     ensures ok { IfOk result (Serves (turn D.state source.old now source.new)
         (ends_of R.remaining reader.old reader.new W.contents writer.old writer.new)) }
 
-    // A read failed within what was read, and the writer did not.
+    // A read failed, and no call of the writer.
     ensures read { IsErrOf result FrontFault.Read
         → Breaks (turn D.state source.old now source.new)
         (ends_of R.remaining reader.old reader.new W.contents writer.old writer.new) }
 
-    // A call of the writer failed, and none of the reader. A put failed within what was to be
-    // written, or a flush behind it. What was done stands.
+    // A call of the writer failed, and none of the reader. A write failed within the text, or a flush
+    // after it. What was done stands.
     ensures write { IsErrOf result FrontFault.Write
         → Halts (turn D.state source.old now source.new)
         (ends_of R.remaining reader.old reader.new W.contents writer.old writer.new) }
 
-    // An answer was flushed whole, with all that the writer had held back. What else was written was
-    // flushed too: the word to go on before the body was read.
+    // The whole answer was flushed. So was the word to go on, before the body was read.
     ensures sent { IfOk result (λ served. (status : ℕ) → served ≡ Served.Answered status
         → is_flushed writer.new ≡ true) }
     ensures flushed { OnOk result (StaysFlushed writer.old writer.new) }
     ensures waits { IsErrOf result FrontFault.Read → StaysFlushed writer.old writer.new }
 
-    // Whatever the result is, a state that was held has become what one command at most makes of
-    // it, while the source is open.
+    // Whatever the result, one command at most changes the held state, while the source is open.
     ensures goes_on { GoesOnOnce D.state source.old now source.new }
 {
     requests_recover::<D>();

@@ -13,15 +13,15 @@ use std::alloc::{AllocError, Global};
 /// What a path names.
 #[derive(Debug, Drop)]
 pub(crate) enum Place {
-    /// The resource of this name, be it held or not.
+    /// The resource of this name, whether it is held or not.
     Resource(Name),
     /// A resource of an unlawful name.
     Unlawful,
-    /// This document, be it there or not.
+    /// This document, whether it exists or not.
     Document(Doc),
-    /// Where a publication is asked for.
+    /// Where clients ask for a publication.
     Publishing,
-    /// Where a group is asked for.
+    /// Where clients ask for a group.
     Grouping,
     /// Nothing.
     Nowhere,
@@ -34,11 +34,11 @@ pub(crate) enum Methods {
     OfResources,
     /// `GET` and `HEAD`.
     OfDocuments,
-    /// `POST`: where publications and groups are asked for.
+    /// `POST`, for publications and groups.
     OfPosts,
 }
 
-/// How long the scheme is with which a target begins, `http://` or `https://` in any case.
+/// The length of the scheme at the front of a target: `http://` or `https://`, in any case.
 fn scheme_length(target: &[u8]) -> usize
     ensures value { result ≡ length_of_scheme target.now }
     ensures fits { result ≤ length target.now }
@@ -59,7 +59,7 @@ fn first_slash(bytes: &[u8]) -> Option<usize>
     bytes.iter().position(|b| *b == b'/')
 }
 
-/// The path after an authority, which is `/` where none is written.
+/// The path after an authority, or `/` where none is written.
 fn after_authority(rest: &[u8]) -> &[u8]
     ensures { result.now ≡ path_after rest.now }
 {
@@ -69,7 +69,7 @@ fn after_authority(rest: &[u8]) -> &[u8]
     }
 }
 
-/// The path of a target, before which a scheme and an authority may stand.
+/// The path of a target, which may begin with a scheme and an authority.
 pub(crate) fn path_of_target(target: &[u8]) -> &[u8]
     ensures { result.now ≡ path_in target.now }
 {
@@ -96,7 +96,7 @@ fn resource_place(alloc: Global, name: &[u8]) -> Result<Place, AllocError>
 ///
 /// # Errors
 ///
-/// [`AllocError`] where the path is that of a resource, and the memory for its name is refused.
+/// [`AllocError`] where the path names a resource, and there is no memory for its name.
 pub(crate) fn place_of(alloc: Global, path: &[u8]) -> Result<Place, AllocError>
     ensures ok { IfOk result (λ place. place ≡ place_at path.now) }
     ensures err { OnErr result ((name : List ℕ) × (place_at path.now ≡ Place.Resource name)) }

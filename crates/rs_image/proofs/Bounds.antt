@@ -1,4 +1,4 @@
--- How long a directory is.
+-- The length of a directory.
 use Rattle.std.proofs.Common.{arith, ◌≡◌, ◌∙◌, ◌<◌, ◌≤◌, ◌^◌, ℕ, suc, true, List, [], ◌∷◌, length, length-append, vec_len, Vec, Global, Option, Some, None, Result, Ok, Err, ap}
 use Rattle.std.specs.Prelude.{IfOk, IsTrue, nat_le, All}
 use Rattle.std.specs.List.{cons_option}
@@ -39,7 +39,7 @@ fewer_refs {T} (page ∷ pages) some =
       fewer_refs pages (All-tail P page pages some),
     )
 
--- so those of a list of 50,000 items at most are no more than that
+-- so a list of at most 50,000 items has at most as many
 pub refs_fit : {T : Type 0} (pages : List (Page T)) (refs : List PageRef) → All (λ page. 1 ≤ length page.items) pages → length (items_of pages) ≤ 50000
     → refs ≡ stored_refs pages → length refs ≤ 50000
 refs_fit pages refs some room is =
@@ -53,7 +53,7 @@ pub fits : {E : Type 0} (result : Result (Vec ℕ Global) E) (h : Header) (n : �
 fits (Ok out) h n catalogue changes published few size is = omega (arith, size, short_base h.base is.lawful.of_header.base)
 fits (Err e) h n catalogue changes published few size is = tt
 
--- and where each page is stored, exactly as many as it tells
+-- and exactly its length, where each page is stored
 pub sized : {E : Type 0} (result : Result (Vec ℕ Global) E) (c : Contents) (n : ℕ) → (AreAllStored c → n ≡ pages_in_all c)
     → IfOk result (λ out. vec_len out ≡ directory_length c.header n) → IfOk result (λ out. AreAllStored c → vec_len out ≡ directory_bytes_of c)
 sized (Ok out) c n same size = λ stored. size ∙ ap (directory_length c.header) (same stored)

@@ -1,4 +1,4 @@
--- How many pages a list has.
+-- The number of pages of a list.
 use Rattle.std.proofs.Common.{◌≡◌, ◌+◌, ◌≤◌, List, [], ◌∷◌, length, Option, Some, None, refl, arith, length-append}
 use Rattle.std.specs.Prelude.{All, IsSome}
 use Rattle.std.specs.List.{cons_option}

@@ -68,18 +68,18 @@ pub some_bytes : (version : ℕ) (h : Header) (catalogue changes published : Lis
     → bytes ≡ directory_bytes version h catalogue changes published → 0 < length bytes
 some_bytes version h catalogue changes published bytes is = let long = ap length is in omega (arith, long)
 
--- what was read of the directory is read still, ..
+-- the directory is read as before, ..
 pub still_read : {A : Type 0} (root : Root) (bytes : List ℕ) (mid new : DiskState) → RunsReading A mid new
     → part root.directory root.length mid.now.seen ≡ bytes → part root.directory root.length new.now.seen ≡ bytes
 still_read root bytes mid new rests read = subst (λ (m : Medium). part root.directory root.length m.seen ≡ bytes) (sym rests.now) read
 
--- .. as the bytes that were read of it are, ..
+-- .. and so are its bytes, ..
 pub body_read : (root : Root) (sha256 items bytes : List ℕ) (x : Unit {0}) (old new : DiskState)
     → ReadsBody (record { extent = root.directory; length = root.length; sha256 = sha256 }) old new items (Ok x) → bytes ≡ items → IsTrue new.honest
     → part root.directory root.length new.now.seen ≡ bytes
 body_read root sha256 items bytes x old new body is honest = still_read root bytes old new body.runs (sym (is ∙ body.found honest))
 
--- .. of a disk whose size is how much of it is read
+-- .. of a disk whose size is the number of bytes that reads give
 pub size_seen : (size : ℕ) (m : Medium) → IsMedium size m → size ≡ length m.seen
 size_seen size m is = sym (is.image.size ∙ is.settled)
 
@@ -120,7 +120,7 @@ same_lists d a b image of_a of_b hold_a hold_b =
     (catalogue_held_once d.published.items image (items_by_page a.published) (items_by_page b.published) hold_a.published hold_b.published) in
     λ i. record { header = header i; catalogue = catalogue i; history = record { first = first i; pages = changes i }; published = published i }
 
--- Lists of a directory that are whole are told, ..
+-- The root tells the lists of its directory where they are whole, ..
 pub are_told : (root : Root) (d : Directory) (c : Contents) (image : List ℕ) (size : ℕ) → IsLawfulDirectory root.version d → (digests (spelled root.version d)).sha256 ≡ root.sha256
     → part root.directory root.length image ≡ spelled root.version d → AreOf d c → HoldLists d image c → size ≡ length image → IsWhole size root c
     → Tells root c image (state_in image c)
@@ -142,7 +142,7 @@ are_told root d c image size lawful digest found of hold long whole =
       state = refl;
     }
 
--- .. and where they are not, none are.
+-- .. and tells nothing where they are not.
 pub none_told : (root : Root) (d : Directory) (c : Contents) (image : List ℕ) (size : ℕ) → IsLawfulDirectory root.version d → part root.directory root.length image ≡ spelled root.version d
     → AreOf d c → HoldLists d image c → size ≡ length image → ¬ IsWhole size root c → TellsNothing root image
 none_told root d c image size lawful found of hold long broken other s tells =
@@ -171,7 +171,7 @@ told_placed root c image s size tells long =
     (are_pages_placed change_format size (stored_refs c.history.pages) image (items_by_page c.history.pages) tells.history.hold (λ b is. inside b (reaches_history root c b is)))
     (are_pages_placed record_format size (stored_refs c.published) image (items_by_page c.published) tells.published.hold (λ b is. inside b (reaches_published root c b is))))
 
--- Bytes of a directory that is told name these pages, ..
+-- The bytes of a directory whose lists the root tells name these pages, ..
 pub names_told : (root : Root) (c : Contents) (image : List ℕ) (s : Source) (bytes : List ℕ) → Tells root c image s → bytes ≡ part root.directory root.length image
     → Names root.version bytes (stored_refs c.catalogue ++ (stored_refs c.history.pages ++ stored_refs c.published))
 names_told root c image s bytes tells read = record {
@@ -268,10 +268,10 @@ pub untold_first : (root : Root) (d : Directory) (image : List ℕ) → IsLawful
     → ¬ HasFirstPart d.header → TellsNothing root image
 untold_first root d image lawful found none c s tells = none (subst HasFirstPart (told_of root d c image s lawful found tells).header tells.whole.moments.history)
 
--- What the lists that were read behind a directory leave, and what they tell.
+-- What holds once the lists of a directory were read.
 module _ {A T : Type 0} (old mid new : DiskState) (root : Root) (d : Directory) (read : IsReadBehind root mid d) (x : T)
     (first : RunsReading (IsErrOf {T = T} {E = LoadFault} (Ok x) Device) old mid) (one : CallsAtMost 1 old mid) (lists : ReadsLists d A mid new) where
-  -- the bytes of the directory are there still
+  -- the disk still has the bytes of the directory
   pub found_still : IsTrue new.honest → part root.directory root.length new.now.seen ≡ spelled root.version d
   found_still honest = still_read root (spelled root.version d) mid new lists.runs (read.found (lists.runs.runs.lasts honest))
 
@@ -299,6 +299,6 @@ module _ {A T : Type 0} (old mid new : DiskState) (root : Root) (d : Directory) 
     placed = reads_behind.placed;
   }
 
-  -- lists that are not there are not told
+  -- the root tells nothing where the pages hold no lists
   pub untold_lists : IsTrue new.honest → HoldNoLists d new.now.seen → TellsNothing root new.now.seen
   untold_lists honest none c s tells = none _ _ _ (told_hold root d c new.now.seen s (told_of root d c new.now.seen s read.lawful (found_still honest) tells) tells)

@@ -27,18 +27,18 @@ handed_lists d fault made old new is lists = record {
   calls = lists.calls;
 }
 
--- A refusal of memory tells of no device, ..
+-- A refusal of memory is no failure of the device, ..
 pub refusal_tells_none : {B : Type 0} (made : Result B LoadFault) → IsErrAnd made (λ e. e ≡ NoMemory) → ¬ IsErrOf made Device
 refusal_tells_none {B} made is told = let same : NoMemory ≡ Device = of (handed_on {A = B} NoMemory Device made is told) in absurd cc
   where
     of : IsErrOf {T = B} (Err NoMemory) Device → NoMemory ≡ Device
     of told = cc
 
--- .. and neither does damage, ..
+-- .. and neither is damage, ..
 pub damage_tells_none : {T : Type 0} → ¬ IsErrOf {T = T} (Err Damaged) Device
 damage_tells_none told = absurd cc
 
--- .. or a run that went well.
+-- .. or a successful run.
 pub went_well : {T : Type 0} (x : T) → ¬ IsErrOf {T = T} {E = LoadFault} (Ok x) Device
 went_well x is = true≢false (ap is_ok is)
 
@@ -51,7 +51,7 @@ two_read d records changes x old mid new rs cs first second =
       calls = omega (arith, first.one_each, second.one_each, ap length rs, ap length cs);
     }
 
--- and the published pages that are none of the catalogue's
+-- and the published pages that are no catalogue pages
 pub three_read : {T S C : Type 0} (d : Directory) (records changes published own : List PageRef) (x : T) (y : S) (old mid late new : DiskState) → records ≡ d.catalogue.items → changes ≡ d.changes.items
     → published ≡ d.published.items → own ≡ d.catalogue.items
     → ReadsPages records (IsErrOf {T = T} {E = LoadFault} (Ok x) Device) old mid → ReadsPages changes (IsErrOf {T = S} {E = LoadFault} (Ok y) Device) mid late

@@ -1,4 +1,4 @@
--- The pages that entries are of, and whether all are placed.
+-- The pages of entries, and whether all of them are placed.
 use Rattle.std.proofs.Common.{◌↔◌, ℕ, ◌<◌, List, [], ◌∷◌, length, flat_map, sym, ◌∙◌, ap, subst, arith}
 use Rattle.std.specs.Prelude.{All}
 use Rattle.std.proofs.lemmas.List.{length-append}

@@ -1,4 +1,5 @@
--- What a root reaches, taken from the bodies on: its lists of extents are a directory, catalogue pages, change pages, published pages and bodies.
+-- What a root reaches, taken from the bodies on: its lists of extents are a directory, catalogue pages, change pages,
+-- published pages and bodies.
 use Rattle.std.proofs.Common.{◌≡◌, ℕ, ◌+◌, ◌<◌, Bool, true, false, List, [], ◌∷◌, ◌++◌, length, take, get_or, append-nil, sym, ◌∙◌, ap, subst}
 use Rattle.std.specs.Prelude.{cond, not}
 use Rattle.std.specs.List.{list_any}

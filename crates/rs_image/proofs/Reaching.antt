@@ -30,7 +30,7 @@ same_blocks a b k same is =
     let here = within_is a.extent k is in
     within_true b.extent k (omega (arith, here.0)) (omega (arith, here.1))
 
--- the blocks of a page that is a page of the catalogue too are blocks of the catalogue's pages
+-- the blocks of a page that is also a catalogue page are blocks of the catalogue's pages
 pub shared_blocks : (ref : PageRef) (catalogue : List PageRef) (b : ℕ) → list_any (same_page ref) catalogue ≡ true → within ref.extent b ≡ true
     → in_some (extents_of catalogue) b ≡ true
 shared_blocks ref [] b found is = absurd cc
@@ -39,7 +39,7 @@ shared_blocks ref (other ∷ refs) b found is = ⊎_elim
     (λ later. some_rest other.extent (extents_of refs) b (shared_blocks ref refs b later is))
     (or_cases (same_page ref other) (list_any (same_page ref) refs) found)
 
--- one published page before others: it is a page of the catalogue too, or is not
+-- one published page before others: it is also a catalogue page, or is not
 one_published : (ref : PageRef) (others catalogue : List PageRef) (b : ℕ) (shared : Bool) → list_any (same_page ref) catalogue ≡ shared
     → (within ref.extent b ≡ true) ⊎ ((in_some (extents_of others) b ≡ true) ⊎ (in_some (extents_of catalogue) b ≡ true))
     → (in_some (extents_of (cond (not shared) (ref ∷ others) others)) b ≡ true) ⊎ (in_some (extents_of catalogue) b ≡ true)
@@ -49,7 +49,7 @@ one_published ref others catalogue b false found (inl here) = inl (some_first re
 one_published ref others catalogue b false found (inr (inl left)) = inl (some_rest ref.extent (extents_of others) b left)
 one_published ref others catalogue b false found (inr (inr right)) = inr right
 
--- a block of the published pages is one of those that are no catalogue pages, or one of the catalogue's
+-- a block of the published pages is one of pages that are no catalogue pages, or one of the catalogue's
 pub published_either : (published catalogue : List PageRef) (b : ℕ) → in_some (extents_of published) b ≡ true
     → (in_some (extents_of (unshared published catalogue)) b ≡ true) ⊎ (in_some (extents_of catalogue) b ≡ true)
 published_either [] catalogue b is = absurd cc
@@ -96,7 +96,7 @@ module _ (root : Root) (c : Contents) (b : ℕ) where
   pub reaches_bodies : in_some (bodies_of (records_of c.catalogue)) b ≡ true → in_some (reach root c) b ≡ true
   reaches_bodies is = some_rest root.directory (all_pages c ++ bodies c) b (some_behind (all_pages c) (bodies c) b is)
 
-  -- the published pages, those of the catalogue too or not
+  -- the published pages, whether they are also catalogue pages or not
   pub reaches_published : in_some (extents_of (stored_refs c.published)) b ≡ true → in_some (reach root c) b ≡ true
   reaches_published is =
       ⊎_elim (λ own. reaches_unshared own) (λ shared. reaches_catalogue shared)

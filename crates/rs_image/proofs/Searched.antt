@@ -21,7 +21,7 @@ search_finds R total test x tests xs (Err i) sorted inside found =
     sym (list_any_none test xs (λ k d lt. tests (get_or xs k d)
     ∙ ⊎_elim (λ (before : k < i). ap is_eq (parts.0 k d (omega arith) before)) (λ (behind : i ≤ k). ap is_eq (parts.1 k d behind lt)) (cases_lt k i)))
 
--- elements are equal exactly where the order does not tell them apart, in either direction
+-- elements are equal exactly where neither is below the other
 pub level : {K : Type 0} {E : K → K → Bool} {R : K → K → Ordering} → IsTotalOrder R → ((x y : K) → E x y ≡ eq_by_cmp R x y) → (x y : K) → E x y ≡ is_eq (R y x)
 level total ties x y = ties x y ∙ (eq_by_cmp_equiv total).symm x y
 

@@ -1,4 +1,4 @@
--- What follows from the definition of what an image stands for.
+-- What follows from the definition of the state that an image holds.
 use Rattle.std.specs.Prelude.{◌≡◌, ℕ, Bool, true, List}
 use Rattle.rs_extent.specs.Extents.{in_some}
 use Rattle.rs_body.specs.Outside.{Keeps}
@@ -17,11 +17,11 @@ StandsOnce = (image : List ℕ) (s t : Source) → StandsFor image s → StandsF
 abbrev pub TellsOnce : Type 0
 TellsOnce = (root : Root) (c d : Contents) (image : List ℕ) (s t : Source) → Tells root c image s → Tells root d image t → c ≡ d
 
--- What a root tells depends on the blocks that it reaches alone: it stays where these hold what they held.
+-- What a root tells depends only on the blocks that it reaches: it stays the same while these blocks do.
 abbrev pub TellsStays : Type 0
 TellsStays = (kept : ℕ → Bool) (root : Root) (c : Contents) (old new : List ℕ) (s : Source)
     → ((b : ℕ) → in_some (reach root c) b ≡ true → kept b ≡ true) → Keeps kept old new → Tells root c old s → Tells root c new s
 
--- So it stays where all stays that is behind the slots.
+-- So it stays the same while everything behind the slots does.
 abbrev pub TellsBehind : Type 0
 TellsBehind = (root : Root) (c : Contents) (one two : List ℕ) (s : Source) → SameBehind one two → Tells root c one s → Tells root c two s

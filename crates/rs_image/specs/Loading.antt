@@ -1,4 +1,5 @@
--- Words of the loader's contracts: where a directory and its pages may lie, a directory as it was read, and lists that stand where it says.
+-- Words of the loader's contracts: where a directory and its pages may lie, a directory that was read, and the lists
+-- that its pages hold.
 use Rattle.std.specs.Prelude.{◌≡◌, ◌<◌, ◌≤◌, ◌+◌, List, length, ℕ, true, All, IsTrue}
 use Rattle.rs_disk.specs.Medium.{DiskState}
 use Rattle.rs_disk.specs.Runs.{RunsReading, CallsAtMost}
@@ -21,7 +22,7 @@ use Rattle.rs_image.specs.declared.contents.Contents.{Contents}
 use Rattle.rs_image.specs.Reach.{blocks_of_disk}
 use Rattle.rs_image.specs.StateOfImage.{AreAllStored}
 
--- each block of an extent is behind the slots, in what is used of a disk of this many bytes
+-- each block of an extent is behind the slots, among the usable blocks of a disk of this many bytes
 abbrev pub IsInside : ℕ → Extent → Type 0
 IsInside size extent = (b : ℕ) → within extent b ≡ true → (2 ≤ b) × (b < blocks_of_disk size)
 
@@ -56,8 +57,8 @@ IsLawfulDirectory version d = AreLawful version d.header d.catalogue.items d.cha
 abbrev pub NamesPlaced : ℕ → Root → List ℕ → Type 0
 NamesPlaced size root image = (d : Directory) → IsLawfulDirectory root.version d → part root.directory root.length image ≡ spelled root.version d → ArePlaced size d
 
--- The lists are those of a directory: they have its header, the history its first number, and all their pages are stored
--- where it says.
+-- The lists are those of a directory: they have its header, the history its first number, and all their pages are
+-- stored where it says.
 pub record AreOf (d : Directory) (c : Contents) : Type 0 where
   pub header : c.header ≡ d.header
   pub first : c.history.first ≡ d.header.first
@@ -66,11 +67,12 @@ pub record AreOf (d : Directory) (c : Contents) : Type 0 where
   pub published : stored_refs c.published ≡ d.published.items
   pub stored : AreAllStored c
 
--- how many pages are read where a directory is: each that it names, but for a published one that is a page of the catalogue too
+-- the number of pages that are read with a directory: each that it names, but no published page that is also a
+-- catalogue page
 abbrev pub pages_read : Directory → ℕ
 pages_read d = length d.catalogue.items + (length d.changes.items + length (unshared d.published.items d.catalogue.items))
 
--- What reading what stands behind a root leaves, whatever it answers.
+-- What reading the lists behind a root leaves, whatever it answers.
 -- `runs`: nothing changes but what the disk counts.
 -- `once`: the directory costs one call at most, and each page that it names one more.
 -- `placed`: of a device that has followed the model, none of these pages is read unless all of them are placed.
@@ -79,7 +81,7 @@ pub record ReadsBehind (root : Root) (told : Type 0) (old new : DiskState) : Typ
   pub once : old.calls + 1 < new.calls → (d : Directory) × ((digests (spelled root.version d)).sha256 ≡ root.sha256) × CallsAtMost (1 + pages_read d) old new
   pub placed : old.calls + 1 < new.calls → IsTrue new.honest → NamesPlaced new.size root new.now.seen
 
--- What a refusal of memory to a reader of a root tells of the disk: it asks for none before it looked at the places.
+-- What holds of the disk where memory is refused to a reader of a root: it checks the places before it asks for memory.
 -- `directory`: the directory is placed.
 -- `pages`: of a device that has followed the model, once the directory was read, each page that it names is placed.
 pub record RefusesMemory (root : Root) (old new : DiskState) : Type 0 where

@@ -10,7 +10,7 @@ use Rattle.rs_pages.specs.Storing.{unshared}
 use Rattle.rs_catalogue.specs.Catalogue.{records_of}
 use Rattle.rs_image.specs.declared.contents.Contents.{Contents}
 
--- how many blocks of a disk of this many bytes are used: whole ones, and no more than 8,388,608
+-- the number of usable blocks of a disk of this many bytes: whole ones, and at most 8,388,608
 abbrev pub blocks_of_disk : ℕ → ℕ
 blocks_of_disk size = min (size / block_size) 8388608
 
@@ -18,9 +18,9 @@ blocks_of_disk size = min (size / block_size) 8388608
 abbrev pub bodies_of : List Record → List Extent
 bodies_of records = map (λ r. r.extent) records
 
--- What a root reaches beside the slots: its directory, the catalogue pages, the change pages, the published pages, where a
--- page that is a catalogue page too counts once, and the bodies of the catalogue's records. A body that only a published
--- record names is not reached.
+-- What a root reaches beside the slots: its directory, the catalogue pages, the change pages, the published pages, of
+-- which one that is also a catalogue page counts once, and the bodies of the catalogue's records. It does not reach a
+-- body that only a published record names.
 abbrev pub reach : Root → Contents → List Extent
 reach root c =
     root.directory
@@ -31,6 +31,6 @@ reach root c =
 abbrev pub is_kept : Root → Contents → ℕ → Bool
 is_kept root c b = nat_lt b 2 || in_some (reach root c) b
 
--- each block of the extents is behind the slots, and one of those that are used of a disk of this many bytes
+-- each block of the extents is behind the slots, among the usable blocks of a disk of this many bytes
 abbrev pub AreInside : ℕ → List Extent → Type 0
 AreInside size extents = (b : ℕ) → in_some extents b ≡ true → (2 ≤ b) × (b < blocks_of_disk size)

@@ -27,8 +27,8 @@ pub record AreUsed (r : Rooted) (used : List Bool) : Type 0 where
   pub blocks : length used ≡ blocks_of_disk r.size
   pub each : (b : ℕ) → b < blocks_of_disk r.size → is_used used b ≡ is_kept r.root r.contents b
 
--- What is kept in memory of a root is sound: the root with its lists keeps all rules, and of the blocks of the disk those are
--- used that the root reaches, and no others.
+-- What is in memory of a root is sound: the root with its lists keeps all rules, and exactly the blocks of the disk
+-- that it reaches are used.
 pub record MemoryIsSound (r : Rooted) (set : List Bool) : Type 0 where
   pub rooted : IsRooted r
   pub used : AreUsed r set

@@ -1,4 +1,4 @@
--- What an image of a disk stands for.
+-- The state that an image of a disk holds.
 use Rattle.std.specs.Prelude.{◌≡◌, ◌+◌, ℕ, List, length, map, All}
 use Rattle.rs_fixity.specs.Digests.{digests}
 use Rattle.rs_body.specs.Blocks.{part}
@@ -41,11 +41,11 @@ state_in image c =
 abbrev pub listing : ℕ → Contents → List ℕ
 listing version c = directory_bytes version c.header (stored_refs c.catalogue) (stored_refs c.history.pages) (stored_refs c.published)
 
--- how many pages the lists have
+-- the number of pages of the lists
 abbrev pub pages_in_all : Contents → ℕ
 pages_in_all c = length c.catalogue + length c.history.pages + length c.published
 
--- how many bytes the directory of these lists has, once all pages are stored
+-- the length of the directory of these lists in bytes, once all pages are stored
 abbrev pub directory_bytes_of : Contents → ℕ
 directory_bytes_of c = directory_length c.header (pages_in_all c)
 
@@ -68,8 +68,9 @@ pub record AreListable (version : ℕ) (c : Contents) : Type 0 where
   pub history : AreLawfulRefs (stored_refs c.history.pages)
   pub published : AreLawfulRefs (stored_refs c.published)
 
--- A root tells these lists in an image: the directory's bytes are theirs in the root's version and have the root's digest,
--- the pages that it names hold them, and each rule of the lists and their blocks is kept. So the image tells their state.
+-- A root tells these lists in an image: the directory's bytes are theirs in the root's version and have the root's
+-- digest, the pages that it names hold them, and each rule of the lists and their blocks is kept. So the image tells
+-- their state.
 pub record Tells (root : Root) (c : Contents) (image : List ℕ) (s : Source) : Type 0 where
   pub listable : AreListable root.version c
   pub directory : part root.directory root.length image ≡ listing root.version c

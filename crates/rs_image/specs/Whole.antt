@@ -29,16 +29,16 @@ pub record IsSoundChange (low high : ℕ) (c : Change) : Type 0 where
   pub moment : IsWithin low high c.moment
   pub body : IfSome c.facts (λ facts. facts.length ≤ longest_body)
 
--- The kept history begins at formatting or later; no more parts were dropped than moments lie between, and where none was
+-- The kept history begins at formatting or later. No more parts were dropped than moments lie between. Where none was
 -- dropped, it begins at formatting.
 pub record HasFirstPart (h : Header) : Type 0 where
   pub begun : h.start ≤ h.begin
   pub first : h.first ≤ h.begin - h.start
   pub none_dropped : h.first ≡ 0 → h.begin ≡ h.start
 
--- Formatting is no later than the latest publication, which is no later than the last command; and that is the later one
--- of the publication and the last change. The kept history begins no later than the publication, and with a part that can
--- be its first.
+-- Formatting is no later than the latest publication, which is no later than the last command; and that is the later
+-- one of the publication and the last change. The kept history begins no later than the publication, and with a part
+-- that can be its first.
 pub record AreMoments (h : Header) (c : Contents) : Type 0 where
   pub start : h.start ≤ h.at
   pub at : h.at ≤ h.last
@@ -46,10 +46,10 @@ pub record AreMoments (h : Header) (c : Contents) : Type 0 where
   pub kept : h.begin ≤ h.at
   pub history : HasFirstPart h
 
--- What a root and the lists behind it keep: all pages are stored; the moments are in order; the history has the header's
--- first number; each record and each change is sound, where a change is after the begin of the history, and what was
--- published is up to the publication; the directory has exactly its blocks; and what the root reaches lies on a disk of
--- this many bytes behind the slots, no two things with a block in common, nor two published pages.
+-- What a root and the lists behind it keep: all pages are stored; the moments are in order; the history has the
+-- header's first number; each record and each change is sound, where a change is after the begin of the history, and
+-- what was published is up to the publication; the directory has exactly its blocks; and what the root reaches lies on
+-- a disk of this many bytes behind the slots, no two things with a block in common, nor two published pages.
 pub record IsWhole (size : ℕ) (root : Root) (c : Contents) : Type 0 where
   pub catalogue : All IsStored c.catalogue
   pub history : All IsStored c.history.pages

@@ -1,4 +1,4 @@
-//! What stands behind a root, as a program holds it.
+//! What a root leads to, in memory.
 
 ghost use Rattle.std.specs.Prelude.{◌≡◌, ◌<◌, ◌≤◌, ◌*◌, ◌^◌, vec_len, IfOk, OnOk};
 ghost use Rattle.rs_record.specs.Limits.{most_items};
@@ -11,21 +11,21 @@ use rs_directory::{Header, directory_bytes};
 use rs_extent::Used;
 use std::alloc::{AllocError, Global};
 
-/// What stands behind a root: the directory's header, and the lists that its pages hold.
+/// What a root leads to: the header of its directory, and the lists in its pages.
 #[derive(Debug, Drop)]
 pub struct Contents {
     /// What the source keeps beside its lists.
     pub header: Header,
     /// The resources that are held, in the ascending order of their names.
     pub catalogue: Catalogue,
-    /// The changes that are kept, the earliest first, and the number of their first part.
+    /// The kept changes, the earliest first, and the number of their first part.
     pub history: History,
     /// The resources of the latest publication, in the ascending order of their names.
     pub published: Catalogue,
 }
 
 impl Contents {
-    /// How many pages the lists have in all: at most 150,000.
+    /// The number of pages of all lists: at most 150,000.
     pub fn page_count(&self) -> usize
         ensures pages { result ≡ pages_in_all self.now }
         ensures most { result ≤ 3 * most_items }
@@ -35,11 +35,11 @@ impl Contents {
     }
 
     /// The bytes of the directory of these lists, in version 2 of the disk's format. It names the
-    /// pages that are stored, in their order.
+    /// stored pages, in their order.
     ///
     /// # Errors
     ///
-    /// [`AllocError`] where the memory for them is refused.
+    /// [`AllocError`] where the memory is refused.
     pub fn directory(&self, alloc: Global) -> Result<Vec<u8>, AllocError>
         ensures bytes { IfOk result (λ bytes. bytes.items ≡ listing written_format self.now) }
         ensures size { IfOk result (λ bytes. AreAllStored self.now
@@ -55,11 +55,11 @@ impl Contents {
     }
 }
 
-/// What was read behind a root: the lists, and which blocks of the disk are in use.
+/// What a root leads to, as it was read, and the blocks of the disk that are in use.
 #[derive(Debug, Drop)]
 pub struct Loaded {
-    /// What stands behind the root.
+    /// What the root leads to.
     pub contents: Contents,
-    /// The blocks of the slots and those that the root reaches, and no others.
+    /// Exactly the blocks of the slots and those that the root reaches.
     pub used: Used,
 }

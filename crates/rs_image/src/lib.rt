@@ -1,4 +1,4 @@
-//! What an image of a disk stands for, and how it is read.
+//! The state that an image of a disk holds, and reading it.
 #![tactic(auto)]
 
 mod contents;

@@ -1,4 +1,4 @@
-//! Reading what stands behind a root.
+//! Reading what a root leads to.
 
 ghost use Rattle.std.specs.Prelude.{◌≤◌, IfOk, IsErrOf, IsTrue};
 ghost use Rattle.rs_disk.specs.Runs.{RunsReading, CallsAtMost};
@@ -19,26 +19,26 @@ use rs_disk::Disk;
 use rs_page::fault_of_fields;
 use std::alloc::Global;
 
-/// Reads what stands behind a root, whatever the root and the disk say, and checks each rule of the
-/// format; the directory is read in the root's version of it. The disk stays as it is.
+/// Reads what a root leads to, whatever the root and the disk hold, and checks each rule of the
+/// format. The root says which version its directory has. The disk stays as it is.
 ///
-/// No memory is asked for the directory, and nothing read of it, before its extent was found to lie
-/// behind the slots in what is used of the disk, and to have exactly the blocks of its length. The
-/// same was found of each page that it names, in the bytes of the directory, before memory is asked
-/// for anything but these bytes, and before the first page is read.
+/// Before it reads the directory or asks for its memory, it checks the place of the directory: the
+/// extent lies behind the slots, among the usable blocks of the disk, and has exactly the blocks of
+/// its length. Before it reads the first page or asks for any other memory, it checks the place of
+/// each page that the directory names.
 ///
 /// # Errors
 ///
 /// - [`LoadFault::Device`] where the device fails.
-/// - [`LoadFault::Damaged`] where the root tells nothing on this disk: the bytes of the directory or
-///   of a page are not those of their digests and formats, or a rule of the lists or of their blocks
-///   is broken.
+/// - [`LoadFault::Damaged`] where the root leads to no lists on this disk: the bytes of the directory
+///   or of a page do not match their digest or their format, or a rule of the lists or of their
+///   blocks is broken.
 /// - [`LoadFault::NoMemory`] where the memory is refused.
 pub fn load<D: Disk>(alloc: Global, disk: &mut D, root: &Root) -> Result<Loaded, LoadFault>
     ensures sound { IfOk result (λ found.
         MemoryIsSound (rooted (D.state disk.new).size root.now found.contents) found.used) }
 
-    // What the disk holds is said of a device that has followed the model.
+    // Of a device that has followed the model, these say what the disk holds.
     ensures told { IfOk result (λ found. IsTrue (D.state disk.new).honest
         → Tells root.now found.contents (D.state disk.new).now.seen
         (state_in (D.state disk.new).now.seen found.contents)) }
@@ -58,9 +58,9 @@ pub fn load<D: Disk>(alloc: Global, disk: &mut D, root: &Root) -> Result<Loaded,
     }
 }
 
-/// Reads the directory of a root, in the root's version. It is Damaged where a page that it names is
-/// not placed, which is found before its entries are given memory, or where the first part that it
-/// names can't be the first one of its history.
+/// Reads the directory of a root, in the root's version. It is `Damaged` where a page that it names
+/// is not placed, which is checked before its entries get memory, and where its history cannot begin
+/// with the first part that it names.
 fn load_directory<D: Disk>(alloc: Global, disk: &mut D, root: &Root) -> Result<Directory, LoadFault>
     ensures found { IfOk result (IsReadBehind root.now (D.state disk.new)) }
     ensures damaged { IsErrOf result LoadFault.Damaged
@@ -90,8 +90,8 @@ fn load_directory<D: Disk>(alloc: Global, disk: &mut D, root: &Root) -> Result<D
     Ok(directory)
 }
 
-/// Reads the lists whose pages a directory names. A published page that is a page of the catalogue too
-/// is not read again.
+/// Reads the lists whose pages a directory names. A published page that is also a catalogue page is
+/// read once.
 fn load_lists<D: Disk>(
     alloc: Global,
     disk: &mut D,

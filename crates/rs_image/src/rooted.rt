@@ -7,8 +7,8 @@ use crate::Contents;
 use rs_commit::Root;
 use std::marker::Model;
 
-/// A root of a disk of some bytes, with the lists behind it: what the root reaches keeps all rules of an image of that disk,
-/// and the lists can be those of a directory. It borrows the lists and copies nothing.
+/// A root of a disk of some bytes, with the lists behind it: what the root reaches keeps all rules of an image of that
+/// disk, and the lists can be those of a directory. It borrows the lists and copies nothing.
 #[derive(Drop)]
 pub struct Rooted<'a> {
     size: u64,
@@ -27,7 +27,7 @@ impl<'a> Model for Rooted<'a> {
 }
 
 impl<'a> Rooted<'a> {
-    /// A root of a disk of `size` bytes, with the lists behind it, which [`load`](crate::load) gave, or a commit left.
+    /// A root of a disk of `size` bytes, with the lists behind it, as [`load`](crate::load) or a commit left them.
     pub fn new(size: u64, root: Root, contents: &'a Contents) -> Rooted<'a>
         requires { IsRooted (rooted size root contents.now) }
         ensures { result ≡ rooted size root contents.now }

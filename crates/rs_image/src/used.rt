@@ -1,4 +1,4 @@
-//! The blocks that a root reaches, marked in the set of the used blocks of its disk.
+//! Marking the blocks that a root reaches in the set of the used blocks of its disk.
 ghost use Rattle.std.specs.Prelude.{◌≡◌, ◌↔◌, ◌≤◌, ◌<◌, ℕ, [], ◌∷◌, ◌++◌, true, false, IfOk, IfSome, IfNone, IsTrue, length};
 ghost use Rattle.std.specs.List.{list_any};
 ghost use Rattle.std.specs.List.Sorted.{IsSorted};
@@ -17,15 +17,15 @@ use rs_extent::{BLOCK_SIZE, Extent, Used};
 use rs_page::PageRef;
 use std::alloc::{AllocError, Global};
 
-/// The greatest number of blocks of a disk that are used.
+/// The greatest number of usable blocks of a disk.
 const MOST_BLOCKS: u64 = 8_388_608;
 
 /// The blocks of a disk that are in use: those of the slots, and those that the root reaches. All
 /// others are free.
 ///
-/// It takes time for each record and for each block that is reached, and to sort the entries of the
-/// catalogue's pages and search each published page among them. It asks for a bit a block of memory
-/// and for that of the page entries.
+/// It takes time for each record and for each block that the root reaches, and for sorting the
+/// entries of the catalogue's pages and searching each published page among them. It asks for memory
+/// of one bit a block, and for the page entries.
 ///
 /// # Errors
 ///
@@ -39,9 +39,10 @@ pub fn used_of(alloc: Global, rooted: &Rooted<'_>) -> Result<Used, AllocError>
 }
 
 /// The blocks of the slots and those that the root reaches, on a disk of `size` bytes. `None` where
-/// a thing that it reaches does not lie behind the slots on the disk, or two have a block in common.
+/// something that it reaches does not lie on the disk behind the slots, or shares a block with
+/// something else that it reaches.
 ///
-/// The root and the lists may say anything.
+/// The root and the lists may hold anything.
 ///
 /// # Errors
 ///
@@ -74,8 +75,8 @@ pub(crate) fn reached(
     }
 }
 
-/// Whether no two of these pages have a block in common, all of which lie on a disk of `size` bytes
-/// behind the slots.
+/// Whether no two of these pages share a block. All of them lie behind the slots of a disk of `size`
+/// bytes.
 ///
 /// # Errors
 ///
@@ -89,14 +90,14 @@ pub(crate) fn are_apart(alloc: Global, size: u64, pages: &[PageRef]) -> Result<b
     Ok(take_pages(&mut used, pages))
 }
 
-/// How many blocks of a disk of `size` bytes are used: whole ones, and no more than 8,388,608.
+/// The number of usable blocks of a disk of `size` bytes: whole ones, and at most 8,388,608.
 pub(crate) fn block_count(size: u64) -> u32
     ensures { result ≡ blocks_of_disk size }
 {
     (size / BLOCK_SIZE as u64).min(MOST_BLOCKS) as u32
 }
 
-/// Takes all that a root reaches, until an extent is not free.
+/// Takes all that a root reaches, and stops at an extent that is not free. Says whether it took all.
 fn take_reached(
     alloc: Global,
     used: &mut Used,
@@ -119,9 +120,9 @@ fn take_reached(
     Ok(take(used, root.directory))
 }
 
-/// The published pages that are not pages of the catalogue too, in the order of the publication.
+/// The published pages that are not also catalogue pages, in the order of the publication.
 ///
-/// The catalogue's pages are sorted once, and each published page is searched among them by halves.
+/// It sorts the catalogue's pages once, and finds each published page among them by binary search.
 /// It asks for the memory of three lists of page entries.
 ///
 /// # Errors
@@ -143,7 +144,7 @@ pub fn unshared_pages(alloc: Global, contents: &Contents) -> Result<Vec<PageRef>
     Ok(pages)
 }
 
-/// The pages that a root reaches: a published page that is a catalogue page too counts once.
+/// The pages that a root reaches: a published page that is also a catalogue page counts once.
 fn reached_pages(alloc: Global, contents: &Contents) -> Result<Vec<PageRef>, AllocError>
     ensures { IfOk result (λ pages. pages.items ≡ stored_refs contents.now.catalogue
         ++ stored_refs contents.now.history.pages
@@ -169,7 +170,7 @@ fn take(used: &mut Used, extent: Extent) -> bool
     is_free
 }
 
-/// Takes the bodies of a catalogue's records, until one is not free.
+/// Takes the bodies of a catalogue's records, and stops at one that is not free.
 fn take_bodies(used: &mut Used, catalogue: &Catalogue) -> bool
     ensures taken { result ≡ true
         → AreTaken used.old used.new (bodies_of (records_of catalogue.now)) }
@@ -185,7 +186,7 @@ fn take_bodies(used: &mut Used, catalogue: &Catalogue) -> bool
     true
 }
 
-/// Takes pages, until one is not free.
+/// Takes pages, and stops at one that is not free.
 fn take_pages(used: &mut Used, pages: &[PageRef]) -> bool
     ensures taken { result ≡ true → AreTaken used.old used.new (extents_of pages.now) }
     ensures refused { result ≡ false → CanTake used.old (extents_of pages.now) → ⊥ }

@@ -1,4 +1,4 @@
-//! Whether what a root says, and the lists behind it, keep the rules of an image.
+//! Checking that a root and the lists behind it keep the rules of an image.
 ghost use Rattle.std.specs.Prelude.{◌≡◌, ◌≤◌, ◌↔◌, IsTrue, true, false, max, All, IfOk, IfSome, IfNone, MatchOption};
 ghost use Rattle.rs_catalogue.specs.Catalogue.{records_of};
 ghost use Rattle.rs_changes.specs.History.{changes_of, last_of};
@@ -18,12 +18,13 @@ use rs_record::{Change, LONGEST_BODY, Record};
 use rs_time::Moment;
 use std::alloc::{AllocError, Global};
 
-/// The blocks of the slots and those that a root reaches, where the root and the lists behind it keep
-/// the rules of an image of `size` bytes, whatever they say: the moments are in order, each record
-/// and each change is sound, the directory has exactly its blocks, and what the root reaches lies on
-/// the disk behind the slots, no two things with a block in common, nor two published pages. `None`
-/// where a rule is broken. All pages of the lists are on the disk, and the history has the header's
-/// first number.
+/// The blocks of the slots and those that a root reaches. `None` where the root and the lists behind
+/// it, which may hold anything, break a rule of an image of `size` bytes. The moments are in order,
+/// each record and each change is sound, the directory has exactly its blocks, and all that the root
+/// reaches lies on the disk behind the slots. No two things that it reaches share a block, nor do two
+/// published pages.
+///
+/// All pages of the lists are on the disk, and the history has the header's first number.
 ///
 /// # Errors
 ///
@@ -64,8 +65,8 @@ pub(crate) fn whole_set(
 }
 
 /// Whether formatting, the begin of the history, the latest publication and the last command are in
-/// order, the last command is the publication or the last change, and the first part has a number
-/// that there can be.
+/// order, the last command is the publication or the last change, and the first part has a possible
+/// number.
 fn are_moments(contents: &Contents) -> bool
     ensures yes { result ≡ true → AreMoments contents.now.header contents.now }
     ensures no { result ≡ false → ¬ AreMoments contents.now.header contents.now }
@@ -128,8 +129,8 @@ fn are_sound_changes(low: Moment, high: Moment, history: &History) -> bool
     true
 }
 
-/// Whether a record is from within these moments, its body no longer than one may be, and its extent
-/// of the size for it.
+/// Whether the moment of a record is within these, its body is not too long, and its extent has the
+/// size of its body.
 fn is_sound_record(low: Moment, high: Moment, item: &Record) -> bool
     ensures yes { result ≡ true → IsSoundRecord low high item.now }
     ensures no { result ≡ false → ¬ IsSoundRecord low high item.now }
@@ -139,8 +140,7 @@ fn is_sound_record(low: Moment, high: Moment, item: &Record) -> bool
         && is_sized(item.extent, item.length)
 }
 
-/// Whether a change is from within these moments, and its body, if it has one, no longer than one may
-/// be.
+/// Whether the moment of a change is within these, and its body, if it has one, is not too long.
 fn is_sound_change(low: Moment, high: Moment, change: &Change) -> bool
     ensures yes { result ≡ true → IsSoundChange low high change.now }
     ensures no { result ≡ false → ¬ IsSoundChange low high change.now }

@@ -1,6 +1,6 @@
--- Faults of writers of several pieces. What went whole before a fault, and what would have come after it, make the text of
--- the whole run: `failed_first` for the first piece, `failed_then` for one after others, `failed_each` in a loop over a list.
-use Rattle.std.proofs.Common.{◌≡◌, ℕ, ◌+◌, ◌<◌, List, [], ◌++◌, take, drop, length, Option, get_or, refl, sym, ap, ◌∙◌, subst, inl, inr, append_assoc, append-nil, take-append-drop, arith}
+-- Faults of writers of several pieces. The pieces before a fault and those after it make the text of the whole run:
+-- `failed_first` is for the first piece, `failed_then` for one after others, `failed_each` for a loop over a list.
+use Rattle.std.proofs.Common.{◌≡◌, ℕ, ◌+◌, ◌<◌, List, [], ◌++◌, take, drop, length, Option, get_or, refl, sym, ap, ◌∙◌, subst, inl, inr, append_assoc, take-append-drop, arith}
 use Rattle.std.specs.Prelude.{Result, Ok, Err, OnOk, OnErr}
 use Rattle.std.specs.List.{flat_map}
 use Rattle.std.specs.Result.{IsErr}
@@ -47,11 +47,7 @@ module _ {W : Type 0} (contents : W → Option (List ℕ)) where
         took = h.took;
       }
 
-  -- the same, of any bytes that were to follow
-  pub failed_sooner : (a b : Watched W) (x y : List ℕ) → FailedWithin contents a b x → FailedWithin contents a b (x ++ y)
-  failed_sooner a b x y h = failed_first a b x y (x ++ y) h refl
-
-  -- a fault of the last piece, after pieces that went whole
+  -- a fault of the last piece, after whole pieces
   pub failed_last : (a b c : Watched W) (x y t : List ℕ) → Wrote contents a b x → FailedWithin contents b c y → x ++ y ≡ t → FailedWithin contents a c t
   failed_last a b c x y t whole h e =
       record {
@@ -67,10 +63,6 @@ module _ {W : Type 0} (contents : W → Option (List ℕ)) where
       → OnErr r (FailedWithin contents a c t)
   on_failed_last (Ok v) a b c x y t whole h e = tt
   on_failed_last (Err v) a b c x y t whole h e = failed_last a b c x y t whole h e
-
-  -- the same, of the bytes as they went
-  pub failed_later : (a b c : Watched W) (x y : List ℕ) → Wrote contents a b x → FailedWithin contents b c y → FailedWithin contents a c (x ++ y)
-  failed_later a b c x y whole h = failed_last a b c x y (x ++ y) whole h refl
 
   -- a fault of a piece between others
   pub failed_then : (a b c : Watched W) (x y rest t : List ℕ) → Wrote contents a b x → FailedWithin contents b c y → x ++ (y ++ rest) ≡ t → FailedWithin contents a c t
@@ -99,7 +91,7 @@ module _ {W : Type 0} (contents : W → Option (List ℕ)) where
   pub writes_same : {X E : Type 0} (r : Result X E) (a b : Watched W) (x y : List ℕ) → WritesOut contents a b r x → x ≡ y → WritesOut contents a b r y
   writes_same r a b x y h e = let P : List ℕ → Type 0 = λ l. WritesOut contents a b r l in subst P e h
 
-  -- a fault within a text, after what went whole
+  -- a fault within a text, after whole pieces
   pub failed_after : (a b c : Watched W) (first text : List ℕ) → Wrote contents a b first → FailedWithin contents b c text → FailedAfter contents a c first text
   failed_after a b c first text whole h =
       record {
@@ -120,7 +112,7 @@ module _ {W : Type 0} (contents : W → Option (List ℕ)) where
   stops_then {X = X} {E = E} (Ok v) a b c x y rest t is whole h e = absurd (IfOk-from_err {E = E} (Ok v) (λ _. ⊥) is)
   stops_then (Err v) a b c x y rest t is whole h e = failed_then a b c x y rest t whole h e
 
-  -- the last piece of several, where what it took is told by one clause for each outcome
+  -- the last piece of several, given by one fact for each outcome
   pub writes_last : {X E : Type 0} (r : Result X E) (a b c : Watched W) (x y t : List ℕ) → Wrote contents a b x → OnOk r (Wrote contents b c y) → OnErr r (FailedWithin contents b c y) → x ++ y ≡ t
       → WritesOut contents a c r t
   writes_last r a b c x y t whole ok fault e = writes_then r a b c x y t whole (writes_either r b c y ok fault) e

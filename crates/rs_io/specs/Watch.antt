@@ -1,5 +1,5 @@
--- What contracts see of a watched reader or writer. What an end holds, W.contents of a writer or R.remaining of a reader,
--- is passed to the words that speak of its bytes.
+-- What contracts see of a watched reader or writer. The words on bytes take the function that gives them: W.contents of
+-- a writer, R.remaining of a reader.
 use Rattle.std.specs.Prelude.{◌≡◌, ◌⊎◌, ℕ, ◌+◌, ◌<◌, ◌≤◌, ◌^◌, ◌==◌, Bool, true, not, List, ◌++◌, Option, Result, MatchResult}
 use Rattle.std.specs.Result.{IsErr}
 use Rattle.std.specs.Io.KnownBytes.{Consumes, Appends}
@@ -9,16 +9,16 @@ use Rattle.rs_io.specs.declared.watch.Watched.{Watched}
 abbrev pub watched : {T : Type 0} → Watched T → T
 watched w = w.inner
 
--- how many calls were made of the end inside
+-- how many calls it has made of the end inside
 abbrev pub calls : {T : Type 0} → Watched T → ℕ
 calls w = w.calls
 
--- Faults that were answered: how many in all, and how many of them by a flush.
+-- How many faults it has answered: in all, and by a flush.
 pub record Failures : Type 0 where
   pub all : ℕ
   pub flushes : ℕ
 
--- the faults that it has answered
+-- its faults so far
 abbrev pub failures : {T : Type 0} → Watched T → Failures
 failures w = record { all = w.failures; flushes = w.failed_flushes }
 
@@ -26,11 +26,11 @@ failures w = record { all = w.failures; flushes = w.failed_flushes }
 abbrev pub is_broken : {T : Type 0} → Watched T → Bool
 is_broken w = not (w.failures == 0)
 
--- nothing was put into it since its last flush that succeeded
+-- nothing was put into it since its last successful flush
 abbrev pub is_flushed : {T : Type 0} → Watched T → Bool
 is_flushed w = not w.holds_back
 
--- the same end, seen by what this tells of the reader or the writer inside
+-- the same end, but with only what `told` gives of the reader or the writer inside
 abbrev pub seen_by : {T X : Type 0} → (T → X) → Watched T → Watched X
 seen_by told w = record {
   inner = told w.inner;
@@ -40,15 +40,15 @@ seen_by told w = record {
   holds_back = w.holds_back;
 }
 
--- what was put into it in between was flushed too
+-- what was put into it in between was flushed as well
 abbrev pub StaysFlushed : {T : Type 0} → Watched T → Watched T → Type 0
 StaysFlushed old new = is_flushed old ≡ true → is_flushed new ≡ true
 
--- a call failed in between, or the count stands at its last value
+-- a call failed in between, or the count of failures has reached its last value
 abbrev pub EndFailed : {T : Type 0} → Watched T → Watched T → Type 0
 EndFailed old new = ((failures old).all < (failures new).all) ⊎ (2 ^ 64 ≤ (failures new).all + 1)
 
--- a flush failed in between, or their count stands at its last value
+-- a flush failed in between, or the count of failed flushes has reached its last value
 abbrev pub FlushFailed : {T : Type 0} → Watched T → Watched T → Type 0
 FlushFailed old new = ((failures old).flushes < (failures new).flushes) ⊎ (2 ^ 64 ≤ (failures new).flushes + 1)
 
@@ -56,8 +56,8 @@ FlushFailed old new = ((failures old).flushes < (failures new).flushes) ⊎ (2 ^
 abbrev pub PutFailed : {T : Type 0} → Watched T → Watched T → Type 0
 PutFailed old new = EndFailed old new × ((failures new).flushes ≡ (failures old).flushes)
 
--- An answer tells of an end only where a call of it failed in between, or the count stands at its last value; where it doesn't tell
--- of it, none failed.
+-- An answer reports an end only where a call of it failed in between, or the count has reached its last value. Where it
+-- doesn't report it, no call failed.
 pub record TellsEnd {T : Type 0} (told : Type 0) (old new : Watched T) : Type 0 where
   pub failed : told → EndFailed old new
   pub sound : ¬ told → failures new ≡ failures old
@@ -66,8 +66,7 @@ pub record TellsEnd {T : Type 0} (told : Type 0) (old new : Watched T) : Type 0 
 abbrev pub End : Type 0
 End = Watched (Option (List ℕ))
 
--- The two ends of a call: what the reader had left before it and has left after it, and what the writer held before it and holds
--- after it.
+-- The two ends of a call: what the reader has left before and after it, and what the writer holds before and after it.
 pub record Ends : Type 0 where
   pub left : End
   pub rest : End
@@ -82,11 +81,11 @@ ends_of remaining left rest contents before after = record {
   after = seen_by contents after;
 }
 
--- one call of the end inside was made, or their count stands at its last value
+-- it made one call of the end inside, or the count of calls has reached its last value
 abbrev pub IsCalledOnce : {T : Type 0} → Watched T → Watched T → Type 0
 IsCalledOnce old new = (calls new ≡ calls old + 1) ⊎ ((calls new ≡ calls old) × (2 ^ 64 ≤ calls old + 1))
 
--- A call was refused: it answers a fault, and nothing was asked of the end inside.
+-- A call was refused: it answers a fault, and made no call of the end inside.
 pub record IsRefused {T X E : Type 0} (old new : Watched T) (result : Result X E) : Type 0 where
   pub failed : IsErr result
   pub untouched : watched new ≡ watched old

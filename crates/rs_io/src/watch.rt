@@ -1,4 +1,5 @@
-//! A reader or a writer that counts its calls and its faults, stays failed once it has failed, and knows whether all it took was flushed.
+//! A reader or a writer that counts its calls and its faults, stays failed once it has failed, and knows whether all
+//! that it took was flushed.
 ghost use Rattle.std.specs.Prelude.{◌≡◌, ◌+◌, ◌<◌, ◌≤◌, [], true, false, length, take, decimal, IfOk, OnOk, OnErr, IfSome, IsTrue, MatchOption};
 ghost use Rattle.std.specs.List.{flat_map};
 ghost use Rattle.std.specs.Io.KnownBytes.{IsAtEnd, Keeps};
@@ -7,19 +8,19 @@ use crate::fault::{ReadFault, WriteFault};
 use itoa::Buffer;
 use std::io::{ErrorKind, Read, Write};
 
-// The most bytes of one write. A socket takes a large body sooner in pieces of this size than in one.
+// The most bytes of one write. A socket takes a large body faster in pieces of this size than at once.
 const LARGEST_WRITE: usize = 262_144;
 
 // How often an interrupted write is tried again in one call.
 const MOST_INTERRUPTIONS: u32 = 100;
 
-/// A reader or a writer, with a count of its calls and of its faults, and with whether all that was
-/// put into it has been flushed.
+/// A reader or a writer that counts its calls and its faults, and knows whether all that was put into
+/// it has been flushed.
 ///
 /// An end that has failed stays failed: each later call answers the fault, and makes no call of the
-/// end inside. Each call that answers an error is counted once, and no other; a count stays at
-/// `u64::MAX` once it is there. Nothing is tried again but an interrupted write, which is no failure:
-/// in one call of [`Watched::put`] 100 of them are tried again, and the next one is a failure.
+/// reader or writer inside. It counts each call that answers an error once. A count stays at
+/// `u64::MAX` once it gets there. Only an interrupted write is tried again: [`Watched::put`] tries 100
+/// of them again in one call, and the next one is a failure.
 #[derive(Debug, Drop)]
 pub struct Watched<T> {
     inner: T,
@@ -32,8 +33,8 @@ pub struct Watched<T> {
 impl<T> Watched<T> {
     ghost use Rattle.rs_io.specs.Watch.{watched, calls, failures, is_broken, is_flushed, PutFailed, IsCalledOnce};
 
-    /// Watches `inner` from here on. What failed before is not counted, and what was written before
-    /// counts as flushed.
+    /// Watches `inner` from here on. Earlier failures do not count, and what was written before counts
+    /// as flushed.
     pub fn new(inner: T) -> Watched<T>
         ensures inner { watched result ≡ inner }
         ensures calls { calls result ≡ 0 }
@@ -49,15 +50,14 @@ impl<T> Watched<T> {
         }
     }
 
-    /// How many calls were made of the end inside since [`Watched::new`], or `u64::MAX` where they
-    /// are more.
+    /// How many calls it has made of the reader or writer inside, `u64::MAX` at most.
     pub fn calls(&self) -> u64
         ensures { result ≡ calls self.now }
     {
         self.calls
     }
 
-    /// How many calls have answered a fault since [`Watched::new`], or `u64::MAX` where they are more.
+    /// How many calls have answered a fault, `u64::MAX` at most.
     pub fn failures(&self) -> u64
         ensures { result ≡ (failures self.now).all }
     {
@@ -71,8 +71,8 @@ impl<T> Watched<T> {
         self.failures != 0
     }
 
-    /// Whether a flush has succeeded since the last call that put bytes, or none was put
-    /// since [`Watched::new`]. A put counts before it is tried: one that fails may leave bytes too.
+    /// Whether a flush has succeeded since the last put, or there was no put since [`Watched::new`]. A
+    /// put counts even if it fails, since it may leave bytes.
     pub fn is_flushed(&self) -> bool
         ensures { result ≡ is_flushed self.now }
     {
@@ -86,14 +86,14 @@ impl<T> Watched<T> {
         &self.inner
     }
 
-    /// The reader or the writer, given back. The count is lost.
+    /// Gives the reader or the writer back. The counts are lost.
     pub fn into_inner(self) -> T
         ensures { result ≡ watched self }
     {
         self.inner
     }
 
-    // Counts a call of the end inside.
+    /// Counts a call of the reader or writer inside.
     fn count_call(&mut self)
         ensures inner { watched self.new ≡ watched self.old }
         ensures called { IsCalledOnce self.old self.new }
@@ -103,7 +103,7 @@ impl<T> Watched<T> {
         self.calls = self.calls.saturating_add(1);
     }
 
-    // Counts a fault.
+    /// Counts a fault.
     fn count_failure(&mut self)
         ensures inner { watched self.new ≡ watched self.old }
         ensures calls { calls self.new ≡ calls self.old }
@@ -120,11 +120,11 @@ impl<R: Read> Watched<R> {
 
     /// Reads once into the front of `buf`, and says how many bytes came.
     ///
-    /// No byte comes only at the end of the input, or where `buf` has no room.
+    /// It gives no byte only at the end of the input, or where `buf` has no room.
     ///
     /// # Errors
     ///
-    /// [`ReadFault`] where the read fails, or one failed before. No byte is then lost.
+    /// [`ReadFault`] where the read fails, or one failed before. Then no byte is lost.
     pub fn read(&mut self, buf: &mut [u8]) -> Result<usize, ReadFault>
         ensures bound { IfOk result (λ n. n ≤ length buf.new) }
         ensures ok { IfOk result (λ n. Took R.remaining self.old self.new (take n buf.new)) }
@@ -162,8 +162,8 @@ impl<W: Write> Watched<W> {
     ///
     /// # Errors
     ///
-    /// [`WriteFault`] where a write fails, takes no byte, or is interrupted once more, or a call of
-    /// the writer failed before. The writer has then taken a beginning of the bytes, and no other
+    /// [`WriteFault`] where a write fails, takes no byte, or is interrupted once too often, or a call
+    /// of the writer failed before. The writer has then taken a beginning of the bytes, and no other
     /// byte.
     pub fn put(&mut self, bytes: &[u8]) -> Result<(), WriteFault>
         ensures ok { OnOk result (Wrote W.contents self.old self.new bytes.now) }
@@ -194,8 +194,8 @@ impl<W: Write> Watched<W> {
         Ok(())
     }
 
-    // Writes once, the first bytes where they are more than one write has, and says how many of them the
-    // writer took, or nothing where the write was interrupted.
+    /// Writes once, at most `LARGEST_WRITE` of the bytes, and gives how many of them the writer took, or
+    /// `None` where the write was interrupted.
     fn put_some(&mut self, bytes: &[u8]) -> Result<Option<usize>, WriteFault>
         requires { 0 < length bytes.now }
         ensures some { IfOk result (λ took. IfSome took (λ count. 0 < count)) }
@@ -223,8 +223,7 @@ impl<W: Write> Watched<W> {
     ///
     /// # Errors
     ///
-    /// [`WriteFault`] as [`Watched::put`] answers it. The writer has then taken a beginning of the
-    /// digits.
+    /// [`WriteFault`] as from [`Watched::put`]. The writer has then taken a beginning of the digits.
     pub fn put_number(&mut self, number: u64) -> Result<(), WriteFault>
         ensures ok { OnOk result (Wrote W.contents self.old self.new (decimal number)) }
         ensures fault { OnErr result (FailedWithin W.contents self.old self.new (decimal number)) }
@@ -242,9 +241,8 @@ impl<W: Write> Watched<W> {
     ///
     /// # Errors
     ///
-    /// [`WriteFault`] as [`Watched::put`] answers it. The writer has then taken a beginning of what the
-    /// pieces are together.
-    #[tactic(auto, using(crate::proofs::Growth::appends_each, crate::proofs::Faults::failed_each))]
+    /// [`WriteFault`] as from [`Watched::put`]. The writer has then taken a beginning of the joined
+    /// pieces.
     pub fn put_all(&mut self, pieces: &[&[u8]]) -> Result<(), WriteFault>
         ensures ok { OnOk result (Wrote W.contents self.old self.new
             (flat_map (λ piece. piece.now) pieces.now)) }
@@ -263,7 +261,7 @@ impl<W: Write> Watched<W> {
         Ok(())
     }
 
-    /// Passes on what the writer still holds back. Its bytes stay as they are, also at an error.
+    /// Flushes the writer. That neither adds nor drops a byte, also where it fails.
     ///
     /// # Errors
     ///

@@ -5,7 +5,7 @@ use Rattle.rs_items.specs.Items.{item_of_fields}
 use Rattle.rs_items.specs.Fields.{fields, after_space, first_field, after_field}
 use Rattle.rs_items.proofs.FieldLemmas.{fields-zero}
 
--- a line of another word than `put` has one field more
+-- where the word is not `put`, one more field is too many
 more_fields : (word argument field after : List ℕ) → bytes_eq word (codes "put") ≡ false
     → item_of_fields (word ∷ argument ∷ field ∷ after_space (fields 0) after) ≡ Err BadLine
 more_fields word argument field [] e = refl

@@ -6,20 +6,20 @@ use Rattle.std.specs.List.{before_first, position_or_len}
 abbrev pub is_space : ℕ → Bool
 is_space c = c == 32
 
--- what stands before the first space
+-- the bytes before the first space
 abbrev pub first_field : List ℕ → List ℕ
 first_field bytes = before_first is_space bytes
 
--- what follows, from the first space on
+-- the rest, from the first space on
 abbrev pub after_field : List ℕ → List ℕ
 after_field bytes = drop (position_or_len is_space bytes) bytes
 
--- what follows a space, cut this way, and nothing where there is no space
+-- what follows a space, cut this way; no field where there is no space
 abbrev pub after_space : (List ℕ → List (List ℕ)) → List ℕ → List (List ℕ)
 after_space cut [] = []
 after_space cut (space ∷ bytes) = cut bytes
 
--- the bytes cut at their first spaces, so many at most: the last field is the rest of the line, spaces and all
+-- the bytes cut at their first spaces, at most this many: the last field is the rest, with all its spaces
 unfoldable pub fields : ℕ → List ℕ → List (List ℕ)
 fields zero bytes = bytes ∷ []
 fields (suc spaces) bytes = first_field bytes ∷ after_space (fields spaces) (after_field bytes)

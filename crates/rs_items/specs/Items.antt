@@ -1,4 +1,4 @@
--- The item that a line asks for, as scripts and groups have it.
+-- The item that a line of a script or a group writes.
 use Rattle.std.specs.Prelude.{List, [], ◌∷◌, ℕ, if◌then◌else◌, codes, bytes_eq, Option, Some, None, Result, Ok, Err}
 use Rattle.std.specs.Result.{result_ok}
 use Rattle.hex.specs.Hex.{decode_of}
@@ -10,7 +10,7 @@ use Rattle.rs_items.specs.declared.item.ItemFault.{ItemFault}
 use Rattle.rs_items.specs.declared.item.ItemFault.TheVariants.{BadLine, BadName, BadHex, BadType}
 use Rattle.rs_items.specs.Fields.{fields}
 
--- the bytes of a HEX: `-` is none of them, and an empty field is no HEX
+-- the bytes of a HEX: `-` is no bytes, and an empty field is no HEX
 abbrev pub bytes_of : List ℕ → Option (List ℕ)
 bytes_of [] = None
 bytes_of (c ∷ hex) = if bytes_eq (c ∷ hex) (codes "-") then Some [] else result_ok (decode_of (c ∷ hex))
@@ -27,12 +27,12 @@ put_item name hex kind = if is_name name then put_bytes name kind (bytes_of hex)
 abbrev pub delete_item : List ℕ → Result Item ItemFault
 delete_item name = if is_name name then Ok (Delete name) else Err BadName
 
--- what the fields of a line ask for: of another word, or of a wrong number of them, nothing
+-- the item of a line's fields: another word, or a wrong number of fields, is no item
 abbrev pub item_of_fields : List (List ℕ) → Result Item ItemFault
 item_of_fields (word ∷ name ∷ []) = if bytes_eq word (codes "delete") then delete_item name else Err BadLine
 item_of_fields (word ∷ name ∷ hex ∷ kind ∷ []) = if bytes_eq word (codes "put") then put_item name hex kind else Err BadLine
 item_of_fields _ = Err BadLine
 
--- the item that a line asks for, or why it is none: TYPE is the rest of the line, spaces and all
+-- the item of a line, or why it is none: TYPE is the rest of the line, with all its spaces
 unfoldable pub item_of_line : List ℕ → Result Item ItemFault
 item_of_line line = item_of_fields (fields 3 line)

@@ -1,11 +1,11 @@
--- The lines that items stand in.
+-- The lines that hold items.
 use Rattle.std.specs.Prelude.{◌==◌, slice_index, ℕ, ◌-◌, List, [], ◌∷◌, length, take, if◌then◌else◌}
 
 -- without the carriage return (byte 13) at its end, if there is one
 abbrev pub cut_return : List ℕ → List ℕ
 cut_return raw = if slice_index raw (length raw - 1) == 13 then take (length raw - 1) raw else raw
 
--- the line that no line feed ends: there is none right after a line feed, or in an empty input
+-- the line that no line feed ends: none right after a line feed, or in an empty input
 abbrev pub last_line : List ℕ → List (List ℕ)
 last_line [] = []
 last_line (b ∷ bytes) = (b ∷ bytes) ∷ []

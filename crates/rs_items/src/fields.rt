@@ -4,15 +4,14 @@ ghost use Rattle.std.specs.Prelude.{◌≡◌, ◌∷◌, [], ℕ, suc, IfSome, 
 ghost use Rattle.std.specs.List.{position};
 ghost use Rattle.rs_items.specs.Fields.{fields as fields_of, is_space};
 
-/// Where the first space stands, or `None` where none does.
+/// The place of the first space, or `None` if there is none.
 fn first_space(bytes: &[u8]) -> Option<usize>
     ensures { result ≡ position is_space bytes.now }
 {
     bytes.iter().position(|b| *b == b' ')
 }
 
-/// The first field of `bytes`, and what follows the space after it, or `None` where no space stands
-/// in them.
+/// The first field of `bytes`, and what follows the space after it. `None` if `bytes` has no space.
 pub fn split_field(bytes: &[u8]) -> Option<(&[u8], &[u8])>
     ensures none { IfNone result ((spaces : ℕ)
         → fields_of (suc spaces) bytes.now ≡ bytes.now ∷ []) }

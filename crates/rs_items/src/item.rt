@@ -1,4 +1,4 @@
-//! What a line asks to be put or deleted.
+//! The item that a line writes.
 
 ghost use Rattle.std.specs.Prelude.{◌≡◌, ◌∷◌, ◌⊎◌, codes, IfOk, IfErr};
 ghost use Rattle.rs_items.specs.Fields.{fields as fields_of};
@@ -11,7 +11,7 @@ use rs_record::{MediaType, MediaTypeError, Name, NameError};
 use std::alloc::Global;
 use thiserror::Error;
 
-/// Why a line asks for no item.
+/// Why a line is no item.
 #[derive(Clone, Copy, Debug, PartialEq, Eq, Error)]
 pub enum ItemFault {
     /// The line is neither `put NAME HEX TYPE` nor `delete NAME`.
@@ -26,20 +26,19 @@ pub enum ItemFault {
     /// The field is no lawful media type.
     #[error("the media type is not lawful")]
     BadType,
-    /// There is no room for the name, the type or the bytes.
+    /// The memory for the name, the type or the bytes was refused.
     #[error("out of memory")]
     NoMemory,
 }
 
-/// The item that `line`, without its end, asks for: `put NAME HEX TYPE` or `delete NAME`. Its fields
-/// stand between single spaces, and TYPE is the rest of the line.
+/// The item of `line`, which comes without its end: `put NAME HEX TYPE` or `delete NAME`. Single spaces separate the
+/// fields, and TYPE is the rest of the line.
 ///
 /// # Errors
 ///
 /// - [`ItemFault::BadLine`]: the line has neither form.
-/// - [`ItemFault::BadName`], [`ItemFault::BadHex`], [`ItemFault::BadType`]: the first field that is
-///   not lawful.
-/// - [`ItemFault::NoMemory`]: there is no room for the name, the type or the bytes.
+/// - [`ItemFault::BadName`], [`ItemFault::BadHex`], [`ItemFault::BadType`]: the first field that is not lawful.
+/// - [`ItemFault::NoMemory`]: the memory for the name, the type or the bytes was refused.
 pub fn item_of(alloc: Global, line: &[u8]) -> Result<Item, ItemFault>
     ensures { (result ≡ item_of_line line.now) ⊎ (result ≡ Err ItemFault.NoMemory) }
 {
@@ -55,7 +54,7 @@ pub fn item_of(alloc: Global, line: &[u8]) -> Result<Item, ItemFault>
     Err(ItemFault::BadLine)
 }
 
-/// What `delete` asks for, from its fields after the first: NAME.
+/// The item of a `delete`, from the fields after that word: NAME.
 fn delete_field(alloc: Global, fields: &[u8]) -> Result<Item, ItemFault>
     ensures { (result ≡ item_of_fields (codes "delete" ∷ fields_of 2 fields.now))
         ⊎ (result ≡ Err ItemFault.NoMemory) }
@@ -66,7 +65,7 @@ fn delete_field(alloc: Global, fields: &[u8]) -> Result<Item, ItemFault>
     }
 }
 
-/// What `delete` asks for.
+/// The delete of this name.
 fn delete_item(alloc: Global, name: &[u8]) -> Result<Item, ItemFault>
     ensures { (result ≡ delete name.now) ⊎ (result ≡ Err ItemFault.NoMemory) }
 {
@@ -77,7 +76,7 @@ fn delete_item(alloc: Global, name: &[u8]) -> Result<Item, ItemFault>
     }
 }
 
-/// What `put` asks for, from its fields after the first: NAME, HEX and TYPE, which is the rest.
+/// The item of a `put`, from the fields after that word: NAME, HEX and TYPE, which is the rest.
 fn put_fields(alloc: Global, fields: &[u8]) -> Result<Item, ItemFault>
     ensures { (result ≡ item_of_fields (codes "put" ∷ fields_of 2 fields.now))
         ⊎ (result ≡ Err ItemFault.NoMemory) }
@@ -91,7 +90,7 @@ fn put_fields(alloc: Global, fields: &[u8]) -> Result<Item, ItemFault>
     }
 }
 
-/// What `put` asks for.
+/// The put of these fields.
 fn put_item(alloc: Global, name: &[u8], hex: &[u8], kind: &[u8]) -> Result<Item, ItemFault>
     ensures { (result ≡ put name.now hex.now kind.now) ⊎ (result ≡ Err ItemFault.NoMemory) }
 {

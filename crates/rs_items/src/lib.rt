@@ -1,4 +1,4 @@
-//! The items of scripts and groups: what one line asks to be put or deleted.
+//! The items of scripts and groups: the put or delete that one line writes.
 #![tactic(auto)]
 
 mod fields;

@@ -1,4 +1,4 @@
--- How long lines and documents are at most.
+-- The greatest lengths of lines and documents.
 use Rattle.std.proofs.Common.{◌≡◌, ℕ, suc, ◌+◌, ◌-◌, ◌*◌, ◌≤◌, ◌<◌, ◌^◌, List, [], ◌∷◌, ◌++◌, Bool, true, false, nat_le, nat_eq, length, refl, sym, ap, ◌∙◌, append-nil, length-append, arith, Option, Some, None}
 use Rattle.std.specs.Prelude.{codes, IsTrue, ◌==◌, ◌&&◌, ◌||◌, not, if◌then◌else◌}
 use Rattle.std.specs.List.{concat, list_all, All, ends_with}
@@ -39,7 +39,7 @@ length-line pieces = length-append (concat pieces) (10 ∷ []) ∙ ap (λ n. n +
     length-concat [] = refl
     length-concat (x ∷ xs) = length-append x (concat xs) ∙ ap (λ n. length x + n) (length-concat xs)
 
--- a character is written with at most six
+-- a character is written with at most six bytes
 reference_length : (a b d e f : Bool) (c : ℕ) → length (if a then codes "&amp;" else if b then codes "&apos;" else if d then codes "&quot;" else if e then codes "&gt;" else if f then codes "&lt;" else c ∷ []) ≤ 6
 reference_length true b d e f c = omega arith
 reference_length false true d e f c = omega arith

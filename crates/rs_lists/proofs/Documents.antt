@@ -11,7 +11,7 @@ use Rattle.rs_lists.specs.Shown.{Shown, resource_parts_of, change_parts_of}
 use Rattle.rs_lists.specs.Text.{list_text, is_part, document, up_line, part_links, numbers_from, resource_line, change_line}
 use Rattle.std.specs.Cmp.{first_so, second_so}
 
--- what is so of a text is so of the document that has it
+-- what holds of a text holds of the document that has it
 pub of_document : (P : List ℕ → Type 0) (d : Option (List ℕ)) (t : List ℕ) → d ≡ Some t → P t → IfSome d P
 of_document P d t e p = subst (λ o. IfSome o P) (sym e) p
 
@@ -35,12 +35,12 @@ change_head_is s doc is = rw is (ap Some (head_is changes s (length s.changes) (
 part_at-map : {A B : Type 0} (f : A → B) (k limit : ℕ) (xs : List A) → map f (part_at k limit xs) ≡ part_at k limit (map f xs)
 part_at-map f k limit xs = sym (ap (take limit) (drop-map f (k * limit) xs) ∙ take-map f limit _)
 
--- what is given only where a test holds
+-- a value that exists only where a test holds
 tested : {A : Type 0} (b : Bool) (x : A) → IsSome (cond b (Some x) None) → (IsTrue b) × (cond b (Some x) None ≡ Some x)
 tested true x h = (refl, refl)
 tested false x h = cc
 
--- the number of a part that is there
+-- the number of a part that exists
 pub within : (parts first number : ℕ) → IsTrue (is_part parts first number) → (first ≤ number) × (number < first + parts)
 within parts first number h =
     let front = first_so (nat_lt 1 parts && nat_le first number) (nat_lt number (first + parts)) h in
@@ -77,7 +77,7 @@ pub change_part_is : (s : Shown) (doc : Doc) (number first : ℕ) → doc ≡ Ch
     → (first ≤ number) × (number - first < parts_in changes s) × (list_text s doc ≡ Some (part_text changes s (number - first)))
 change_part_is s doc number first e f h = rw (e, f) (change_part s number (rw e at h))
 
--- whether a document is there
+-- whether a document exists
 some_is : {A : Type 0} (b : Bool) (x : A) → b ≡ is_some (cond b (Some x) None)
 some_is true x = refl
 some_is false x = refl

@@ -7,13 +7,13 @@ use Rattle.std.proofs.lemmas.List.{get_or-drop, take_all}
 use Rattle.std.proofs.lemmas.Grind.{flat_map-append}
 use Rattle.rs_lists.specs.Escape.{escape, escaped}
 
--- one byte more, whatever it is written as
+-- one byte more
 pub escape-next : (bytes : List ℕ) (i : ℕ) → i < length bytes → escape (take (i + 1) bytes) ≡ escape (take i bytes) ++ escaped (get_or bytes i 0)
 escape-next bytes i h =
     let more : take (i + 1) bytes ≡ take i bytes ++ get_or bytes i 0 ∷ [] = rw add-one (take-suc bytes i 0 h) in
     ap escape more ∙ flat_map-append escaped (take i bytes) (get_or bytes i 0 ∷ []) ∙ ap (λ l. escape (take i bytes) ++ l) (append-nil (escaped (get_or bytes i 0)))
 
--- a run of bytes that stand as they are, with one byte more
+-- a run of bytes that stay unchanged, with one byte more
 run-next : (bytes : List ℕ) (start i : ℕ) → start ≤ i → i < length bytes → take (i + 1 - start) (drop start bytes) ≡ take (i - start) (drop start bytes) ++ get_or bytes i 0 ∷ []
 run-next bytes start i k h =
     let step : i + 1 - start ≡ suc (i - start) = omega arith in
@@ -36,7 +36,7 @@ pub run_over : (bytes : List ℕ) (j : ℕ) → escape (take j bytes) ≡ escape
 run_over bytes j =
     let none : j - j ≡ 0 = omega arith in sym (ap (λ n. escape (take j bytes) ++ take n (drop j bytes)) none ∙ append-nil (escape (take j bytes)))
 
--- a byte that stands as it is makes the run longer
+-- a byte that stays unchanged makes the run longer
 pub run_on : (bytes : List ℕ) (start i : ℕ) → start ≤ i → i < length bytes → escaped (get_or bytes i 0) ≡ get_or bytes i 0 ∷ []
     → escape (take i bytes) ≡ escape (take start bytes) ++ take (i - start) (drop start bytes)
     → escape (take (i + 1) bytes) ≡ escape (take start bytes) ++ take (i + 1 - start) (drop start bytes)

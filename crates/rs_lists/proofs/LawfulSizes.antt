@@ -1,4 +1,4 @@
--- How long the texts of a lawful view are at most.
+-- The greatest lengths of the texts of a lawful view.
 use Rattle.std.proofs.Common.{◌≡◌, ℕ, suc, zero, ◌+◌, ◌-◌, ◌*◌, ◌<◌, ◌≤◌, List, Bool, true, false, nat_le, length, drop, refl, ◌⊎◌, inl, inr, arith, length-take, subst, Option, Some, None}
 use Rattle.std.specs.Prelude.{IsTrue, IsSome, IfSome, cond}
 use Rattle.std.specs.List.{All}

@@ -1,4 +1,4 @@
--- How many parts there are, and where they lie.
+-- How many parts a list has, and where they lie.
 use Rattle.std.proofs.Common.{◌≡◌, ℕ, suc, zero, ◌+◌, ◌-◌, ◌*◌, ◌<◌, ◌≤◌, arith, div-add-mod'}
 use Rattle.std.proofs.lemmas.Nat.{mod_below}
 use Rattle.rs_lists.specs.Chunks.{parts_of}
@@ -26,7 +26,7 @@ few_from (suc q) n limit h few tight =
     let a : limit * q ≡ q * limit = grind arith in
     omega arith
 
--- of at most 50,000 items there are at most 25,000 parts
+-- at most 50,000 items make at most 25,000 parts
 pub parts_few : (n limit : ℕ) → 2 ≤ limit → n ≤ 50000 → parts_of n limit ≤ 25000
 parts_few n limit h few = few_from (parts_of n limit) n limit h few (parts_tight n limit (omega arith))
 

@@ -1,4 +1,4 @@
--- Texts that escaping leaves as they are: a base is one.
+-- Texts that escaping leaves unchanged: a base is one.
 use Rattle.std.proofs.Common.{◌≡◌, ℕ, List, [], ◌∷◌, ◌++◌, length, take, drop, refl, ap, ◌∙◌, arith, Bool, true, false, nat_lt, nat_eq, subst}
 use Rattle.std.specs.Prelude.{codes, IsTrue, ◌==◌, ◌||◌, not, if◌then◌else◌}
 use Rattle.std.specs.List.{list_all, ends_with}
@@ -11,7 +11,7 @@ use Rattle.std.proofs.Common.{append_assoc}
 use Rattle.rs_record.specs.Base.{is_base, is_base_char, has_scheme, uri}
 use Rattle.rs_lists.specs.Escape.{escape, escaped}
 
--- a byte is told from a character that fails a test which the byte passes
+-- a byte that passes a test differs from a character that fails it
 unlike_by : (b : Bool) (p : ℕ → Bool) (mark c : ℕ) → (c == mark) ≡ b → p mark ≡ false → IsTrue (p c) → b ≡ false
 unlike_by true p mark c e h k = let is : c ≡ mark = grind (arith, nat_tests) in cc
 unlike_by false p mark c e h k = refl

@@ -9,7 +9,7 @@ use Rattle.rs_lists.proofs.FromBelow.{flat_map-next}
 use Rattle.rs_lists.specs.Sinks.{IsSink, Puts}
 
 module _ {S : Type 0} {R F : S → S → List ℕ → Type 0} where
-  -- two texts in turn
+  -- two texts in a row
   pub in_turn : {a b c : S} {x y t : List ℕ} → IsSink R F → R a b x → R b c y → x ++ y ≡ t → R a c t
   in_turn {a = a} {b = b} {c = c} {x = x} {y = y} sink p q e = subst (R a c) e (sink.more a b c x y p q)
 

@@ -1,4 +1,4 @@
--- How long documents are at most.
+-- The greatest lengths of documents.
 use Rattle.std.proofs.Common.{◌≡◌, ℕ, ◌+◌, ◌*◌, ◌≤◌, ◌<◌, ◌^◌, List, [], ◌∷◌, ◌++◌, length, refl, sym, ap, length-append, arith, Option, Some, None}
 use Rattle.std.specs.Prelude.{codes, Result, Ok, Err, OnOk, IfSome}
 use Rattle.rs_time.specs.Moment.{moment_text}
@@ -81,7 +81,7 @@ part_small l s k n b p m h few = document_small (codes "urlset") (part_links s l
 pub index_small : (l : Listed) (s : Shown) (n : ℕ) → length s.base ≤ 128 → length (line (l.bounds s)) ≤ 160 → length (joined (entries l s)) ≤ 276 * n → n ≤ 25000 → IsSmall (index_text l s)
 index_small l s n b m h few = document_small (codes "sitemapindex") (up_line s.base ∷ []) (l.bounds s) (entries l s) (omega arith) (up_small s.base b) m (omega arith)
 
--- the same of what a call gives only where it succeeds
+-- the same where a call succeeds
 pub on_value : {X E : Type 0} {P : Type 0} (r : Result X E) → P → OnOk r P
 on_value (Ok v) p = p
 on_value (Err v) p = tt

@@ -1,4 +1,4 @@
--- What the types of records and changes say of what a view shows, and how long a text may be.
+-- Lawful views, and small texts.
 use Rattle.std.specs.Prelude.{ℕ, ◌<◌, ◌^◌, List, length, IsTrue}
 use Rattle.std.specs.List.{All}
 use Rattle.rs_record.specs.Base.{is_base}
@@ -13,6 +13,6 @@ pub record IsLawfulShown (s : Shown) : Type 0 where
   pub published : All IsLawfulRecord s.published
   pub changes : All IsLawfulChange s.changes
 
--- a text of less than 10 MiB
+-- a text of fewer bytes than 10 MiB
 abbrev pub IsSmall : List ℕ → Type 0
 IsSmall text = length text < 10485760

@@ -4,7 +4,7 @@ use Rattle.rs_lists.specs.Chunks.{parts_of, part_at}
 use Rattle.rs_lists.specs.Shown.{Shown}
 use Rattle.rs_lists.specs.Text.{joined, document, up_line, part_links, numbers_from, from_of, until_of, resource_md, resource_line, resource_entry, change_md, change_line, change_entry}
 
--- What a list does not share with the other: the path of its head, its `rs:md` as a whole and of a part, its items, and the entry of a
+-- What a list has of its own: the path of its head, its `rs:md` as a whole and of a part, its items, and the entry of a
 -- part in its index.
 pub record Listed : Type 0 where
   pub path : List ℕ
@@ -57,7 +57,7 @@ whole_text l s = document (codes "urlset") (up_line s.base ∷ []) (l.bounds s) 
 abbrev pub index_text : Listed → Shown → List ℕ
 index_text l s = document (codes "sitemapindex") (up_line s.base ∷ []) (l.bounds s) (entries l s)
 
--- the head: all items where they are one part at most, or the index
+-- the head: the whole list where it makes one part at most, else the index
 abbrev pub head_text : Listed → Shown → List ℕ
 head_text l s = if nat_le (parts_in l s) 1 then whole_text l s else index_text l s
 

@@ -5,8 +5,8 @@ use Rattle.rs_record.specs.declared.record.Record.{Record}
 use Rattle.rs_record.specs.declared.change.Change.{Change}
 use Rattle.rs_lists.specs.Chunks.{parts_of}
 
--- base, item limit, start, publication number, its moment, published records, kept changes, the number of their first part, and
--- the moment at which they begin
+-- base, item limit, start, publication number, its moment, published records, kept changes, the number of their first
+-- part, and the moment at which they begin
 pub record Shown : Type 0 where
   pub base : List ℕ
   pub limit : ℕ

@@ -6,12 +6,12 @@ use Rattle.rs_io.specs.declared.watch.Watched.{Watched}
 use Rattle.rs_io.specs.Watch.{watched, failures, EndFailed, FailedWithin, Wrote}
 use Rattle.rs_lists.specs.Sinks.{CountGrowsBy, IsSink}
 
--- a fault after calls that did not fail is a fault of all of them
+-- where the first calls did not fail, a later fault is a fault of all of them
 fails_later : {T : Type 0} (a b c : Watched T) → failures b ≡ failures a → EndFailed b c → EndFailed a c
 fails_later a b c same (inl rose) = inl (omega (arith, ap (λ f. f.all) same, rose))
 fails_later a b c same (inr last) = inr last
 
--- a writer takes texts in turn
+-- a writer is a sink
 pub writer_is_sink : {W : Type 0} (contents : W → Option (List ℕ)) → IsSink (λ (a b : Watched W) (text : List ℕ). Wrote contents a b text) (λ a b text. FailedWithin contents a b text)
 writer_is_sink contents = record {
   nothing = λ a. (Appends-nil (contents (watched a)), refl);
@@ -32,7 +32,7 @@ writer_is_sink contents = record {
   };
 }
 
--- a count of bytes grows in turn, and never fails
+-- a meter is a sink that never fails
 pub meter_is_sink : {M : Type 0} (counted : M → ℕ) → IsSink {S = M} (λ a b text. CountGrowsBy (counted a) (counted b) text) (λ a b text. ⊥)
 meter_is_sink counted = record {
   nothing = λ a. record { exact = λ h. omega arith };

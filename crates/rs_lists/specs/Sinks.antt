@@ -1,7 +1,8 @@
 -- What a sink takes, and what a meter of texts takes.
 use Rattle.std.specs.Prelude.{◌≡◌, ℕ, ◌+◌, ◌<◌, ◌^◌, List, [], ◌++◌, length, Result, OnOk, OnErr}
 
--- Texts in turn are one text: nothing went in, one text and then another, a failure before more was to follow, and one after a text.
+-- Two texts in a row are one text. The sink took nothing; it took one text after another; it failed within the first;
+-- it failed within the second.
 pub record IsSink {S : Type 0} (takes fails : S → S → List ℕ → Type 0) : Type 0 where
   pub nothing : (a : S) → takes a a []
   pub more : (a b c : S) (x y : List ℕ) → takes a b x → takes b c y → takes a c (x ++ y)

@@ -60,7 +60,7 @@ abbrev pub until_parts : Option ℕ → List (List ℕ)
 until_parts None = []
 until_parts (Some until) = codes " until=\"" ∷ moment_text until ∷ codes "\"" ∷ []
 
--- the `rs:md` of a Change List: from when on its changes are, and until when
+-- the `rs:md` of a Change List: its `from` and its `until`
 abbrev pub change_md : ℕ → Option ℕ → List ℕ
 change_md start until =
     concat (codes "<rs:md capability=\"changelist\" from=\"" ∷ moment_text start ∷ codes "\"" ∷ until_parts until ++ codes "/>" ∷ [])
@@ -115,11 +115,11 @@ resource_part_path number k = codes "/resourcelist/" ++ decimal number ++ codes 
 abbrev pub change_part_path : ℕ → List ℕ
 change_part_path k = codes "/changelist/" ++ decimal k ++ codes ".xml"
 
--- from when on the changes of part k are
+-- the `from` of part k: the moment of the last change before the part
 abbrev pub from_of : Shown → ℕ → ℕ
 from_of s k = last_moment s.begin (take (k * s.limit) s.changes)
 
--- until when the changes of part k are, where it is full
+-- the `until` of part k, where it is full: the moment of its last change
 abbrev pub until_of : Shown → ℕ → Option ℕ
 until_of s k = if nat_le ((k + 1) * s.limit) (length s.changes) then Some (from_of s (k + 1)) else None
 
@@ -160,11 +160,11 @@ part_links s path = up_line s.base ∷ link_line (codes "index") s.base path ∷
 abbrev pub change_part_text : Shown → ℕ → List ℕ
 change_part_text s k = change_list s (part_links s (codes "/changelist.xml")) (from_of s k) (until_of s k) (part_at k s.limit s.changes)
 
--- a part that is there: of an index, and within its count
+-- a part exists where the list has two parts at least, and one of them has this number
 abbrev pub is_part : ℕ → ℕ → ℕ → Bool
 is_part parts first k = nat_lt 1 parts && nat_le first k && nat_lt k (first + parts)
 
--- the text of a list, an index or a part, where it is there
+-- the text of a list, an index or a part, where it exists
 unfoldable pub list_text : Shown → Doc → Option (List ℕ)
 list_text s ResourceHead =
     Some (if nat_le (resource_parts_of s) 1 then resource_list s (up_line s.base ∷ []) s.published else resource_index s)

@@ -14,7 +14,7 @@ use rs_io::WriteFault;
 use rs_record::{Base, Change, Facts, What};
 use rs_time::Moment;
 
-/// The Change List, which has the kept changes.
+/// The Change List: the kept changes.
 pub struct Changes;
 
 impl Listing for Changes {
@@ -30,7 +30,7 @@ impl Listing for Changes {
         view.changes_len()
     }
 
-    /// It begins where the kept changes do and has no end.
+    /// Its `from` is the moment at which the kept changes begin. It has no `until`.
     fn put_bounds<V: View, S: Sink>(view: &V, sink: &mut S) -> Result<(), WriteFault> {
         put_change_md(view.begin(), None, sink)
     }
@@ -71,7 +71,8 @@ impl Listing for Changes {
     }
 }
 
-/// From when on the changes of a part are.
+/// The `from` of a part: the moment of the last change before it, or the moment at which the kept
+/// changes begin.
 fn part_from<V: View>(view: &V, part: u64) -> Moment
     requires { part < change_parts_of (V.shown view.now) }
     ensures { result ≡ from_of (V.shown view.now) part }
@@ -79,7 +80,7 @@ fn part_from<V: View>(view: &V, part: u64) -> Moment
     moment_after(view, part as usize * view.limit() as usize)
 }
 
-/// Until when the changes of a part are, where it is full.
+/// The `until` of a full part: the moment of its last change. An open part has none.
 fn part_until<V: View>(view: &V, part: u64) -> Option<Moment>
     requires { part < change_parts_of (V.shown view.now) }
     ensures { result ≡ until_of (V.shown view.now) part }
@@ -93,7 +94,8 @@ fn part_until<V: View>(view: &V, part: u64) -> Option<Moment>
     }
 }
 
-/// The moment of the last of the first `count` changes, or where they begin, if there is none.
+/// The moment of the last of the first `count` changes. With no change it is the moment at which the
+/// kept changes begin.
 fn moment_after<V: View>(view: &V, count: usize) -> Moment
     requires { count ≤ length (V.shown view.now).changes }
     ensures { result
@@ -105,7 +107,7 @@ fn moment_after<V: View>(view: &V, count: usize) -> Moment
     }
 }
 
-/// Puts the bounds of a list of changes.
+/// Puts the `rs:md` of a list of changes: its `from` and its `until`.
 fn put_change_md<S: Sink>(
     from: Moment,
     until: Option<Moment>,
@@ -146,7 +148,7 @@ fn put_change<'a, S: Sink>(
     }
 }
 
-/// Puts the line of a change that bound the name to a body.
+/// Puts the line of a change that created or updated a resource.
 fn put_binding<'a, S: Sink>(
     base: &'a Base,
     change: &'a Change,
@@ -184,7 +186,7 @@ fn put_binding<'a, S: Sink>(
     )
 }
 
-/// Puts the line of a change that unbound the name.
+/// Puts the line of a change that deleted a resource.
 fn put_deletion<'a, S: Sink>(
     base: &'a Base,
     change: &'a Change,
@@ -211,7 +213,7 @@ fn put_deletion<'a, S: Sink>(
     )
 }
 
-/// The word for what happened.
+/// The value of the attribute `change`.
 fn word(what: What) -> &'static [u8]
     ensures { result.now ≡ what_text what }
 {

@@ -2,8 +2,8 @@
 
 /// A document that a source publishes.
 ///
-/// A value names a document, be it there or not: a part exists only while its list is an index
-/// (the item limit is exceeded), and a part of the Resource List only of the latest publication.
+/// A value names a document, whether it exists or not. A part exists only while its list is an index,
+/// which it is past the item limit. A part of the Resource List exists only for the latest publication.
 #[derive(Clone, Copy, Debug, PartialEq, Eq)]
 pub enum Doc {
     /// The Source Description, which names the Capability List.
@@ -28,7 +28,7 @@ pub enum Doc {
 
     /// A part of the Change List.
     ChangePart {
-        /// The part's number, which is never given to another part.
+        /// The part's number. No other part ever gets it.
         part: u64,
     },
 }

@@ -8,7 +8,7 @@ use rs_io::{Watched, WriteFault};
 use std::io::Write;
 
 /// Writes `bytes` with `&`, `'`, `"`, `>` and `<` as the references `&amp;`, `&apos;`, `&quot;`,
-/// `&gt;` and `&lt;` (XML 1.0, section 4.6; Sitemap 0.9). All other bytes stand as they are.
+/// `&gt;` and `&lt;` (XML 1.0, section 4.6; Sitemap 0.9). All other bytes stay unchanged.
 ///
 /// # Errors
 ///
@@ -45,7 +45,7 @@ pub fn escaped_length(bytes: &[u8]) -> u64
     total
 }
 
-/// The reference that is written in the place of a byte, if it does not stand as it is.
+/// The reference for a byte, or `None` where the byte stays unchanged.
 fn reference_of(byte: u8) -> Option<&'static [u8]>
     ensures { MatchOption result (escaped byte ≡ byte ∷ [])
         (λ reference. escaped byte ≡ reference.now) }

@@ -1,5 +1,4 @@
-//! What stands around the children of every list and index: the XML declaration, the root element
-//! and the links.
+//! The frame of every list and index: the XML declaration, the root element and the links.
 
 ghost use Rattle.std.specs.Prelude.{◌≡◌, ◌≤◌, ◌∷◌, [], length, OnOk, OnErr, codes};
 ghost use Rattle.rs_lists.specs.Root.{tag_of};

@@ -15,8 +15,8 @@ ghost use Rattle.rs_lists.specs.Laws.{PartsAreChunks};
 ghost use Rattle.rs_lists.specs.Shown.{Shown};
 ghost use Rattle.rs_lists.specs.Text.{line, list_text, resource_line, change_line, resource_entry, change_entry};
 
-/// No part of a list is empty, none has more items than the limit, all but the last have as many,
-/// and one after another they are the list.
+/// No part of a list is empty, none has more items than the limit, all but the last are full, and
+/// joined in their order they are the list.
 pub fn parts_are_chunks<T>()
     ensures { PartsAreChunks T }
 {}
@@ -27,7 +27,7 @@ pub fn plain_texts_stay()
 {}
 
 /// An entry of a list has at most 2,450 bytes and one of an index at most 276, each with its line
-/// feed. The location of a resource has less than 2,048 characters, as Sitemap 0.9 asks.
+/// feed. The location of a resource has fewer than 2,048 characters, as Sitemap 0.9 asks.
 pub fn entries_are_small()
     ensures location { (base name : List ℕ) → IsTrue (is_base base) → IsTrue (is_name name) →
         length (escape (uri base name)) < 2048 }
@@ -41,7 +41,7 @@ pub fn entries_are_small()
         length (line (change_entry s k)) ≤ 276 }
 {}
 
-/// Every list, part and index has less than 10,485,760 bytes, as Sitemap 0.9 asks.
+/// Every list, part and index has fewer than 10,485,760 bytes, as Sitemap 0.9 asks.
 pub fn documents_are_small()
     ensures { (s : Shown) (doc : Doc) (text : List ℕ) → IsLawfulShown s →
         list_text s doc ≡ Some text → IsSmall text }

@@ -8,8 +8,8 @@ use crate::meter::Meter;
 use crate::write::put_list;
 use crate::{Doc, View};
 
-/// How many bytes [`write_list`](crate::write_list) writes. There is no length exactly where the
-/// document does not exist.
+/// How many bytes [`write_list`](crate::write_list) writes, or `None` exactly where the document does
+/// not exist.
 ///
 /// Makes no text and takes no memory: one pass over the lengths of the document's items.
 pub fn list_length<V: View>(view: &V, doc: Doc) -> Option<u64>

@@ -14,7 +14,7 @@ use crate::frame::{RootElement, put_closing, put_opening, put_part_opening};
 use crate::sink::Sink;
 use rs_io::WriteFault;
 
-/// A list that a view shows, by what it does not share with the other one.
+/// What differs between the Resource List and the Change List.
 pub trait Listing {
     /// What the list shows of a view.
     ghost list: { Listed };

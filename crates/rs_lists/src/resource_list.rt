@@ -11,7 +11,7 @@ use crate::{Piece, View};
 use rs_io::WriteFault;
 use rs_record::{Base, Record};
 
-/// The Resource List, which has the published records.
+/// The Resource List: the published records.
 pub struct Resources;
 
 impl Listing for Resources {
@@ -27,7 +27,7 @@ impl Listing for Resources {
         view.published_len()
     }
 
-    /// The moment of the publication.
+    /// Its `at` is the moment of the publication.
     fn put_bounds<V: View, S: Sink>(view: &V, sink: &mut S) -> Result<(), WriteFault> {
         put_line(
             &[
@@ -39,7 +39,7 @@ impl Listing for Resources {
         )
     }
 
-    /// Those of the whole list.
+    /// A part has the bounds of the whole list.
     fn put_part_bounds<V: View, S: Sink>(
         view: &V,
         _part: u64,

@@ -1,6 +1,6 @@
-//! What takes the pieces of a text: a writer that writes them, a meter that counts their bytes.
+//! A sink takes the pieces of a text: a writer writes them, a meter counts their bytes.
 //!
-//! Each document is described once, over any sink, so what is measured is what is written.
+//! One code puts each document into any sink, so its measured length is the length written.
 
 ghost use Rattle.std.specs.Prelude.{◌≡◌, ℕ, List, OnOk, OnErr};
 ghost use Rattle.rs_lists.specs.Piece.{piece_text, pieces_text};
@@ -15,10 +15,10 @@ use std::io::Write;
 
 /// What takes the pieces of a text.
 pub trait Sink {
-    /// From one state to a later one these bytes went in, and nothing failed.
+    /// Between these two states the sink took these bytes, and nothing failed.
     ghost takes: { Self → Self → List ℕ → Type 0 };
 
-    /// From one state to a later one it failed within these bytes: a beginning of them went in.
+    /// Between these two states the sink failed within these bytes. It took a beginning of them.
     ghost fails: { Self → Self → List ℕ → Type 0 };
 
     /// Takes a piece.
@@ -26,7 +26,7 @@ pub trait Sink {
         ensures taken { OnOk result (takes self.old self.new (piece_text piece.now)) }
         ensures fault { OnErr result (fails self.old self.new (piece_text piece.now)) };
 
-    /// Texts in turn are one text.
+    /// Two texts in a row are one text.
     ghost laws: { IsSink takes fails };
 }
 

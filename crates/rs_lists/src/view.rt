@@ -1,4 +1,4 @@
-//! What the lists are written from.
+//! What the lists show of a source.
 
 ghost use Rattle.std.specs.Prelude.{◌≡◌, ◌<◌, ◌≤◌, length, slice_get, Some};
 ghost use Rattle.rs_lists.specs.Shown.{Shown, IsShown, resource_parts_of, change_parts_of};
@@ -9,7 +9,7 @@ use crate::resource_list::Resources;
 use rs_record::{Base, Change, Record};
 use rs_time::Moment;
 
-/// A source as its lists show it, wherever its records and changes lie.
+/// A source as its lists show it, wherever its records and changes are stored.
 ///
 /// The texts of the lists are functions of the ghost member `shown` alone, which has the
 /// published records and the kept changes as whole lists.

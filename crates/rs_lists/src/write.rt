@@ -37,10 +37,10 @@ impl From<WriteFault> for ListError {
     }
 }
 
-/// Writes a list, an index or a part, exactly, to its last line's end.
+/// Writes exactly the text of a list, an index or a part, with its last line feed.
 ///
-/// Takes no memory. A part costs its own items only. The Source Description and the Capability
-/// List are not written here: to this function they are no documents.
+/// Takes no memory. A part costs its own items only. This function does not write the Source
+/// Description and the Capability List: for them it answers [`ListError::NoSuchDocument`].
 ///
 /// # Errors
 ///
@@ -83,7 +83,7 @@ pub fn put_list<V: View, S: Sink>(view: &V, doc: Doc, sink: &mut S) -> Result<()
     Ok(())
 }
 
-/// Whether there is such a list, index or part.
+/// Whether the list, index or part exists.
 fn is_there<V: View>(view: &V, doc: Doc) -> bool
     ensures { result ≡ is_some (list_text (V.shown view.now) doc) }
 {
@@ -97,14 +97,14 @@ fn is_there<V: View>(view: &V, doc: Doc) -> bool
     }
 }
 
-/// Whether a number is that of one of several parts.
+/// Whether one of at least two parts has this number. They are numbered from `first` on.
 fn is_part_of(parts: u64, first: u64, number: u64) -> bool
     ensures { result ≡ is_part parts first number }
 {
     parts > 1 && first <= number && number - first < parts
 }
 
-/// Puts a list, an index or a part that is there.
+/// Puts a list, an index or a part that exists.
 fn put_what_is_there<V: View, S: Sink>(view: &V, doc: Doc, sink: &mut S) -> Result<(), WriteFault>
     requires { IsSome (list_text (V.shown view.now) doc) }
     ensures puts { IfSome (list_text (V.shown view.now) doc)

@@ -15,7 +15,7 @@ use Rattle.rs_model.specs.Step.{first_cause, item_causes, items_causes, is_bad_g
 use Rattle.rs_model.specs.Laws.{command_of, grouped_as, after_step, stepped_in_turn}
 use Rattle.rs_model.proofs.ItemLemmas.{next_same, same_states, accepted_again}
 
--- the first of two refusals that is there
+-- the first of two refusals
 abbrev pub first_of : Option Refusal → Option Refusal → Option Refusal
 first_of None next = next
 first_of (Some refusal) next = Some refusal

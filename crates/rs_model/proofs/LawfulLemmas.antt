@@ -14,7 +14,7 @@ use Rattle.rs_model.specs.declared.command.Item.{Item}
 use Rattle.rs_model.specs.declared.command.Item.TheVariants as single
 use Rattle.rs_model.specs.declared.command.Refusal.{Refusal}
 use Rattle.rs_model.specs.declared.value.Held.{Held}
-use Rattle.rs_model.specs.Names.{Names, by_bytes, by_order, bind, unbind}
+use Rattle.rs_model.specs.Names.{Names, by_bytes, by_order, bind, unbind, is_ordered}
 use Rattle.rs_model.specs.State.{Source, facts_of, entries}
 use Rattle.rs_model.specs.Step.{step, state_after, fold_of, accepted_unless, next_state, reply_to, refusal_of, first_cause, causes, put_causes, delete_causes, item_causes, items_causes, moment_at, after_put, after_delete, after_item, after_items, put_change, dropped_parts, dropped_changes}
 use Rattle.rs_model.specs.Lawful.{AreFacts, IsEntry, IsHeld, IsChange, IsLawful, IsLawfulItem, IsLawfulCommand, IsLawfulTimed}
@@ -57,58 +57,46 @@ all_entries : (held : Names Held) → AllByRecursion IsHeld held → AllByRecurs
 all_entries [] h = tt
 all_entries (e ∷ held) h = (h.0, all_entries held h.1)
 
+-- a state with this held and one change more
+changed_lawful : (s : Source) (t : ℕ) (held : Names Held) (c : Change) → IsLawful s → IsMoment t → AllByRecursion IsHeld held → IsTrue (is_ordered held)
+    → length held ≤ 50000 → IsChange c → length s.changes < 50000 → IsLawful (record s { last = t; held = held; changes = s.changes ++ c ∷ [] })
+changed_lawful s t held c l m all order room is fewer =
+    record {
+      base = l.base;
+      low = l.low;
+      high = l.high;
+      start = l.start;
+      last = m;
+      at = l.at;
+      number = l.number;
+      held = all;
+      held_order = order;
+      held_room = room;
+      listed = l.listed;
+      listed_order = l.listed_order;
+      listed_room = l.listed_room;
+      changes = all_appended IsChange s.changes c l.changes is;
+      changes_room = omega (arith, fewer, length-append s.changes (c ∷ []));
+      first = l.first;
+      begin = l.begin;
+    }
+
 put_lawful : (s : Source) (name kind bytes : List ℕ) (t : ℕ) → IsLawful s → IsLawfulItem (single.Put name kind bytes) → IsMoment t → first_cause (put_causes s name bytes) ≡ None
     → IsLawful (after_put s name kind bytes t)
 put_lawful s name kind bytes t l c m none =
     let cause = no_causes (put_causes s name bytes) none in
     let facts : AreFacts (facts_of kind bytes) = facts_lawful kind bytes c.1 (at_most_if 16777216 (length bytes) cause.0) in
     let held : Held = record { bytes = bytes; entry = record { facts = facts_of kind bytes; moment = t } } in
-    let change : Change = put_change s name (facts_of kind bytes) t in
-    let fewer : length s.changes < 50000 = change_to_put name bytes s none in
-    record {
-      base = l.base;
-      low = l.low;
-      high = l.high;
-      start = l.start;
-      last = m;
-      at = l.at;
-      number = l.number;
-      held = all_bound IsHeld name held s.held (record { name = c.0; facts = facts; moment = m }) l.held;
-      held_order = ordered-bind name held s.held l.held_order;
-      held_room = omega (arith, length-bind name held s.held, room_to_put name bytes s none l.held_room);
-      listed = l.listed;
-      listed_order = l.listed_order;
-      listed_room = l.listed_room;
-      changes = all_appended IsChange s.changes change l.changes (record { name = c.0; facts = facts; moment = m });
-      changes_room = omega (arith, fewer, length-append s.changes (change ∷ []));
-      first = l.first;
-      begin = l.begin;
-    }
+    changed_lawful s t (bind name held s.held) (put_change s name (facts_of kind bytes) t) l m
+    (all_bound IsHeld name held s.held (record { name = c.0; facts = facts; moment = m }) l.held) (ordered-bind name held s.held l.held_order)
+    (omega (arith, length-bind name held s.held, room_to_put name bytes s none l.held_room)) (record { name = c.0; facts = facts; moment = m })
+    (change_to_put name bytes s none)
 
 delete_lawful : (s : Source) (name : List ℕ) (t : ℕ) → IsLawful s → IsLawfulItem (single.Delete name) → IsMoment t → first_cause (delete_causes s name) ≡ None
     → IsLawful (after_delete s name t)
 delete_lawful s name t l c m none =
-    let change : Change = deleted name t in
-    let fewer : length s.changes < 50000 = change_to_delete name s none in
-    record {
-      base = l.base;
-      low = l.low;
-      high = l.high;
-      start = l.start;
-      last = m;
-      at = l.at;
-      number = l.number;
-      held = all_unbound IsHeld name s.held l.held;
-      held_order = ordered-unbind name s.held l.held_order;
-      held_room = omega (arith, length-unbind name s.held, l.held_room);
-      listed = l.listed;
-      listed_order = l.listed_order;
-      listed_room = l.listed_room;
-      changes = all_appended IsChange s.changes change l.changes (record { name = c; facts = tt; moment = m });
-      changes_room = omega (arith, fewer, length-append s.changes (change ∷ []));
-      first = l.first;
-      begin = l.begin;
-    }
+    changed_lawful s t (unbind name s.held) (deleted name t) l m (all_unbound IsHeld name s.held l.held) (ordered-unbind name s.held l.held_order)
+    (omega (arith, length-unbind name s.held, l.held_room)) (record { name = c; facts = tt; moment = m }) (change_to_delete name s none)
 
 publish_lawful : (s : Source) (t : ℕ) → IsLawful s → IsMoment t → refusal_of s Publish t ≡ None → IsLawful (next_state s Publish t)
 publish_lawful s t l m none =

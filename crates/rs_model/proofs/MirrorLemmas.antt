@@ -26,7 +26,7 @@ not_before false n m e h = refl
 pub below : (n m : ℕ) → n < m → IsTrue (nat_lt n m)
 below n m h = grind (arith, nat_tests)
 
--- one more change, above all that are there
+-- one more change, above all others
 pub rises-append : (low last : ℕ) (cs : List Change) (c : Change) → IsTrue (rises_from low cs) → low ≤ last → AllByRecursion (IsChangeUpTo last) cs
     → last < c.moment → IsTrue (rises_from low (cs ++ c ∷ []))
 rises-append low last [] c h k m later = and_from _ _ (below low c.moment (omega (arith, k, later))) refl

@@ -1,5 +1,5 @@
 -- A step keeps a state regular.
-use Rattle.std.proofs.Common.{◌≡◌, ℕ, ◌<◌, ◌≤◌, ◌+◌, List, [], ◌∷◌, take, drop, false, refl, sym, ap, subst, ◌∙◌, arith, Option, Some, None}
+use Rattle.std.proofs.Common.{◌≡◌, ℕ, ◌<◌, ◌≤◌, ◌+◌, List, [], ◌∷◌, ◌++◌, take, drop, false, refl, sym, ap, subst, ◌∙◌, arith, Option, Some, None}
 use Rattle.std.specs.Prelude.{IfOk, IsTrue}
 use Rattle.std.specs.List.{AllByRecursion}
 use Rattle.rs_model.specs.declared.value.Held.{Held}
@@ -14,7 +14,7 @@ use Rattle.rs_time.specs.Moment.{IsMoment}
 use Rattle.rs_record.specs.Changes.{deleted, last_moment}
 use Rattle.rs_model.specs.Names.{Names, bind, unbind}
 use Rattle.rs_model.specs.State.{Source, start_of, facts_of, entries}
-use Rattle.rs_model.specs.Step.{step, state_after, fold_of, next_state, reply_to, accepted_unless, moment_at, refusal_of, after_put, after_delete, after_item, put_change, passed_by, dropped_parts, dropped_changes, is_out_of_parts}
+use Rattle.rs_model.specs.Step.{step, state_after, fold_of, mirror_of, next_state, reply_to, accepted_unless, moment_at, refusal_of, after_put, after_delete, after_item, put_change, passed_by, dropped_parts, dropped_changes, is_out_of_parts}
 use Rattle.rs_model.specs.declared.value.Entry.{Entry}
 use Rattle.rs_record.specs.declared.change.Change.{Change}
 use Rattle.rs_model.specs.Regular.{IsSound, IsUpTo, IsChangeUpTo, IsAfter, rises_from, IsRegular, IsTimely}
@@ -52,58 +52,48 @@ start_regular base limit moment =
       mirrored = refl;
     }
 
+-- a state with this held and one later change more
+changed_regular : (s : Source) (held : Names Held) (c : Change) → IsRegular s → s.last < c.moment → AreSound held → AreAllUpTo c.moment (entries held)
+    → mirror_of s.listed s.at (s.changes ++ c ∷ []) ≡ entries held → IsRegular (record s { last = c.moment; held = held; changes = s.changes ++ c ∷ [] })
+changed_regular s held c r after sound up_to mirrored =
+    let no_later : s.last ≤ c.moment = omega (arith, after) in
+    record {
+      sound = sound;
+      rising = rising-append s.last s.changes c r.rising r.latest.changes after;
+      start = r.start;
+      last = omega (arith, r.last);
+      latest =
+          record {
+            held = up_to;
+            changes = all_appended (IsChangeUpTo c.moment) s.changes c (changes_later s.last c.moment s.changes no_later r.latest.changes) (omega arith);
+            listed = later s.last c.moment s.listed no_later r.latest.listed;
+          };
+      begun = r.begun;
+      kept = r.kept;
+      first = r.first;
+      after = all_appended (IsAfter s.begin) s.changes c r.after (omega (arith, r.kept, r.last, after));
+      mirrored = mirrored;
+    }
+
 -- a put, a delete and a publish at a later moment
 put_regular : (s : Source) (name kind bytes : List ℕ) (t : ℕ) → IsRegular s → s.last < t → IsRegular (after_put s name kind bytes t)
 put_regular s name kind bytes t r after =
     let entry : Entry = record { facts = facts_of kind bytes; moment = t } in
-    let held : Names Held = bind name (record { bytes = bytes; entry = entry }) s.held in
-    let bound : entries held ≡ bind name entry (entries s.held) = entries-bind name (record { bytes = bytes; entry = entry }) s.held in
-    let no_later : s.last ≤ t = omega (arith, after) in
-    record {
-      sound = all_bound IsSound name (record { bytes = bytes; entry = entry }) s.held refl r.sound;
-      rising = rising-append s.last s.changes (put_change s name (facts_of kind bytes) t) r.rising r.latest.changes after;
-      start = r.start;
-      last = omega (arith, r.last);
-      latest =
-          record {
-            held = subst (AreAllUpTo t) (sym bound)
-                (all_bound (IsUpTo t) name entry (entries s.held) (omega arith) (later s.last t (entries s.held) no_later r.latest.held));
-            changes = all_appended (IsChangeUpTo t) s.changes _ (changes_later s.last t s.changes no_later r.latest.changes) (omega arith);
-            listed = later s.last t s.listed no_later r.latest.listed;
-          };
-      begun = r.begun;
-      kept = r.kept;
-      first = r.first;
-      after = all_appended (IsAfter s.begin) s.changes _ r.after (omega (arith, r.kept, r.last, after));
-      mirrored =
-          mirror-append s.listed s.at s.changes (put_change s name (facts_of kind bytes) t) (omega (arith, r.last))
-          ∙ ap (bind name entry) r.mirrored ∙ sym bound;
-    }
+    let new : Held = record { bytes = bytes; entry = entry } in
+    let c : Change = put_change s name (facts_of kind bytes) t in
+    let bound : entries (bind name new s.held) ≡ bind name entry (entries s.held) = entries-bind name new s.held in
+    changed_regular s (bind name new s.held) c r after (all_bound IsSound name new s.held refl r.sound)
+    (subst (AreAllUpTo t) (sym bound)
+    (all_bound (IsUpTo t) name entry (entries s.held) (omega arith) (later s.last t (entries s.held) (omega (arith, after)) r.latest.held)))
+    (mirror-append s.listed s.at s.changes c (omega (arith, r.last)) ∙ ap (bind name entry) r.mirrored ∙ sym bound)
 
 delete_regular : (s : Source) (name : List ℕ) (t : ℕ) → IsRegular s → s.last < t → IsRegular (after_delete s name t)
 delete_regular s name t r after =
     let unbound : entries (unbind name s.held) ≡ unbind name (entries s.held) = entries-unbind name s.held in
-    let no_later : s.last ≤ t = omega (arith, after) in
-    record {
-      sound = all_unbound IsSound name s.held r.sound;
-      rising = rising-append s.last s.changes (deleted name t) r.rising r.latest.changes after;
-      start = r.start;
-      last = omega (arith, r.last);
-      latest =
-          record {
-            held = subst (AreAllUpTo t) (sym unbound)
-                (all_unbound (IsUpTo t) name (entries s.held) (later s.last t (entries s.held) no_later r.latest.held));
-            changes = all_appended (IsChangeUpTo t) s.changes _ (changes_later s.last t s.changes no_later r.latest.changes) (omega arith);
-            listed = later s.last t s.listed no_later r.latest.listed;
-          };
-      begun = r.begun;
-      kept = r.kept;
-      first = r.first;
-      after = all_appended (IsAfter s.begin) s.changes _ r.after (omega (arith, r.kept, r.last, after));
-      mirrored =
-          mirror-append s.listed s.at s.changes (deleted name t) (omega (arith, r.last))
-          ∙ ap (unbind name) r.mirrored ∙ sym unbound;
-    }
+    changed_regular s (unbind name s.held) (deleted name t) r after (all_unbound IsSound name s.held r.sound)
+    (subst (AreAllUpTo t) (sym unbound)
+    (all_unbound (IsUpTo t) name (entries s.held) (later s.last t (entries s.held) (omega (arith, after)) r.latest.held)))
+    (mirror-append s.listed s.at s.changes (deleted name t) (omega (arith, r.last)) ∙ ap (unbind name) r.mirrored ∙ sym unbound)
 
 publish_regular : (s : Source) (t : ℕ) → IsRegular s → s.last < t → IsRegular (next_state s Publish t)
 publish_regular s t r after =

@@ -15,7 +15,7 @@ one_false : (b : Bool) (x : Refusal) (rest : Option Refusal) → cond b (Some x)
 one_false true x rest h = cc
 one_false false x rest h = (refl, h)
 
--- where there is no refusal, no cause is there
+-- without a refusal no cause holds
 pub no_causes : (cs : List (Bool × Refusal)) → first_cause cs ≡ None → AllByRecursion (λ c. c.0 ≡ false) cs
 no_causes [] h = tt
 no_causes (c ∷ cs) h = let one = one_false c.0 c.1 (first_cause cs) h in (one.0, no_causes cs one.1)

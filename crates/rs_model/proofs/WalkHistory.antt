@@ -34,7 +34,8 @@ use Rattle.rs_model.proofs.WalkLemmas.{recorded-append, recorded_first, walk_rec
 abbrev past : Source → Source → List Change
 past s t = drop (length s.changes) t.changes
 
--- What each item and each publish at a later moment keeps of all changes that were recorded and the state, each walk keeps.
+-- What each item and each publish at a later moment keeps of all changes that were recorded and the state, each walk
+-- keeps.
 record IsKept (P : List Change → Source → Type 0) : Type 0 where
   by_item : (h : List Change) (s : Source) (item : Item) (t : ℕ) → P h s → s.last < t → P (h ++ change_of s item t ∷ []) (after_item s item t)
   by_publish : (h : List Change) (s : Source) (t : ℕ) → P h s → s.last < t → P h (next_state s Publish t)

@@ -1,4 +1,4 @@
--- What is known of a state where a group is decided, and how its items are decided by that.
+-- How a group is decided from a few facts of a state.
 use Rattle.std.specs.Prelude.{◌≡◌, ℕ, ◌+◌, ◌-◌, Bool, true, false, not, ◌&&◌, nat_lt, nat_le, max, IsTrue, List, [], ◌∷◌, length, map, Option, Some, if◌then◌else◌}
 use Rattle.rs_time.specs.Moment.{greatest}
 use Rattle.rs_record.specs.Limits.{longest_body}
@@ -17,8 +17,8 @@ abbrev pub name_of : Item → List ℕ
 name_of (single.Put name kind bytes) = name
 name_of (single.Delete name) = name
 
--- This is known of a state whose names are in order: which of the names of these items are held, how many resources and changes there
--- are, and the moment of its last command.
+-- The facts of a state whose names are in order: which of these items' names are held, how many resources and changes
+-- it has, and the moment of its last command.
 pub record IsBefore (s : Source) (items : List Item) (held : List Bool) (counts : Counts) : Type 0 where
   pub ordered : IsTrue (is_ordered s.held)
   pub held_is : held ≡ map (λ item. is_held s (name_of item)) items
@@ -26,32 +26,32 @@ pub record IsBefore (s : Source) (items : List Item) (held : List Bool) (counts 
   pub changes : counts.changes ≡ length s.changes
   pub last : counts.last ≡ s.last
 
--- its name is held after it
+-- an item leaves its name held
 abbrev pub leaves_held : Item → Bool
 leaves_held (single.Put name kind bytes) = true
 leaves_held (single.Delete name) = false
 
--- whether a name is held after these items, if it is so or not before them: as the last of them that has the name leaves it
+-- whether a name is held after these items: as the last item of that name leaves it, or as it was before
 abbrev pub held_after : List Item → Bool → List ℕ → Bool
 held_after [] held name = held
 held_after (item ∷ items) held name = held_after items (if is_eq (by_bytes name (name_of item)) then leaves_held item else held) name
 
--- why a change is refused that the resources allow, by what is known
+-- why a change that the resources allow is refused, from the facts
 abbrev pub change_refusal_by : Counts → Option Refusal
 change_refusal_by counts = first_cause ((nat_le most_changes counts.changes, TooManyChanges) ∷ (nat_le greatest counts.last, Exhausted) ∷ [])
 
--- why a put is refused, by what is known and whether its name is held
+-- why a put is refused, from the facts and whether its name is held
 abbrev pub put_refusal_by : List ℕ → Bool → Counts → Option Refusal
 put_refusal_by bytes held counts =
     if nat_lt longest_body (length bytes) then Some TooLong else
     if not held && nat_le most_resources counts.resources then Some TooManyResources else
     change_refusal_by counts
 
--- .. and why a delete is
+-- why a delete is refused
 abbrev pub delete_refusal_by : Bool → Counts → Option Refusal
 delete_refusal_by held counts = if held then change_refusal_by counts else Some NotHeld
 
--- .. and why an item is
+-- why an item is refused
 abbrev pub item_refusal_by : Item → Bool → Counts → Option Refusal
 item_refusal_by (single.Put name kind bytes) held counts = put_refusal_by bytes held counts
 item_refusal_by (single.Delete name) held counts = delete_refusal_by held counts
@@ -61,7 +61,7 @@ abbrev pub resources_after : Item → Bool → ℕ → ℕ
 resources_after (single.Put name kind bytes) held resources = if held then resources else resources + 1
 resources_after (single.Delete name) held resources = resources - 1
 
--- what is known after an accepted item that comes at `now`
+-- the facts after an accepted item that comes at `now`
 abbrev pub counts_after_item : Item → Bool → Counts → ℕ → Counts
 counts_after_item item held counts now =
     record {

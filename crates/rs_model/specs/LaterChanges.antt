@@ -1,15 +1,15 @@
--- What commands leave of the changes of a state.
+-- What later commands leave of the changes of a state.
 use Rattle.std.specs.Prelude.{ℕ, ◌≡◌, ◌≤◌, ◌-◌, ◌*◌, List, ◌++◌, length, take, drop}
 use Rattle.rs_record.specs.declared.change.Change.{Change}
 use Rattle.rs_record.specs.Changes.{last_moment}
 use Rattle.rs_model.specs.State.{Source}
 
--- how many changes are in the parts by which the first number of the later state is higher
+-- how many changes the later state has dropped: the parts by which its first number is higher
 abbrev pub gone_between : Source → Source → ℕ
 gone_between s t = (t.first - s.first) * s.limit
 
--- The later state has the changes of the earlier one, and then more, without the parts that were dropped in between; and
--- its history begins at the moment of the last change of these, or where it began.
+-- The later state has the changes of the earlier one and then more, without the parts that were dropped in between. Its
+-- history begins at the moment of the last dropped change, or where it began.
 pub record KeepsChanges (s : Source) (more : List Change) (t : Source) : Type 0 where
   pub limit : t.limit ≡ s.limit
   pub first : s.first ≤ t.first

@@ -1,4 +1,4 @@
--- What follows from the definitions of a source alone.
+-- What follows from the definitions of a source.
 use Rattle.std.specs.Prelude.{◌≡◌, ◌≢◌, ℕ, ◌+◌, ◌≤◌, List, [], ◌∷◌, ◌++◌, length, take, Some, None, Result, Ok, Err, IfOk, IsTrue, true, false}
 use Rattle.std.specs.List.{AllByRecursion}
 use Rattle.rs_time.specs.Moment.{IsMoment}
@@ -37,11 +37,11 @@ FoldIsRegular = (s : Source) (commands : List (Command × ℕ)) → IsRegular s 
 abbrev pub FoldIsTimely : Type 0
 FoldIsTimely = (s : Source) (commands : List (Command × ℕ)) → IsRegular s → IsTimely s → IsTimely (fold_of s commands)
 
--- Whatever commands come, the changes are those that were there and then others, without the parts that were dropped.
+-- Whatever commands come, the changes are the earlier ones and then others, without the dropped parts.
 abbrev pub ChangesAreKept : Type 0
 ChangesAreKept = (s : Source) (commands : List (Command × ℕ)) → (more : List Change) × KeepsChanges s more (fold_of s commands)
 
--- In a regular state whose publication is at a moment that exists, no publication wants a number for its first part.
+-- In a regular state whose publication has a lawful moment, the next publication has a number for its first part.
 abbrev pub PartsDoNotRunOut : Type 0
 PartsDoNotRunOut = (s : Source) → IsRegular s → IsMoment s.at → is_out_of_parts s ≡ false
 
@@ -81,7 +81,7 @@ abbrev pub StartIsLawful : Type 0
 StartIsLawful = (base : List ℕ) (limit moment : ℕ) → IsTrue (is_base base) → 2 ≤ limit → limit ≤ 4000 → IsMoment moment
     → IsLawful (start_of base limit moment)
 
--- A lawful command leaves a lawful state, be it accepted or not.
+-- A lawful command keeps a state lawful, accepted or not.
 abbrev pub StepIsLawful : Type 0
 StepIsLawful = (s : Source) (command : Command) (now : ℕ) → IsLawful s → IsLawfulCommand command → IsMoment now
     → IsLawful (state_after s (step s command now))
@@ -106,13 +106,13 @@ abbrev pub after_step : (Source → Result Source Refusal) → Result (Source ×
 after_step then (Ok next) = then next.0
 after_step then (Err refusal) = Err refusal
 
--- the items as commands in turn, all of which come at `now`, until one is refused
+-- the items as commands in turn, all at `now`, until one is refused
 abbrev pub stepped_in_turn : Source → List Item → ℕ → Result Source Refusal
 stepped_in_turn s [] now = Ok s
 stepped_in_turn s (item ∷ items) now = after_step (λ t. stepped_in_turn t items now) (step s (command_of item) now)
 
--- A group of 1 to 16 items does what its items do as commands in turn, all at the same moment; or it is refused as the first of them
--- is that is refused.
+-- A group of 1 to 16 items does what its items do as commands in turn, all at the same moment. It is refused as the
+-- first refused item is.
 abbrev pub GroupsStepInTurn : Type 0
 GroupsStepInTurn = (s : Source) (items : List Item) (now : ℕ) → is_bad_group items ≡ false
     → step s (Group items) now ≡ grouped_as (length items) (moment_at s now) (stepped_in_turn s items now)
@@ -121,7 +121,7 @@ GroupsStepInTurn = (s : Source) (items : List Item) (now : ℕ) → is_bad_group
 abbrev pub BadGroupsAreRefused : Type 0
 BadGroupsAreRefused = (s : Source) (items : List Item) (now : ℕ) → is_bad_group items ≡ true → step s (Group items) now ≡ Err BadGroup
 
--- The first items of a group that is accepted are one that is, ..
+-- The first items of an accepted group are an accepted group, ..
 abbrev pub FrontsAreAccepted : Type 0
 FrontsAreAccepted = (s : Source) (items : List Item) (now k : ℕ) → refusal_of s (Group items) now ≡ None
     → 1 ≤ k → k ≤ length items → refusal_of s (Group (take k items)) now ≡ None

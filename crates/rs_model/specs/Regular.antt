@@ -1,4 +1,4 @@
--- Regular states, and what else every run of commands keeps true.
+-- Regular states, and what else every run of commands keeps.
 use Rattle.std.specs.Prelude.{ℕ, ◌≡◌, ◌<◌, ◌≤◌, ◌-◌, Bool, true, ◌&&◌, nat_lt, IsTrue, List, [], ◌∷◌}
 use Rattle.std.specs.List.{AllByRecursion}
 use Rattle.rs_record.specs.declared.change.Change.{Change}
@@ -38,10 +38,10 @@ pub record AreUpTo (last : ℕ) (s : Source) : Type 0 where
 abbrev pub IsAfter : ℕ → Change → Type 0
 IsAfter moment c = moment < c.moment
 
--- A regular state: what is held has the facts of its bytes; the changes rise strictly; the publication is between
--- formatting and the last command, and no moment is above that one's; the kept history begins at formatting or later, no later
--- than the publication, and all its changes are after that; no more parts were dropped than there are moments before it; and
--- what was published, followed by the changes after it, gives what is held.
+-- A regular state. What is held has the facts of its bytes. The changes rise strictly. The publication is between
+-- formatting and the last command, and no moment is above that command's. The kept history begins between formatting
+-- and the publication, and all its changes are after its begin. At most as many parts were dropped as there are moments
+-- from formatting to the begin. What was published, followed by the changes after it, gives what is held.
 pub record IsRegular (s : Source) : Type 0 where
   pub sound : AllByRecursion IsSound s.held
   pub rising : IsTrue (is_rising s.changes)
@@ -54,6 +54,6 @@ pub record IsRegular (s : Source) : Type 0 where
   pub after : AllByRecursion (IsAfter s.begin) s.changes
   pub mirrored : mirror_of s.listed s.at s.changes ≡ entries s.held
 
--- What else every run keeps true: what was published is no later than its publication.
+-- What else every run keeps: no listed resource is later than its publication.
 pub record IsTimely (s : Source) : Type 0 where
   pub listed : AllByRecursion (IsUpTo s.at) s.listed

@@ -20,9 +20,9 @@ most_changes = most_items
 abbrev pub most_grouped : ℕ
 most_grouped = 16
 
--- A source: its base and item limit, the moments of its formatting and of its latest accepted command, what is
--- held, the changes that are kept in the order in which they came, its latest publication, and where the kept history begins:
--- the number of its first part, and the moment of the last change before it, or of formatting.
+-- A source: its base and item limit, the moments of its formatting and of its latest accepted command, what is held,
+-- the kept changes in the order in which they came, its latest publication, and where the kept history begins: the
+-- number of its first part, and the moment of the last change before it, or of formatting.
 pub record Source : Type 0 where
   pub base : List ℕ
   pub limit : ℕ

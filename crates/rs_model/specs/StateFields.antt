@@ -1,4 +1,4 @@
--- The source that the fields of a state stand for, and what they keep.
+-- The source of a state's fields, and what the fields keep.
 use Rattle.std.specs.Prelude.{map}
 use Rattle.rs_model.specs.declared.state.State.TheInside.{Inside}
 use Rattle.rs_model.specs.State.{Source}

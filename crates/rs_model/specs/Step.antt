@@ -17,7 +17,7 @@ use Rattle.rs_model.specs.Names.{Names, value_of, bind, unbind}
 use Rattle.rs_record.specs.Limits.{longest_body}
 use Rattle.rs_model.specs.State.{Source, facts_of, entries, most_resources, most_changes, most_grouped}
 
--- the refusal of the first cause that is there
+-- the refusal of the first cause that holds
 abbrev pub first_cause : List (Bool × Refusal) → Option Refusal
 first_cause [] = None
 first_cause (c ∷ cs) = if c.0 then Some c.1 else first_cause cs
@@ -43,16 +43,16 @@ dropped_parts s = passed_by s.at s.changes / s.limit
 abbrev pub dropped_changes : Source → ℕ
 dropped_changes s = dropped_parts s * s.limit
 
--- no number is left for the first part that a publication keeps; no regular state is so
+-- no number is left for the first part that a publication keeps: never so in a regular state
 abbrev pub is_out_of_parts : Source → Bool
 is_out_of_parts s = nat_lt greatest (s.first + dropped_parts s)
 
--- no change more is kept
+-- there is no room for one more change
 abbrev pub has_all_changes : Source → Bool
 has_all_changes s = nat_le most_changes (length s.changes)
 
--- The causes for which a put is refused, in their order: too long a body, a new name where all resources are held, all changes
--- are kept, no moment is left.
+-- The causes for which a put is refused, in their order: too long a body, a new name where all resources are held, all
+-- changes are kept, no moment is left.
 abbrev pub put_causes : Source → List ℕ → List ℕ → List (Bool × Refusal)
 put_causes s name bytes =
     (nat_lt longest_body (length bytes), TooLong)
@@ -104,8 +104,8 @@ abbrev pub after_items : Source → List Item → ℕ → Source
 after_items s [] now = s
 after_items s (item ∷ items) now = after_items (after_item s item (moment_at s now)) items now
 
--- the causes for which items in their order are refused, all of which come at `now`: those of each in the state after the ones
--- before it
+-- the causes for which items in their order are refused, all of which come at `now`: those of each in the state after
+-- the ones before it
 abbrev pub items_causes : Source → List Item → ℕ → List (Bool × Refusal)
 items_causes s [] now = []
 items_causes s (item ∷ items) now = item_causes s item ++ items_causes (after_item s item (moment_at s now)) items now
@@ -114,8 +114,8 @@ items_causes s (item ∷ items) now = item_causes s item ++ items_causes (after_
 abbrev pub is_bad_group : List Item → Bool
 is_bad_group items = not (nat_le 1 (length items) && nat_le (length items) most_grouped)
 
--- The causes for which a command that comes at `now` is refused, in their order. A group: too many items or none, and then the
--- causes of its items.
+-- The causes for which a command that comes at `now` is refused, in their order. A group: too many items or none, and
+-- then the causes of its items.
 abbrev pub causes : Source → Command → ℕ → List (Bool × Refusal)
 causes s (Put name kind bytes) now = put_causes s name bytes
 causes s (Delete name) now = delete_causes s name
@@ -126,7 +126,7 @@ causes s (Group items) now = (is_bad_group items, BadGroup) ∷ items_causes s i
 abbrev pub refusal_of : Source → Command → ℕ → Option Refusal
 refusal_of s command now = first_cause (causes s command now)
 
--- why a put or a delete is refused that the resources allow: all changes are kept, or no moment is left
+-- why a put or a delete that the resources allow is refused: all changes are kept, or no moment is left
 abbrev pub change_refusal : Source → Option Refusal
 change_refusal s = first_cause ((has_all_changes s, TooManyChanges) ∷ (is_out_of_moments s, Exhausted) ∷ [])
 

@@ -11,9 +11,8 @@ use Rattle.rs_model.specs.State.{Source}
 use Rattle.rs_model.specs.Step.{step, state_after, mirror_of}
 use Rattle.rs_model.specs.Lawful.{IsLawfulTimed}
 
--- The state after an event. A command that was tried makes its step, or is refused; so does one within which the source
--- was stopped, if it stands, and else it changes nothing. Nor does a refusal of the machine, a stop between commands or a
--- fetch.
+-- The state after an event. A tried command makes its step, or is refused. So does a command within which the source
+-- stopped, if the command stands. All other events change nothing.
 abbrev pub after_event : Source → Event → Source
 after_event s (Tried command now) = state_after s (step s command now)
 after_event s (Refused command) = s
@@ -47,7 +46,7 @@ commands_of (event ∷ events) = done_by event ++ commands_of events
 abbrev pub IsLawfulEvent : Event → Type 0
 IsLawfulEvent event = AllByRecursion IsLawfulTimed (done_by event)
 
--- the changes that an event records: those after it that come past the ones before it
+-- the changes that an event records: those after it that were not there before it
 abbrev pub recorded_by : Source → Event → List Change
 recorded_by s event = drop (length s.changes) (after_event s event).changes
 
@@ -60,12 +59,12 @@ recorded s (event ∷ events) = recorded_by s event ++ recorded (after_event s e
 abbrev pub count_at : Source → List Event → ℕ → ℕ
 count_at s events i = length (recorded s (take i events))
 
--- the catalogue after n changes: what the first n that the walk records make, from the empty map at the start on
+-- the catalogue after n changes: what the first n recorded changes make of the empty map at the start
 abbrev pub catalogue : Source → List Event → ℕ → Names Entry
 catalogue s events n = mirror_of [] s.start (take n (recorded s events))
 
--- A point of a walk, not before `first` of its events and not after `last` of them, at which a number of changes is reached: as many
--- are recorded by then; or the next event, a group, records that many and more.
+-- A point of a walk between event `first` and event `last` at which n changes are reached: n are recorded by then; or
+-- the next event, a group, records the n-th and more.
 pub record IsPassed (s : Source) (events : List Event) (first last n : ℕ) : Type 0 where
   pub point : ℕ
   pub after_first : first ≤ point

@@ -1,4 +1,4 @@
--- What follows from the definition of a walk alone.
+-- What follows from the definition of a walk.
 use Rattle.std.specs.Prelude.{◌≡◌, ℕ, ◌≤◌, ◌*◌, List, length, take, drop}
 use Rattle.std.specs.List.{AllByRecursion}
 use Rattle.rs_model.specs.declared.event.Event.{Event}
@@ -8,7 +8,7 @@ use Rattle.rs_model.specs.LaterChanges.{KeepsChanges}
 use Rattle.rs_model.specs.Lawful.{IsLawful}
 use Rattle.rs_model.specs.Walk.{walk_of, state_at, commands_of, IsLawfulEvent, recorded, count_at, catalogue, IsPassed}
 
--- The state of a walk is what the commands that it did leave, in their order.
+-- The state of a walk is what its done commands leave, in their order.
 abbrev pub WalksAreFolds : Type 0
 WalksAreFolds = (s : Source) (events : List Event) → walk_of s events ≡ fold_of s (commands_of events)
 
@@ -17,7 +17,7 @@ abbrev pub WalksStayLawful : Type 0
 WalksStayLawful =
     (s : Source) (events : List Event) → IsLawful s → AllByRecursion IsLawfulEvent events → IsLawful (walk_of s events)
 
--- After a walk the changes are those that were there, and then what the walk recorded, without the parts that were dropped.
+-- After a walk the changes are the earlier ones and then the recorded ones, without the dropped parts.
 abbrev pub ChangesAreRecorded : Type 0
 ChangesAreRecorded = (s : Source) (events : List Event) → KeepsChanges s (recorded s events) (walk_of s events)
 
@@ -35,8 +35,8 @@ HeldThenIsCatalogued =
     → let s = start_of base limit moment in
     entries (state_at s events i).held ≡ catalogue s events (count_at s events i)
 
--- The list that was the latest after i events, followed by the changes after its moment up to number n of all that the
--- walk records, makes the catalogue after n changes, where n is at least what was recorded by then.
+-- The latest list after i events, followed by the recorded changes after its moment up to number n, makes the catalogue
+-- after n changes, where n is at least the number recorded by then.
 abbrev pub ListIsFollowed : Type 0
 ListIsFollowed =
     (base : List ℕ) (limit moment : ℕ) (events : List Event) (i n : ℕ)
@@ -44,7 +44,7 @@ ListIsFollowed =
     count_at s events i ≤ n
     → mirror_of (state_at s events i).listed (state_at s events i).at (take n (recorded s events)) ≡ catalogue s events n
 
--- So it does without the parts that were dropped by any point of the walk, if the history that is kept there begins no later
+-- So it does without the parts that were dropped by any point of the walk, if the history kept there begins no later
 -- than the list's moment.
 abbrev pub KeptListIsFollowed : Type 0
 KeptListIsFollowed =
@@ -55,7 +55,7 @@ KeptListIsFollowed =
     count_at s events i ≤ n → kept.begin ≤ list.at
     → mirror_of list.listed list.at (drop (kept.first * limit) (take n (recorded s events))) ≡ catalogue s events n
 
--- Between two points of a walk each number of changes from that of the first to that of the second is passed, if only within a group.
+-- Between two points of a walk, each number of changes between theirs is passed, perhaps within a group.
 abbrev pub EachCountIsPassed : Type 0
 EachCountIsPassed =
     (s : Source) (events : List Event) (first last n : ℕ) → first ≤ last

@@ -1,4 +1,4 @@
-//! Commands, the replies to them, and why a command is not accepted.
+//! Commands, the replies to them, and the refusals.
 
 ghost use Rattle.std.specs.Prelude.{◌≡◌};
 ghost use Rattle.rs_model.specs.Grouping.{name_of};
@@ -86,7 +86,7 @@ impl Group {
         self.items.as_slice()
     }
 
-    // The items themselves.
+    /// Its items, moved out.
     pub(crate) fn into_items(self) -> Vec<Item>
         ensures { result.items ≡ self }
     {
@@ -104,20 +104,20 @@ impl Duplicate for Group {
 /// What a depositor asks of a source.
 #[derive(Debug, Drop)]
 pub enum Command {
-    /// Bind the name to these bytes, of this media type: the resource is created, or updated where the
-    /// name is held.
+    /// Bind the name to these bytes, of this media type. This creates the resource, or updates it where the name is
+    /// held.
     Put {
         name: Name,
         kind: MediaType,
         bytes: Body,
     },
-    /// Unbind the name: the resource is deleted.
+    /// Unbind the name. This deletes the resource.
     Delete {
         name: Name,
     },
     /// List all resources that are held, as the next publication.
     Publish,
-    /// Bind and unbind names, in one step: of 1 to 16 items, in their order, all or none.
+    /// Bind and unbind names in one step: 1 to 16 items in their order, all or none.
     Group(Group),
 }
 
@@ -141,20 +141,20 @@ impl Duplicate for Command {
 /// The reply to an accepted command, with the moment at which it was accepted.
 #[derive(Clone, Copy, Debug, PartialEq, Eq)]
 pub enum Reply {
-    /// The name was not held, and now is.
+    /// The name was not held, and is held now.
     Created(Moment),
     /// The name was held already, and has other bytes now.
     Updated(Moment),
-    /// The name is not held any more.
+    /// The name is no longer held.
     Deleted(Moment),
     /// The publication of this number lists what is held.
     Published(u64, Moment),
-    /// So many items of a group are done, the first of them at this moment.
+    /// This number of items of a group is done, the first at this moment.
     Grouped(u8, Moment),
 }
 
-/// Why a source does not accept a command, in the order in which the causes count: of several the first
-/// is answered. A refused command changes nothing and uses up no moment.
+/// Why a source refuses a command. Where several causes hold, the answer is the first in this order. A refused command
+/// changes nothing and uses up no moment.
 #[derive(Clone, Copy, Debug, PartialEq, Eq, Error)]
 pub enum Refusal {
     /// A group of no items, or of more than 16.
@@ -172,14 +172,13 @@ pub enum Refusal {
     /// A put or a delete where 50,000 changes are kept.
     #[error("50000 changes are kept")]
     TooManyChanges,
-    /// Any command after the greatest moment, and a publish after the greatest publication number, or where
-    /// the first part of the changes that is kept would have a number above 253,402,300,799,999, which no
-    /// regular state comes to.
+    /// Any command after the greatest moment. A publish after the greatest publication number, or where the first kept
+    /// part of the changes would get a number above 253,402,300,799,999, which no regular state reaches.
     #[error("no moment or no publication number is left")]
     Exhausted,
 }
 
-/// Why there was no step.
+/// Why a step failed.
 #[derive(Clone, Copy, Debug, PartialEq, Eq, Error)]
 pub enum StepError {
     /// The source does not accept the command.

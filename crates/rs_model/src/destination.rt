@@ -1,4 +1,4 @@
-//! What a destination has that follows a source.
+//! What a destination that follows a source has.
 
 ghost use Rattle.std.specs.Prelude.{◌≡◌, IfOk, OnOk};
 ghost use Rattle.rs_model.specs.Step.{mirror_of, mirror_step};
@@ -9,11 +9,10 @@ use rs_record::{Change, Duplicate, Facts, Name, duplicate_all};
 use rs_time::Moment;
 use std::alloc::{AllocError, Global};
 
-/// What a destination has that took over the list `listed`, which is of the moment `at`, and then
-/// followed the changes: for each change after that moment, in their order, the name is bound to its
-/// facts and moment, or unbound where it was deleted.
+/// What a destination has after it took over the list `listed` of the moment `at` and followed the changes. Each change
+/// after that moment, in order, binds its name to its facts and moment, or unbinds it where it was deleted.
 ///
-/// Changes at or before `at` are passed over. It scans the map at each change.
+/// Changes at or before `at` are skipped. Each change scans the map.
 pub fn mirror(
     alloc: Global,
     listed: &[(Name, Entry)],
@@ -29,7 +28,7 @@ pub fn mirror(
     Ok(mirrored)
 }
 
-// Follows one change, if it is after the moment of the list.
+/// Follows a change that is after the moment of the list, and skips any other.
 fn follow(
     alloc: Global,
     mirrored: &mut Vec<(Name, Entry)>,

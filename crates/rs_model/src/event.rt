@@ -11,20 +11,24 @@ use std::alloc::{AllocError, Global};
 /// What may happen between two fetches of a destination, and the fetches themselves.
 #[derive(Debug, Drop)]
 pub enum Event {
-    /// A command came at this moment, and the source answered it: it is done, or refused.
+    /// A command came at this moment, and the source did it or refused it.
     Tried(Command, Moment),
-    /// A command was answered by a refusal of the machine, as of memory or room: it is not done.
+    /// The machine refused a command, for want of memory or room. It is not done.
     Refused(Command),
-    /// The source was stopped within a command that came at this moment, and was opened again. Whether the
-    /// command stands is true or false: a crash leaves either.
+    /// The source stopped within a command that came at this moment, and was opened again. The flag says whether the
+    /// command stands: a crash may leave either.
     Stopped(Command, Moment, bool),
-    /// The source was stopped between two commands, and was opened again.
+    /// The source stopped between two commands, and was opened again.
     Idle,
-    /// A document or a resource was fetched.
+    /// The destination fetched a document or a resource.
     Fetch,
 }
 
-/// The state after all these events, in their order. It fails only where a growth of memory is refused.
+/// The state after these events, in their order.
+///
+/// # Errors
+///
+/// An error where a growth of memory is refused.
 pub fn walk(alloc: Global, state: &State, events: &[Event]) -> Result<State, AllocError>
     ensures { IfOk result (λ walked. walked ≡ walk_of state.now events.now) }
 {
@@ -35,7 +39,7 @@ pub fn walk(alloc: Global, state: &State, events: &[Event]) -> Result<State, All
     Ok(walked)
 }
 
-// One event of a walk.
+/// Makes one event of a walk happen.
 fn happen(alloc: Global, state: &mut State, event: &Event) -> Result<(), AllocError>
     ensures { OnOk result (state.new ≡ after_event state.old event.now) }
 {

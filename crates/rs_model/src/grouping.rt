@@ -1,4 +1,4 @@
-//! What is decided of a group, before a step is made.
+//! Whether a group is accepted, decided before its step.
 
 ghost use Rattle.std.specs.Prelude.{◌≡◌, ◌+◌, ◌<◌, max, None};
 ghost use Rattle.rs_time.specs.Moment.{IsMoment, greatest};
@@ -11,7 +11,7 @@ use crate::{Body, Item, MOST_GROUPED, Refusal};
 use rs_record::{LONGEST_BODY, MOST_ITEMS, Name};
 use rs_time::Moment;
 
-/// What is to be known of a state to decide a group, beside which names it holds.
+/// What decides a group, besides which names the state holds.
 #[derive(Clone, Copy, Debug, PartialEq, Eq)]
 pub struct Counts {
     /// How many resources are held.
@@ -23,7 +23,7 @@ pub struct Counts {
 }
 
 impl Counts {
-    // Why an item is refused, if it is, where its name is held or not.
+    /// Why an item is refused, if it is. `held` says whether its name is held.
     fn item_refusal(&self, item: &Item, held: bool) -> Option<Refusal>
         ensures { result ≡ item_refusal_by item.now held self.now }
     {
@@ -33,7 +33,7 @@ impl Counts {
         }
     }
 
-    // Why a put of this body is refused, if it is, where its name is held or not.
+    /// Why a put of this body is refused, if it is. `held` says whether its name is held.
     pub(crate) fn put_refusal(&self, bytes: &Body, held: bool) -> Option<Refusal>
         ensures { result ≡ put_refusal_by bytes.now held self.now }
     {
@@ -46,7 +46,7 @@ impl Counts {
         }
     }
 
-    // Why a delete is refused, if it is, where its name is held or not.
+    /// Why a delete is refused, if it is. `held` says whether its name is held.
     pub(crate) fn delete_refusal(&self, held: bool) -> Option<Refusal>
         ensures { result ≡ delete_refusal_by held self.now }
     {
@@ -57,7 +57,7 @@ impl Counts {
         }
     }
 
-    // Why a change of any kind is refused, if there is no room or no moment for it.
+    /// Why any change is refused, if it is: no room, or no moment, is left for it.
     fn change_refusal(&self) -> Option<Refusal>
         ensures { result ≡ change_refusal_by self.now }
     {
@@ -70,7 +70,7 @@ impl Counts {
         }
     }
 
-    // Goes on to what is known after an accepted item.
+    /// Counts an accepted item that comes at `now`.
     fn pass(&mut self, item: &Item, held: bool, now: Moment)
         requires { item_refusal_by item.now held self.old ≡ None }
         ensures { self.new ≡ counts_after_item item.now held self.old now }
@@ -88,9 +88,9 @@ impl Counts {
     }
 }
 
-/// Why a group of these items that comes at `now` is refused in a state of which this is known, if it is:
-/// for the first cause of the first item that is refused, each being stepped in the state after the ones
-/// before it. `held` tells of each item whether its name is held before the group. It takes no memory.
+/// Why a state with these counts refuses a group of these items at `now`, if it does: for the first cause of the first
+/// refused item, where each item is stepped in the state after the ones before it. `held` says of each item whether its
+/// name is held before the group. It takes no memory.
 pub fn group_refusal(items: &[Item], held: &[bool], counts: Counts, now: Moment) -> Option<Refusal>
     ensures { (s : Source) → IsBefore s items.now held.now counts
         → result ≡ refusal_of s (Group items.now) now }
@@ -110,7 +110,7 @@ pub fn group_refusal(items: &[Item], held: &[bool], counts: Counts, now: Moment)
     None
 }
 
-// Whether the name is held after these items, where `held` tells whether it is before them.
+/// Whether the name is held after these items. `held` says whether it is held before them.
 fn is_held_after(items: &[Item], held: bool, name: &Name) -> bool
     ensures { result ≡ held_after items.now held name.now }
 {
@@ -123,7 +123,7 @@ fn is_held_after(items: &[Item], held: bool, name: &Name) -> bool
     held
 }
 
-// The moment of a command that is accepted and comes at `now`, where that of the last one is this.
+/// The moment of an accepted command that comes at `now`, after one at `last`.
 pub(crate) fn next_moment(last: Moment, now: Moment) -> Moment
     requires { last < greatest }
     ensures value { result ≡ max now (last + 1) }
@@ -133,7 +133,6 @@ pub(crate) fn next_moment(last: Moment, now: Moment) -> Moment
         Some(moment) => moment,
         None => unreachable!(),
     };
-    // Reading it shows what its type keeps.
-    let _ms = moment.ms();
+    prove!(moment.ms() <= Moment::GREATEST);
     moment
 }

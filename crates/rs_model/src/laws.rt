@@ -7,22 +7,21 @@ ghost use Rattle.rs_model.specs.State.{start_of};
 ghost use Rattle.rs_model.specs.Regular.{IsRegular, IsTimely};
 ghost use Rattle.rs_model.specs.Laws.{GroupsStepInTurn, BadGroupsAreRefused, ItemsMakeChanges, FrontsAreAccepted, FrontsMakeTheFirst, GroupsComeAtTheirMoment, StepIsRegular, StepIsTimely, FoldIsRegular, FoldIsTimely, ChangesAreKept, PartsDoNotRunOut, OrderedWhenBound, OrderedWhenUnbound, OrderedWhenMirrored, BoundIsFound, OthersStayBound, UnboundIsGone, OthersStayUnbound, StartIsLawful, StepIsLawful, FoldIsLawful};
 
-/// The starting state is regular, and no moment of it is out of its place.
+/// A formatted state is regular and timely.
 pub fn start_is_regular()
     ensures regular { (base : List ℕ) (limit moment : ℕ) → IsRegular (start_of base limit moment) }
     ensures timely { (base : List ℕ) (limit moment : ℕ) → IsTimely (start_of base limit moment) }
 {}
 
-/// A step from a regular state gives a regular one.
+/// A step keeps a state regular, and a timely one timely.
 pub fn step_is_regular()
     ensures regular { StepIsRegular }
     ensures timely { StepIsTimely }
 {}
 
-/// A group of 1 to 16 items does what its items do one by one where all come at the same moment, and is
-/// refused as the first of them that is refused; any other is refused as no group. Each item makes one
-/// change. The first items of a group that is accepted are one that is accepted too, and make the first of
-/// its changes.
+/// A group of 1 to 16 items does what its items do one by one, all at the same moment. It is refused as the first
+/// refused item is. Any other group is refused as no group. Each item makes one change. The first items of an accepted
+/// group are an accepted group, and make the first of its changes.
 pub fn groups_step_in_turn()
     ensures steps { GroupsStepInTurn }
     ensures bad { BadGroupsAreRefused }
@@ -32,19 +31,19 @@ pub fn groups_step_in_turn()
     ensures moment { GroupsComeAtTheirMoment }
 {}
 
-/// Any run of commands leaves a regular state regular.
+/// Any run of commands keeps a state regular, and a timely one timely.
 pub fn fold_is_regular()
     ensures regular { FoldIsRegular }
     ensures timely { FoldIsTimely }
 {}
 
-/// Any run of commands keeps the changes and appends to them, but for whole parts, the first ones, which are
-/// dropped; the first number and the begin tell how many, and until when.
+/// Any run of commands keeps the changes and appends to them, but drops whole parts from the front. The first number
+/// and the begin tell how many, and until when.
 pub fn changes_are_kept()
     ensures { ChangesAreKept }
 {}
 
-/// In a regular state no publication is refused for want of a number for the first part that it keeps.
+/// No regular state refuses a publication for want of a number for the first part that it keeps.
 pub fn parts_do_not_run_out()
     ensures { PartsDoNotRunOut }
 {}
@@ -64,8 +63,8 @@ pub fn names_are_a_map<V>()
     ensures unbound_alone { OthersStayUnbound V }
 {}
 
-/// A source that is formatted with a lawful base, limit and moment is lawful, and commands of lawful
-/// names and types at any moments keep it so.
+/// A source formatted with a lawful base, limit and moment is lawful. Commands of lawful names and types keep it
+/// lawful, whatever their moments.
 pub fn lawful_stays()
     ensures start { StartIsLawful }
     ensures step { StepIsLawful }

@@ -19,7 +19,7 @@ pub use laws::{
     changes_are_kept, fold_is_regular, groups_step_in_turn, lawful_stays, names_are_a_map,
     names_stay_ordered, parts_do_not_run_out, start_is_regular, step_is_regular,
 };
-pub use state::State;
+pub use state::{State, states_are_lawful};
 pub use value::{Body, Entry, Held};
 pub use walk_laws::{
     walks_are_catalogued, walks_are_folds, walks_pass_each_count, walks_stay_lawful,

@@ -16,6 +16,7 @@ mod grouped;
 mod shown;
 
 use self::dropped::last_moment;
+pub use self::shown::states_are_lawful;
 use crate::grouping::next_moment;
 use crate::names::{bind, place_in_order, unbind};
 use crate::{Body, Command, Counts, Entry, Held, Refusal, Reply, StepError};
@@ -26,12 +27,12 @@ use rs_time::Moment;
 use std::alloc::{AllocError, Global};
 use std::marker::Model;
 
-/// The state of a source: its base and item limit, the resources that it holds, the changes that it
-/// keeps, and its latest publication. Contracts see it as a `Source`, which is a record of these.
+/// The state of a source: its base and item limit, the resources that it holds, the changes that it keeps, and its
+/// latest publication. Contracts see the record `Source` of these.
 ///
-/// Each state has an item limit from 2 to 4,000, at most 50,000 resources held and at most 50,000 listed,
-/// both in strictly ascending order of the bytes of their names, at most 50,000 changes, and a number of
-/// the first part that is at most 253,402,300,799,999; and all its values are lawful.
+/// The item limit is from 2 to 4,000. At most 50,000 resources are held and at most 50,000 are listed, both in strictly
+/// ascending order of the bytes of their names. At most 50,000 changes are kept, and the number of the first part is at
+/// most 253,402,300,799,999. All values are lawful.
 #[derive(Debug, Drop)]
 pub struct State {
     base: Base,
@@ -42,9 +43,9 @@ pub struct State {
     changes: Vec<Change>,
     number: u64,
     at: Moment,
-    // Records of empty extents, which is what the lists are written from.
+    // Records of empty extents: the lists are written from them.
     listed: Vec<Record>,
-    // The number of the first part of the changes that is kept.
+    // The number of the first kept part of the changes.
     first: u64,
     // The moment of the last change before the kept ones, or of formatting.
     begin: Moment,
@@ -63,16 +64,15 @@ impl Model for State {
 }
 
 impl State {
-    /// A source formatted at this moment: nothing is held, there are no changes, and the empty list is
-    /// published as number 0. A list of more items than `limit`, which is 2 to 4,000, is cut into parts of
-    /// that many.
+    /// A source formatted at this moment: it holds nothing, keeps no changes, and has published the empty list as
+    /// number 0. A list of more than `limit` items, 2 to 4,000, is cut into parts of that many.
     pub fn start(alloc: Global, base: Base, limit: u16, moment: Moment) -> State
         requires low { 2 ≤ limit }
         requires high { limit ≤ 4000 }
         ensures { result ≡ start_of base limit moment }
     {
-        // Reading them shows what their types keep.
-        let (_base, _ms) = (base.bytes(), moment.ms());
+        prove!(base.bytes().len() <= 128);
+        prove!(moment.ms() <= Moment::GREATEST);
         State {
             base,
             limit,
@@ -88,7 +88,11 @@ impl State {
         }
     }
 
-    /// The same state once more. It fails only where a growth of memory is refused.
+    /// The same state once more.
+    ///
+    /// # Errors
+    ///
+    /// An error where a growth of memory is refused.
     pub fn copy(&self, alloc: Global) -> Result<State, AllocError>
         ensures { IfOk result (λ copied. copied ≡ self.now) }
     {
@@ -109,9 +113,12 @@ impl State {
 
     /// The state after a command that comes at the moment `now`, and the reply to it. This state stays.
     ///
-    /// The command is accepted at `now`, or at one millisecond after the last accepted command where
-    /// that is later. It is refused for the first cause of [`Refusal`] that is there. `NoMemory` comes
-    /// only where a growth of memory is refused, and never for a command that is refused.
+    /// The command is accepted at `now`, or one millisecond after the last accepted command where that is later.
+    ///
+    /// # Errors
+    ///
+    /// [`StepError::Refused`] for the first cause of [`Refusal`] that holds. [`StepError::NoMemory`] where a growth of
+    /// memory is refused, and never for a refused command.
     pub fn step(
         &self,
         alloc: Global,
@@ -130,8 +137,11 @@ impl State {
         Ok((next, reply))
     }
 
-    /// The same step in place: this state becomes the next one. It takes the command, so that a body is
-    /// not copied. After any error the state is as it was.
+    /// The same step in place: this state becomes the next one. It takes the command, so it copies no body.
+    ///
+    /// # Errors
+    ///
+    /// Those of [`State::step`]. The state is then as it was.
     pub fn apply(
         &mut self,
         alloc: Global,
@@ -157,8 +167,11 @@ impl State {
         Ok(accepted?)
     }
 
-    /// The state after all these commands, each at its moment, in their order. Refused commands are
-    /// skipped. It fails only where a growth of memory is refused.
+    /// The state after these commands in their order, each at its moment. It skips refused commands.
+    ///
+    /// # Errors
+    ///
+    /// An error where a growth of memory is refused.
     pub fn fold(&self, alloc: Global, commands: &[(Command, Moment)]) -> Result<State, AllocError>
         ensures { IfOk result (λ state. state ≡ fold_of self.now commands.now) }
     {
@@ -169,7 +182,7 @@ impl State {
         Ok(state)
     }
 
-    // One command of a run, which is skipped where it is refused.
+    /// One command of a run. A refused one is skipped.
     pub(crate) fn apply_or_skip(
         &mut self,
         alloc: Global,
@@ -185,14 +198,14 @@ impl State {
         }
     }
 
-    // Whether the name is held.
+    /// Whether the name is held.
     fn holds(&self, name: &Name) -> bool
         ensures { result ≡ is_held self.now name.now }
     {
         place_in_order(self.held.as_slice(), name).is_ok()
     }
 
-    // What is to be known of it to decide a put, a delete or a group, beside which names it holds.
+    /// What decides a put, a delete or a group, besides which names are held.
     fn counts(&self) -> Counts
         ensures resources { result.resources ≡ length self.now.held }
         ensures changes { result.changes ≡ length self.now.changes }
@@ -206,7 +219,7 @@ impl State {
         }
     }
 
-    // The refusal of a command, if there is one.
+    /// Why a command is refused, if it is.
     fn refusal(&self, command: &Command, now: Moment) -> Option<Refusal>
         ensures { result ≡ refusal_of self.now command.now now }
     {
@@ -229,7 +242,7 @@ impl State {
         }
     }
 
-    // Binds the name and appends the change.
+    /// Binds the name and appends the change.
     fn put(
         &mut self,
         alloc: Global,
@@ -258,7 +271,7 @@ impl State {
         }
     }
 
-    // Unbinds the name and appends the change.
+    /// Unbinds the name and appends the change.
     fn delete(&mut self, name: Name, moment: Moment) -> Result<Reply, AllocError>
         requires accepted { refusal_of self.old (Delete name) moment ≡ None }
         requires moment { IsMoment moment }
@@ -273,8 +286,8 @@ impl State {
         Ok(Reply::Deleted(moment))
     }
 
-    // Lists what is held, and drops the full parts that are not after the publication before. Once the list
-    // is made nothing fails.
+    /// Lists what is held, and drops the full parts that are not after the publication before. Nothing fails once the
+    /// list is made.
     fn publish(&mut self, alloc: Global, moment: Moment) -> Result<Reply, AllocError>
         requires accepted { refusal_of self.old Publish moment ≡ None }
         requires moment { IsMoment moment }
@@ -296,7 +309,7 @@ impl State {
     }
 }
 
-// Binds the name to a body in what is held, and gives the change that tells of it.
+/// Binds the name to a body in what is held, and gives the change for it.
 fn bind_body(
     alloc: Global,
     held: &mut Vec<(Name, Held)>,
@@ -323,7 +336,7 @@ fn bind_body(
     Ok(change)
 }
 
-// The change that binds the name to these facts.
+/// The change that binds the name to these facts.
 fn bound_change(
     alloc: Global,
     name: &Name,
@@ -336,14 +349,13 @@ fn bound_change(
     Ok(Change::bound(name.copy(alloc)?, again, moment, facts.copy(alloc)?))
 }
 
-// The facts of a body.
+/// The facts of a body.
 fn facts(kind: MediaType, bytes: &Body) -> Facts
     requires { length bytes.now ≤ longest_body }
     ensures value { result ≡ facts_of kind bytes.now }
     ensures lawful { AreFacts (facts_of kind bytes.now) }
 {
-    // Reading it shows what its type keeps.
-    let _kind = kind.bytes();
+    prove!(kind.bytes().len() <= 100);
     Facts {
         kind,
         length: bytes.bytes().len() as u32,
@@ -351,7 +363,7 @@ fn facts(kind: MediaType, bytes: &Body) -> Facts
     }
 }
 
-// The entries of what is held, as records.
+/// The entries of what is held, as records.
 fn records(alloc: Global, held: &[(Name, Held)]) -> Result<Vec<Record>, AllocError>
     ensures { IfOk result (λ records. records.items ≡ map record_of (entries held.now)) }
 {
@@ -362,7 +374,7 @@ fn records(alloc: Global, held: &[(Name, Held)]) -> Result<Vec<Record>, AllocErr
     Ok(records)
 }
 
-// An entry as a record.
+/// An entry as a record.
 fn record(alloc: Global, name: &Name, entry: &Entry) -> Result<Record, AllocError>
     ensures { IfOk result (λ made. made ≡ record_of (name.now, entry.now)) }
 {

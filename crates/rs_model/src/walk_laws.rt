@@ -1,11 +1,11 @@
-//! Laws of walks: what a source is after any events, and what its changes make.
+//! Laws of walks: what a source holds after any events, and what its changes make.
 //!
 //! Each function here does nothing: its contract is the law, which the check proves.
 
 ghost use Rattle.rs_model.specs.WalkLaws.{WalksAreFolds, WalksStayLawful, ChangesAreRecorded, HeldIsCatalogued, HeldThenIsCatalogued, ListIsFollowed, KeptListIsFollowed, EachCountIsPassed};
 
-/// A walk leaves the state that the commands which it did leave, each at its moment, in their order. So each
-/// law of runs of commands speaks of walks.
+/// A walk leaves the state that its done commands leave, each at its moment, in their order. So each law of runs of
+/// commands holds of walks.
 pub fn walks_are_folds()
     ensures { WalksAreFolds }
 {}
@@ -15,10 +15,10 @@ pub fn walks_stay_lawful()
     ensures { WalksStayLawful }
 {}
 
-/// The changes of a state are those that its walk has recorded, but for the parts that were dropped, and what is
-/// held is what all of them make, at the end and after any of its events. A list that was published on the way,
-/// followed by the changes after it, makes the same; and so it does by those alone that a state of the walk keeps,
-/// if its history begins no later than the list's moment.
+/// The changes of a state are those that its walk has recorded, without the dropped parts. What is held is what all
+/// recorded changes make, at the end and after any event. A list published on the way, followed by the changes after
+/// it, makes the same. So it does with only the changes that a state of the walk keeps, if that state's history begins
+/// no later than the list's moment.
 pub fn walks_are_catalogued()
     ensures recorded { ChangesAreRecorded }
     ensures held { HeldIsCatalogued }
@@ -27,7 +27,7 @@ pub fn walks_are_catalogued()
     ensures kept_followed { KeptListIsFollowed }
 {}
 
-/// A walk passes each number of changes between two of its states, if only within a group.
+/// Between two of its states a walk passes each number of changes, perhaps within a group.
 pub fn walks_pass_each_count()
     ensures { EachCountIsPassed }
 {}

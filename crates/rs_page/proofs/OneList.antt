@@ -9,11 +9,7 @@ use Rattle.std.proofs.lemmas.Nat.{from_be_bytes-to_be_bytes_4, be_bytes_4}
 use Rattle.std.proofs.lemmas.Bool.{cases_lt}
 use Rattle.rs_record.specs.Format.{BeginsWith}
 use Rattle.rs_page.specs.Laws.{PageHoldsOnce, PagesHoldOnce}
-use Rattle.rs_page.specs.Format.{ItemFormat, ArePageItems, kind_byte, items_bytes, page_bytes}
-
--- no format begins another
-abbrev pub AreApart : {T : Type 0} → ItemFormat T → Type 0
-AreApart {T} format = (a b : T) (x y : List ℕ) → format.IsLawful a → format.IsLawful b → format.bytes a ++ x ≡ format.bytes b ++ y → (a ≡ b) × (x ≡ y)
+use Rattle.rs_page.specs.Format.{ItemFormat, StandAlone, ArePageItems, kind_byte, items_bytes, page_bytes}
 
 -- the bytes of one item more
 pub items_more : {T : Type 0} (format : ItemFormat T) (items : List T) (i : ℕ) (item : T) → i < length items → item ≡ get_or items i item
@@ -30,7 +26,7 @@ pub record IsRest {T : Type 0} (format : ItemFormat T) (some all : List T) (x y 
   pub bytes : x ≡ items_bytes format items ++ y
 
 -- Where the bytes of lawful items are followed by what follows fewer of them, the fewer are the first of the others.
-pub rest_of : {T : Type 0} (format : ItemFormat T) → AreApart format → (some all : List T) (x y : List ℕ) → All format.IsLawful some → All format.IsLawful all
+pub rest_of : {T : Type 0} (format : ItemFormat T) → StandAlone format → (some all : List T) (x y : List ℕ) → All format.IsLawful some → All format.IsLawful all
     → length some ≤ length all → items_bytes format some ++ x ≡ items_bytes format all ++ y → IsRest format some all x y
 rest_of format apart [] all x y some_lawful all_lawful le same = record { items = all; whole = refl; lawful = all_lawful; bytes = same }
 rest_of format apart (a ∷ some) [] x y some_lawful all_lawful le same = absurd (omega arith)
@@ -41,8 +37,8 @@ rest_of format apart (a ∷ some) (b ∷ all) x y some_lawful all_lawful le same
     let more = rest_of format apart some all x y (All-tail format.IsLawful a some some_lawful) (All-tail format.IsLawful b all all_lawful) (omega arith) first.1 in
     record { items = more.items; whole = ap₂ (λ item items. item ∷ items) (sym first.0) more.whole; lawful = more.lawful; bytes = more.bytes }
 
--- so many of them are all of them
-pub same_items : {T : Type 0} (format : ItemFormat T) → AreApart format → (a b : List T) (x y : List ℕ) → All format.IsLawful a → All format.IsLawful b
+-- lists of one length are equal
+pub same_items : {T : Type 0} (format : ItemFormat T) → StandAlone format → (a b : List T) (x y : List ℕ) → All format.IsLawful a → All format.IsLawful b
     → length a ≡ length b → items_bytes format a ++ x ≡ items_bytes format b ++ y → (a ≡ b) × (x ≡ y)
 same_items {T} format apart a b x y a_lawful b_lawful long same =
     let rest = rest_of format apart a b x y a_lawful b_lawful (omega arith) same in
@@ -66,7 +62,7 @@ same_head kind kind' count count' x y fits fits' same =
     )
 
 -- Bytes are a page of one list of items.
-pub same_page : {T : Type 0} (format : ItemFormat T) → AreApart format → (a b : List T) → ArePageItems format a → ArePageItems format b
+pub same_page : {T : Type 0} (format : ItemFormat T) → StandAlone format → (a b : List T) → ArePageItems format a → ArePageItems format b
     → page_bytes format a ≡ page_bytes format b → a ≡ b
 same_page format apart a b of_a of_b same =
     let head = same_head (kind_byte format.kind) (kind_byte format.kind) (length a) (length b) (items_bytes format a) (items_bytes format b)
@@ -84,8 +80,8 @@ read_more format items item bytes rest size found begins is =
     found ∙ ap (λ xs. items_bytes format items ++ xs) (begins.1 ∙ ap (λ xs. format.bytes item ++ xs) (sym after))
     ∙ sym (append_assoc (items_bytes format items) (format.bytes item) (drop size rest)) ∙ ap (λ xs. xs ++ drop size rest) (sym front)
 
--- where no item follows, there are not more of them
-pub no_more : {T : Type 0} (format : ItemFormat T) → AreApart format → (items all : List T) (bytes rest after : List ℕ) → All format.IsLawful items → All format.IsLawful all
+-- where no item follows, the bytes have no more items
+pub no_more : {T : Type 0} (format : ItemFormat T) → StandAlone format → (items all : List T) (bytes rest after : List ℕ) → All format.IsLawful items → All format.IsLawful all
     → length items < length all → bytes ≡ items_bytes format items ++ rest → ((item : T) → format.IsLawful item → ¬ BeginsWith rest (format.bytes item))
     → ¬ (bytes ≡ items_bytes format all ++ after)
 no_more {T} format apart items all bytes rest after lawful all_lawful fewer found none same =
@@ -115,7 +111,7 @@ head kind count bytes rest front left fits whole is_front is_left long is =
     ]
 
 -- what is left after as many items as a page has
-pub left_after : {T : Type 0} (format : ItemFormat T) → AreApart format → (kind count : ℕ) (bytes rest left : List ℕ) (items all : List T) → count < 2 ^ 32
+pub left_after : {T : Type 0} (format : ItemFormat T) → StandAlone format → (kind count : ℕ) (bytes rest left : List ℕ) (items all : List T) → count < 2 ^ 32
     → bytes ≡ kind ∷ (to_be_bytes w32 count ++ rest) → length items ≡ count → All format.IsLawful items → rest ≡ items_bytes format items ++ left
     → ArePageItems format all → bytes ≡ page_bytes format all → left ≡ []
 left_after format apart kind count bytes rest left items all fits whole long lawful found of_all same =
@@ -123,10 +119,10 @@ left_after format apart kind count bytes rest left items all fits whole long law
     (same_items format apart items all left [] lawful of_all.lawful (long ∙ parts.1) (sym found ∙ parts.2 ∙ sym (append-nil (items_bytes format all)))).1
 
 -- the items of a page, and of pages
-pub page_holds_once : {T : Type 0} (format : ItemFormat T) → AreApart format → PageHoldsOnce format
+pub page_holds_once : {T : Type 0} (format : ItemFormat T) → StandAlone format → PageHoldsOnce format
 page_holds_once format apart ref image a b of_a of_b = same_page format apart a b of_a.lawful of_b.lawful (sym of_a.bytes ∙ of_b.bytes)
 
-pub pages_hold_once : {T : Type 0} (format : ItemFormat T) → AreApart format → PagesHoldOnce format
+pub pages_hold_once : {T : Type 0} (format : ItemFormat T) → StandAlone format → PagesHoldOnce format
 pages_hold_once format apart [] image [] [] of_a of_b = refl
 pages_hold_once format apart [] image [] (b ∷ more_b) of_a of_b = absurd of_b
 pages_hold_once format apart [] image (a ∷ more_a) more_b of_a of_b = absurd of_a

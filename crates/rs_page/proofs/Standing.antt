@@ -1,4 +1,4 @@
--- Pages stay where their blocks hold what they held, and what a list in memory says is stored is what its references point to.
+-- Pages stay while their blocks keep their bytes, and the stored pages of a list are those that its references point to.
 use Rattle.std.proofs.Common.{◌≡◌, ℕ, Bool, true, List, [], ◌∷◌, map, Option, Some, None, sym, ◌∙◌, ap, subst}
 use Rattle.std.specs.Prelude.{IfSome, IsSome}
 use Rattle.std.specs.List.{cons_option}

@@ -13,14 +13,14 @@ pub record HasItsBlocks (size : ℕ) (ref : PageRef) : Type 0 where
   pub sized : IsSized ref.extent ref.length
   pub inside : IsOnDisk ref.extent size
 
--- Bytes of a disk have, where a reference points to, a page of these items.
+-- Where a reference points to, the bytes of a disk are a page of these items.
 pub record IsPage {T : Type 0} (format : ItemFormat T) (ref : PageRef) (image : List ℕ) (items : List T) : Type 0 where
   pub blocks : HasItsBlocks (length image) ref
   pub bytes : part ref.extent ref.length image ≡ page_bytes format items
   pub digest : (digests (part ref.extent ref.length image)).sha256 ≡ ref.sha256
   pub lawful : ArePageItems format items
 
--- Bytes of a disk have no page of such items where a reference points to.
+-- Where a reference points to, the bytes of a disk are a page of no such items.
 abbrev pub HoldsNoPage : {T : Type 0} → ItemFormat T → PageRef → List ℕ → Type 0
 HoldsNoPage {T} format ref image = (items : List T) → ¬ IsPage format ref image items
 

@@ -30,11 +30,16 @@ pub record ArePageItems {T : Type 0} (format : ItemFormat T) (items : List T) : 
   pub most : length items ≤ most_items
   pub lawful : All format.IsLawful items
 
+-- No format begins another: where bytes begin with two formats of lawful items, the items are equal, and the same bytes follow.
+abbrev pub StandAlone : {T : Type 0} → ItemFormat T → Type 0
+StandAlone {T} format =
+    (a b : T) (x y : List ℕ) → format.IsLawful a → format.IsLawful b → format.bytes a ++ x ≡ format.bytes b ++ y → (a ≡ b) × (x ≡ y)
+
 -- Bytes are no page of such items.
 abbrev pub AreNoPage : {T : Type 0} → ItemFormat T → List ℕ → Type 0
 AreNoPage {T} format bytes = (items : List T) → ArePageItems format items → ¬ (bytes ≡ page_bytes format items)
 
--- Bytes do not begin with so many lawful items.
+-- Bytes do not begin with this number of lawful items.
 abbrev pub BeginWithFewer : {T : Type 0} → ItemFormat T → ℕ → List ℕ → Type 0
 BeginWithFewer {T} format count bytes =
     (items : List T) (rest : List ℕ) → length items ≡ count → All format.IsLawful items → ¬ (bytes ≡ items_bytes format items ++ rest)

@@ -11,9 +11,18 @@ use Rattle.rs_page.specs.DiskPages.{IsPage, ArePages, IsWritten, Stands}
 abbrev pub PageHoldsOnce : {T : Type 0} → ItemFormat T → Type 0
 PageHoldsOnce {T} format = (ref : PageRef) (image : List ℕ) (a b : List T) → IsPage format ref image a → IsPage format ref image b → a ≡ b
 
--- The pages of references hold at most one list of lists of items.
+-- What the pages of references hold in the bytes of a disk is at most one list of lists of items.
+abbrev pub HoldOnce : {T : Type 0} → (List PageRef → List ℕ → List (List T) → Type 0) → Type 0
+HoldOnce {T} Hold = (refs : List PageRef) (image : List ℕ) (a b : List (List T)) → Hold refs image a → Hold refs image b → a ≡ b
+
+-- It depends on the blocks of these pages alone.
+abbrev pub HoldByBlocks : {T : Type 0} → (List PageRef → List ℕ → List (List T) → Type 0) → Type 0
+HoldByBlocks {T} Hold = (kept : ℕ → Bool) (refs : List PageRef) (old new : List ℕ) (pages : List (List T))
+    → ((b : ℕ) → in_some (extents_of refs) b ≡ true → kept b ≡ true) → Keeps kept old new → Hold refs old pages → Hold refs new pages
+
+-- The pages of references are pages of at most one list of lists of items.
 abbrev pub PagesHoldOnce : {T : Type 0} → ItemFormat T → Type 0
-PagesHoldOnce {T} format = (refs : List PageRef) (image : List ℕ) (a b : List (List T)) → ArePages format refs image a → ArePages format refs image b → a ≡ b
+PagesHoldOnce format = HoldOnce (ArePages format)
 
 -- A page stays where its blocks hold what they held.
 abbrev pub PageStays : {T : Type 0} → ItemFormat T → Type 0
@@ -22,10 +31,9 @@ PageStays {T} format = (kept : ℕ → Bool) (ref : PageRef) (old new : List ℕ
 
 -- Pages stay where their blocks hold what they held.
 abbrev pub PagesStay : {T : Type 0} → ItemFormat T → Type 0
-PagesStay {T} format = (kept : ℕ → Bool) (refs : List PageRef) (old new : List ℕ) (pages : List (List T))
-    → ((b : ℕ) → in_some (extents_of refs) b ≡ true → kept b ≡ true) → Keeps kept old new → ArePages format refs old pages → ArePages format refs new pages
+PagesStay format = HoldByBlocks (ArePages format)
 
--- Sheets that are stored stand where their blocks hold what they held, ..
+-- Pages that are stored stand where their blocks hold what they held, ..
 abbrev pub StoredPagesStay : {T : Type 0} → ItemFormat T → Type 0
 StoredPagesStay {T} format = (kept : ℕ → Bool) (pages : List (Page T)) (old new : List ℕ)
     → ((b : ℕ) → in_some (extents_of (stored_refs pages)) b ≡ true → kept b ≡ true) → Keeps kept old new

@@ -1,6 +1,5 @@
 pub mod Format
 pub mod Items
-pub mod FormatsApart
 pub mod Pages
 pub mod DiskPages
 pub mod SharedPages

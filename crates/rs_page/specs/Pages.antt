@@ -9,7 +9,7 @@ use Rattle.rs_page.specs.declared.place.Place.{Place}
 use Rattle.rs_page.specs.declared.place.Place.TheVariants.{Touched, Placed, Stored}
 use Rattle.rs_page.specs.Format.{ItemFormat, page_bytes}
 
--- what a page of a list is to its callers
+-- a page of a list, as its callers see it
 pub record Page (T : Type 0) : Type 0 where
   pub items : List T
   pub place : Place

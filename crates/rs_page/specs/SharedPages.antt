@@ -1,8 +1,5 @@
 -- What lists of pages share, and which blocks their pages are given.
-use Rattle.std.specs.Prelude.{◌≡◌, ◌⊎◌, ◌<◌, ◌≤◌, ◌+◌, ◌*◌, ℕ, Bool, true, false, List, [], ◌∷◌, length, filter, is_some}
-use Rattle.rs_extent.specs.declared.Extent.{Extent}
-use Rattle.rs_extent.specs.Blocks.{is_used}
-use Rattle.rs_extent.specs.Extents.{within, in_some}
+use Rattle.std.specs.Prelude.{◌≡◌, ◌⊎◌, List, [], ◌∷◌, filter, is_some}
 use Rattle.rs_page.specs.Pages.{Page, stored_ref}
 
 -- the first list has some elements of the second one, in their order

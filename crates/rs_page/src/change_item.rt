@@ -1,9 +1,8 @@
 //! Changes as the items of a page.
 ghost use Rattle.rs_page.specs.Items.{change_format};
-ghost use Rattle.rs_page.specs.FormatsApart.{changes_apart};
 
 use crate::{PageItem, PageKind};
-use rs_record::{Change, FieldFault, change_size, read_change, write_change};
+use rs_record::{Change, FieldFault, change_size, formats_stand_alone, read_change, write_change};
 use std::alloc::{AllocError, Global};
 
 impl PageItem for Change {
@@ -25,5 +24,7 @@ impl PageItem for Change {
         read_change(alloc, bytes)
     }
 
-    ghost apart = { changes_apart };
+    fn formats_stand_alone() {
+        formats_stand_alone();
+    }
 }

@@ -1,4 +1,4 @@
-//! Items whose digests are found after they were made.
+//! Items that get their digests after they were made.
 ghost use Rattle.std.specs.Prelude.{◌≡◌, length};
 ghost use Rattle.rs_fixity.specs.declared.Digests.{Digests};
 ghost use Rattle.rs_page.specs.Items.{record_filled, change_filled};
@@ -7,13 +7,12 @@ use crate::PageItem;
 use rs_fixity::Digests;
 use rs_record::{Change, Record};
 
-/// An item that tells of a body, whose digests may be found after the item was made.
+/// An item with the digests of a body, which it may get after it was made.
 pub trait Fill: PageItem {
     // The item with these digests.
     ghost filled: { Digests → Self → Self };
 
-    /// Gives the item these digests in the place of its own. Its format stays as long as it was,
-    /// and no memory is taken.
+    /// Sets the digests of the item. Its format keeps its length. It takes no memory.
     fn fill(&mut self, digests: Digests)
         ensures filled { self.new ≡ filled digests self.old }
         ensures size { length (Self.format.bytes self.new) ≡ length (Self.format.bytes self.old) };
@@ -41,7 +40,7 @@ impl Fill for Change {
     }
 }
 
-// Shows a proof how long digests are.
+/// Gives a proof the lengths of digests.
 fn show_lengths(_digests: Digests)
     ensures md5 { length _digests.md5 ≡ 16 }
     ensures sha256 { length _digests.sha256 ≡ 32 }

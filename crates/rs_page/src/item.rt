@@ -1,15 +1,15 @@
 //! What a page is made of.
-ghost use Rattle.std.specs.Prelude.{◌≡◌, ◌<◌, ◌≤◌, ◌+◌, ◌++◌, ◌↔◌, ℕ, List, length, vec_len, vec_capacity, IfOk, OnOk, OnErr, IsErrOf};
+ghost use Rattle.std.specs.Prelude.{◌≡◌, ◌<◌, ◌≤◌, ◌+◌, ◌++◌, ◌↔◌, length, vec_len, vec_capacity, IfOk, OnOk, OnErr, IsErrOf};
 ghost use Rattle.rs_record.specs.Format.{BeginsWith};
-ghost use Rattle.rs_page.specs.Format.{ItemFormat};
+ghost use Rattle.rs_page.specs.Format.{ItemFormat, StandAlone};
 
 use crate::PageKind;
 use rs_record::FieldFault;
 use std::alloc::{AllocError, Global};
 
-/// What a page is made of: a value with a format of its own, which no other format begins.
+/// What a page is made of: a value with a format of its own. No format begins another one.
 pub trait PageItem: Drop {
-    // The kind of a page of such items, how an item is spelled, and which items are lawful.
+    // The kind of a page of such items, the bytes of an item, and which items are lawful.
     ghost format: { ItemFormat Self };
 
     /// The kind of a page of such items.
@@ -31,7 +31,7 @@ pub trait PageItem: Drop {
         ensures full { OnErr result (vec_capacity out.old < vec_len out.old
             + length (format.bytes self.now)) }
 
-        // So what was written is read again.
+        // So it can be read back.
         ensures lawful { format.IsLawful self.now };
 
     /// The item whose format the bytes begin with, and how many bytes the format has. Other bytes
@@ -51,7 +51,8 @@ pub trait PageItem: Drop {
         ensures malformed { IsErrOf result FieldFault.Malformed
             ↔ ((item : Self) → format.IsLawful item → ¬ BeginsWith bytes.now (format.bytes item)) };
 
-    // No format begins another, so a list of formats one after the other is read in one way.
-    ghost apart: { (a b : Self) (x y : List ℕ) → format.IsLawful a → format.IsLawful b
-        → format.bytes a ++ x ≡ format.bytes b ++ y → (a ≡ b) × (x ≡ y) };
+    /// The law that no format begins another, so that formats in a row read in one way only. It
+    /// does nothing.
+    fn formats_stand_alone()
+        ensures { StandAlone format };
 }

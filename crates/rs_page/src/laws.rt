@@ -6,14 +6,16 @@ ghost use Rattle.rs_page.specs.Laws.{PageHoldsOnce, PagesHoldOnce, PageStays, Pa
 
 use crate::PageItem;
 
-/// A page holds at most one list of items, and so do pages.
+/// A page holds at most one list of items, and pages hold at most one list for each.
 pub fn pages_hold_once<T: PageItem>()
     ensures page { PageHoldsOnce T.format }
     ensures pages { PagesHoldOnce T.format }
-{}
+{
+    T::formats_stand_alone();
+}
 
-/// Pages stay where their blocks hold what they held: those at references, those that a list in
-/// memory says are stored, and those that were written for it.
+/// Pages stay while their blocks keep their bytes: pages at references, the stored pages of a list
+/// in memory, and those that were written for it.
 pub fn pages_stay<T: PageItem>()
     ensures page { PageStays T.format }
     ensures pages { PagesStay T.format }
@@ -21,7 +23,7 @@ pub fn pages_stay<T: PageItem>()
     ensures written { WrittenStay T.format }
 {}
 
-/// What a list in memory says is stored, and what the references to it point to, are the same.
+/// The stored pages of a list in memory are the pages that its references point to.
 pub fn stored_pages_stand<T: PageItem>()
     ensures written { WrittenStand T.format }
     ensures pages { StandingArePages T.format }

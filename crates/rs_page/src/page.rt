@@ -23,7 +23,7 @@ use thiserror::Error;
 #[error("no run of free blocks is long enough")]
 pub struct Full;
 
-/// A page of a list: its items, in their order, and where it stands.
+/// A page of a list: its items, in their order, and its place.
 ///
 /// It has 1 to [`MOST_ITEMS`] items.
 #[derive(Debug, Drop)]
@@ -68,15 +68,15 @@ impl<T: PageItem> Page<T> {
         self.items.as_slice()
     }
 
-    /// Where it stands.
+    /// Its place.
     pub fn place(&self) -> Place
         ensures { result ≡ self.now.place }
     {
         self.place
     }
 
-    /// Puts an item in the place of the one at `i`, counted from 0, whose format has as many
-    /// bytes. The page has not been stored, and stays where it is. It takes no memory.
+    /// Replaces the item at `i`, counted from 0, by one whose format has as many bytes. The page is
+    /// not stored yet, and keeps its place. It takes no memory.
     pub fn replace(&mut self, i: usize, item: T)
         requires within { i < length self.old.items }
         requires fits { IfSome (slice_get self.old.items i) (λ old. length (T.format.bytes item)
@@ -128,8 +128,8 @@ impl<T: PageItem> Page<T> {
 }
 
 impl<T: Fill> Page<T> {
-    /// Gives the item at `i`, counted from 0, these digests in the place of its own. The page has
-    /// not been stored, and stays where it is. It takes no memory.
+    /// Sets the digests of the item at `i`, counted from 0. The page is not stored yet, and keeps its
+    /// place. It takes no memory.
     pub fn fill(&mut self, i: usize, digests: Digests)
         requires within { i < length self.old.items }
         requires not_stored { stored_ref self.old.place ≡ None }
@@ -142,8 +142,8 @@ impl<T: Fill> Page<T> {
 }
 
 impl<T: PageItem + Duplicate> Page<T> {
-    /// The same page once more, at the same place. A page that is on the disk shares its items with
-    /// the copy; the items of any other page are copied.
+    /// A copy of the page, at the same place. A page on the disk shares its items with the copy; the
+    /// items of any other page are copied.
     ///
     /// # Errors
     /// [`AllocError`] where the memory for the copy is refused.

@@ -23,6 +23,7 @@ pub(crate) fn read_items<T: PageItem>(alloc: Global, bytes: &[u8]) -> Result<Vec
     if kind != T::kind().byte() || count == 0 || count > MOST_ITEMS {
         return Err(FieldFault::Malformed);
     }
+    T::formats_stand_alone();
     let (items, rest) = read_first(alloc, count, rest)?;
     if !rest.is_empty() {
         return Err(FieldFault::Malformed);
@@ -53,6 +54,7 @@ fn read_first<T: PageItem>(
     ensures malformed { IsErrOf result FieldFault.Malformed
         → BeginWithFewer T.format count bytes.now }
 {
+    T::formats_stand_alone();
     let mut items = Vec::new(alloc);
     let mut rest = bytes;
     for _ in 0..count {

@@ -1,9 +1,8 @@
 //! Records as the items of a page.
 ghost use Rattle.rs_page.specs.Items.{record_format};
-ghost use Rattle.rs_page.specs.FormatsApart.{records_apart};
 
 use crate::{PageItem, PageKind};
-use rs_record::{FieldFault, Record, read_record, record_size, write_record};
+use rs_record::{FieldFault, Record, formats_stand_alone, read_record, record_size, write_record};
 use std::alloc::{AllocError, Global};
 
 impl PageItem for Record {
@@ -25,5 +24,7 @@ impl PageItem for Record {
         read_record(alloc, bytes)
     }
 
-    ghost apart = { records_apart };
+    fn formats_stand_alone() {
+        formats_stand_alone();
+    }
 }

@@ -9,7 +9,7 @@ use std::marker::Model;
 use std::mem::replace;
 use std::rc::Rc;
 
-// Who has the items.
+/// Who has the items.
 #[derive(Debug, Drop)]
 pub(crate) enum Holder<T> {
     // This page alone, so they may be changed where they are.
@@ -69,7 +69,7 @@ impl<T: Drop> SharedItems<T> {
         };
     }
 
-    /// Puts an item in the place of the one at `i`, counted from 0. It takes no memory.
+    /// Replaces the item at `i`, counted from 0. It takes no memory.
     pub(crate) fn replace(&mut self, i: usize, item: T)
         requires own { IsTrue self.old.own }
         requires within { i < length self.old.items }
@@ -83,7 +83,7 @@ impl<T: Drop> SharedItems<T> {
 }
 
 impl<T: Fill> SharedItems<T> {
-    /// Gives the item at `i`, counted from 0, these digests. It takes no memory.
+    /// Sets the digests of the item at `i`, counted from 0. It takes no memory.
     pub(crate) fn fill(&mut self, i: usize, digests: Digests)
         requires own { IsTrue self.old.own }
         requires within { i < length self.old.items }
@@ -101,7 +101,7 @@ impl<T: Fill> SharedItems<T> {
 }
 
 impl<T: PageItem + Duplicate> SharedItems<T> {
-    /// The same items once more: a pointer where they are shared, else a copy of each of them.
+    /// A copy of the items: one more pointer where they are shared, else a copy of each.
     ///
     /// # Errors
     /// [`AllocError`] where the memory for the copy is refused.

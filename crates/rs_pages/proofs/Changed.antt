@@ -1,5 +1,5 @@
 -- Pages with one item filled.
-use Rattle.std.proofs.Common.{◌≡◌, ℕ, zero, suc, ◌+◌, ◌<◌, ◌≤◌, List, [], ◌∷◌, length, get_or, set, map, refl, sym, ap, ap₂, ◌∙◌, arith, Option, Some, None}
+use Rattle.std.proofs.Common.{◌≡◌, ℕ, zero, suc, ◌+◌, ◌<◌, ◌≤◌, List, [], ◌∷◌, length, get_or, set, map, refl, sym, ap, ap₂, ◌∙◌, subst, arith, Option, Some, None}
 use Rattle.std.specs.Prelude.{slice_get, slice_set, IfSome}
 use Rattle.std.proofs.lemmas.List.{length-append}
 use Rattle.std.proofs.lemmas.List.Elements.{All-cons, All-head, All-tail}
@@ -14,12 +14,12 @@ inside_pages k i [] h = absurd (omega arith)
 inside_pages zero i (page ∷ pages) h = omega arith
 inside_pages (suc k) i (page ∷ pages) h = let next = inside_pages k i pages h in omega arith
 
-pub inside_page : {T : Type 0} (k i : ℕ) (pages : List (Page T)) (d : Page T) → i < length (items_at k pages) → i < length (get_or pages k d).items
+inside_page : {T : Type 0} (k i : ℕ) (pages : List (Page T)) (d : Page T) → i < length (items_at k pages) → i < length (get_or pages k d).items
 inside_page k i [] d h = absurd (omega arith)
 inside_page zero i (page ∷ pages) d h = h
 inside_page (suc k) i (page ∷ pages) d h = inside_page k i pages d h
 
-pub not_on_disk : {T : Type 0} (k : ℕ) (pages : List (Page T)) (d : Page T) → k < length pages → IfSome (slice_get pages k) IsUnstored → stored_ref (get_or pages k d).place ≡ None
+not_on_disk : {T : Type 0} (k : ℕ) (pages : List (Page T)) (d : Page T) → k < length pages → IfSome (slice_get pages k) IsUnstored → stored_ref (get_or pages k d).place ≡ None
 not_on_disk k [] d inside none = absurd (omega arith)
 not_on_disk zero (page ∷ pages) d inside none = none
 not_on_disk (suc k) (page ∷ pages) d inside none = not_on_disk k pages d (omega arith) none
@@ -45,13 +45,13 @@ both_by f i items new None is inside a b = absurd (there items i inside (sym is)
 both_by f i items new (Some item) is inside a b = a ∙ b
 
 -- the page that was filled
-pub filled_is : {T : Type 0} (f : T → T) (i : ℕ) (old new : Page T) → i < length old.items → IfSome (slice_get old.items i) (λ item. new.items ≡ slice_set old.items i (f item))
+filled_is : {T : Type 0} (f : T → T) (i : ℕ) (old new : Page T) → i < length old.items → IfSome (slice_get old.items i) (λ item. new.items ≡ slice_set old.items i (f item))
     → new.place ≡ old.place → new ≡ page_filled f i old
 filled_is f i old new inside items place =
     ap₂ (λ xs p. record { items = xs; place = p }) (both_by f i old.items new.items (slice_get old.items i) refl inside items (set_changed f i old.items)) place
 
 -- the list with it
-pub set_is : {A : Type 0} (f : A → A) (k : ℕ) (xs : List A) (d y : A) → k < length xs → y ≡ f (get_or xs k d) → set xs k y ≡ changed_at f k xs
+set_is : {A : Type 0} (f : A → A) (k : ℕ) (xs : List A) (d y : A) → k < length xs → y ≡ f (get_or xs k d) → set xs k y ≡ changed_at f k xs
 set_is f k [] d y inside is = absurd (omega arith)
 set_is f zero (x ∷ xs) d y inside is = ap (λ z. z ∷ xs) is
 set_is f (suc k) (x ∷ xs) d y inside is = ap (λ rest. x ∷ rest) (set_is f k xs d y (omega arith) is)
@@ -71,6 +71,31 @@ module _ {T : Type 0} (f : T → T) (i : ℕ) where
   lengths_stay k [] = refl
   lengths_stay zero (page ∷ pages) = ap (λ n. n ∷ map (λ p. length p.items) pages) (length_changed f i page.items)
   lengths_stay (suc k) (page ∷ pages) = ap (λ rest. length page.items ∷ rest) (lengths_stay k pages)
+
+-- The page at k of a list has an item at i. To callers the list is `old`.
+pub record HasItemAt {T : Type 0} (pages old : List (Page T)) (k i : ℕ) (page : Page T) : Type 0 where
+  pub seen : pages ≡ old
+  pub within : i < length (items_at k old)
+  pub found : page ≡ get_or pages k page
+
+module _ {T : Type 0} {pages old : List (Page T)} {k i : ℕ} {page : Page T} (at : HasItemAt pages old k i page) where
+  inside_list : k < length pages
+  inside_list = inside_pages k i pages (subst (λ (ps : List (Page T)). i < length (items_at k ps)) (sym at.seen) at.within)
+
+  pub has_item : i < length page.items
+  has_item =
+      subst (λ (it : Page T). i < length it.items) (sym at.found)
+      (inside_page k i pages page (subst (λ (ps : List (Page T)). i < length (items_at k ps)) (sym at.seen) at.within))
+
+  pub is_unstored : IfSome (slice_get old k) IsUnstored → stored_ref page.place ≡ None
+  is_unstored none =
+      subst (λ (it : Page T). stored_ref it.place ≡ None) (sym at.found)
+      (not_on_disk k pages page inside_list (subst (λ (ps : List (Page T)). IfSome (slice_get ps k) IsUnstored) (sym at.seen) none))
+
+  -- the list, once that item was filled
+  pub list_filled : (f : T → T) (new : Page T) → IfSome (slice_get page.items i) (λ item. new.items ≡ slice_set page.items i (f item)) → new.place ≡ page.place
+      → set pages k new ≡ changed_at (page_filled f i) k pages
+  list_filled f new items place = set_is (page_filled f i) k pages page new inside_list (filled_is f i page new has_item items place ∙ ap (page_filled f i) at.found)
 
 -- pages of the same lengths are counted the same
 module _ {T : Type 0} where

@@ -43,11 +43,11 @@ module _ {T : Type 0} where
   pub starts_rise : (n : ℕ) (pages : List (Page T)) → IsNonDecreasingBy (λ start. start) (starts_of n pages)
   starts_rise n pages = λ i j d order inside. rises n pages i j d order (subst (λ (m : ℕ). j < m) (length-starts n pages) inside)
 
-  -- how many pages begin at or before a place: one at least, where there is an item
-  pub some_start : (pages : List (Page T)) (k i : ℕ) → i < length (items_of pages) → AllWithin (λ start. leb start i ≡ false) (starts_of 0 pages) k (length (starts_of 0 pages)) → 1 ≤ k
-  some_start [] k i h above = absurd (omega arith)
-  some_start (page ∷ pages) zero i h above = absurd (never i (above 0 0 (omega arith) (omega arith)))
-  some_start (page ∷ pages) (suc k) i h above = omega arith
+  -- how many pages begin at or before a place: at least one, where there is an item
+  begin_one : (pages : List (Page T)) (k i : ℕ) → i < length (items_of pages) → AllWithin (λ start. leb start i ≡ false) (starts_of 0 pages) k (length (starts_of 0 pages)) → 1 ≤ k
+  begin_one [] k i h above = absurd (omega arith)
+  begin_one (page ∷ pages) zero i h above = absurd (never i (above 0 0 (omega arith) (omega arith)))
+  begin_one (page ∷ pages) (suc k) i h above = omega arith
 
   in_page : (n : ℕ) (page : Page T) (pages : List (Page T)) (i d : ℕ) → n ≤ i → (1 < length (page ∷ pages) → i < get_or (starts_of n (page ∷ pages)) 1 d) → i < n + length (items_of (page ∷ pages)) → i - n < length page.items
   in_page n page [] i d low next high = let same = length-append page.items [] in omega (arith, same)
@@ -75,23 +75,33 @@ at_most a b h = grind (arith, nat_tests)
 more : (a b : ℕ) → leb a b ≡ false → b < a
 more a b h = grind (arith, nat_tests)
 
--- the page where as many pages as may be begin at or before a place
+-- As many pages begin at or before a place that has an item, and all others after it.
+pub record Begin {T : Type 0} (pages : List (Page T)) (i begun : ℕ) : Type 0 where
+  pub inside : i < length (items_of pages)
+  pub below : AllWithin (λ start. leb start i ≡ true) (starts_of 0 pages) 0 begun
+  pub above : AllWithin (λ start. leb start i ≡ false) (starts_of 0 pages) begun (length (starts_of 0 pages))
+
+-- the item at a place is in the page k, of which the first item is at start
 pub record IsPageOf {T : Type 0} (pages : List (Page T)) (i k start : ℕ) : Type 0 where
   pub low : start ≤ i
   pub item : slice_get (items_of pages) i ≡ slice_get (items_at k pages) (i - start)
 
-pub page_of : {T : Type 0} (pages : List (Page T)) (begun i d : ℕ) → i < length (items_of pages) → begun ≤ length pages → 1 ≤ begun
-    → AllWithin (λ start. leb start i ≡ true) (starts_of 0 pages) 0 begun → AllWithin (λ start. leb start i ≡ false) (starts_of 0 pages) begun (length (starts_of 0 pages))
-    → IsPageOf pages i (begun - 1) (get_or (starts_of 0 pages) (begun - 1) d)
-page_of pages begun i d inside most some below above =
-    let sizes = length-starts 0 pages in
-    let low : get_or (starts_of 0 pages) (begun - 1) d ≤ i = at_most (get_or (starts_of 0 pages) (begun - 1) d) i (below (begun - 1) d (omega arith) (omega arith)) in
-    let same : suc (begun - 1) ≡ begun = omega arith in
-    record {
-      low = low;
-      item =
-          ap (slice_get (items_of pages)) (no_less i)
-          ∙ at_page 0 pages (begun - 1) i d (omega arith) low
-          (λ h. more (get_or (starts_of 0 pages) (suc (begun - 1)) d) i (subst (λ (k : ℕ). leb (get_or (starts_of 0 pages) k d) i ≡ false) (sym same) (above begun d (omega arith) (omega arith))))
-          (omega arith);
-    }
+module _ {T : Type 0} {pages : List (Page T)} {i begun : ℕ} (at : Begin pages i begun) where
+  pub some_start : 1 ≤ begun
+  some_start = begin_one pages begun i at.inside at.above
+
+  pub page_of : begun ≤ length pages → (d : ℕ) → IsPageOf pages i (begun - 1) (get_or (starts_of 0 pages) (begun - 1) d)
+  page_of most d =
+      let some = some_start in
+      let sizes = length-starts 0 pages in
+      let start = get_or (starts_of 0 pages) (begun - 1) d in
+      let low : start ≤ i = at_most start i (at.below (begun - 1) d (omega arith) (omega arith)) in
+      let same : suc (begun - 1) ≡ begun = omega arith in
+      record {
+        low = low;
+        item =
+            ap (slice_get (items_of pages)) (no_less i)
+            ∙ at_page 0 pages (begun - 1) i d (omega arith) low
+            (λ h. more (get_or (starts_of 0 pages) (suc (begun - 1)) d) i (subst (λ (k : ℕ). leb (get_or (starts_of 0 pages) k d) i ≡ false) (sym same) (at.above begun d (omega arith) (omega arith))))
+            (let inside = at.inside in omega (arith, inside));
+      }

@@ -1,4 +1,4 @@
--- What the page rule gives for 130 names and changes, and what is left of these without the first of them.
+-- What the page rule gives for 130 names and changes, and for these without the first of them.
 use Rattle.std.specs.Prelude.{◌≡◌, ℕ, zero, suc, ◌+◌, ◌/◌, ◌%◌, List, [], ◌∷◌, length, map, take, drop, refl}
 use Rattle.rs_page.specs.Pages.{Page}
 use Rattle.rs_pages.specs.Rule.{touched, bound_in, appended_to}

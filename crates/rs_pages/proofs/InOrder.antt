@@ -68,7 +68,7 @@ module _ {T : Type 0} (name : T → List ℕ) where
   find_here n [] ys h = find_first n ys h
   find_here n (x ∷ xs) ys h = ap (by_order (by_bytes n (name x)) None (Some x)) (find_here n xs ys h)
 
-  -- a name that is not there is not taken out
+  -- a name that no item has is not taken out
   absent_by : (n : List ℕ) (x : T) (xs : List T) (o : Ordering) → (value_of n (keyed name xs) ≡ None → taken_out name n xs ≡ xs)
       → by_order o None (Some x) (value_of n (keyed name xs)) ≡ None → by_order o (x ∷ xs) xs (x ∷ taken_out name n xs) ≡ x ∷ xs
   absent_by n x xs Less next h = refl

@@ -1,4 +1,4 @@
--- What holds while pages are read, one after the other, beside a list that is held.
+-- What holds while pages are read, one after the other, beside a list in memory.
 use Rattle.std.proofs.Common.{◌≡◌, ℕ, suc, ◌+◌, ◌<◌, ◌≤◌, List, [], ◌∷◌, ◌++◌, length, get_or, take, drop, Some, refl, sym, ap, ◌∙◌, subst, arith, add-one}
 use Rattle.std.specs.Prelude.{flat_map, All, IsTrue, is_some, not, filter}
 use Rattle.std.specs.List.{list_any, cons_option}
@@ -6,12 +6,13 @@ use Rattle.std.proofs.lemmas.List.{append-nil, length-append, map-append, take_a
 use Rattle.std.proofs.lemmas.List.Elements.{All-nil, All-push, filter-append, filter_map-append}
 use Rattle.rs_disk.specs.Medium.{DiskState, Medium}
 use Rattle.rs_disk.specs.Runs.{RunsReading}
-use Rattle.rs_pages.proofs.FromBelow.{reading_none, reading_as, reading_then, AreApart, page_holds_once}
+use Rattle.rs_pages.proofs.FromBelow.{reading_none, reading_as, reading_then}
 use Rattle.rs_record.specs.Limits.{most_items}
 use Rattle.rs_page.specs.declared.place.PageRef.{PageRef}
 use Rattle.rs_page.specs.Format.{ItemFormat}
 use Rattle.rs_page.specs.Pages.{Page, IsStored, same_page, stored_ref, stored_refs}
 use Rattle.rs_page.specs.DiskPages.{IsPage, HoldsNoPage, ArePages, Stands}
+use Rattle.rs_page.specs.Laws.{PageHoldsOnce}
 use Rattle.rs_pages.specs.Rule.{HaveItems}
 use Rattle.rs_pages.specs.Storing.{items_by_page, AreStoredAt, HoldItems, HoldNoItems, ReadsPages, unshared}
 use Rattle.rs_pages.proofs.Joined.{joined}
@@ -21,8 +22,8 @@ use Rattle.rs_pages.proofs.Writing.{same_at, parted_at, front_at}
 abbrev sum_of : {T : Type 0} → List (List T) → ℕ
 sum_of pages = length (flat_map (λ items. items) pages)
 
--- The pages of the first k references are there, and there is room for so many items more. Calls were made for some of these
--- references, and none failed.
+-- The pages of the first k references are read, and leave room for `room` more items. Calls were made for some of these references,
+-- and none failed.
 pub record LoadedUpTo {T : Type 0} (format : ItemFormat T) (called : List PageRef → List PageRef) (k room : ℕ) (refs : List PageRef) (beside loaded : List (Page T)) (old new : DiskState) : Type 0 where
   pub refs_are : stored_refs loaded ≡ take k refs
   pub some : HaveItems loaded
@@ -35,7 +36,7 @@ pub record LoadedUpTo {T : Type 0} (format : ItemFormat T) (called : List PageRe
 abbrev AreCalled : (List PageRef → List PageRef) → Type 0
 AreCalled called = (refs more : List PageRef) → length (called (refs ++ more)) ≡ length (called refs) + length (called more)
 
--- what stands for the reference where none was read
+-- any reference
 pub no_ref : PageRef
 no_ref = record { extent = record { first = 0; blocks = 0 }; length = 0; sha256 = [] }
 
@@ -86,18 +87,18 @@ module _ {T : Type 0} {format : ItemFormat T} where
   zip_at image (f ∷ front) ref rest (items ∷ pages) are = zip_at image front ref rest pages are.1
 
   -- pages hold no fewer items than some of them that were read
-  sum_within : AreApart format → (image : List ℕ) (front : List PageRef) (ref : PageRef) (rest : List PageRef) (read : List (List T)) (items : List T) (pages : List (List T)) → ArePages format front image read
+  sum_within : PageHoldsOnce format → (image : List ℕ) (front : List PageRef) (ref : PageRef) (rest : List PageRef) (read : List (List T)) (items : List T) (pages : List (List T)) → ArePages format front image read
       → IsPage format ref image items → ArePages format (front ++ ref ∷ rest) image pages → sum_of read + length items ≤ sum_of pages
-  sum_within apart image [] ref rest [] items [] of_read of_items of_pages = absurd of_pages
-  sum_within apart image [] ref rest [] items (page ∷ pages) of_read of_items of_pages =
-      let same : length items ≡ length page = ap length (page_holds_once format apart ref image items page of_items of_pages.0) in
+  sum_within once image [] ref rest [] items [] of_read of_items of_pages = absurd of_pages
+  sum_within once image [] ref rest [] items (page ∷ pages) of_read of_items of_pages =
+      let same : length items ≡ length page = ap length (once ref image items page of_items of_pages.0) in
       omega (arith, same, length-append page (flat_map (λ items. items) pages))
-  sum_within apart image [] ref rest (r ∷ read) items pages of_read of_items of_pages = absurd of_read
-  sum_within apart image (f ∷ front) ref rest [] items pages of_read of_items of_pages = absurd of_read
-  sum_within apart image (f ∷ front) ref rest (r ∷ read) items [] of_read of_items of_pages = absurd of_pages
-  sum_within apart image (f ∷ front) ref rest (r ∷ read) items (page ∷ pages) of_read of_items of_pages =
-      let same : length r ≡ length page = ap length (page_holds_once format apart f image r page of_read.0 of_pages.0) in
-      let later = sum_within apart image front ref rest read items pages of_read.1 of_items of_pages.1 in
+  sum_within once image [] ref rest (r ∷ read) items pages of_read of_items of_pages = absurd of_read
+  sum_within once image (f ∷ front) ref rest [] items pages of_read of_items of_pages = absurd of_read
+  sum_within once image (f ∷ front) ref rest (r ∷ read) items [] of_read of_items of_pages = absurd of_pages
+  sum_within once image (f ∷ front) ref rest (r ∷ read) items (page ∷ pages) of_read of_items of_pages =
+      let same : length r ≡ length page = ap length (once f image r page of_read.0 of_pages.0) in
+      let later = sum_within once image front ref rest read items pages of_read.1 of_items of_pages.1 in
       omega (arith, same, later, length-append r (flat_map (λ items. items) read), length-append page (flat_map (λ items. items) pages))
 
   -- where one page is damaged, there are no such pages
@@ -122,7 +123,7 @@ module _ {T : Type 0} {format : ItemFormat T} where
         },
       )
 
--- The page of the reference after them is read next. `d` stands for this reference where there is none.
+-- The page of the next reference is read. `d` is any reference, for a place past the end.
 module _ {T : Type 0} {format : ItemFormat T} {called : List PageRef → List PageRef} {k room : ℕ} {refs : List PageRef} {beside loaded : List (Page T)} {old mid : DiskState} (d : PageRef)
     (so_far : LoadedUpTo format called k room refs beside loaded old mid) (inside : k < length refs) (counted : AreCalled called) where
   next_is : get_or refs k d ≡ get_or refs k (get_or refs k d)
@@ -172,11 +173,11 @@ module _ {T : Type 0} {format : ItemFormat T} {called : List PageRef → List Pa
       subst (λ (ps : List (Page T)). LoadedUpTo format called (k + 1) left refs beside ps old new) (sym pushed)
       (subst (λ (j : ℕ). LoadedUpTo format called j left refs beside (loaded ++ page ∷ []) old new) (sym (add-one k)) after)
 
-  -- where there is no room for one page more, there are too many items in all
-  pub too_many : {A : Type 0} (items : List T) (new : DiskState) → AreApart format → room < length items → RunsReading A mid new → IsTrue new.honest → All (Stands format new.now.seen) beside
+  -- where one more page has no room, the pages have too many items in all
+  pub too_many : {A : Type 0} (items : List T) (new : DiskState) → PageHoldsOnce format → room < length items → RunsReading A mid new → IsTrue new.honest → All (Stands format new.now.seen) beside
       → IsPage format (get_or refs k d) new.now.seen items → HoldNoItems format refs new.now.seen
-  too_many items new apart short runs honest stand is_page pages held =
+  too_many items new once short runs honest stand is_page pages held =
       let image : List ℕ = new.now.seen in
-      let most = sum_within apart image (take k refs) (get_or refs k d) (drop (suc k) refs) (items_by_page loaded) items pages (before new runs honest stand) is_page
+      let most = sum_within once image (take k refs) (get_or refs k d) (drop (suc k) refs) (items_by_page loaded) items pages (before new runs honest stand) is_page
       (subst (λ (rs : List PageRef). ArePages format rs image pages) whole held.hold) in
       omega (arith, so_far.fits, short, most, held.room)

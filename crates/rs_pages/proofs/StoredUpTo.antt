@@ -36,7 +36,7 @@ module _ {T : Type 0} {format : ItemFormat T} where
         subst (λ (ps : List (Page T)). WritesPages ps ⊥ old new) all so_far.writes,
       )
 
--- The page after them is the next one. `d` stands for it where there is none.
+-- The page after them is the next one. `d` is any page, for a place past the end.
 module _ {T : Type 0} {format : ItemFormat T} {k : ℕ} {initial pages : List (Page T)} {old mid : DiskState} (d : Page T) (so_far : StoredUpTo format k initial pages old mid) (inside : k < length pages) where
   next_is : get_or pages k d ≡ get_or pages k (get_or pages k d)
   next_is = same_at pages k d (get_or pages k d) inside

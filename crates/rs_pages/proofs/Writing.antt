@@ -18,7 +18,7 @@ use Rattle.rs_page.specs.DiskPages.{IsWritten}
 use Rattle.rs_pages.specs.Storing.{items_by_page, StaysOrIsStored, StoresTouched, StoresSome, WritesPages}
 
 module _ {A : Type 0} where
-  -- an element that is there, whatever stands for one that is not
+  -- an element inside the list, whatever the default
   pub same_at : (xs : List A) (k : ℕ) (d other : A) → k < length xs → get_or xs k d ≡ get_or xs k other
   same_at [] k d other inside = absurd (omega arith)
   same_at (x ∷ xs) zero d other inside = refl

@@ -9,12 +9,12 @@ use Rattle.rs_pages.specs.Laws.{IsFreshPage}
 abbrev pub cut_full : {T : Type 0} → List T → List (List T)
 cut_full items = cut_into_pieces_of 64 items
 
--- the touched pages of 64 items that items are cut into, of which the last has the rest; there is no page of no items
+-- the touched pages of 64 items that items are cut into, of which the last has the rest; no items make no page
 abbrev pub full_pages : {T : Type 0} → List T → List (Page T)
 full_pages items = map touched (cut_full items)
 
--- the pages without their first n items: a page whose items are all among them goes, what is left of the page in which the cut
--- falls is cut into full pages, and all pages after it stay
+-- the pages without their first n items: a page whose items are all among them goes, the other items of the page in which the
+-- cut falls are cut into full pages, and all pages after it stay
 abbrev pub dropped_front : {T : Type 0} → ℕ → List (Page T) → List (Page T)
 dropped_front n [] = []
 dropped_front zero (page ∷ pages) = page ∷ pages

@@ -11,7 +11,7 @@ abbrev pub cut_up_to : {T : Type 0} → ℕ → ℕ → List T → List (List T)
 cut_up_to piece zero items = items ∷ []
 cut_up_to piece (suc n) items = cond (nat_le (length items) 64) (items ∷ []) (take piece items ∷ cut_up_to piece n (drop piece items))
 
--- cut from the front into pieces of one length, until at most 64 items are left, which are the last piece; of no items there is no piece
+-- cut from the front into pieces of one length, until at most 64 items are left, which are the last piece; no items make no piece
 abbrev pub cut_into_pieces_of : {T : Type 0} → ℕ → List T → List (List T)
 cut_into_pieces_of piece [] = []
 cut_into_pieces_of piece (x ∷ xs) = cut_up_to piece (length (x ∷ xs)) (x ∷ xs)
@@ -24,7 +24,7 @@ cut_front items = cut_into_pieces_of 32 items
 abbrev pub touched : {T : Type 0} → List T → Page T
 touched items = record { items = items; place = Touched }
 
--- the touched pages that items are cut into; there is no page of no items
+-- the touched pages that items are cut into; no items make no page
 abbrev pub touched_pages : {T : Type 0} → List T → List (Page T)
 touched_pages items = map touched (cut_front items)
 
@@ -34,7 +34,7 @@ items_at i [] = []
 items_at zero (page ∷ pages) = page.items
 items_at (suc i) (page ∷ pages) = items_at i pages
 
--- the pages, with what these items are cut into in the place of the page at i
+-- the pages, with the pages that these items are cut into in place of the page at i
 abbrev pub with_page : {T : Type 0} → ℕ → List T → List (Page T) → List (Page T)
 with_page i items [] = touched_pages items
 with_page zero items (page ∷ pages) = touched_pages items ++ pages
@@ -59,7 +59,7 @@ home name n (page ∷ pages) = cond (some_begins_by name n pages) (suc (home nam
 abbrev pub bound_in : {T : Type 0} → (T → List ℕ) → T → List (Page T) → List (Page T)
 bound_in name t pages = let i = home name (name t) pages in with_page i (put_in name t (items_at i pages)) pages
 
--- the pages without the item of a name; where there is none, none of them is touched
+-- the pages without the item of a name; where no item has it, no page is touched
 abbrev pub unbound_in : {T : Type 0} → (T → List ℕ) → List ℕ → List (Page T) → List (Page T)
 unbound_in name n pages =
     let i = home name n pages in cond (is_some (value_of n (keyed name (items_at i pages)))) (with_page i (taken_out name n (items_at i pages)) pages) pages

@@ -37,25 +37,25 @@ pub record StoresSome {T : Type 0} (format : ItemFormat T) (image : List ℕ) (o
   pub items : items_by_page new ≡ items_by_page old
   pub each : AllZip (StaysOrIsStored format image) old new
 
--- A run that writes pages: it writes the blocks that they were given alone, whatever its answer tells of the device, and makes one
--- call a page at most.
+-- A run that writes pages: it writes only the blocks that they were given, and makes at most one call a page. `told` is whether its
+-- answer tells a fault of the device.
 pub record WritesPages {T : Type 0} (pages : List (Page T)) (told : Type 0) (old new : DiskState) : Type 0 where
   pub writes : WritesOnly (placed_extents pages) told old new
   pub one_each : CallsAtMost (length (placed_extents pages)) old new
 
--- A run that reads the pages of references: it changes nothing, whatever its answer tells of the device, and makes one call a page
--- at most.
+-- A run that reads the pages of references: it changes nothing, and makes at most one call a page. `told` is whether its answer tells
+-- a fault of the device.
 pub record ReadsPages (refs : List PageRef) (told : Type 0) (old new : DiskState) : Type 0 where
   pub runs : RunsReading told old new
   pub one_each : CallsAtMost (length refs) old new
 
--- These pages are on the disk, one for each of these references, which tells where it stands, and they have no more than 50,000 items.
+-- These pages are on the disk, one at each of these references, and have no more than 50,000 items in all.
 pub record AreStoredAt {T : Type 0} (refs : List PageRef) (pages : List (Page T)) : Type 0 where
   pub named : stored_refs pages ≡ refs
   pub stored : All IsStored pages
   pub room : length (items_of pages) ≤ most_items
 
--- the references to pages that are none of these
+-- the references that are none of these others
 abbrev pub unshared : List PageRef → List PageRef → List PageRef
 unshared refs others = filter (λ ref. not (list_any (same_page ref) others)) refs
 

@@ -1,4 +1,4 @@
-//! Pages that are read beside a list that is held.
+//! Pages that are read beside a list in memory.
 ghost use Rattle.std.specs.Prelude.{◌≡◌, [], ◌∷◌, false, map, All, Some, IfOk, IfSome, IsNone, IsErrOf, IsTrue};
 ghost use Rattle.std.specs.List.{list_any, Contains};
 ghost use Rattle.std.specs.List.Sorted.{IsSortedByKey};
@@ -11,18 +11,19 @@ ghost use Rattle.rs_pages.specs.Storing.{items_by_page, AreStoredAt, HoldItems, 
 use crate::entries::entry_of;
 use rs_body::LoadFault;
 use rs_disk::Disk;
+use rs_page::laws::pages_hold_once;
 use rs_page::{Page, PageItem, PageRef};
 use rs_record::{Duplicate, MOST_ITEMS};
 use std::alloc::{AllocError, Global};
 
-// The entry of a page that is on the disk, and where it stands in its list.
+/// The entry of a page on the disk, and the place of the page in its list.
 #[derive(Clone, Copy, Debug)]
 struct EntryAt {
     entry: PageRef,
     place: usize,
 }
 
-/// The entries of those pages that are on the disk, sorted.
+/// The entries of the pages on the disk, sorted.
 fn sorted_entries<T: PageItem>(alloc: Global, pages: &[Page<T>]) -> Result<Vec<EntryAt>, AllocError>
     ensures sorted { IfOk result
         (λ sorted. IsSortedByKey (λ at. at.entry) ⟦<PageRef as Ord>⟧.cmp sorted.items) }
@@ -33,7 +34,7 @@ fn sorted_entries<T: PageItem>(alloc: Global, pages: &[Page<T>]) -> Result<Vec<E
     Ok(entries)
 }
 
-/// The entries of those pages that are on the disk, in their order.
+/// The entries of the pages on the disk, in their order.
 fn entries_of<T: PageItem>(alloc: Global, pages: &[Page<T>]) -> Result<Vec<EntryAt>, AllocError>
     ensures { IfOk result (λ entries. AreEntries pages.now entries.items) }
 {
@@ -63,7 +64,7 @@ fn page_of_entry<'a, T: PageItem>(
     Some(&pages[place])
 }
 
-/// The place that is told with this entry, if there is one.
+/// The place beside this entry, if the entries have it.
 fn place_of_entry(sorted: &[EntryAt], entry: &PageRef) -> Option<usize>
     requires { IsSortedByKey (λ at. at.entry) ⟦<PageRef as Ord>⟧.cmp sorted.now }
     ensures some { IfSome result
@@ -77,7 +78,8 @@ fn place_of_entry(sorted: &[EntryAt], entry: &PageRef) -> Option<usize>
     }
 }
 
-/// Reads the pages that these references point to, one after the other, but for those of this list.
+/// Reads the pages that these references point to, one after the other, but takes those of this list
+/// from it.
 pub(crate) fn load_all_beside<T: PageItem + Duplicate, D: Disk>(
     alloc: Global,
     disk: &mut D,
@@ -95,6 +97,7 @@ pub(crate) fn load_all_beside<T: PageItem + Duplicate, D: Disk>(
     ensures reads { ReadsPages (unshared pages.now (stored_refs beside.now))
         (IsErrOf result LoadFault.Device) (D.state disk.old) (D.state disk.new) }
 {
+    pages_hold_once::<T>();
     let sorted = sorted_entries(alloc, beside)?;
     let mut loaded = Vec::new(alloc);
     let mut room = MOST_ITEMS;
@@ -109,7 +112,7 @@ pub(crate) fn load_all_beside<T: PageItem + Duplicate, D: Disk>(
     Ok(loaded)
 }
 
-/// The page that a reference points to: the one of this list, or else as it is read.
+/// The page that a reference points to: the one of this list, or else the one on the disk.
 fn load_one_beside<T: PageItem + Duplicate, D: Disk>(
     alloc: Global,
     disk: &mut D,

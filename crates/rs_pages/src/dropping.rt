@@ -12,11 +12,11 @@ use rs_record::{Duplicate, duplicate_all};
 use std::alloc::{AllocError, Global};
 
 impl<T: PageItem + Duplicate> Pages<T> {
-    /// The list without its first `count` items; with none, where it has no more than these. This list stays.
+    /// The list without its first `count` items, which is empty if it has no more. This list stays.
     ///
-    /// Pages that lie whole among them go. The page in which the cut falls is touched: what is left of
-    /// it is cut into pages of 64 items, of which the last has the rest. All other pages stay the same
-    /// pages.
+    /// Pages that lie whole among these items go. The page in which the cut falls is touched: its
+    /// other items are cut into pages of 64, of which the last has the rest. All other pages stay the
+    /// same pages.
     ///
     /// # Errors
     ///
@@ -29,8 +29,8 @@ impl<T: PageItem + Duplicate> Pages<T> {
         Pages::of_pages(alloc, pages)
     }
 
-    /// The entries of the pages that go where the first `count` items do: those of each page on the disk
-    /// that has one of these.
+    /// The entries of the pages on the disk that have one of the first `count` items: they go when
+    /// these items are dropped.
     ///
     /// # Errors
     ///

@@ -54,7 +54,7 @@ impl<T: Named> Pages<T> {
     }
 }
 
-// The entry of a page, where it is on the disk.
+/// The entry of a page, where it is on the disk.
 pub(crate) fn entry_of<T: PageItem>(page: &Page<T>) -> Option<PageRef>
     ensures { result ≡ stored_ref page.now.place }
 {

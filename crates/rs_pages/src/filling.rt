@@ -1,4 +1,4 @@
-//! Items whose digests are found after they were made.
+//! Items that get their digests after they were made.
 ghost use Rattle.std.specs.Prelude.{◌≡◌, ◌<◌, length, map, slice_get, IfSome, IsTrue};
 ghost use Rattle.rs_model.specs.Names.{is_ordered};
 ghost use Rattle.rs_page.specs.Pages.{items_of};
@@ -14,8 +14,8 @@ use rs_page::Fill;
 use rs_record::Name;
 
 impl<T: Named + Fill> Pages<T> {
-    /// Gives the item of this name these digests in the place of its own. It stands in a page that
-    /// is not on the disk. Each page stays where it is, and it takes no memory.
+    /// Sets the digests of the item of this name, whose page is not on the disk. Each page keeps its
+    /// place. It takes no memory.
     pub fn fill(&mut self, name: &Name, digests: Digests)
         requires ordered { IsTrue (is_ordered (keyed T.name (items_of self.old))) }
         requires unstored { StandsUnstored T.name name.now self.old }
@@ -32,8 +32,8 @@ impl<T: Named + Fill> Pages<T> {
 }
 
 impl<T: Fill> Pages<T> {
-    /// Gives the last item these digests in the place of its own. It stands in a page that is not on
-    /// the disk. Each page stays where it is, and it takes no memory.
+    /// Sets the digests of the last item, whose page is not on the disk. Each page keeps its place. It
+    /// takes no memory.
     pub fn fill_last(&mut self, digests: Digests)
         requires { EndsUnstored self.old }
         ensures pages { self.new ≡ last_filled (T.filled digests) self.old }
@@ -47,8 +47,8 @@ impl<T: Fill> Pages<T> {
         self.fill_at(k, i, digests);
     }
 
-    /// Gives the item at place i of the page at k, both counted from 0, these digests in the place of
-    /// its own. That page is not on the disk.
+    /// Sets the digests of the item at `i` of the page at `k`, both counted from 0. That page is not on
+    /// the disk.
     fn fill_at(&mut self, k: usize, i: usize, digests: Digests)
         requires within { i < length (items_at k self.old) }
         requires not_stored { IfSome (slice_get self.old k) IsUnstored }

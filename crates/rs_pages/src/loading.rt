@@ -9,6 +9,7 @@ use crate::Pages;
 use crate::beside::load_all_beside;
 use rs_body::LoadFault;
 use rs_disk::Disk;
+use rs_page::laws::pages_hold_once;
 use rs_page::{Page, PageItem, PageRef};
 use rs_record::{Duplicate, MOST_ITEMS};
 use std::alloc::Global;
@@ -17,8 +18,8 @@ impl<T: PageItem> Pages<T> {
     /// Reads the pages that these references point to, whatever they say, by one device call a page.
     /// The disk stays as it is.
     ///
-    /// No memory is asked for a page before its extent was found to lie on the disk and to have
-    /// exactly the blocks of its length, nor for any after 50,000 items were passed.
+    /// It asks for no memory for a page before it has checked that the extent lies on the disk and
+    /// has exactly the blocks of the length, and for none once it has passed 50,000 items.
     ///
     /// # Errors
     ///
@@ -33,7 +34,7 @@ impl<T: PageItem> Pages<T> {
     ) -> Result<Pages<T>, LoadFault>
         ensures pages { IfOk result (AreStoredAt pages.now) }
 
-        // What the disk holds is said of a device that has followed the model.
+        // Where the device has followed the model:
         ensures found { IfOk result (λ loaded. IsTrue (D.state disk.new).honest
             → HoldItems T.format pages.now (D.state disk.new).now.seen (items_by_page loaded)) }
         ensures damaged { IsErrOf result LoadFault.Damaged → IsTrue (D.state disk.new).honest
@@ -47,17 +48,18 @@ impl<T: PageItem> Pages<T> {
 }
 
 impl<T: PageItem + Duplicate> Pages<T> {
-    /// Reads the pages that these references point to, as [`Pages::load`] does, beside a list that is
-    /// held. A page that has the entry of a page on the disk of that list is that page, whose items
-    /// it shares: it is not read. Each other page takes one device call. The disk stays as it is.
+    /// Reads the pages that these references point to, as [`Pages::load`] does, beside a list in
+    /// memory. If a page of that list has the entry of a page to read, it takes that page, whose items
+    /// the two share, and reads nothing. Each other page takes one device call. The disk stays as it
+    /// is.
     ///
-    /// The entries of that list are sorted once, and each reference is searched among them by halves.
+    /// It sorts the entries of that list once, and looks up each reference by binary search.
     ///
     /// # Errors
     ///
     /// - [`LoadFault::Device`] where the device fails.
     /// - [`LoadFault::Damaged`] where the disk holds no such page at one of them, or more than
-    ///   50,000 items in all, if the pages of the list that is held stand on it.
+    ///   50,000 items in all, if the pages of the list in memory are on it.
     /// - [`LoadFault::NoMemory`] where the memory is refused.
     pub fn load_beside<D: Disk>(
         alloc: Global,
@@ -67,8 +69,7 @@ impl<T: PageItem + Duplicate> Pages<T> {
     ) -> Result<Pages<T>, LoadFault>
         ensures pages { IfOk result (AreStoredAt pages.now) }
 
-        // What the disk holds is said of a device that has followed the model, on which the pages of
-        // the list that is held stand.
+        // Where the device has followed the model, and the pages of the list in memory are on it:
         ensures found { IfOk result (λ loaded. IsTrue (D.state disk.new).honest
             → All (Stands T.format (D.state disk.new).now.seen) beside.now
             → HoldItems T.format pages.now (D.state disk.new).now.seen (items_by_page loaded)) }
@@ -98,6 +99,7 @@ fn load_all<T: PageItem, D: Disk>(
     ensures reads { ReadsPages pages.now (IsErrOf result LoadFault.Device)
         (D.state disk.old) (D.state disk.new) }
 {
+    pages_hold_once::<T>();
     let mut loaded = Vec::new(alloc);
     let mut room = MOST_ITEMS;
     for page in pages {

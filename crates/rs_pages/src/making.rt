@@ -9,7 +9,7 @@ use std::alloc::{AllocError, Global};
 /// The most items of a page that is touched: a last page with fewer takes one more at its end.
 pub(crate) const MOST: usize = 64;
 
-// How many items each page has that is cut from the front of a touched page.
+// How many items a page has that is cut from the front of a touched page.
 const CUT: usize = 32;
 
 /// Appends the pages that these items are cut into.
@@ -22,7 +22,7 @@ pub(crate) fn cut_into<T: PageItem>(
     cut_into_pieces(pages, items, CUT)
 }
 
-/// Appends pages of `piece` items of these each, until at most 64 are left, and a page of those.
+/// Appends pages of `piece` of these items each until at most 64 are left, and a page of those.
 pub(crate) fn cut_into_pieces<T: PageItem>(
     pages: &mut Vec<Page<T>>,
     items: Vec<T>,
@@ -93,7 +93,7 @@ fn add_copy<T: PageItem + Duplicate>(
     Ok(())
 }
 
-/// Appends these pages once more.
+/// Appends copies of these pages.
 pub(crate) fn copy_into<T: PageItem + Duplicate>(
     alloc: Global,
     copied: &mut Vec<Page<T>>,

@@ -23,7 +23,7 @@ use std::marker::Model;
 #[derive(Debug, Drop)]
 pub struct Pages<T: PageItem> {
     pub(crate) pages: Vec<Page<T>>,
-    // How many items are before each page, and how many there are.
+    // How many items are before each page, and in all.
     starts: Vec<usize>,
     len: usize,
 }
@@ -89,7 +89,7 @@ impl<T: PageItem> Pages<T> {
         (k, self.starts[k])
     }
 
-    // A list of these pages.
+    /// A list of these pages.
     pub(crate) fn of_pages(alloc: Global, pages: Vec<Page<T>>) -> Result<Pages<T>, AllocError>
         requires { HaveItems pages.items }
         ensures { IfOk result (λ next. next ≡ pages.items) }
@@ -103,7 +103,7 @@ impl<T: PageItem> Pages<T> {
         Ok(Pages { pages, starts, len })
     }
 
-    // The items of the page at i.
+    /// The items of the page at i.
     pub(crate) fn items_at(&self, i: usize) -> &[T]
         ensures { result.now ≡ items_at i self.now }
     {
@@ -126,8 +126,7 @@ impl<T: PageItem> Pages<T> {
 }
 
 impl<T: PageItem + Duplicate> Pages<T> {
-    /// The list of copies of these items, cut into pages of 64, of which the last has the rest. All of them are
-    /// touched.
+    /// The list of copies of these items, in touched pages of 64, of which the last has the rest.
     ///
     /// # Errors
     ///
@@ -143,7 +142,7 @@ impl<T: PageItem + Duplicate> Pages<T> {
         Pages::of_pages(alloc, pages)
     }
 
-    /// The same list once more, in the same pages.
+    /// A copy of the list, in the same pages.
     ///
     /// # Errors
     ///
@@ -156,7 +155,7 @@ impl<T: PageItem + Duplicate> Pages<T> {
         Pages::of_pages(alloc, pages)
     }
 
-    /// The list with these items in the place of the page at i.
+    /// The list with these items in place of the page at `i`.
     fn with_page(&self, alloc: Global, i: usize, items: Vec<T>) -> Result<Pages<T>, AllocError>
         requires { i ≤ length self.now }
         ensures { IfOk result (λ next. next ≡ with_page i items.items self.now) }
@@ -191,7 +190,7 @@ impl<T: PageItem + Duplicate> Pages<T> {
 }
 
 impl<T: Named> Pages<T> {
-    // Where the name goes.
+    /// Where the name goes.
     pub(crate) fn home_of(&self, name: &Name) -> usize
         requires { IsTrue (is_ordered (keyed T.name (items_of self.now))) }
         ensures value { result ≡ home T.name name.now self.now }
@@ -225,12 +224,12 @@ impl<T: Named> Pages<T> {
         true
     }
 
-    /// The list with this item bound to its name, in the place of one that the name had. This list
+    /// The list with this item bound to its name; it replaces the item that had the name. This list
     /// stays.
     ///
     /// The item goes into the last page whose first name is not above its own, or else into the
-    /// first page. That page is touched: where it has more than 64 items, it is cut from its front
-    /// into pages of 32 until at most 64 are left.
+    /// first page. That page is touched: if it has more than 64 items, pages of 32 are cut from its
+    /// front until at most 64 items are left.
     ///
     /// # Errors
     ///
@@ -244,8 +243,8 @@ impl<T: Named> Pages<T> {
         self.with_page(alloc, home, items)
     }
 
-    /// The list without the item of this name; the same one, where the name has none. This list
-    /// stays. A page that is left empty goes, and pages are never joined.
+    /// The list without the item of this name; the same list if no item has it. This list stays. A
+    /// page that is left empty goes, and pages are never joined.
     ///
     /// # Errors
     ///

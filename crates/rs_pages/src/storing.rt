@@ -32,8 +32,8 @@ impl<T: PageItem> Pages<T> {
         place_from(&mut self.pages, 0, used)
     }
 
-    /// Adds the blocks that pages were given, and are not written to yet, in the order of the pages, to
-    /// a list that has room for as many as there are pages. It takes no memory.
+    /// Adds the blocks of the placed pages that are not written yet, in the order of the pages, to a
+    /// list that has room for an extent of each page. It takes no memory.
     pub fn list_placed(&self, extents: &mut Vec<Extent>)
         requires { vec_len extents.old + length self.now ≤ vec_capacity extents.old }
         ensures items { extents.new.items ≡ extents.old.items ++ placed_extents self.now }
@@ -94,8 +94,8 @@ impl<T: PageItem> Pages<T> {
     }
 }
 
-/// Gives each touched page the lowest run of free blocks of its size, one page after the other, from
-/// the one at `start` on. It goes as deep as there are touched pages.
+/// Gives each touched page from the one at `start` on the lowest run of free blocks of its size, one
+/// page after the other. It calls itself once for each touched page.
 fn place_from<T: PageItem>(pages: &mut [Page<T>], start: usize, used: &mut Used) -> Result<(), Full>
     requires bound { start ≤ length pages.old }
     requires before { All (λ page. ¬ IsTouched page.place) (take start pages.old) }
@@ -116,7 +116,7 @@ fn place_from<T: PageItem>(pages: &mut [Page<T>], start: usize, used: &mut Used)
     Ok(())
 }
 
-/// The place of the first touched page from `start` on, or the number of pages where there is none.
+/// The place of the first touched page from `start` on, or the number of pages if none is touched.
 fn next_touched<T: PageItem>(pages: &[Page<T>], start: usize) -> usize
     requires bound { start ≤ length pages.now }
     requires before { All (λ page. ¬ IsTouched page.place) (take start pages.now) }
@@ -133,7 +133,7 @@ fn next_touched<T: PageItem>(pages: &[Page<T>], start: usize) -> usize
     pages.len()
 }
 
-/// Adds the blocks of a place, where a page was given some and is not written yet.
+/// Adds the blocks of a page that was placed and is not written yet.
 fn add_placed(extents: &mut Vec<Extent>, place: Place)
     requires { vec_len extents.old < vec_capacity extents.old }
     ensures items { extents.new.items ≡ extents.old.items ++ cons_option (placed_extent place) [] }

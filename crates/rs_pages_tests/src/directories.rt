@@ -43,7 +43,7 @@ const PAGES_BYTES: [u8; 100] = [
     0x78, 0x52, 0xb8, 0x55,
 ];
 
-// A directory of version 1.
+/// A directory of version 1.
 fn version_one() -> [u8; 156] {
     let mut bytes = [0; 156];
     bytes[..56].copy_from_slice(&FRONT);
@@ -51,7 +51,7 @@ fn version_one() -> [u8; 156] {
     bytes
 }
 
-// A directory of version 2.
+/// A directory of version 2.
 fn version_two(history: &[u8; 16]) -> [u8; 172] {
     let mut bytes = [0; 172];
     bytes[..56].copy_from_slice(&FRONT);
@@ -79,7 +79,7 @@ const PAGES: [PageRef; 2] = [
     },
 ];
 
-// Whether a directory was read with these pages, this first kept part and this begin.
+/// Whether a directory was read with these pages, this first kept part and this begin.
 fn is_read(rt: &impl Abort, read: &Directory, first: u64, begin: u64) {
     assert!(rt; read.catalogue.is_empty() && read.changes.is_empty());
     assert_eq!(rt; read.published.as_slice(), PAGES.as_slice());
@@ -88,7 +88,7 @@ fn is_read(rt: &impl Abort, read: &Directory, first: u64, begin: u64) {
     assert_eq!(rt; read.header.begin.ms(), begin);
 }
 
-// Spells a directory that was read again, in version 2.
+/// Spells a directory that was read again, in version 2.
 fn is_spelled(
     rt: &(impl Abort + AllocGlobal),
     read: &Directory,

@@ -13,7 +13,7 @@ use rs_record::Change;
 use std::process::Abort;
 use std::test::Fail;
 
-// So many changes, each at the moment of its place.
+/// `len` changes, each at the moment of its place.
 fn changes(rt: &impl AllocGlobal, len: u64) -> Result<Vec<Change>, Fail> {
     let mut items = Vec::new(rt.alloc());
     for ms in 0..len {
@@ -22,7 +22,7 @@ fn changes(rt: &impl AllocGlobal, len: u64) -> Result<Vec<Change>, Fail> {
     Ok(items)
 }
 
-// So many changes, appended one after the other.
+/// `len` changes, appended one after the other.
 fn appended(rt: &impl AllocGlobal, len: u64) -> Result<Pages<Change>, Fail> {
     let mut pages = Pages::empty(rt.alloc());
     for ms in 0..len {
@@ -31,7 +31,7 @@ fn appended(rt: &impl AllocGlobal, len: u64) -> Result<Pages<Change>, Fail> {
     Ok(pages)
 }
 
-// One page of 200 changes, as an older disk has it.
+/// One page of 200 changes, as an older disk has it.
 fn older(rt: &(impl Abort + AllocGlobal)) -> Result<Pages<Change>, Fail> {
     let items = changes(rt, 200)?;
     assert!(rt; items.len() == 200);
@@ -61,7 +61,7 @@ const APPENDED: [(usize, usize); 8] = [
 // The same of one page of 200.
 const OLDER: [(usize, usize); 6] = [(0, 1), (3, 4), (8, 3), (136, 1), (137, 1), (200, 0)];
 
-// Drops as many changes as the rows say, and looks how many pages are left, and which change is first.
+/// Drops as many changes as the rows say, and looks how many pages are left, and which change is first.
 fn drop_each(
     rt: &(impl Abort + AllocGlobal),
     pages: &Pages<Change>,
@@ -85,7 +85,7 @@ fn first_changes_are_dropped(rt: HostRuntime) -> Result<(), Fail> {
     drop_each(&rt, &older(&rt)?, &OLDER)
 }
 
-// A history of 130 changes, each at the moment of its place.
+/// A history of 130 changes, each at the moment of its place.
 fn history(rt: &(impl Abort + AllocGlobal)) -> Result<History, Fail> {
     let mut history = History::empty(rt.alloc());
     for ms in 0..130 {

@@ -51,7 +51,7 @@ const SHA256_OF_DIRECTORY: [u8; 32] = [
 // The bytes of a block.
 const BLOCK: usize = 512;
 
-// An image of 8 blocks: `abc` in block 2, the pages in blocks 3 and 4, the directory in block 5.
+/// An image of 8 blocks: `abc` in block 2, the pages in blocks 3 and 4, the directory in block 5.
 fn image(rt: &impl AllocGlobal) -> Result<Vec<u8>, Fail> {
     let parts: [(&[u8], usize); 4] = [
         (b"abc", 3 * BLOCK),
@@ -82,7 +82,7 @@ const ROWS: [(u32, u32, u64, Option<LoadFault>, u64); 10] = [
     (5, 0, 4, Some(LoadFault::Damaged), 0),
 ];
 
-// Why nothing is loaded of a disk with these bytes, if nothing is, and how many calls were made.
+/// Why nothing is loaded of a disk with these bytes, if nothing is, and how many calls were made.
 fn asked(
     rt: &impl AllocGlobal,
     bytes: &[u8],

@@ -29,7 +29,7 @@ const AT: PageRef = PageRef {
     sha256: SHA256,
 };
 
-// The deletions of `a/x` and of `c`.
+/// The deletions of `a/x` and of `c`.
 fn deletions(rt: &impl AllocGlobal) -> Result<Vec<Change>, Fail> {
     let mut items = Vec::new(rt.alloc());
     items.push(deletion(rt, b"a/x", MOMENT)?)?;
@@ -37,7 +37,7 @@ fn deletions(rt: &impl AllocGlobal) -> Result<Vec<Change>, Fail> {
     Ok(items)
 }
 
-// Puts a change in the place of the first one, whose format is as long.
+/// Replaces the first change by one whose format is as long.
 fn replace_first(rt: &impl Abort, page: &mut Page<Change>, change: Change) {
     assert!(rt; !matches!(page.place(), Place::Stored(_)));
     let Some(first) = page.items().first() else {
@@ -47,7 +47,7 @@ fn replace_first(rt: &impl Abort, page: &mut Page<Change>, change: Change) {
     page.replace(0, change);
 }
 
-// Stores a page that was given blocks of the disk.
+/// Stores a page that was given blocks of the disk.
 pub(super) fn store(
     rt: &(impl Abort + AllocGlobal),
     page: &mut Page<Change>,
@@ -61,13 +61,13 @@ pub(super) fn store(
     page.store(rt.alloc(), disk)
 }
 
-// Why no page of changes is loaded from there, if none is.
+/// Why no page of changes is loaded from there, if none is.
 fn fault_of(rt: &impl AllocGlobal, disk: &mut MemoryDisk, at: &PageRef) -> Option<LoadFault> {
     let read: Result<Page<Change>, LoadFault> = Page::load(rt.alloc(), disk, at);
     read.err()
 }
 
-// Stores a page whose first write fails, and loads it, where the first read fails.
+/// Stores a page whose first write fails, and loads it, where the first read fails.
 fn outlives_faults(
     rt: &(impl Abort + AllocGlobal),
     page: &mut Page<Change>,
@@ -116,7 +116,7 @@ const REFERENCES: [(u32, u32, u32, [u8; 32], bool); 13] = [
     (u32::MAX, 0, 0, SHA256_OF_NOTHING, false),
 ];
 
-// Whether the device is asked for a page that it doesn't hold.
+/// Whether the device is asked for a page that it doesn't hold.
 fn asks(rt: &(impl Abort + AllocGlobal), disk: &mut MemoryDisk, at: &PageRef) -> bool {
     let calls = disk.calls();
     assert_eq!(rt; fault_of(rt, disk, at), Some(LoadFault::Damaged), "{at:?}");

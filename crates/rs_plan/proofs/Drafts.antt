@@ -32,7 +32,7 @@ use Rattle.rs_model.specs.Names.{Names, by_bytes, by_order, value_of, is_above, 
 use Rattle.rs_model.specs.Regular.{is_rising, rises_from}
 use Rattle.rs_plan.specs.Room.{pages_needed}
 
--- digests are as long as all digests are
+-- digests of the right lengths
 pub record AreLong (digests : Digests) : Type 0 where
   pub md5 : length digests.md5 ≡ 16
   pub sha256 : length digests.sha256 ≡ 32
@@ -41,7 +41,7 @@ pub record AreLong (digests : Digests) : Type 0 where
 abbrev pub at : {T : Type 0} → List T → Place → Page T
 at items place = record { items = items; place = place }
 
--- A page that is filled stays where it is, has as many items, and needs as many blocks.
+-- A filled page keeps its place, its number of items and its number of blocks.
 pub record IsRefilled {T : Type 0} (format : ItemFormat T) (old new : Page T) : Type 0 where
   pub place : new.place ≡ old.place
   pub many : length new.items ≡ length old.items
@@ -51,7 +51,7 @@ pub record IsRefilled {T : Type 0} (format : ItemFormat T) (old new : Page T) : 
 abbrev pub AreRefilled : {T : Type 0} → ItemFormat T → List (Page T) → List (Page T) → Type 0
 AreRefilled format old new = AllZip (IsRefilled format) old new
 
--- where as many bytes are spelled, as many blocks are needed
+-- items of equally many bytes need equally many blocks
 page_long : {T : Type 0} (format : ItemFormat T) (a b : List T) → length (items_bytes format a) ≡ length (items_bytes format b)
     → length (page_bytes format a) ≡ length (page_bytes format b)
 page_long format a b same = omega (arith, same)
@@ -270,7 +270,7 @@ module _ {T : Type 0} (format : ItemFormat T) where
       All-cons IsUntouched y new (subst (λ (p : Place). ¬ IsTouched p) (sym h.0.place) (All-head IsUntouched x old all))
       (still_untouched old new h.1 (All-tail IsUntouched x old all))
 
--- a change that binds a name is as long with other digests
+-- a change that binds a name has the same length with other digests
 pub change_long : (digests : Digests) (name : List ℕ) (again : Bool) (moment : ℕ) (facts : Facts) → AreLong digests → AreLong facts.digests
     → length (change_bytes (change_filled digests (bound name again moment facts))) ≡ length (change_bytes (bound name again moment facts))
 change_long digests name again moment facts a b = simp length-append (omega (arith, a.md5, a.sha256, b.md5, b.sha256))
@@ -287,7 +287,7 @@ rising_again (x ∷ y ∷ before) name again moment facts facts' h =
     (rising_again (y ∷ before) name again moment facts facts'
     (second_so (nat_lt x.moment y.moment) (rises_from y.moment (before ++ bound name again moment facts ∷ [])) h))
 
--- so is a record
+-- so has a record
 record_long : (digests : Digests) (r : Record) → AreLong digests → AreLong r.digests → length (record_bytes (record_filled digests r)) ≡ length (record_bytes r)
 record_long digests r a b = omega (arith, length-record_bytes (record_filled digests r), length-record_bytes r, a.md5, a.sha256, b.md5, b.sha256)
 

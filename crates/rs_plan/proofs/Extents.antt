@@ -57,7 +57,7 @@ taken_each used after (n ∷ ns) [] takes = absurd takes
 taken_each used after (n ∷ ns) (e ∷ bodies) takes =
     taken_both used takes.0 after (e ∷ []) bodies (taken_lowest used takes.0 n e takes.1) (taken_each takes.0 after ns bodies takes.2)
 
--- so one body does that was found
+-- so does one body that was found
 pub takes_one : (used after : List Bool) (n : ℕ) (e : Extent) → IsFoundRun used n e → AreTaken used after (e ∷ []) → TakesEach used (n ∷ []) (e ∷ []) after
 takes_one used after n e found taken = (after, takes_found used after n e found (sets_taken used after e taken), refl)
 

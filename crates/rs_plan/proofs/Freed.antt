@@ -18,7 +18,7 @@ or_split : (a b : Bool) → (a || b) ≡ true → (a ≡ true) ⊎ (b ≡ true)
 or_split true b is = inl refl
 or_split false b is = inr is
 
--- What becomes of a part: of its blocks some are gone, the others stay, and others are written.
+-- What becomes of a part: some of its blocks go, the others stay, and new ones are written.
 pub record PartTurns (old gone new made : List Extent) : Type 0 where
   pub reached : IsSubset (in_some gone) (in_some old)
   pub apart : AreApart gone
@@ -26,7 +26,8 @@ pub record PartTurns (old gone new made : List Extent) : Type 0 where
   pub stays : (k : ℕ) → in_some old k ≡ true → (in_some gone k ≡ true) ⊎ (in_some new k ≡ true)
   pub written : IsSubset (in_some made) (in_some new)
 
--- What becomes of the pages of the catalogue, and of those that are only published: each that stays is one or the other.
+-- What becomes of the pages of the catalogue, and of those that are only published: each that stays is one or the
+-- other.
 pub record PagesTurn (a c ga gc a' c' pa : List Extent) : Type 0 where
   pub reached_a : IsSubset (in_some ga) (in_some a)
   pub reached_c : IsSubset (in_some gc) (in_some c)

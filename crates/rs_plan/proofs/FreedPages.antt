@@ -14,7 +14,7 @@ use Rattle.rs_pages.specs.Entries.{entry_at, open_entry}
 use Rattle.rs_pages.specs.Laws.{IsFreshPage}
 use Rattle.rs_model.specs.Names.{value_of}
 
--- Of some entries all are kept but one, if there is one.
+-- All entries are kept but one, if there is one.
 pub record LosesOne (entry : Option PageRef) (old kept : List PageRef) : Type 0 where
   pub front : List PageRef
   pub back : List PageRef

@@ -18,7 +18,7 @@ use Rattle.rs_plan.proofs.Freed.{PartTurns}
 use Rattle.rs_plan.proofs.FreedPages.{LosesOne, refs_both, none_fresh}
 use Rattle.rs_plan.specs.Turned.{no_body}
 
--- Of a list of extents some are gone, and others stand in their place.
+-- Some extents of a list are gone, and others replace them.
 pub record Replaces (old new gone made : List Extent) : Type 0 where
   pub front : List Extent
   pub back : List Extent
@@ -101,7 +101,7 @@ grown old gone kept after made turns comes stays written = record {
   written = written;
 }
 
--- the extents of entries of which one is lost
+-- the extents of entries that lose one
 pub one_extent : (entry : Option PageRef) (back : List PageRef) → extents_of (cons_option entry back) ≡ extent_of_page entry ++ extents_of back
 one_extent None back = refl
 one_extent (Some e) back = refl
@@ -139,7 +139,7 @@ same_turned a b is =
     let same : a ≡ b = λ i. record { extent = extent i; length = length i; sha256 = bytes i } in
     subst (λ (x : PageRef). same_page b x ≡ true) (sym same) (itself b)
 
--- Among entries that are apart, one that shares a block with another one is that one.
+-- An entry among some that are apart, and that shares a block with one of them, is that one.
 only_entry : (ref entry : PageRef) (front back : List PageRef) (k : ℕ) → AreApart (extents_of (front ++ entry ∷ back)) → within ref.extent k ≡ true → within entry.extent k ≡ true
     → list_any (same_page ref) (front ++ entry ∷ back) ≡ true → same_page ref entry ≡ true
 only_entry ref entry [] back k apart in_ref in_entry is = one (same_page ref entry) refl is

@@ -34,7 +34,7 @@ use Rattle.rs_plan.proofs.FromBelow.{not_true, not_both, some_first, some_split,
 use Rattle.rs_page.specs.SharedPages.{IsSublist}
 use Rattle.rs_plan.proofs.Unshared.{published_some, unshared_some, unshared_apart}
 
--- The pages of the catalogue, of which some are touched: those are freed whose entry no published page has.
+-- The catalogue loses touched pages: those are freed whose entry no published page has.
 module _ (gone old kept after published : List PageRef) (made : List Extent) (loses : LosesAll gone old kept) (apart : AreApart (extents_of old))
     (beside : AreDisjoint (in_some (extents_of old)) (in_some (extents_of (unshared published old))))
     (comes : (k : ℕ) → in_some (extents_of after) k ≡ true → (in_some (extents_of kept) k ≡ true) ⊎ (in_some made k ≡ true))
@@ -112,7 +112,7 @@ module _ (gone old kept after published : List PageRef) (made : List Extent) (lo
     written = written;
   }
 
--- Where the pages of the catalogue are published, and stay: those are freed that were only published.
+-- Where the pages of the catalogue are published and stay, the pages that were only published are freed.
 pub pages_listed : (old after published : List PageRef) (made : List Extent)
     → AreDisjoint (in_some (extents_of old)) (in_some (extents_of (unshared published old)))
     → AreApart (extents_of (unshared published old))
@@ -132,8 +132,8 @@ pages_listed old after published made beside apart comes stay written = record {
   written = written;
 }
 
--- What goes from the old lists where names change: pages of the catalogue and of the history, and bodies, in whose place these stand; and what is
--- freed is that, but for the pages that are published.
+-- What goes from the old lists where names change: pages of the catalogue and of the history, and bodies, which these
+-- replace. All of it is freed but the published pages.
 pub record ChangesNames (d : Extent) (old : Contents) (made : List Extent) (c : Contents) (freed : List Extent) : Type 0 where
   pub pages : List PageRef
   pub changes : List PageRef
@@ -145,7 +145,8 @@ pub record ChangesNames (d : Extent) (old : Contents) (made : List Extent) (c : 
   pub apart : AreApart (bodies_in c)
   pub published : c.published ≡ old.published
 
--- What goes from the old lists with a publication: nothing of the catalogue, and the pages of the history that have a change that it drops.
+-- What goes from the old lists with a publication: nothing of the catalogue, and the pages of the history with a
+-- change that it drops.
 pub record ListsAll (d : Extent) (old : Contents) (made : List Extent) (c : Contents) (freed : List Extent) : Type 0 where
   pub parts : freed ≡ joined d [] (extents_of (stored_refs (front_pages (changes_dropped old) old.history.pages))) (shown_in old) []
   pub catalogue : c.catalogue ≡ old.catalogue

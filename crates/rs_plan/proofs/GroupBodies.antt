@@ -44,7 +44,7 @@ found_in : (name : List ℕ) (r : Record) (records : List Record) (k : ℕ) → 
 found_in name r [] k is here = cc
 found_in name r (x ∷ records) k is here = found_by name r x records k (by_bytes name x.name) is (λ rest. found_in name r records k rest here) here
 
--- two tests of which neither holds
+-- two tests that both fail
 neither : (s t : Bool) → (s || t) ≡ false → (s ≡ false) × (t ≡ false)
 neither true t h = absurd (true≢false h)
 neither false t h = (refl, h)
@@ -53,7 +53,7 @@ neither false t h = (refl, h)
 differ : (name other : List ℕ) → bytes_eq other name ≡ false → name ≢ other
 differ name other h same = not_both (bytes_eq other name) ((bytes_eq-Decides other name).1 (sym same)) h
 
--- of the first item's body no block is one of a body that is not written
+-- the first item's body, if it is not written, has no blocks
 no_block_made : (old gone new : List Extent) (e : Extent) (t : Bool) → PartTurns old gone new ((if t then e else no_body) ∷ []) → PartTurns old gone new (if t then e ∷ [] else [])
 no_block_made old gone new e true turns = turns
 no_block_made old gone new e false turns = record {
@@ -78,13 +78,13 @@ made_alone : (item : Item) (body : Extent) → AreApart (made_by item body)
 made_alone (single.Put name kind bytes) body = (λ k is. refl, tt)
 made_alone (single.Delete name) body = tt
 
--- What becomes of the bodies: these go, and those that are written stand in their place, apart from the others.
+-- What becomes of the bodies: these go, and the written ones replace them, apart from the others.
 pub record BodiesTurn (old gone new made : List Extent) : Type 0 where
   pub turns : PartTurns old gone new made
   pub apart : AreApart new
 
 module _ (law : IsPageRuleKept) where
-  -- A name keeps its record where no item is of it.
+  -- A name keeps its record where no item has it.
   stays_step : (c : Contents) (item : Item) (moment : ℕ) (body : Extent) (name : List ℕ) → Ascend (λ (r : Record). r.name) c.catalogue → bytes_eq name (name_of item) ≡ false
       → value_of name (map_after item moment body (named (records_of c.catalogue))) ≡ value_of name (named (records_of c.catalogue))
   stays_step c (single.Put other kind bytes) moment body name ordered none =

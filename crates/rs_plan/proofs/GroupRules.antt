@@ -28,11 +28,11 @@ use Rattle.rs_plan.proofs.GroupStates.{model_at, held_after, HasEntries, held_as
 use Rattle.rs_plan.proofs.ItemSteps.{change_moment, change_short, records_step}
 use Rattle.rs_plan.proofs.Rules.{KeepsRules, changed}
 
--- no cause is there
+-- there is no cause
 abbrev pub IsNoCause : Bool × Refusal → Type 0
 IsNoCause cause = cause.0 ≡ false
 
--- as many resources are held as there are records
+-- the resources that are held are as many as the records
 held_many : (c : Contents) (held : Names Held) → HasEntries c held → length held ≡ length (records_of c.catalogue)
 held_many c held same =
     sym (length-map held _) ∙ ap (λ (m : Names Entry). length m) same ∙ length-map (named (records_of c.catalogue)) _ ∙ length-map (records_of c.catalogue) _

@@ -1,4 +1,4 @@
--- The states that the lists tell between the items of a group.
+-- The states of the lists between the items of a group.
 use Rattle.std.proofs.Common.{◌≡◌, ◌<◌, ◌≤◌, ℕ, ◌+◌, Bool, List, [], ◌∷◌, ◌++◌, length, map, max, Option, refl, sym, ◌∙◌, ap, subst, arith, false, ◌||◌, ap₂}
 use Rattle.std.specs.Prelude.{All, is_some, IsTrue, bytes_eq}
 use Rattle.std.specs.List.{AllZip}
@@ -47,14 +47,14 @@ name_below : (n x : List ℕ) → by_bytes n x ≡ Greater → bytes_eq x n ≡ 
 name_below n x h = sym (is_eq-slice_cmp x n) ∙ ap is_eq (swapped n x Greater h)
 
 module _ {A B : Type 0} (R : A → B → Type 0) where
-  -- the same name, whose values agree where none of these items is of it
+  -- the same name, whose values agree where no item has it
   abbrev pub IsAlike : List Item → List ℕ × A → List ℕ × B → Type 0
   IsAlike items x y = (x.0 ≡ y.0) × (is_named_in x.0 items ≡ false → R x.1 y.1)
 
   abbrev pub AreAlike : List Item → Names A → Names B → Type 0
   AreAlike items m n = AllZip (IsAlike items) m n
 
-  -- what is of another name than the first item agrees as well for the others
+  -- values of another name than the first item's agree for the later items too
   later_alike : (item : Item) (items : List Item) (x : List ℕ × A) (y : List ℕ × B) → bytes_eq x.0 (name_of item) ≡ false → IsAlike (item ∷ items) x y → IsAlike items x y
   later_alike item items x y differ h = (h.0, λ none. h.1 (ap₂ (λ (s t : Bool). s || t) differ none))
 
@@ -129,7 +129,7 @@ module _ {A B : Type 0} (R : A → B → Type 0) where
       ap₂ (λ (e : List ℕ × B) (rest : Names B). e ∷ rest)
       (ap₂ (λ (name : List ℕ) (value : B). let e : List ℕ × B = (name, value) in e) h.0.0 (same x.1 y.1 (h.0.1 refl))) (end_alike f same m n h.1)
 
--- What holds of each record holds where none of some items is of its name; and of each, where there are no items.
+-- A fact of each record holds of each that these items do not name, and so of each, where there are no items.
 pub begin_all : (P : Record → Type 0) (items : List Item) (records : List Record) → All P records
     → AreAlike (λ (r r' : Record). P r) items (named records) (named records)
 begin_all P items [] all = tt

@@ -1,4 +1,5 @@
--- What a command plans that does items one after another keeps all rules: a put and a delete do one, a group does all of its own.
+-- The plan of a command that does items one after another keeps all rules. A put and a delete do one item, a group does
+-- all its items.
 use Rattle.std.proofs.Common.{◌≡◌, inl, inr, ℕ, ◌+◌, Bool, List, [], ◌∷◌, ◌++◌, length, map, max, Result, refl, sym, ◌∙◌, ap, ap₂, subst, arith}
 use Rattle.std.specs.Prelude.{All, IfOk, IsErrOf}
 use Rattle.std.specs.List.{AllZip, AllByRecursion}

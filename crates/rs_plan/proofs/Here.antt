@@ -27,7 +27,7 @@ pub accepted : (r : Rooted) (c : Contents) (moment : ℕ) → c ≡ r.contents �
 accepted r c moment at law sound lists is later =
     record { law = law; sound = sound; lawful = subst (λ (x : Contents). IsCatalogue x.catalogue) at lists.catalogue; is_moment = is; later = later }
 
--- What holds where lists are placed, or have no room, holds of the answer of what placed them.
+-- What follows where lists are placed, or have no room, follows from the answer of placing them.
 pub answered : (IsFine : Plan → Type 0) (IsFull : Type 0) (result : Result Plan PlanFault) (used : List Bool) (bodies : List Extent) (lists final : Contents) (told : Reply) (gone : List Extent)
     → lists ≡ final → ((p : Plan) → IsPlacedFrom used bodies final told gone p → IsFine p) → (HasNoRoomFrom used bodies final → IsFull)
     → IfOk result (IsPlacedFrom used bodies lists told gone) → (IsErrOf result Full → HasNoRoomFrom used bodies lists) → IfOk result IsFine × (IsErrOf result Full → IsFull)

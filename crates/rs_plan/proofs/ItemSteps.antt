@@ -110,7 +110,7 @@ abbrev pub made_by : Item → Extent → List Extent
 made_by (single.Put name kind bytes) body = body ∷ []
 made_by (single.Delete name) body = []
 
--- a change comes at its moment, and tells of a body that is not too long
+-- a change comes at its moment, and its body is not too long
 pub change_moment : (c : Contents) (item : Item) (moment : ℕ) → (change_of_item c item moment).moment ≡ moment
 change_moment c (single.Put name kind bytes) moment = refl
 change_moment c (single.Delete name) moment = refl
@@ -174,7 +174,8 @@ module _ (law : IsPageRuleKept) where
   body_lost c (single.Delete name) moment body ordered =
       body_unbound name (records_of c.catalogue) (records_of (catalogue_after (single.Delete name) moment body c.catalogue)) (law.unbound name c.catalogue ordered).0
 
--- What is known of each body that a group writes is known of that of its first item, where it is written, and of those of the others.
+-- A fact of each body that a group writes holds of the first item's body, where it is written, and of the others'
+-- bodies.
 abbrev pub FitsItem : (Extent → List ℕ → Type 0) → Item → List Item → Extent → Type 0
 FitsItem R (single.Put name kind bytes) items e = is_named_in name items ≡ false → R e bytes
 FitsItem R (single.Delete name) items e = Unit {0}
@@ -190,7 +191,7 @@ pub fits_step : (R : Extent → List ℕ → Type 0) (item : Item) (items : List
 fits_step R (single.Put name kind bytes) items bodies all = fits_by R bytes (bodies_kept items) bodies (is_named_in name items) all
 fits_step R (single.Delete name) items bodies all = (tt, all)
 
--- the extents of bodies are that of the first item's, if it is written, and those of the others'
+-- the extents of bodies: the first item's, if its body is written, and the others'
 abbrev pub made_for : Item → List Item → List Extent → List Extent
 made_for item items bodies = if is_written item items then first_of bodies ∷ [] else []
 

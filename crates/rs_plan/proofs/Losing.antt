@@ -57,7 +57,7 @@ turns_both old gone mid made more_gone new more_made one other beside = record {
       | inr second ↦ not_both (in_some more_gone k) second b
     ])
 
--- Of some entries all are kept but these, which are some of them.
+-- All entries are kept but these, which are among them.
 pub record LosesAll (gone old kept : List PageRef) : Type 0 where
   pub part : IsSublist kept old
   pub turns : AreApart (extents_of old) → PartTurns (extents_of old) (extents_of gone) (extents_of kept) []

@@ -49,7 +49,7 @@ given_pages p = placed_extents p.contents.catalogue
 abbrev pub given_changes : Plan → List Extent
 given_changes p = placed_extents p.contents.history.pages
 
--- The parts of what a plan writes to.
+-- The parts of the blocks that a plan writes.
 pub in_bodies : (p : Plan) → IsSubset (in_some p.bodies.items) (in_some (places p))
 in_bodies p b is =
     some_front (p.bodies.items ++ given_pages p ++ given_changes p) (p.directory ∷ []) b
@@ -88,7 +88,7 @@ kept_part {T} format used used' old xs ys keeps places =
     (subst (λ (l : List PageRef). IsSublist (stored_refs (stored_pages ys)) l) (refs_kept old)
     (filter_mapped (λ page. stored_ref page.place) (stored_pages ys) (stored_pages old) pages))
 
--- What is published after a command, of which nothing was written.
+-- What is published after a command, which writes none of it.
 pub record IsUnshared (before kept after published : List PageRef) (old : List Extent) : Type 0 where
   pub comes : (b : ℕ) → in_some (extents_of (unshared published after)) b ≡ true → (in_some (extents_of before) b ≡ true) ⊎ (in_some old b ≡ true)
   pub beside : AreDisjoint (in_some (extents_of kept)) (in_some (extents_of (unshared published after)))

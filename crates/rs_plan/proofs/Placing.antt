@@ -1,4 +1,4 @@
--- Pages that are given blocks.
+-- Pages that get blocks.
 use Rattle.std.proofs.Common.{◌≡◌, inl, inr, ℕ, ◌≤◌, Bool, cond, List, [], ◌∷◌, ◌++◌, length, Option, Some, None, refl, sym, ◌∙◌, ap, ap₂, subst, arith}
 use Rattle.std.specs.Prelude.{All, IfSome, IsSome, is_some}
 use Rattle.std.specs.List.{cons_option}
@@ -33,7 +33,7 @@ places_length format used used' [] (y ∷ ys) h = absurd h
 places_length format used used' (x ∷ xs) [] h = absurd h
 places_length format used used' (x ∷ xs) (y ∷ ys) h = omega (arith, places_length format h.0 used' xs ys h.2)
 
--- Pages of the page rule, that may have been given blocks, are such pages after others of them were given blocks.
+-- Pages of the page rule that may have blocks are still such pages once more of them get blocks.
 ruled_one : {T : Type 0} (format : ItemFormat T) (used used' : List Bool) (items items' : List T) (place place' : Place) (y : Page T)
     → PlacesOne format used (at items' place') used' y → MayHavePlace (at items place) (at items' place') → MayHavePlace (at items place) y
 ruled_one format used used' items items' Touched Touched y h ruled = (h.0 ∙ ruled.0, ap stored_ref h.1.placed)
@@ -165,7 +165,7 @@ places_same {T} format used used' (x ∷ xs) (y ∷ ys) some h =
     ap₂ (λ (s : Page T) (l : List (Page T)). s ∷ l) (same_one format used h.0 x.items x.place y (All-head IsStored x xs some) h.1)
     (places_same format h.0 used' xs ys (All-tail IsStored x xs some) h.2)
 
--- no page that is stored was given blocks
+-- no stored page was given blocks
 none_one : (place : Place) (rest : List Extent) → IsSome (stored_ref place) → rest ≡ [] → cons_option (placed_extent place) rest ≡ []
 none_one Touched rest h none = none
 none_one (Placed e) rest h none = cc

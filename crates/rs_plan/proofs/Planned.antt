@@ -86,7 +86,7 @@ module _ (size : ℕ) (root : Root) (old : Contents) (sound : IsRooted (rooted s
   whole : IsWhole size root old
   whole = sound.whole
 
-  -- what the plan writes to was taken
+  -- the blocks that the plan writes were taken
   taken : AreTaken used placed.after (places p)
   taken =
       subst (λ (l : List Extent). AreTaken used placed.after (l ++ given_pages p ++ given_changes p ++ p.directory ∷ [])) (sym placed.bodies_are)
@@ -148,7 +148,7 @@ module _ (size : ℕ) (root : Root) (old : Contents) (sound : IsRooted (rooted s
   same_stored_changes : changes_of (stored change_format p.contents.history.pages) ≡ changes_of c.history.pages
   same_stored_changes = stored_items change_format p.contents.history.pages ∙ same_changes
 
-  -- the state that the lists tell
+  -- the state of the lists
   turns : (image : List ℕ) → AreBodies image p.bodies.items (bodies_of_command command)
       → state_in image p.contents ≡ next_state (state_in image old) command moment
   turns image there =

@@ -30,7 +30,7 @@ use Rattle.rs_plan.specs.Turned.{lists_with, lists_after_item, lists_after_put}
 use Rattle.rs_model.specs.declared.command.Reply.TheVariants as replies
 use Rattle.rs_model.specs.declared.command.Item.TheVariants as single
 
--- a reply tells what the put did
+-- a reply says what the put did
 told : (again : Bool) (moment : ℕ) → reply_that (binding again) moment ≡ if again then replies.Updated moment else replies.Created moment
 told true moment = refl
 told false moment = refl
@@ -47,7 +47,7 @@ put_told image old c name kind bytes moment facts reply changes is =
     here ∙ told again moment
     ∙ ap (λ (b : Bool). if b then replies.Updated moment else replies.Created moment) (sym (held_named image name (records_of old.catalogue)))
 
--- there is a change to tell of
+-- there is a last change
 pub some_change : (old c : Contents) (change : Change) → changes_of c.history.pages ≡ changes_of old.history.pages ++ change ∷ [] → 1 ≤ length (changes_of c.history.pages)
 some_change old c change is = omega (arith, ap (λ (l : List Change). length l) is, length-append (changes_of old.history.pages) (change ∷ []))
 

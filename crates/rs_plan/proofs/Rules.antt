@@ -1,4 +1,4 @@
--- The rules that lists keep after a command, but for where their pages are.
+-- The rules that lists keep after a command, whatever the places of their pages.
 use Rattle.std.proofs.Common.{◌≡◌, ℕ, ◌-◌, ◌<◌, ◌≤◌, List, [], ◌∷◌, ◌++◌, length, max, Option, Some, refl, sym, ◌∙◌, ap, subst, arith}
 use Rattle.std.specs.Prelude.{All, MatchOption, IfSome, slice_get}
 use Rattle.std.proofs.lemmas.List.{length-append}
@@ -16,7 +16,7 @@ use Rattle.rs_directory.specs.Directory.{IsLawfulHeader, written_format}
 use Rattle.rs_image.specs.declared.contents.Contents.{Contents}
 use Rattle.rs_image.specs.Whole.{IsWhole, IsSoundRecord, IsSoundChange, AreMoments}
 
--- What lists keep whose records are looked at elsewhere.
+-- What lists keep, without the rules of their records.
 pub record KeepsRules (c : Contents) : Type 0 where
   pub header : IsLawfulHeader written_format c.header
   pub moments : AreMoments c.header c

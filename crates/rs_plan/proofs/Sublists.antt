@@ -1,4 +1,4 @@
--- Lists of which another one has some elements, in their order.
+-- Sublists: some elements of a list, in its order.
 use Rattle.std.proofs.Common.{true≢false, ◌≡◌, inl, inr, ℕ, Bool, true, false, ◌||◌, cond, List, [], ◌∷◌, map, Option, Some, None, refl, sym, ◌∙◌, ap, subst}
 use Rattle.std.specs.Prelude.{All, filter, filter_map}
 use Rattle.std.specs.List.{cons_option, list_any}

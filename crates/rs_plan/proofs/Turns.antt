@@ -1,4 +1,4 @@
--- The state that lists tell, and that after a publication.
+-- The state of lists, and the state after a publication.
 use Rattle.std.proofs.Common.{◌≡◌, ℕ, List, [], ◌∷◌, map, Option, Some, None, refl, ◌∙◌, ap, ap₂}
 use Rattle.std.specs.Prelude.{is_some, option_map}
 use Rattle.rs_record.specs.declared.record.Record.{Record}

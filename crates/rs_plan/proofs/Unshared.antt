@@ -106,7 +106,8 @@ unshared_itself (ref ∷ refs) =
     ap (λ (t : Bool). cond (not (t || list_any (same_page ref) refs)) (ref ∷ unshared refs (ref ∷ refs)) (unshared refs (ref ∷ refs))) (itself ref)
     ∙ shared_more refs refs (ref ∷ refs) (skipped refs refs ref (itself_all refs)) (unshared_itself refs)
 
--- Of pages that are apart, only the one that is the same as a page has a block of that page: where a kept one has such a block, it is that one.
+-- A page among some that are apart shares a block only with itself: where a kept page has such a block, it is that
+-- page.
 abbrev KeepsShared : PageRef → ℕ → List PageRef → List PageRef → Type 0
 KeepsShared ref b kept before =
     IsSublist kept before → AreApart (extents_of before) → list_any (same_page ref) before ≡ true → in_some (extents_of kept) b ≡ true → list_any (same_page ref) kept ≡ true
@@ -135,7 +136,8 @@ kept_shared ref b here (k ∷ kept) (x ∷ before) of_before apart shared is =
       | inr skips ↦ later skips apart.1 shared is
     ]
 
--- A block of a page that is kept, if a published page has it that is not shared after, is that of one that was not shared before.
+-- Where a kept page shares a block with a published page that is not shared after, it did so with one that was not
+-- shared before.
 unshared_before : (refs before after kept : List PageRef) (b : ℕ) → IsSublist kept before → IsSublist kept after → AreApart (extents_of before)
     → in_some (extents_of kept) b ≡ true → in_some (extents_of (unshared refs after)) b ≡ true → in_some (extents_of (unshared refs before)) b ≡ true
 unshared_before [] before after kept b of_before of_after apart here is = is
@@ -156,7 +158,7 @@ unshared_before (ref ∷ refs) before after kept b of_before of_after apart here
       | inr there ↦ still ref (unshared refs before) b (list_any (same_page ref) before) (rest there)
     ]
 
--- So no published page that is not shared after has a block of a page that is kept, where none did before.
+-- So kept pages stay apart from the published pages that are not shared.
 pub beside_kept : (refs before after kept : List PageRef) → IsSublist kept before → IsSublist kept after → AreApart (extents_of before)
     → AreDisjoint (in_some (extents_of before)) (in_some (extents_of (unshared refs before)))
     → AreDisjoint (in_some (extents_of kept)) (in_some (extents_of (unshared refs after)))

@@ -30,15 +30,15 @@ pub record MayDelete (c : Contents) (name : List ℕ) (moment : ℕ) : Type 0 wh
   pub held : IsSome (value_of name (named (records_of c.catalogue)))
   pub change : MayChange c moment
 
--- how many parts of these lists a publication drops
+-- the number of parts of the history that a publication drops
 abbrev pub parts_dropped : Contents → ℕ
 parts_dropped c = passed_by c.header.at (changes_of c.history.pages) / c.header.limit
 
--- how many changes these parts have
+-- the number of changes in these parts
 abbrev pub changes_dropped : Contents → ℕ
 changes_dropped c = parts_dropped c * c.header.limit
 
--- The next publication has a number, so has the first part that it keeps, and it has a moment after the last command.
+-- The next publication and the first part that it keeps have numbers left, and it comes after the last command.
 pub record MayPublish (c : Contents) (moment : ℕ) : Type 0 where
   pub parts : c.header.first + parts_dropped c ≤ greatest
   pub number : c.header.number + 1 < 2 ^ 64
@@ -54,8 +54,8 @@ abbrev pub IsShort : Item → Type 0
 IsShort (single.Put name kind bytes) = length bytes ≤ longest_body
 IsShort (single.Delete name) = Unit {0}
 
--- A group of these items may be done at this moment: the model accepts it in the state that the lists tell of some image (of which
--- that does not depend), and it is later than the last command.
+-- A group of these items may be done at this moment: the model accepts it in the state of the lists with the bodies of
+-- some image (which image makes no difference), and it is later than the last command.
 pub record MayGroup (c : Contents) (items : List Item) (moment : ℕ) : Type 0 where
   pub image : List ℕ
   pub accepted : refusal_of (state_in image c) (Group items) moment ≡ None

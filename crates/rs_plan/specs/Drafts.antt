@@ -51,8 +51,8 @@ pub record IsDraft (r : Rooted) (name kind : List ℕ) (n moment : ℕ) (p : Pla
   pub awaits : AwaitsBody name p
   pub planned : IsDraftOf r name kind n moment p
 
--- What the page rule keeps of the lists of a draft, and of a group: the item that is bound or appended stands in a page that is not stored, and filling it
--- gives the pages that have it filled from the start.
+-- What the page rule keeps in the lists of a draft and of a group: the item that is bound or appended stands in a page
+-- that is not stored, and filling it gives the pages that have it filled from the start.
 pub record IsPageRuleKept : Type 0 where
   pub bound : BindsAsOne (λ (r : Record). r.name)
   pub unbound : UnbindsAsOne (λ (r : Record). r.name)

@@ -49,16 +49,16 @@ abbrev pub freed_by_change : Rooted → List ℕ → List Extent
 freed_by_change old name =
     old.root.directory ∷ freed_page old.contents name ++ freed_history_page old.contents name ++ extent_of_body old.contents name
 
--- What a group frees, whose first item comes at this moment, and whose bodies stand in these extents: the directory, and what each of its items
--- does in the lists before it.
+-- What a group frees whose first item comes at this moment, and whose bodies stand in these extents: the directory, and
+-- what each of its items frees in the lists before it.
 abbrev pub freed_by_group : Rooted → List Item → ℕ → List Extent → List Extent
 freed_by_group old items moment bodies =
     old.root.directory
     ∷ of_each_item freed_page old.contents items moment bodies ++ of_each_item freed_history_page old.contents items moment bodies
     ++ of_each_item extent_of_body old.contents items moment bodies
 
--- What a publication frees: the directory, the pages of the history that have a change that it drops, and the published pages that are
--- no pages of the catalogue.
+-- What a publication frees: the directory, the pages of the history with a change that it drops, and the published
+-- pages that are not catalogue pages.
 abbrev pub freed_by_publication : Rooted → List Extent
 freed_by_publication old =
     old.root.directory

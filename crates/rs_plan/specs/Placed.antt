@@ -1,4 +1,4 @@
--- How the lists after a command are given blocks.
+-- How the lists after a command get blocks.
 use Rattle.std.specs.Prelude.{◌≡◌, ℕ, Bool, List, [], ◌∷◌, ◌++◌, length, All}
 use Rattle.rs_extent.specs.declared.Extent.{Extent}
 use Rattle.rs_fixity.specs.Digests.{digests}
@@ -24,7 +24,7 @@ record_of_body name kind n digests body moment =
 abbrev pub record_made : List ℕ → List ℕ → List ℕ → Extent → ℕ → Record
 record_made name kind bytes body moment = record_of_body name kind (length bytes) (digests bytes) body moment
 
--- what is known of a body of n bytes, with these digests
+-- the facts of a body of n bytes, with these digests
 abbrev pub facts_of_body : List ℕ → ℕ → Digests → Facts
 facts_of_body kind n digests = record { kind = kind; length = n; digests = digests }
 
@@ -33,8 +33,8 @@ pub record AreUnplaced (c : Contents) : Type 0 where
   pub catalogue : placed_extents c.catalogue ≡ []
   pub history : placed_extents c.history.pages ≡ []
 
--- The pages of these lists, and then their directory, took blocks of a disk: first those of the catalogue, then those of
--- the history. Nothing else of the lists changed.
+-- The pages of these lists, and then their directory, took blocks of a disk: first those of the catalogue, then those
+-- of the history. Nothing else of the lists changed.
 pub record HasItsPlaces (used : List Bool) (bodies : List Extent) (c : Contents) (p : Plan) : Type 0 where
   pub after_catalogue : List Bool
   pub after_history : List Bool

@@ -1,4 +1,4 @@
--- What is found for lists behind the bodies of a command, which have their blocks already.
+-- Blocks for the lists after a command whose bodies have theirs already.
 use Rattle.std.specs.Prelude.{◌≡◌, Bool, List}
 use Rattle.rs_extent.specs.declared.Extent.{Extent}
 use Rattle.rs_extent.specs.Extents.{AreTaken}
@@ -10,8 +10,8 @@ use Rattle.rs_plan.specs.Room.{HasNoRoom, lists_needed}
 use Rattle.rs_plan.specs.Placed.{HasItsPlaces}
 use Rattle.rs_plan.specs.Plans.{places}
 
--- A plan has bodies that are free; then its pages and its directory take blocks, and all these are listed. It has this reply, and
--- frees these extents. The lists are those of a disk.
+-- A plan has bodies in free blocks; then its pages and its directory take blocks. It lists all these blocks, has this
+-- reply, and frees these extents. Its lists are those of a disk.
 pub record IsPlacedFrom (used : List Bool) (bodies : List Extent) (c : Contents) (told : Reply) (gone : List Extent) (p : Plan) : Type 0 where
   pub after_bodies : List Bool
   pub takes : AreTaken used after_bodies bodies
@@ -21,7 +21,7 @@ pub record IsPlacedFrom (used : List Bool) (bodies : List Extent) (c : Contents)
   pub freed : p.freed.items ≡ gone
   pub lists : AreLists c
 
--- With bodies taken that are free, there is no room for lists.
+-- Once the bodies have taken their free blocks, there is no room for the lists.
 pub record HasNoRoomFrom (used : List Bool) (bodies : List Extent) (c : Contents) : Type 0 where
   pub after_bodies : List Bool
   pub takes : AreTaken used after_bodies bodies

@@ -1,4 +1,4 @@
--- What a command is about to write.
+-- What a command writes.
 use Rattle.std.specs.Prelude.{◌≡◌, ◌⊎◌, ℕ, Bool, true, not, ◌&&◌, ◌||◌, List, [], ◌∷◌, ◌++◌, length, All, None}
 use Rattle.std.specs.List.{AllZip}
 use Rattle.rs_extent.specs.declared.Extent.{Extent}
@@ -46,10 +46,10 @@ abbrev pub AreChanged : Contents → Contents → Contents → Type 0
 AreChanged next old c =
     MayHavePlaces next.catalogue c.catalogue × MayHavePlaces next.history.pages c.history.pages × (c.published ≡ old.published)
 
--- The pages after a command at its moment, whose bodies stand in these extents, are those of the page rule: a record is bound or unbound
--- in the pages of the catalogue, and a change is appended to those of the history; by a group so for each of its items. A
--- publication lists the pages of the catalogue, touches none of them, and drops the first changes of the history; any other command
--- leaves what is published.
+-- The pages after a command at its moment, whose bodies stand in these extents, are those of the page rule: a record is
+-- bound or unbound in the pages of the catalogue, and a change is appended to those of the history; by a group so for
+-- each of its items. A publication lists the pages of the catalogue, touches none of them, and drops the first changes
+-- of the history; any other command leaves what is published.
 abbrev pub ArePagesAfter : Contents → Command → ℕ → List Extent → Contents → Type 0
 ArePagesAfter old (Put name kind bytes) moment bodies c = AreChanged (lists_after_item old (single.Put name kind bytes) moment (first_of bodies)) old c
 ArePagesAfter old (Delete name) moment bodies c = AreChanged (lists_after_item old (single.Delete name) moment no_body) old c
@@ -58,8 +58,8 @@ ArePagesAfter old Publish moment bodies c =
     × (c.published ≡ old.catalogue)
 ArePagesAfter old (Group items) moment bodies c = AreChanged (lists_after_items old items moment bodies) old c
 
--- The lists after a command at its moment: where its bodies stand in these extents, they tell the next state, of whatever the old
--- lists tell; and their stored pages are pages of the old ones.
+-- The lists after a command at its moment: where its bodies stand in these extents, their state is the one that follows
+-- the state of the old lists; and their stored pages are pages of the old ones.
 pub record IsNext (old : Contents) (command : Command) (moment : ℕ) (bodies : List Extent) (c : Contents) : Type 0 where
   pub turns : (image : List ℕ) → AreBodies image bodies (bodies_of_command command)
       → state_in image c ≡ next_state (state_in image old) command moment
@@ -67,8 +67,9 @@ pub record IsNext (old : Contents) (command : Command) (moment : ℕ) (bodies : 
   pub history : KeepsPages old.history.pages c.history.pages
   pub pages : ArePagesAfter old command moment bodies c
 
--- A command lacks room: with those blocks used that the root reaches, one of its bodies has no run, each being given the lowest of its
--- own size in turn; or they have, and then the pages that it touches and its directory have not all one.
+-- A command lacks room. The blocks that the root reaches are used, and each body in turn takes the lowest run of its
+-- size. Either one of them has no run, or all have one, and then not all of the touched pages and the directory have
+-- one.
 pub record LacksRoom (old : Rooted) (command : Command) (moment : ℕ) : Type 0 where
   pub used : List Bool
   pub are_used : AreUsed old used
@@ -86,7 +87,7 @@ once_stored c =
       published = c.published;
     }
 
--- what a plan writes to, in the order in which it was found: the bodies, the catalogue pages, the change pages, the directory
+-- the blocks that a plan writes, in the order in which it found them: bodies, catalogue pages, change pages, directory
 abbrev pub places : Plan → List Extent
 places p =
     p.bodies.items ++ placed_extents p.contents.catalogue ++ placed_extents p.contents.history.pages ++ p.directory ∷ []
@@ -99,9 +100,9 @@ planned_listing p = listing written_format (once_stored p.contents)
 abbrev pub planned_root : Root → Plan → Root
 planned_root root p = next root p.directory (length (planned_listing p)) (digests (planned_listing p)).sha256
 
--- Each part of a plan is given the lowest run of its size, in the order of `places`: with those blocks used that the root
--- reaches, first its bodies; then, of lists whose touched pages have no place yet, the catalogue pages and the change pages;
--- then the directory.
+-- Each part of a plan gets the lowest run of its size, in the order of `places`, where the blocks that the root reaches
+-- are used: first its bodies; then the catalogue pages and the change pages of lists whose touched pages have no place
+-- yet; then the directory.
 pub record TakesInTurn (old : Rooted) (command : Command) (p : Plan) : Type 0 where
   pub used : List Bool
   pub after_bodies : List Bool
@@ -111,8 +112,9 @@ pub record TakesInTurn (old : Rooted) (command : Command) (p : Plan) : Type 0 wh
   pub unplaced : AreUnplaced lists
   pub placed : HasItsPlaces after_bodies p.bodies.items lists p
 
--- What a plan takes and gives back: its places are listed; what it gives back is reached by the old root, no two things of it with a
--- block in common; and the next root reaches what the old one reached, less what is given back, and the places.
+-- What a plan takes and gives back: its places are listed; what it gives back is reached by the old root, no two things
+-- of it with a block in common; and the next root reaches what the old one reached, less what is given back, and the
+-- places.
 pub record TakesAndGives (old : Rooted) (p : Plan) : Type 0 where
   pub taken : p.taken.items ≡ places p
   pub apart : AreApart p.freed.items
@@ -120,9 +122,9 @@ pub record TakesAndGives (old : Rooted) (p : Plan) : Type 0 where
   pub next : (b : ℕ) → is_kept (planned_root old.root p) (once_stored p.contents) b
       ≡ ((is_kept old.root old.contents b && not (in_some p.freed.items b)) || in_some (places p) b)
 
--- A plan leads from these lists to those after a command, and has its reply: what it writes goes into blocks that the root does
--- not reach, no two parts of it into the same; each part has a place of its size, the lowest that there is in its turn; what
--- the next root no longer reaches is given back; and what it reaches keeps all rules.
+-- A plan leads from these lists to those after a command, and has its reply: what it writes goes into blocks that the
+-- root does not reach, no two parts of it into the same; each part has a place of its size, the lowest that there is in
+-- its turn; what the next root no longer reaches is given back; and what it reaches keeps all rules.
 pub record IsPlanned (old : Rooted) (command : Command) (moment : ℕ) (p : Plan) : Type 0 where
   pub next : IsNext old.contents command moment p.bodies.items p.contents
   pub reply : (image : List ℕ) → p.reply ≡ reply_to (state_in image old.contents) command moment

@@ -17,7 +17,8 @@ published_header c moment =
       begin = last_moment c.header.begin (take (changes_dropped c) (changes_of c.history.pages));
     }
 
--- the lists after a publication at this moment: the catalogue is published, and the first parts of the history are dropped
+-- the lists after a publication at this moment: the catalogue is published, and the first parts of the history are
+-- dropped
 abbrev pub lists_after_publish : Contents → ℕ → Contents
 lists_after_publish c moment =
     record {

@@ -1,4 +1,4 @@
--- What a change tells of the command that made it.
+-- The reply to a command, by the change that it made.
 use Rattle.std.specs.Prelude.{ℕ}
 use Rattle.rs_record.specs.declared.change.Change.{Change}
 use Rattle.rs_record.specs.declared.change.What.{What}

@@ -1,4 +1,4 @@
--- Which blocks a command has to find, and when there are none.
+-- The blocks that a command needs, and what it means that there are none.
 use Rattle.std.specs.Prelude.{◌≡◌, ◌⊎◌, ◌≤◌, ◌+◌, ◌++◌, ℕ, Bool, true, not, is_some, if◌then◌else◌, List, [], ◌∷◌, length, map, filter, bytes_eq}
 use Rattle.std.specs.List.{list_any}
 use Rattle.rs_extent.specs.declared.Extent.{Extent}
@@ -37,17 +37,17 @@ abbrev pub HasNoRoom : List Bool → List ℕ → Type 0
 HasNoRoom used [] = ⊥
 HasNoRoom used (n ∷ ns) = HasNoRun used n ⊎ ((used' : List Bool) × (extent : Extent) × Takes used n extent used' × HasNoRoom used' ns)
 
--- how many blocks each page needs that is not stored
+-- the number of blocks of each page that is not stored
 abbrev pub pages_needed : {T : Type 0} → ItemFormat T → List (Page T) → List ℕ
 pages_needed format pages = map (λ page. blocks_needed format page.items) (filter (λ page. not (is_some (stored_ref page.place))) pages)
 
--- how many blocks the pages and the directory of these lists need, in the order in which they are found
+-- the numbers of blocks of the pages and the directory of these lists, in the order in which they are found
 abbrev pub lists_needed : Contents → List ℕ
 lists_needed c =
     pages_needed record_format c.catalogue ++ pages_needed change_format c.history.pages
     ++ blocks_of (directory_length c.header (length c.catalogue + length c.history.pages + length c.published)) ∷ []
 
--- a later item of a group is of this name
+-- a later item of a group has this name
 abbrev pub is_named_in : List ℕ → List Item → Bool
 is_named_in name items = list_any (λ item. bytes_eq name (name_of item)) items
 
@@ -57,14 +57,14 @@ bodies_kept [] = []
 bodies_kept (single.Put name kind bytes ∷ items) = if is_named_in name items then bodies_kept items else bytes ∷ bodies_kept items
 bodies_kept (single.Delete name ∷ items) = bodies_kept items
 
--- the bodies that a command writes, in the order in which it does
+-- the bodies that a command writes, in the order of writing
 abbrev pub bodies_of_command : Command → List (List ℕ)
 bodies_of_command (Put name kind bytes) = bytes ∷ []
 bodies_of_command (Delete name) = []
 bodies_of_command Publish = []
 bodies_of_command (Group items) = bodies_kept items
 
--- how many blocks each of these bodies needs
+-- the number of blocks of each of these bodies
 abbrev pub bodies_needed : List (List ℕ) → List ℕ
 bodies_needed bodies = map (λ bytes. blocks_of (length bytes)) bodies
 

@@ -77,23 +77,23 @@ abbrev pub is_written : Item → List Item → Bool
 is_written (single.Put name kind bytes) items = not (is_named_in name items)
 is_written (single.Delete name) items = false
 
--- Of these extents, in which the bodies stand that are written, the one of the body of an item, where later ones follow it; a body that
--- is not written has none.
+-- The extent of an item's body among those of the bodies that are written from this item on; a body that is not written
+-- has none.
 abbrev pub extent_for : Item → List Item → List Extent → Extent
 extent_for item items bodies = if is_written item items then first_of bodies else no_body
 
--- those of the later items
+-- the extents of the later items' bodies
 abbrev pub extents_left : Item → List Item → List Extent → List Extent
 extents_left item items bodies = if is_written item items then others_of bodies else bodies
 
--- The lists after these items, the first of them at this moment and each other one millisecond after the one before it. The bodies
--- that no later item replaces or deletes stand in these extents, in their order; any other has none.
+-- The lists after these items, the first of them at this moment and each other one millisecond after the one before it.
+-- The bodies that no later item replaces or deletes stand in these extents, in their order; any other has none.
 abbrev pub lists_after_items : Contents → List Item → ℕ → List Extent → Contents
 lists_after_items old [] moment bodies = old
 lists_after_items old (item ∷ items) moment bodies =
     lists_after_items (lists_after_item old item moment (extent_for item items bodies)) items (moment + 1) (extents_left item items bodies)
 
--- what a property of the lists and of a name gives of each item, in the lists before it
+-- the extents that a function of the lists and a name gives for each item, in the lists before it
 abbrev pub of_each_item : (Contents → List ℕ → List Extent) → Contents → List Item → ℕ → List Extent → List Extent
 of_each_item f old [] moment bodies = []
 of_each_item f old (item ∷ items) moment bodies =

@@ -1,9 +1,9 @@
-//! What a command of a source is about to write, and where on its disk.
+//! What a command of a source writes, and where on its disk.
 //!
-//! A [`Plan`] has the lists after a command, and blocks for each part that has to be written: the
+//! A [`Plan`] has the lists after a command, and blocks for each part that the command writes: the
 //! bodies, the touched pages and the directory. [`plan_put`], [`plan_delete`], [`plan_publish`] and
-//! [`plan_group`] make one from the lists in memory, without a word to the disk, or find that it has
-//! no room.
+//! [`plan_group`] make one from the lists in memory, without a call of the disk, or find that the
+//! disk has no room.
 #![tactic(auto)]
 
 mod plan;

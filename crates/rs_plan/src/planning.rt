@@ -1,5 +1,5 @@
-//! How a command is planned: which lists it leads to, which blocks its writes take, and which ones it
-//! gives back.
+//! Planning a command: the lists after it, the blocks that its writes take, and those that it gives
+//! back.
 
 ghost use Rattle.std.specs.Prelude.{◌≡◌, ℕ, List, length, IfOk, IsErrOf};
 ghost use Rattle.rs_model.specs.declared.command.Command.TheVariants.{Put, Delete, Publish};
@@ -33,7 +33,7 @@ use rs_pages::laws::{
     first_items_are_dropped_as_one, items_are_filled_as_one, last_items_are_filled,
     one_page_is_touched, pages_are_one_list, pages_are_one_map,
 };
-use rs_record::{Change, MediaType, Name, Record};
+use rs_record::{Change, MOST_ITEMS, MediaType, Name, Record};
 use rs_time::Moment;
 use std::alloc::{AllocError, Global};
 use thiserror::Error;
@@ -41,7 +41,7 @@ use thiserror::Error;
 /// Why a command has no plan.
 #[derive(Clone, Copy, Debug, PartialEq, Eq, Error)]
 pub enum PlanFault {
-    /// Something that has to be written has no run of free blocks.
+    /// A part that the command writes has no run of free blocks.
     #[error("the disk is full")]
     Full,
     /// A growth of memory was refused.
@@ -69,15 +69,15 @@ impl From<AllocError> for PlanFault {
     }
 }
 
-/// Plans to bind a name to a body of this media type, of `body_length` bytes, whose digests are not
-/// known yet, at this moment: [`Plan::fill`] gives them to the plan. The command is one that a
-/// source accepts. The set has the blocks in use, and is as it was when this returns.
+/// Plans to bind a name, at this moment, to a body of this media type and of `body_length` bytes,
+/// whose digests are not known yet: [`Plan::fill`] fills them in. A source accepts the command.
+/// `used` has the blocks in use, and does not change.
 ///
 /// # Errors
 ///
-/// - [`PlanFault::Full`] where the body, a page or the directory has no run of free blocks; where
-///   the body has none, whatever memory there is.
-/// - [`PlanFault::NoMemory`] where a growth of memory is refused.
+/// - [`PlanFault::Full`] where the body, a page or the directory has no run of free blocks. Where
+///   the body has none, it is always this fault.
+/// - [`PlanFault::NoMemory`] where memory is refused.
 pub fn draft_put(
     alloc: Global,
     used: &mut Used,
@@ -117,20 +117,20 @@ pub fn draft_put(
     place_lists(alloc, used, bodies, lists, reply, freed)
 }
 
-/// In the place of digests that are not known yet.
+/// In place of digests that are not known yet.
 const UNKNOWN: Digests = Digests {
     md5: [0; 16],
     sha256: [0; 32],
 };
 
-/// Plans to bind a name to these bytes, of this media type, at this moment. The command is one that
-/// a source accepts. The set has the blocks in use, and is as it was when this returns.
+/// Plans to bind a name, at this moment, to these bytes of this media type. A source accepts the
+/// command. `used` has the blocks in use, and does not change.
 ///
 /// # Errors
 ///
-/// - [`PlanFault::Full`] where the body, a page or the directory has no run of free blocks; where
-///   the body has none, whatever memory there is.
-/// - [`PlanFault::NoMemory`] where a growth of memory is refused.
+/// - [`PlanFault::Full`] where the body, a page or the directory has no run of free blocks. Where
+///   the body has none, it is always this fault.
+/// - [`PlanFault::NoMemory`] where memory is refused.
 pub fn plan_put(
     alloc: Global,
     used: &mut Used,
@@ -155,13 +155,13 @@ pub fn plan_put(
     Ok(plan)
 }
 
-/// Plans to unbind a name that is held, at this moment. The command is one that a source accepts.
-/// The set has the blocks in use, and is as it was when this returns.
+/// Plans to unbind a held name, at this moment. A source accepts the command. `used` has the blocks
+/// in use, and does not change.
 ///
 /// # Errors
 ///
 /// - [`PlanFault::Full`] where a page or the directory has no run of free blocks.
-/// - [`PlanFault::NoMemory`] where a growth of memory is refused.
+/// - [`PlanFault::NoMemory`] where memory is refused.
 pub fn plan_delete(
     alloc: Global,
     used: &mut Used,
@@ -184,14 +184,14 @@ pub fn plan_delete(
     place_lists(alloc, used, Vec::new(alloc), lists, reply, freed)
 }
 
-/// Plans to list all resources that are held, at this moment, and to drop the parts of the changes
-/// that end no later than the publication before. The command is one that a source accepts. The set
-/// has the blocks in use, and is as it was when this returns.
+/// Plans to publish all held resources, at this moment, and to drop the parts of the changes that end
+/// no later than the publication before. A source accepts the command. `used` has the blocks in use,
+/// and does not change.
 ///
 /// # Errors
 ///
 /// - [`PlanFault::Full`] where a page or the directory has no run of free blocks.
-/// - [`PlanFault::NoMemory`] where a growth of memory is refused.
+/// - [`PlanFault::NoMemory`] where memory is refused.
 pub fn plan_publish(
     alloc: Global,
     used: &mut Used,
@@ -213,7 +213,7 @@ pub fn plan_publish(
     place_lists(alloc, used, Vec::new(alloc), lists, reply, freed)
 }
 
-/// What the page rule keeps of the lists of a draft, and of a group.
+/// What the page rule keeps in the lists of a draft and of a group.
 fn page_rule_is_kept()
     ensures { IsPageRuleKept }
 {
@@ -224,11 +224,11 @@ fn page_rule_is_kept()
     last_items_are_filled::<Change>();
 }
 
-/// What the types of these lists and of this moment keep. Reading them shows it.
+/// What the types of these lists and of this moment keep.
 fn types_are_kept(contents: &Contents, moment: Moment)
     ensures lists { AreLists contents.now }
     ensures moment { IsMoment moment }
 {
-    contents.page_count();
-    moment.ms();
+    prove!(contents.page_count() <= 3 * MOST_ITEMS);
+    prove!(moment.ms() <= Moment::GREATEST);
 }

@@ -19,7 +19,7 @@ use Rattle.rs_record.proofs.Changes.{change_of, same_change}
 use Rattle.rs_record.proofs.FieldLaws.{AreBytes, Takes, IsFormat, bind_some, takes_as, concat-onto, one_more, text, moment, bytes-rest}
 use Rattle.rs_record.proofs.FormatLaws.{facts}
 
--- a byte that stands for a binding is the byte of that binding
+-- 1 and 2 are the bytes of the two bindings
 binding_byte : (what : ℕ) (one two : Bool) → (what == 1) ≡ one → (what == 2) ≡ two → IsTrue (one || two) → what ≡ what_byte (binding two)
 binding_byte what one true e f h = eqb-true what 2 f
 binding_byte what true false e f h = eqb-true what 1 e

@@ -20,7 +20,7 @@ either : (a b : Bool) → IsTrue (a || b) → (a ≡ true) ⊎ (b ≡ true)
 either true b h = inl refl
 either false b h = inr h
 
--- a hexadecimal digit stands for itself
+-- a hexadecimal digit is plain
 hex_plain : (c : ℕ) → IsTrue (is_hex c) → IsTrue (is_plain c)
 hex_plain c h = grind (arith, nat_tests)
 

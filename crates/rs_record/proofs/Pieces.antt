@@ -6,7 +6,7 @@ use Rattle.std.specs.Int.{w32, w64, to_be_bytes}
 use Rattle.rs_record.specs.Format.{counted_text, record_bytes}
 use Rattle.rs_record.specs.declared.record.Record.{Record}
 
--- with the rest it is the whole, for which there is room
+-- with the rest it is the whole, and the whole has room
 pub record IsAppended (written rest whole : List ℕ) (size room : ℕ) : Type 0 where
   pub text : written ++ rest ≡ whole
   pub fits : size ≤ room

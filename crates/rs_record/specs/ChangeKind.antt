@@ -4,7 +4,7 @@ use Rattle.rs_record.specs.declared.facts.Facts.{Facts}
 use Rattle.rs_record.specs.declared.change.What.{What}
 use Rattle.rs_record.specs.declared.change.What.TheVariants.{Created, Updated, Deleted}
 
--- there are facts unless the resource was deleted
+-- a change has facts unless the resource was deleted
 abbrev pub agree : What → Option Facts → Bool
 agree Created facts = is_some facts
 agree Updated facts = is_some facts

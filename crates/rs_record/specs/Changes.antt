@@ -6,7 +6,7 @@ use Rattle.rs_record.specs.declared.change.What.{What}
 use Rattle.rs_record.specs.declared.change.What.TheVariants.{Created, Updated, Deleted}
 use Rattle.rs_record.specs.declared.change.Change.{Change}
 
--- what happens where a name is bound that was bound before, or was not
+-- what binding a name is: an update where it was bound before, else a creation
 abbrev pub binding : Bool → What
 binding again = if again then Updated else Created
 
@@ -14,7 +14,7 @@ pub binding_agrees : (again : Bool) (facts : Facts) → IsTrue (agree (binding a
 binding_agrees true facts = refl
 binding_agrees false facts = refl
 
--- the name was bound to these facts, in the place of others where it was bound before
+-- the name was bound to these facts, again where it was bound before
 abbrev pub bound : List ℕ → Bool → ℕ → Facts → Change
 bound name again moment facts =
     record { name = name; what = binding again; moment = moment; facts = Some facts; agreed = binding_agrees again facts }
@@ -23,7 +23,7 @@ bound name again moment facts =
 abbrev pub deleted : List ℕ → ℕ → Change
 deleted name moment = record { name = name; what = Deleted; moment = moment; facts = None; agreed = refl }
 
--- the moment of the last of these changes, or the one given where there is none
+-- the moment of the last of these changes, or t where the list is empty
 abbrev pub last_moment : ℕ → List Change → ℕ
 last_moment t [] = t
 last_moment t (c ∷ cs) = last_moment c.moment cs

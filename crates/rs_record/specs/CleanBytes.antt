@@ -1,4 +1,4 @@
--- Bytes that stand in no lawful value.
+-- Bytes that no lawful value has.
 use Rattle.std.specs.Prelude.{ℕ, Bool, not, ◌&&◌, ◌==◌, List}
 use Rattle.std.specs.List.{list_all}
 -- no byte of a text is the mark

@@ -6,7 +6,7 @@ use Rattle.rs_record.specs.Bytes.{is_between, is_hex}
 use Rattle.rs_record.specs.Name.{is_plain}
 use Rattle.rs_record.specs.MediaType.{is_tchar}
 
--- Any number of `pchar` (RFC 3986, 3.3): one is a byte that stands for itself, or `%` and two hexadecimal digits (2.1).
+-- Any number of `pchar` (RFC 3986, 3.3), each a plain byte or `%` and two hexadecimal digits (2.1).
 pub data ArePchars : List ℕ → Type 0 where
   none : ArePchars []
   plain : {c : ℕ} {rest : List ℕ} → IsTrue (is_plain c) → ArePchars rest → ArePchars (c ∷ rest)

@@ -8,7 +8,7 @@ use Rattle.rs_record.specs.Bytes.{is_between, is_digit, is_letter, is_one_of}
 abbrev pub is_tchar : ℕ → Bool
 is_tchar c = is_letter c || is_digit c || is_one_of (codes "!#$%&'*+-.^_`|~") c
 
--- a token comes
+-- the bytes begin with a token
 abbrev pub begins_token : List ℕ → Bool
 begins_token [] = false
 begins_token (c ∷ rest) = is_tchar c
@@ -18,7 +18,7 @@ abbrev pub after_token : List ℕ → List ℕ
 after_token [] = []
 after_token (c ∷ rest) = if is_tchar c then after_token rest else c ∷ rest
 
--- `/` and a token come
+-- the bytes begin with `/` and a token
 abbrev pub begins_subtype : List ℕ → Bool
 begins_subtype [] = false
 begins_subtype (c ∷ rest) = (c == 47) && begins_token rest

@@ -3,17 +3,17 @@ use Rattle.std.specs.Prelude.{ℕ, Bool, true, false, not, ◌&&◌, ◌||◌, �
 use Rattle.std.specs.List.{list_all, slice_split}
 use Rattle.rs_record.specs.Bytes.{is_digit, is_letter, is_hex, is_one_of}
 
--- a byte that stands for itself in a segment: unreserved, sub-delims, `:` and `@` (RFC 3986, 2.3, 2.2 and 3.3)
+-- a byte that a segment may have as it is: unreserved, sub-delims, `:` and `@` (RFC 3986, 2.3, 2.2 and 3.3)
 abbrev pub is_plain : ℕ → Bool
 is_plain c = is_letter c || is_digit c || is_one_of (codes "-._~!$&'()*+,;=:@") c
 
--- two hexadecimal digits come
+-- the bytes begin with two hexadecimal digits
 abbrev pub two_hex : List ℕ → Bool
 two_hex [] = false
 two_hex (a ∷ []) = false
 two_hex (a ∷ b ∷ rest) = is_hex a && is_hex b
 
--- Each byte stands for itself, or is a `%` before two hexadecimal digits, which stand for themselves too.
+-- Each byte is plain, or a `%` before two hexadecimal digits, which are plain too.
 abbrev pub are_pchars : List ℕ → Bool
 are_pchars [] = true
 are_pchars (c ∷ rest) = (is_plain c || ((c == 37) && two_hex rest)) && are_pchars rest

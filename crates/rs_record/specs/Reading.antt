@@ -1,5 +1,5 @@
 -- Words of the readers' own contracts: each takes a field off the front of some bytes, and gives a value and the bytes
--- after it, or nothing. What the public readers owe is said by Format.
+-- after it, or nothing. Format says what the public readers owe.
 use Rattle.std.specs.Prelude.{◌≡◌, ℕ, List, [], ◌∷◌, length, take, drop, Bool, ◌||◌, ◌==◌, nat_le, if◌then◌else◌, Option, Some, None, IsSome, Result, Ok, Err}
 use Rattle.std.specs.Option.{option_map}
 use Rattle.std.specs.Int.{Width, w32, w64, byte_len, from_be_bytes}
@@ -20,13 +20,13 @@ abbrev pub IsSeenAs : {X Y : Type 0} → (X → Y) → Option X → Option Y →
 IsSeenAs view None read = read ≡ None
 IsSeenAs view (Some x) read = read ≡ Some (view x)
 
--- What a reader returned is the value at the front and the length of its format. Memory is wanting only where there is a value.
+-- What a reader returned is the value at the front and the length of its format. It lacks memory only where there is one.
 abbrev pub IsValueAt : {A : Type 0} → (A → List ℕ) → Result (A × ℕ) FieldFault → Option (A × List ℕ) → Type 0
 IsValueAt write (Ok x) read = (option_map (λ y. y.0) read ≡ Some x.0) × (x.1 ≡ length (write x.0))
 IsValueAt write (Err Malformed) read = read ≡ None
 IsValueAt write (Err NoMemory) read = IsSome read
 
--- so many bytes
+-- the first n bytes
 abbrev pub piece_at : ℕ → List ℕ → Option (List ℕ × List ℕ)
 piece_at n bytes = if nat_le n (length bytes) then Some (take n bytes, drop n bytes) else None
 
@@ -39,7 +39,7 @@ unfoldable pub counted_at : List ℕ → Option (List ℕ × List ℕ)
 counted_at [] = None
 counted_at (n ∷ rest) = piece_at n rest
 
--- such a text, if it is lawful
+-- the same, where the text is lawful
 unfoldable pub text_at : (List ℕ → Bool) → List ℕ → Option (List ℕ × List ℕ)
 text_at is_lawful bytes = do
   text ← counted_at bytes

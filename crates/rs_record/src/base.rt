@@ -9,7 +9,7 @@ use std::alloc::{AllocError, Global};
 use std::marker::Model;
 use thiserror::Error;
 
-/// Why there is no base.
+/// Why a base was refused.
 #[derive(Clone, Copy, Debug, PartialEq, Eq, Error)]
 pub enum BaseError {
     /// The bytes are no lawful base.
@@ -66,7 +66,7 @@ impl Base {
         self.bytes.as_slice()
     }
 
-    /// The same base once more.
+    /// A copy of the base.
     ///
     /// # Errors
     ///
@@ -77,7 +77,7 @@ impl Base {
         Base::from_lawful(alloc, self.bytes())
     }
 
-    // The base of lawful bytes.
+    /// The base of lawful bytes.
     fn from_lawful(alloc: Global, bytes: &[u8]) -> Result<Base, AllocError>
         requires { IsTrue (is_base bytes.now) }
         ensures { IfOk result (λ base. base ≡ bytes.now) }
@@ -88,7 +88,7 @@ impl Base {
     }
 }
 
-// Whether the bytes are a base.
+/// Whether the bytes are a base.
 fn is_lawful(bytes: &[u8]) -> bool
     ensures { result ≡ is_base bytes.now }
 {
@@ -98,7 +98,7 @@ fn is_lawful(bytes: &[u8]) -> bool
         && !bytes.ends_with(b"/")
 }
 
-// Whether the bytes are the scheme, and bytes of a base after it.
+/// Whether the bytes are the scheme and then one or more bytes of a base.
 fn has_scheme(scheme: &[u8], bytes: &[u8]) -> bool
     ensures { result ≡ scheme_first scheme.now bytes.now }
 {
@@ -108,14 +108,14 @@ fn has_scheme(scheme: &[u8], bytes: &[u8]) -> bool
     }
 }
 
-// Whether each byte may stand in a base after its scheme.
+/// Whether each byte may stand in a base after its scheme.
 fn are_base_chars(bytes: &[u8]) -> bool
     ensures { result ≡ list_all base_byte bytes.now }
 {
     bytes.iter().all(|byte| is_base_char(*byte))
 }
 
-// Whether the byte may stand in a base after its scheme.
+/// Whether the byte may stand in a base after its scheme.
 fn is_base_char(byte: u8) -> bool
     ensures { result ≡ base_byte byte }
 {

@@ -1,4 +1,4 @@
-//! Values that were read, whose texts still lie in the bytes that they were read from.
+//! Values as they were read: their texts still lie in the bytes that were read.
 
 ghost use Rattle.std.specs.Prelude.{◌≡◌, IfOk, IsTrue};
 ghost use Rattle.rs_record.specs.Name.{is_name};

@@ -12,15 +12,15 @@ use std::alloc::{AllocError, Global};
 pub enum What {
     /// The name was bound, and had not been.
     Created,
-    /// The name was bound in the place of what it had been bound to.
+    /// The name was bound again, in place of what it was bound to.
     Updated,
     /// The name was unbound.
     Deleted,
 }
 
-/// What happened to a resource, and when. There are facts exactly where it was not deleted.
+/// What happened to a resource, and when. It has facts unless the resource was deleted.
 ///
-/// It is made by `bound` or `deleted`, which keep this.
+/// `bound` and `deleted` make changes, and keep this.
 #[derive(Debug, Drop)]
 pub struct Change {
     /// The name of the resource.
@@ -37,8 +37,8 @@ pub struct Change {
 impl Change {
     ghost use Rattle.rs_record.specs.Changes.{bound, deleted};
 
-    /// The change that binds the name to these facts: `Updated` where it was bound before, which
-    /// `again` says, and else `Created`.
+    /// The change that binds the name to these facts: `Updated` if `again`, that is if the name was
+    /// bound before, else `Created`.
     pub fn bound(name: Name, again: bool, moment: Moment, facts: Facts) -> Change
         ensures { result ≡ bound name again moment facts }
     {
@@ -62,7 +62,7 @@ impl Change {
         }
     }
 
-    /// The same change once more.
+    /// A copy of the change.
     ///
     /// # Errors
     ///

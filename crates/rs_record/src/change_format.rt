@@ -42,7 +42,7 @@ pub fn write_change(change: &Change, out: &mut Vec<u8>) -> Result<(), AllocError
     ensures full { OnErr result (vec_capacity out.old
         < vec_len out.old + length (change_bytes change.now)) }
 
-    // So what was written is read again.
+    // So it can be read back.
     ensures lawful { IsLawfulChange change.now }
 {
     let size = change_size(change);
@@ -75,7 +75,7 @@ pub fn write_change(change: &Change, out: &mut Vec<u8>) -> Result<(), AllocError
 /// The change whose format the bytes begin with, and how many bytes the format has. Other bytes may
 /// follow it.
 ///
-/// No memory is asked for beyond the lengths of the name and the media type, which were read.
+/// It asks for memory for the name and the media type alone, of the lengths that were read.
 ///
 /// # Errors
 ///
@@ -93,7 +93,7 @@ pub fn read_change(alloc: Global, bytes: &[u8]) -> Result<(Change, usize), Field
     change_of(alloc, bytes)
 }
 
-// Reads a change as a function on lists reads it.
+/// Reads a change as `change_at` of `specs/Reading.antt` does.
 fn change_of(alloc: Global, bytes: &[u8]) -> Result<(Change, usize), FieldFault>
     ensures { IsValueAt change_bytes result (change_read bytes.now) }
 {
@@ -105,7 +105,7 @@ fn change_of(alloc: Global, bytes: &[u8]) -> Result<(Change, usize), FieldFault>
     Ok((change, size))
 }
 
-// A change, and the bytes after it.
+/// A change, and the bytes after it.
 #[tactic(auto, unfolding(crate::specs::Reading::change_at, crate::specs::Reading::moment_in, crate::specs::Reading::change_after, crate::specs::Reading::bound_at))]
 fn change_at(bytes: &[u8]) -> Option<(ChangeFields<'_>, &[u8])>
     ensures read { IsSeenAs (λ x. (change_seen x.0, x.1.now)) result (change_read bytes.now) }
@@ -132,7 +132,7 @@ fn change_at(bytes: &[u8]) -> Option<(ChangeFields<'_>, &[u8])>
     }
 }
 
-// The byte of what happened.
+/// The byte of what happened.
 fn what_byte(what: What) -> u8
     ensures { result ≡ byte_of what }
 {

@@ -5,9 +5,9 @@ ghost use Rattle.std.specs.Prelude.{◌≡◌, IfOk};
 use crate::{Change, Facts, Name, Record};
 use std::alloc::{AllocError, Global};
 
-/// A value of which a copy takes memory.
+/// A value that takes memory to copy.
 pub trait Duplicate: Drop {
-    /// The same value once more.
+    /// A copy of the value.
     ///
     /// # Errors
     ///
@@ -46,7 +46,7 @@ impl<A: Duplicate, B: Duplicate> Duplicate for (A, B) {
     }
 }
 
-/// The same values once more, in their order.
+/// Copies of the values, in their order.
 ///
 /// # Errors
 ///

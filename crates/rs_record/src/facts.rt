@@ -19,7 +19,7 @@ pub struct Facts {
 }
 
 impl Facts {
-    /// The same facts once more.
+    /// A copy of the facts.
     ///
     /// # Errors
     ///

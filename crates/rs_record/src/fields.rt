@@ -1,7 +1,7 @@
 //! Fields of the formats of the disk, read off the front of some bytes and appended to others.
 //!
 //! Each reader gives the field and the bytes after it, or `None` where the bytes do not begin with
-//! one. A number stands with its highest byte first.
+//! one. Numbers are big endian.
 
 ghost use Rattle.std.specs.Prelude.{◌≡◌, ◌<◌, ◌≤◌, ◌+◌, ◌++◌, vec_len, vec_capacity, IsTrue, OnOk, OnErr, IfSome, length, map};
 ghost use Rattle.std.specs.Int.{w16, w32, w64};
@@ -117,7 +117,7 @@ pub(crate) fn facts_size(kind: &MediaType, digests: Digests) -> usize
     5 + kind.bytes().len() + digests.md5.len() + digests.sha256.len()
 }
 
-/// Appends these pieces, which have so many bytes in all. On a refusal nothing is appended.
+/// Appends these pieces, which have `size` bytes in all. If memory is refused, it appends nothing.
 pub(crate) fn append(size: usize, pieces: &[&[u8]], out: &mut Vec<u8>) -> Result<(), AllocError>
     requires { size ≡ length (concat (map (λ piece. piece.now) pieces.now)) }
     ensures ok { OnOk result (out.new.items

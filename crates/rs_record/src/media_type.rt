@@ -11,7 +11,7 @@ use std::alloc::{AllocError, Global};
 use std::marker::Model;
 use thiserror::Error;
 
-/// Why there is no media type.
+/// Why a media type was refused.
 #[derive(Clone, Copy, Debug, PartialEq, Eq, Error)]
 pub enum MediaTypeError {
     /// The bytes are no lawful media type.
@@ -73,7 +73,7 @@ impl MediaType {
         self.bytes.as_slice()
     }
 
-    /// The same media type once more.
+    /// A copy of the media type.
     ///
     /// # Errors
     ///
@@ -84,7 +84,7 @@ impl MediaType {
         MediaType::from_lawful(alloc, self.bytes())
     }
 
-    // The media type of lawful bytes.
+    /// The media type of lawful bytes.
     pub(crate) fn from_lawful(alloc: Global, bytes: &[u8]) -> Result<MediaType, AllocError>
         requires { IsTrue (is_media_type bytes.now) }
         ensures { IfOk result (λ kind. kind ≡ bytes.now) }
@@ -95,7 +95,7 @@ impl MediaType {
     }
 }
 
-// Whether the bytes are a media type.
+/// Whether the bytes are a media type.
 pub(crate) fn is_lawful(bytes: &[u8]) -> bool
     ensures { result ≡ is_media_type bytes.now }
 {
@@ -107,14 +107,14 @@ pub(crate) fn is_lawful(bytes: &[u8]) -> bool
         && !bytes.ends_with(b" ")
 }
 
-// Whether each byte is printable ASCII.
+/// Whether each byte is printable ASCII.
 fn are_printable(bytes: &[u8]) -> bool
     ensures { result ≡ list_all (is_between 32 126) bytes.now }
 {
     bytes.iter().all(|byte| 32 <= *byte && *byte <= 126)
 }
 
-// Whether a token comes.
+/// Whether the bytes begin with a token.
 fn begins_token(bytes: &[u8]) -> bool
     ensures { result ≡ token_first bytes.now }
 {
@@ -124,7 +124,7 @@ fn begins_token(bytes: &[u8]) -> bool
     }
 }
 
-// Whether `/` and a token come.
+/// Whether the bytes begin with `/` and a token.
 fn begins_subtype(bytes: &[u8]) -> bool
     ensures { result ≡ subtype_first bytes.now }
 {
@@ -134,7 +134,7 @@ fn begins_subtype(bytes: &[u8]) -> bool
     }
 }
 
-// What is left after the bytes of a token.
+/// What is left after the bytes of a token.
 fn after_token(bytes: &[u8]) -> &[u8]
     ensures { result.now ≡ token_rest bytes.now }
 {
@@ -146,7 +146,7 @@ fn after_token(bytes: &[u8]) -> &[u8]
     &[]
 }
 
-// Whether the byte may stand in a token.
+/// Whether a token may have the byte.
 fn is_tchar(byte: u8) -> bool
     ensures { result ≡ token_byte byte }
 {

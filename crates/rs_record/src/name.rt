@@ -13,7 +13,7 @@ use std::cmp::Ordering;
 use std::marker::Model;
 use thiserror::Error;
 
-/// Why there is no name.
+/// Why a name was refused.
 #[derive(Clone, Copy, Debug, PartialEq, Eq, Error)]
 pub enum NameError {
     /// The bytes are no lawful name.
@@ -74,15 +74,14 @@ impl Name {
         self.bytes.as_slice()
     }
 
-    /// How the name stands to another one: names are ordered by their bytes, and a name comes
-    /// before each longer one that begins with it.
+    /// Compares the names byte by byte. A name sorts before each longer name that begins with it.
     pub fn compare(&self, other: &Name) -> Ordering
         ensures { result ≡ slice_cmp nat_cmp self.now other.now }
     {
         self.bytes().cmp(other.bytes())
     }
 
-    /// The same name once more.
+    /// A copy of the name.
     ///
     /// # Errors
     ///
@@ -93,7 +92,7 @@ impl Name {
         Name::from_lawful(alloc, self.bytes())
     }
 
-    // The name of lawful bytes.
+    /// The name of lawful bytes.
     pub(crate) fn from_lawful(alloc: Global, bytes: &[u8]) -> Result<Name, AllocError>
         requires { IsTrue (is_name bytes.now) }
         ensures { IfOk result (λ name. name ≡ bytes.now) }
@@ -104,14 +103,14 @@ impl Name {
     }
 }
 
-// Whether the bytes are a name.
+/// Whether the bytes are a name.
 pub(crate) fn is_lawful(bytes: &[u8]) -> bool
     ensures { result ≡ is_name bytes.now }
 {
     bytes.len() <= 240 && are_segments(bytes)
 }
 
-// Whether each part between the `/` is a segment.
+/// Whether each part between the `/` is a segment.
 fn are_segments(bytes: &[u8]) -> bool
     ensures { result ≡ list_all segment_bytes (segments bytes.now) }
 {
@@ -120,14 +119,14 @@ fn are_segments(bytes: &[u8]) -> bool
         .all(|part| is_segment(part))
 }
 
-// Whether the bytes are a segment.
+/// Whether the bytes are a segment.
 fn is_segment(bytes: &[u8]) -> bool
     ensures { result ≡ segment_bytes bytes.now }
 {
     are_pchars(bytes) && !matches!(bytes, [] | [b'.'] | [b'.', b'.'])
 }
 
-// Whether each byte may stand in a segment, a `%` before two hexadecimal digits.
+/// Whether a segment may have each of the bytes, a `%` only before two hexadecimal digits.
 fn are_pchars(bytes: &[u8]) -> bool
     ensures { result ≡ pchar_bytes bytes.now }
 {
@@ -139,7 +138,7 @@ fn are_pchars(bytes: &[u8]) -> bool
     true
 }
 
-// Whether two hexadecimal digits come.
+/// Whether the bytes begin with two hexadecimal digits.
 fn two_hex(bytes: &[u8]) -> bool
     ensures { result ≡ two_hex_bytes bytes.now }
 {
@@ -149,7 +148,7 @@ fn two_hex(bytes: &[u8]) -> bool
     }
 }
 
-// Whether the byte stands for itself in a segment.
+/// Whether a segment may have the byte as it is, other than by `%`.
 fn is_plain(byte: u8) -> bool
     ensures { result ≡ plain_byte byte }
 {

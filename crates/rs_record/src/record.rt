@@ -27,7 +27,7 @@ pub struct Record {
 }
 
 impl Record {
-    /// The same record once more.
+    /// A copy of the record.
     ///
     /// # Errors
     ///

@@ -35,7 +35,7 @@ pub fn write_record(record: &Record, out: &mut Vec<u8>) -> Result<(), AllocError
     ensures full { OnErr result (vec_capacity out.old
         < vec_len out.old + length (record_bytes «record».now)) }
 
-    // So what was written is read again.
+    // So it can be read back.
     ensures lawful { IsLawfulRecord «record».now }
 {
     let name = record.name.bytes();
@@ -61,7 +61,7 @@ pub fn write_record(record: &Record, out: &mut Vec<u8>) -> Result<(), AllocError
 /// The record whose format the bytes begin with, and how many bytes the format has. Other bytes may
 /// follow it.
 ///
-/// No memory is asked for beyond the lengths of the name and the media type, which were read.
+/// It asks for memory for the name and the media type alone, of the lengths that were read.
 ///
 /// # Errors
 ///
@@ -79,7 +79,7 @@ pub fn read_record(alloc: Global, bytes: &[u8]) -> Result<(Record, usize), Field
     record_of(alloc, bytes)
 }
 
-// Reads a record as a function on lists reads it.
+/// Reads a record as `record_at` of `specs/Reading.antt` does.
 fn record_of(alloc: Global, bytes: &[u8]) -> Result<(Record, usize), FieldFault>
     ensures { IsValueAt record_bytes result (record_read bytes.now) }
 {
@@ -91,7 +91,7 @@ fn record_of(alloc: Global, bytes: &[u8]) -> Result<(Record, usize), FieldFault>
     Ok((record, size))
 }
 
-// A record, and the bytes after it.
+/// A record, and the bytes after it.
 #[tactic(auto, unfolding(crate::specs::Reading::record_at, crate::specs::Reading::moment_in))]
 fn record_at(bytes: &[u8]) -> Option<(RecordFields<'_>, &[u8])>
     ensures read { IsSeenAs (λ x. (record_seen x.0, x.1.now)) result (record_read bytes.now) }

@@ -14,7 +14,7 @@ Commands = List (Command × ℕ)
 abbrev pub Acks : Type 0
 Acks = List Ack
 
--- where the device failed in a command, that command alone counts of those that follow
+-- where the device failed in a command, that command counts, and none after it
 pub counts_alone : ClosedCountNone → (c : Command × ℕ) (cs : Commands) (call : ℕ) (acks : Acks) → AreClosed acks
     → counted_commands (c ∷ cs) (record { reply = Err Device; at_call = call } ∷ acks) ≡ c ∷ []
 counts_alone none_counts c cs call acks closed = let none = none_counts cs acks closed in λ i. none.0 i ++ c ∷ none.1 i
@@ -22,6 +22,6 @@ counts_alone none_counts c cs call acks closed = let none = none_counts cs acks 
 abbrev pub one : Bool → ℕ
 one b = cond b 1 0
 
--- what is left leaves what follows from it
+-- a run of calls also leaves whatever follows from what it leaves
 pub weaker : (old new : DiskState) (P Q : ℕ → List ℕ → Type 0) → ((m : ℕ) (image : List ℕ) → P m image → Q m image) → Leaves old new P → Leaves old new Q
 weaker old new P Q from left = record { later = left.later; before = left.before; each = λ m image ge le at. from m image (left.each m image ge le at) }

@@ -1,4 +1,5 @@
--- What a state has behind it, which each accepted command raises, so that an image stands for one number of commands alone.
+-- What a state has behind it, which each accepted command raises, so that an image stands for one number of commands
+-- alone.
 use Rattle.std.proofs.Common.{◌≡◌, inl, inr, ℕ, zero, suc, ◌+◌, ◌-◌, ◌*◌, ◌<◌, ◌≤◌, Bool, true, false, ◌||◌, List, [], ◌∷◌, ◌++◌, length, take, drop, refl, sym, ◌∙◌, ap, subst, arith, cond, Option, Some, None, Result, Ok, Err, div-mul-le_self}
 use Rattle.std.specs.Prelude.{nat_le}
 use Rattle.std.proofs.lemmas.Bool.{cases_lt}
@@ -33,7 +34,7 @@ behind s = s.first * s.limit + length s.changes + s.number
 add_one : (gone a b n : ℕ) → a ≡ b + 1 → gone + a + n ≡ gone + b + n + 1
 add_one gone a b n more = omega (arith, more)
 
--- a change more
+-- one change more
 change_more : (s : Source) (change : Change) → s.first * s.limit + length (s.changes ++ change ∷ []) + s.number ≡ s.first * s.limit + length s.changes + s.number + 1
 change_more s change =
     add_one (s.first * s.limit) (length (s.changes ++ change ∷ [])) (length s.changes) s.number (length-append s.changes (change ∷ []))
@@ -77,7 +78,7 @@ publication_more s t =
     one_further s.first (dropped_parts s) s.limit (length s.changes) (length (drop (dropped_changes s) s.changes)) s.number
     (dropped_within s) (length-drop (dropped_changes s) s.changes)
 
--- each command that is accepted raises what is behind: a group by as many as it has items, of which there is one at least
+-- each accepted command raises the number of changes behind: a group by its number of items, at least one
 next_more : (s : Source) (command : Command) (now t : ℕ) → refusal_of s command now ≡ None → behind s < behind (next_state s command t)
 next_more s (Put name kind bytes) now t none = omega (arith, item_more s (single.Put name kind bytes) t)
 next_more s (Delete name) now t none = omega (arith, item_more s (single.Delete name) t)
@@ -95,14 +96,14 @@ unrefused : (o : Option model.Refusal) (next made : Source × Reply) → accepte
 unrefused None next made is = refl
 unrefused (Some refusal) next made is = absurd cc
 
--- what is behind rises with each of these commands
+-- the number of changes behind rises with each of these commands
 abbrev Rises : Source → Commands → Type 0
 Rises s commands = (j k : ℕ) → j < k → k ≤ length commands → behind (fold_of s (take j commands)) < behind (fold_of s (take k commands))
 
 none_rise : (s : Source) → Rises s []
 none_rise s j k less most = absurd (omega (arith, less, most))
 
--- where it rises, no fewer of the commands leave less behind
+-- where it rises, fewer commands leave fewer changes behind
 rises_from : (s : Source) (commands : Commands) (k : ℕ) → Rises s commands → k ≤ length commands → behind s ≤ behind (fold_of s (take k commands))
 rises_from s commands zero rises most = omega arith
 rises_from s commands (suc k) rises most = omega (arith, rises zero (suc k) (omega arith) most)
@@ -116,7 +117,7 @@ one_before s c commands more rises zero (suc k) less most =
     omega (arith, more, rises_from (state_after s (step s c.0 c.1)) commands k rises within)
 one_before s c commands more rises (suc j) (suc k) less most = rises j k (omega (arith, less)) (omega (arith, most))
 
--- where it rises, two numbers of the commands that leave as much behind are one
+-- where it rises, two numbers of commands that leave as many changes behind are equal
 one_alone : (s : Source) (commands : Commands) (j k : ℕ) → Rises s commands → j ≤ length commands → k ≤ length commands
     → behind (fold_of s (take j commands)) ≡ behind (fold_of s (take k commands)) → k ≡ j
 one_alone s commands j k rises first second same = elim (cases_lt j k) [
@@ -170,7 +171,7 @@ module _ {D : Type 0} (device : D → DiskState) (sound : (disk : D) → IsMediu
       sym (ap (λ (b : Bool). cond b (Some Closed) (or_spent (refusal_of (state_of device old) command now) (is_spent old))) holds.is_open) ∙ none in
       undecided (refusal_of s command now) (is_spent old) (subst (λ (t : Source). or_spent (refusal_of t command now) (is_spent old) ≡ None) same here)
 
-  -- what is behind the state rises with each counted command
+  -- the number of changes behind the state rises with each counted command
   pub counted_rise : (s : Source) (old : Stored D) (cs : Commands) (acks : Acks) (new : Stored D) → Holds device old s → InTurn device old cs acks new
       → Rises s (counted_commands cs acks)
   counted_rise s old [] [] new holds turn = none_rise s

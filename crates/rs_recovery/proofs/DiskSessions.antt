@@ -47,7 +47,7 @@ and_false : (b : Bool) → one (b && false) ≡ 0
 and_false true = refl
 and_false false = refl
 
--- what is answered Closed is not accepted
+-- a command that is answered Closed is not accepted
 none_acknowledged : (m : ℕ) (acks : Acks) → AreClosed acks → acknowledged m acks ≡ 0
 none_acknowledged m [] all = refl
 none_acknowledged m (a ∷ acks) all =
@@ -72,7 +72,7 @@ none_yet m old is (c ∷ cs) (a ∷ acks) new all lt =
     omega (arith, here, none_yet m mid (condition_after is c a.reply) cs acks new all.6 early, acknowledged_cons m a acks)
 none_yet m old is cs acks new all lt = absurd all
 
--- a closed source answers Closed to all, and what stands in doubt stays so
+-- a closed source answers Closed to all, and the command in doubt stays in doubt
 all_closed : (old : DiskState) (s t : Source) (cs : Commands) (acks : Acks) (new : DiskState) → AreAnswered old (InDoubt s t) cs acks new → AreClosed acks
 all_closed old s t [] [] new all = tt
 all_closed old s t (c ∷ cs) (a ∷ acks) new all = (all.4, all_closed all.1 s t cs acks new all.6)
@@ -88,8 +88,8 @@ stays_in_doubt old s t (c ∷ cs) (a ∷ acks) new all =
     (join all.0 all.1 new Either P all.3 (λ m image lt either. ⊎_elim (λ x. x) (λ x. x) either) (stays_in_doubt all.1 s t cs acks new all.6))
 stays_in_doubt old s t cs acks new all = absurd all
 
--- An image stands for what the first j counted commands make: all that were acknowledged when m calls were counted, and none that had
--- not begun.
+-- An image stands for what the first j counted commands make: all that were acknowledged at m counted calls, and none
+-- that had not begun.
 pub record IsPrefix (s : Source) (cs : Commands) (acks : Acks) (m : ℕ) (image : List ℕ) : Type 0 where
   pub j : ℕ
   pub least : acknowledged m acks ≤ j
@@ -98,6 +98,12 @@ pub record IsPrefix (s : Source) (cs : Commands) (acks : Acks) (m : ℕ) (image 
 
 abbrev ack : Result Reply Refusal → ℕ → Ack
 ack reply n = record { reply = reply; at_call = n }
+
+-- the latest image
+pub image_left : (make : Source → Commands → Source) (start : Source) (x : DiskSession) (past : List DiskSession) (standing : List ℕ) → AreLeft make start (x ∷ past) standing
+    → StandsFor x.image (make start (commands_left (x ∷ past) standing))
+image_left make start x past [] left = absurd left
+image_left make start x past (j ∷ standing) left = left.2
 
 module _ (none_counts : ClosedCountNone) where
   module _ (s : Source) (old mid new : DiskState) (c : Command × ℕ) (cs : Commands) (acks : Acks) (n : ℕ) (at : n ≡ mid.calls) (later : old.calls ≤ mid.calls)
@@ -134,7 +140,7 @@ module _ (none_counts : ClosedCountNone) where
         (λ m image lt either. ⊎_elim (at_first (Ok reply) m image (unanswered (Ok reply) m lt)) (at_next reply m image lt) either)
         (record { later = rest.later; before = rest.before; each = λ m image ge le left. more reply m image (omega (arith, ge, at)) (rest.each m image ge le left) })
 
-    -- the commands after one that was refused, and not for the device's sake
+    -- the commands after a refused one whose answer is not Device
     refused : (refusal : Refusal) → is_device (Err refusal) ≡ false → Leaves old mid (λ _ image. StandsFor image s ⊎ StandsFor image s)
         → Leaves mid new (IsPrefix s cs acks) → Leaves old new (Before (Err refusal))
     refused refusal other within rest =
@@ -150,7 +156,7 @@ module _ (none_counts : ClosedCountNone) where
           stands = subst (λ (l : Commands). StandsFor image (after_all s (take p.j (answered is_accepted cs acks ++ l)))) (sym (ap (λ (b : Bool). cond b (c ∷ answered is_in_doubt cs acks) (answered is_in_doubt cs acks)) other)) p.stands;
         }
 
-    -- the device failed, and all that comes after it is answered Closed
+    -- the device failed, and each later answer is Closed
     failed : Leaves old mid (λ _ image. StandsFor image s ⊎ StandsIn (InDoubt s (after s c)) image) → AreAnswered mid (InDoubt s (after s c)) cs acks new
         → Leaves old new (Before (Err Device))
     failed within rest =
@@ -214,14 +220,8 @@ module _ (none_counts : ClosedCountNone) where
   after_append s [] b = refl
   after_append s (c ∷ a) b = after_append (after s c) a b
 
-  -- the latest image
-  pub image_left : (start : Source) (x : DiskSession) (past : List DiskSession) (standing : List ℕ) → AreLeft start (x ∷ past) standing
-      → StandsFor x.image (after_all start (commands_left (x ∷ past) standing))
-  image_left start x past [] left = absurd left
-  image_left start x past (j ∷ standing) left = left.2
-
   -- of each session a prefix of its counted commands stands
-  pub are_left : StandsOnce → (start : Source) (sessions : List DiskSession) → AreDiskSessions start sessions → (standing : List ℕ) × AreLeft start sessions standing
+  pub are_left : StandsOnce → (start : Source) (sessions : List DiskSession) → AreDiskSessions start sessions → (standing : List ℕ) × AreLeft after_all start sessions standing
   are_left once start [] are = absurd are
   are_left once start (x ∷ []) are =
       let p = stopped_at start x are in
@@ -230,7 +230,7 @@ module _ (none_counts : ClosedCountNone) where
       let s : Source = are.0 in
       let earlier = are_left once start (y ∷ past) are.3 in
       let before : Commands = commands_left (y ∷ past) earlier.0 in
-      let same : s ≡ after_all start before = once y.image s (after_all start before) are.1 (image_left start y past earlier.0 earlier.1) in
+      let same : s ≡ after_all start before = once y.image s (after_all start before) are.1 (image_left after_all start y past earlier.0 earlier.1) in
       let p = stopped_at s x are.2 in
       let these : Commands = take p.j (counted_commands x.commands x.acks) in
       let stands : StandsFor x.image (after_all start (before ++ these)) =

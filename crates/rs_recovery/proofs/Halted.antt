@@ -29,7 +29,7 @@ module _ {D : Type 0} (base : List ℕ) (limit size : ℕ) (result : Result (Sto
   lawful_base true same other = same
   lawful_base false same other = absurd (other (bad_base.1 same))
 
-  -- none of its own causes is there where it was not refused for one
+  -- a formatting that was not refused for a cause has none of the causes
   pub may_format : ¬ IsErrAnd result (λ e. e.1 ≡ BadBase) → ¬ IsErrAnd result (λ e. e.1 ≡ BadLimit) → ¬ IsErrAnd result (λ e. e.1 ≡ TooSmall)
       → MayFormat base limit size
   may_format no_base no_limit no_size =
@@ -42,7 +42,7 @@ module _ {D : Type 0} (base : List ℕ) (limit size : ℕ) (result : Result (Sto
       }
 
 module _ {D : Type 0} (base : List ℕ) (limit size : ℕ) (disk : D) where
-  -- a formatting that was refused was refused for its cause
+  -- a refused formatting was refused for its cause
   pub format_halted : (fault : FormatFault)
       → (fault ≡ BadBase ↔ (is_base base ≡ false))
       → (fault ≡ BadLimit ↔ (IsTrue (is_base base) × (¬ IsLimit limit)))

@@ -17,7 +17,7 @@ after_all_regular s [] regular = regular
 after_all_regular s (c ∷ cs) regular =
     after_all_regular (after s c) cs (next_regular s c.0 (moment_at s c.1) regular (omega arith))
 
--- the step of a command that is accepted
+-- the step of an accepted command
 next_made : (s : Source) (c : Command × ℕ) → accepted_unless None (next_state s c.0 (moment_at s c.1), reply_to s c.0 (moment_at s c.1)) ≡ Ok (after s c, reply_to s c.0 (moment_at s c.1))
 next_made s c = refl
 
@@ -25,7 +25,7 @@ pub step_made : (s : Source) (c : Command × ℕ) → refusal_of s c.0 c.1 ≡ N
 step_made s c none =
     ap (λ (o : Option model.Refusal). state_after s (accepted_unless o (next_state s c.0 (moment_at s c.1), reply_to s c.0 (moment_at s c.1)))) none
 
--- what was accepted with a reply
+-- a command that was accepted with a reply
 ok_made : (o : Option model.Refusal) (next made : Source × Reply) → accepted_unless o next ≡ Ok made → made.0 ≡ next.0
 ok_made None next made is = cc
 ok_made (Some refusal) next made is = absurd cc
@@ -33,7 +33,7 @@ ok_made (Some refusal) next made is = absurd cc
 pub step_is : (s : Source) (c : Command × ℕ) (t : Source) (reply : Reply) → step s c.0 c.1 ≡ Ok (t, reply) → t ≡ after s c
 step_is s c t reply is = ok_made (refusal_of s c.0 c.1) (next_state s c.0 (moment_at s c.1), reply_to s c.0 (moment_at s c.1)) (t, reply) is
 
--- the accepted ones of some commands make what all of them do
+-- the accepted ones among some commands make what all of them make
 one_before : (s : Source) (c : Command × ℕ) (cs : Commands) (o : Option model.Refusal) → refusal_of s c.0 c.1 ≡ o
     → ((t : Source) → (made : Commands) × (after_all t made ≡ fold_of t cs)) → (made : Commands) × (after_all s made ≡ fold_of (state_after s (step s c.0 c.1)) cs)
 one_before s c cs None is rest =

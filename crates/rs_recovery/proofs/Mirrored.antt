@@ -45,7 +45,7 @@ all_first P zero xs all = tt
 all_first P (suc n) [] all = tt
 all_first P (suc n) (x ∷ xs) all = (all.0, all_first P n xs all.1)
 
--- the commands that stand are lawful
+-- the standing commands are lawful
 one_more : (b : Bool) (c : Command × ℕ) (rest : Commands) → IsLawfulTimed c → AllByRecursion IsLawfulTimed rest → AllByRecursion IsLawfulTimed (cond b (c ∷ rest) rest)
 one_more true c rest one all = (one, all)
 one_more false c rest one all = all
@@ -116,7 +116,7 @@ module _ (mirrors : DestinationMirrors) (was_held : MirrorWasHeld) (catalogued :
   alike : answered_by asked.asking ≡ fetched_at formatted events when
   alike = λ i path. answered_alike path i
 
-  -- what is asked no later has no more behind it
+  -- an earlier request has no more commands behind it
   later_path : (path other : List ℕ) → IsNoLater (asked.asking path) (asked.asking other) → when path ≤ when other
   later_path path other order =
       let front = stand.ordered (asked.asking path) (asked.asking other) (asked.behind path) (asked.behind other) order (asked.served path) (asked.served other) in
@@ -165,7 +165,7 @@ module _ (mirrors : DestinationMirrors) (was_held : MirrorWasHeld) (catalogued :
         asks.no_gap at from listed changes (ap gather_resources alike ∙ resources) (ap gather_changes alike ∙ moves);
   }
 
-  -- a mirror is what was held after the first j of the commands that stand, and then the first changes of the next
+  -- a mirror is what was held after the first j standing commands, and then the first changes of the next one
   abbrev IsHeldWith : ℕ → Names Entry → List Change → Type 0
   IsHeldWith j mirror made =
       AreOfNext start (take j whole) asked.behind_last made × (mirror ≡ mirror_of (entries (fold_of start (take j whole)).held) start.start made)

@@ -1,7 +1,8 @@
--- A source on a disk of whatever type as one on any disk.
+-- A source on a disk of some type as one on any disk.
 use Rattle.std.proofs.Common.{ℕ, [], ◌∷◌, refl, ap, Result, Ok, Err}
 use Rattle.std.specs.Prelude.{IfOk}
 use Rattle.rs_disk.specs.Medium.{DiskState}
+use Rattle.rs_model.specs.Step.{step}
 use Rattle.rs_model.specs.State.{Source}
 use Rattle.rs_model.specs.declared.command.Command.{Command}
 use Rattle.rs_model.specs.declared.command.Reply.{Reply}
@@ -37,7 +38,7 @@ module _ {D : Type 0} (device : D → DiskState) (sound : AreSound device) where
   unchanged_on old new unchanged = record { slots = unchanged.slots; contents = unchanged.contents; state = unchanged.state }
 
   leads_on : (old new : Stored D) (s : Source) (command : Command) (now : ℕ) (result : Result Reply Refusal)
-      → Leads device old new s command now result → Leads state_of_any (as_any old) (as_any new) s command now result
+      → Leads device old new s (step s command now) result → Leads state_of_any (as_any old) (as_any new) s (step s command now) result
   leads_on old new s command now (Ok reply) lead = (lead.0, lead.1, holds_on new lead.0 lead.2, lead.3)
   leads_on old new s command now (Err Device) lead = lead
   leads_on old new s command now (Err refusal) lead = (holds_on new s lead.0, lead.1)
@@ -48,7 +49,7 @@ module _ {D : Type 0} (device : D → DiskState) (sound : AreSound device) where
       record { plan = carried.plan; planned = carried.planned; contents = carried.contents; root = carried.root }
   carried_on old new command now (Err refusal) carried = tt
 
-  -- A field of the answers that speaks of the disks by their states alone is the same.
+  -- The fields of the answers that speak of the disks only by their states stay the same.
   answers_on : (old new : Stored D) (command : Command) (now : ℕ) (result : Result Reply Refusal)
       → Answers device old new command now result → Answers state_of_any (as_any old) (as_any new) command now result
   answers_on old new command now result answers = record {

@@ -34,7 +34,7 @@ pub opened_on : {D : Type 0} (device : D → DiskState) (disk : D) (result : Res
 opened_on device disk (Ok source) opened = λ honest. (state_of device source, (opened.holds honest).1, (opened.holds honest).0)
 opened_on device disk (Err refused) opened = tt
 
--- what is given back is open, and reads the state that it holds
+-- a source that is given back is open, and its state is the one that it holds
 pub given : {D : Type 0} (device : D → DiskState) → AreSound device → (disk : D) (result : Result (Stored D) (D × OpenFault)) (s : Source)
     → HandsBack device disk result s → GivesBack device disk result s
 given device sound disk (Ok source) s holds = (holds.is_open, (holds.told (device source.disk).now.seen (sound source.disk).image).state)

@@ -37,7 +37,7 @@ acknowledged_rises [] m n le = omega arith
 acknowledged_rises (a ∷ acks) m n le =
     omega (arith, later_one (is_accepted a) a.at_call m n le, acknowledged_rises acks m n le)
 
--- one command more, of which the rest has begun no more than was acknowledged and one
+-- one command more, where the rest has begun at most one more than was acknowledged
 one_begun : (by accepted doubt : Bool) (rest done : ℕ) → rest ≤ done + 1 → (doubt ≡ true → rest ≡ 0)
     → one (accepted || doubt) + cond by rest 0 ≤ one (accepted && by) + done + 1
 one_begun true true doubt rest done le none = omega (arith, le)
@@ -74,7 +74,7 @@ module _ {D : Type 0} (device : D → DiskState) (below : Below device) where
   closed_by_doubt old new command now (Err Device) answers is = answers.closes refl
   closed_by_doubt old new command now (Err refusal) answers is = absurd cc
 
-  -- of a closed source nothing counts
+  -- a closed source runs no command that counts
   none_count : (old new : Stored D) (cs : Commands) (acks : Acks) → old.is_closed ≡ true → InTurn device old cs acks new
       → (answered is_accepted cs acks ≡ []) × (answered is_in_doubt cs acks ≡ [])
   none_count old new cs acks shut turn = below.none_counts cs acks (below.closed old cs acks new shut turn).2
@@ -86,7 +86,7 @@ module _ {D : Type 0} (device : D → DiskState) (below : Below device) where
       let both = length-append (answered is_accepted cs acks) (answered is_in_doubt cs acks) in
       omega (arith, all, both, ap length none.0, ap length none.1)
 
-  -- one command at most has begun that was not acknowledged
+  -- at most one command has begun that was not acknowledged
   pub few_begun : (m : ℕ) (old new : Stored D) (cs : Commands) (acks : Acks) → InTurn device old cs acks new → begun m acks ≤ acknowledged m acks + 1
   few_begun m old new [] [] turn = omega arith
   few_begun m old new (c ∷ cs) (a ∷ acks) turn =
@@ -164,7 +164,7 @@ module _ {D : Type 0} (device : D → DiskState) (below : Below device) where
           record { most = omega (arith, p.most, all); stands = p.stands },
         )
 
-    -- all but one at most have been acknowledged at the end, and all where it is open
+    -- at the end at most one is not acknowledged, and none where the source is open
     all_done : (j : ℕ) → acknowledged (device new.disk).calls acks ≤ j → j ≤ length (counted_commands cs acks)
         → (length (counted_commands cs acks) ≤ j + 1) × (new.is_closed ≡ false → j ≡ length (counted_commands cs acks))
     all_done j least most =

@@ -1,5 +1,5 @@
 -- A source after two stops, on disks of three types.
-use Rattle.std.proofs.Common.{ℕ, List, [], ◌∷◌, ◌++◌, take, refl, Ok, Err}
+use Rattle.std.proofs.Common.{ℕ, List, [], ◌∷◌, ◌++◌, take, refl, Ok, Err, Some}
 use Rattle.std.specs.Prelude.{IsTrue}
 use Rattle.rs_disk.specs.Medium.{DiskState}
 use Rattle.rs_image.specs.StateOfImage.{StandsFor}
@@ -17,7 +17,7 @@ use Rattle.rs_recovery.specs.AsSessions.{session_of}
 use Rattle.rs_recovery.specs.Sessions.{Session, AreSessions, AreStanding, commands_standing}
 use Rattle.rs_recovery.specs.Recovered.{IsExcuse, YieldsHeld, GivesBackSessions}
 use Rattle.rs_recovery.specs.Surviving.{HasRun, IsLost}
-use Rattle.rs_recovery.specs.Reopened.{HasRunOn, TwoPrefixes, RanTwice, AreLeftBy, SurvivesTwice, IsOtherThanLeft, IsOtherThanLeftThen}
+use Rattle.rs_recovery.specs.Reopened.{Disks, Run, run_of, HasRunOn, TwoPrefixes, RanTwice, AreLeftBy, SurvivesTwice, IsOtherThanLeft, IsOtherThanLeftThen}
 use Rattle.rs_recovery.proofs.Below.{Commands, Acks}
 use Rattle.rs_recovery.proofs.OnAny.{holds_on, opened_on_the_same, runs_are_sessions}
 
@@ -27,40 +27,45 @@ not_lost before after openings.NotASource excuse lost = excuse
 not_lost before after openings.Damaged excuse lost = excuse
 not_lost before after fault excuse lost = lost
 
-module _ {A B C : Type 0} (one : A → DiskState) (two : B → DiskState) (three : C → DiskState) (sound_one : AreSound one) (sound_two : AreSound two)
-    {Gives : A → B → Type 0} (base : List ℕ) (limit moment : ℕ) (cs : Commands) (acks : Acks) (more : Commands) (answers : Acks) (left : B)
-    (ran : RanTwice one two Gives (start_of base limit moment) cs acks more answers left) (third : C) (m n : ℕ) (left_by : AreLeftBy one two three ran third m n) where
+module _ {A B C : Type 0} (disks : Disks A B C) (sound_one : AreSound disks.one) (sound_two : AreSound disks.two) (base : List ℕ) (limit moment : ℕ)
+    {earlier later : Run} {left : B} (ran : RanTwice disks (start_of base limit moment) earlier later left) (third : C) (m n : ℕ) (left_by : AreLeftBy ran third m n) where
   abbrev start : Source
   start = start_of base limit moment
 
-  abbrev earlier : Session
-  earlier = session_of (on_any one sound_one ran.run.first) cs acks (on_any one sound_one ran.run.last) m (two ran.second).now.seen
+  abbrev first : Session
+  first =
+      session_of (on_any disks.one sound_one ran.run.first) earlier.commands earlier.acks (on_any disks.one sound_one ran.run.last) m
+      (disks.two ran.second).now.seen
 
-  abbrev later : Session
-  later = session_of (on_any two sound_two ran.run_on.first) more answers (on_any two sound_two ran.run_on.last) n (three third).now.seen
+  abbrev second : Session
+  second =
+      session_of (on_any disks.two sound_two ran.run_on.first) later.commands later.acks (on_any disks.two sound_two ran.run_on.last) n
+      (disks.three third).now.seen
 
   abbrev sessions : List Session
-  sessions = later ∷ earlier ∷ []
+  sessions = second ∷ first ∷ []
 
   are_sessions : AreSessions start sessions
   are_sessions = (
-    runs_are_sessions two sound_two ran.run_on.first ran.run_on.last more answers n (three third).now.seen ran.run_on.turn left_by.stop_then,
-    (opened_on_the_same two sound_two (two ran.second).now.seen ran.run_on.first).0 (ran.run_on.began left_by.honest),
+    runs_are_sessions disks.two sound_two ran.run_on.first ran.run_on.last later.commands later.acks n (disks.three third).now.seen
+        ran.run_on.turn left_by.stop_then,
+    (opened_on_the_same disks.two sound_two (disks.two ran.second).now.seen ran.run_on.first).0 (ran.run_on.began left_by.honest),
     (
-      runs_are_sessions one sound_one ran.run.first ran.run.last cs acks m (two ran.second).now.seen ran.run.turn left_by.stop,
-      holds_on one sound_one ran.run.first start ran.run.began,
+      runs_are_sessions disks.one sound_one ran.run.first ran.run.last earlier.commands earlier.acks m (disks.two ran.second).now.seen
+          ran.run.turn left_by.stop,
+      holds_on disks.one sound_one ran.run.first start ran.run.began,
     ),
   )
 
   abbrev IsHeld : Stored C → Type 0
-  IsHeld source = (these : Commands) × TwoPrefixes cs acks more answers m n these × Holds three source (fold_of start these) × YieldsHeld (fold_of start these)
+  IsHeld source = (these : Commands) × TwoPrefixes earlier later m n these × Holds disks.three source (fold_of start these) × YieldsHeld (fold_of start these)
 
   by_two : (source : Stored C) (standing : List ℕ) → AreStanding start sessions standing
-      → Holds three source (fold_of start (commands_standing sessions standing)) → YieldsHeld (fold_of start (commands_standing sessions standing)) → IsHeld source
+      → Holds disks.three source (fold_of start (commands_standing sessions standing)) → YieldsHeld (fold_of start (commands_standing sessions standing)) → IsHeld source
   by_two source [] stand holds yields = absurd stand
   by_two source (k ∷ []) stand holds yields = absurd stand.3
   by_two source (k ∷ j ∷ []) stand holds yields = (
-    take j (counted_commands cs acks) ++ take k (counted_commands more answers),
+    take j (counted_commands earlier.commands earlier.acks) ++ take k (counted_commands later.commands later.acks),
     record {
       j = j;
       least = stand.3.0;
@@ -75,23 +80,24 @@ module _ {A B C : Type 0} (one : A → DiskState) (two : B → DiskState) (three
   )
   by_two source (k ∷ j ∷ i ∷ standing) stand holds yields = absurd stand.3.3
 
-  pub survives_twice : (source : Stored C) → GivesBackSessions three third (Ok source) → IsTrue (three source.disk).honest → IsHeld source
+  pub survives_twice : (source : Stored C) → GivesBackSessions disks.three third (Ok source) → IsTrue (disks.three source.disk).honest → IsHeld source
   survives_twice source headline honest =
       let is = headline base limit moment [] sessions are_sessions refl honest in
       by_two source is.standing is.stand.holds is.state is.yields
 
-  -- and where no source was opened on the third disk, it was not told to hold none
-  pub none_lost : (back : C) (fault : OpenFault) → GivesBackSessions three third (Err (back, fault)) → IsTrue (three back).honest → IsLost (Opening fault) → ⊥
+  -- where no source was opened on the third disk, the opening did not call it empty or damaged
+  pub none_lost : (back : C) (fault : OpenFault) → GivesBackSessions disks.three third (Err (back, fault)) → IsTrue (disks.three back).honest
+      → IsLost (Opening fault) → ⊥
   none_lost back fault headline honest =
       let is = headline base limit moment [] sessions are_sessions refl honest in
-      not_lost (three third) (three back) fault is.state
+      not_lost (disks.three third) (disks.three back) fault is.state
 
-module _ {A B : Type 0} (one : A → DiskState) (two : B → DiskState) {Gives : A → B → Type 0} (base : List ℕ) (limit moment : ℕ)
-    (cs : Commands) (acks : Acks) (left_first : A) (run : HasRun one (start_of base limit moment) cs acks left_first)
-    (second : B) (given : Gives left_first second) where
+module _ {A B C : Type 0} (disks : Disks A B C) (base : List ℕ) (limit moment : ℕ) (cs : Commands) (acks : Acks) (left_first : A)
+    (run : HasRun disks.one (start_of base limit moment) cs acks left_first) (second : B) (given : disks.GivesSecond left_first (Some second)) where
   -- no source was opened on the second disk
-  pub second_lost : RunsLeavePrefixes one → (back : B) (halt : Halt)
-      → (IsTrue (two back).honest → (s : Source) → StandsFor (two second).now.seen s → ¬ IsLost halt) → IsLost halt → IsOtherThanLeft one two Gives (start_of base limit moment) cs
+  pub second_lost : RunsLeavePrefixes disks.one → (back : B) (halt : Halt)
+      → (IsTrue (disks.two back).honest → (s : Source) → StandsFor (disks.two second).now.seen s → ¬ IsLost halt) → IsLost halt
+      → IsOtherThanLeft disks (start_of base limit moment) cs
   second_lost moments back halt found lost = record {
     left = left_first;
     acks = acks;
@@ -100,28 +106,28 @@ module _ {A B : Type 0} (one : A → DiskState) (two : B → DiskState) {Gives :
     given = given;
     back = back;
     other = λ m stop honest.
-        let p = (moments (start_of base limit moment) run.first cs acks run.last run.began run.turn).each m (two second).now.seen stop.from stop.to stop.left in
+        let p = (moments (start_of base limit moment) run.first cs acks run.last run.began run.turn).each m (disks.two second).now.seen stop.from stop.to stop.left in
         found honest (fold_of (start_of base limit moment) (take p.j (counted_commands cs acks))) p.stands lost;
   }
 
-  module _ {C : Type 0} (three : C → DiskState) (sound_one : AreSound one) (sound_two : AreSound two)
-      (more : Commands) (answers : Acks) (left : B) (run_on : HasRunOn two (two second).now.seen more answers left) (third : C) where
-    abbrev ran_twice : RanTwice one two Gives (start_of base limit moment) cs acks more answers left
+  module _ (sound_one : AreSound disks.one) (sound_two : AreSound disks.two) (more : Commands) (answers : Acks) (left : B)
+      (run_on : HasRunOn disks.two (disks.two second).now.seen more answers left) (third : C) (given_then : disks.GivesThird left (Some third)) where
+    abbrev ran_twice : RanTwice disks (start_of base limit moment) (run_of cs acks) (run_of more answers) left
     ran_twice = record { left_first = left_first; run = run; second = second; given = given; run_on = run_on }
 
-    pub recovered_twice : {GivesThen : B → C → Type 0} → GivesThen left third → (source : Stored C) → GivesBackSessions three third (Ok source) → SurvivesTwice one two three Gives GivesThen (start_of base limit moment) cs acks more answers source
-    recovered_twice given_then source headline = record {
+    pub recovered_twice : (source : Stored C) → GivesBackSessions disks.three third (Ok source)
+        → SurvivesTwice disks (start_of base limit moment) (run_of cs acks) (run_of more answers) source
+    recovered_twice source headline = record {
       left = left;
       ran = ran_twice;
       third = third;
       given = given_then;
-      recovered = λ m n left_by.
-          survives_twice one two three sound_one sound_two base limit moment cs acks more answers left ran_twice third m n left_by source headline;
+      recovered = λ m n left_by. survives_twice disks sound_one sound_two base limit moment ran_twice third m n left_by source headline;
     }
 
-    pub third_lost : {GivesThen : B → C → Type 0} → GivesThen left third → (back : C) (fault : OpenFault) → GivesBackSessions three third (Err (back, fault)) → IsLost (Opening fault)
-        → IsOtherThanLeftThen one two three Gives GivesThen (start_of base limit moment) cs more
-    third_lost given_then back fault headline lost = record {
+    pub third_lost : (back : C) (fault : OpenFault) → GivesBackSessions disks.three third (Err (back, fault)) → IsLost (Opening fault)
+        → IsOtherThanLeftThen disks (start_of base limit moment) cs more
+    third_lost back fault headline lost = record {
       left = left;
       acks = acks;
       answers = answers;
@@ -129,6 +135,5 @@ module _ {A B : Type 0} (one : A → DiskState) (two : B → DiskState) {Gives :
       third = third;
       given = given_then;
       back = back;
-      other = λ m n left_by honest.
-          none_lost one two three sound_one sound_two base limit moment cs acks more answers left ran_twice third m n left_by back fault headline honest lost;
+      other = λ m n left_by honest. none_lost disks sound_one sound_two base limit moment ran_twice third m n left_by back fault headline honest lost;
     }

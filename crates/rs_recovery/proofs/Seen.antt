@@ -17,7 +17,8 @@ use Rattle.rs_store.specs.declared.running.Ack.{Ack}
 use Rattle.rs_store.specs.Counted.{counted_commands}
 use Rattle.rs_store.specs.Runs.{InTurn}
 use Rattle.rs_recovery.specs.AnyDisk.{state_of_any, AreSound}
-use Rattle.rs_recovery.specs.DiskSessions.{Holding, InDoubt, StandsIn, after, after_all, condition_after, AreAnswered}
+use Rattle.rs_recovery.specs.DiskSessions.{Holding, InDoubt, StandsIn, after, after_all, condition_after, AreAnswered, IsStopped}
+use Rattle.rs_recovery.specs.Sessions.{Session, IsStoppedSession, disk_session}
 use Rattle.rs_recovery.specs.Seen.{RunsAreSeen, CountedAreMade, SessionsAreSeen}
 use Rattle.rs_recovery.specs.Below.{Below}
 use Rattle.rs_recovery.proofs.Below.{Commands, Acks, weaker, counts_alone}
@@ -43,7 +44,7 @@ module _ {D : Type 0} (device : D → DiskState) (sound : AreSound device) (belo
   exit_in old new P left image is =
       left.each new.calls image left.later (omega arith) (record { past = λ lt. absurd (omega (arith, lt)); now = λ _. is })
 
-  -- a closed source is asked: nothing changes
+  -- a closed source changes nothing
   closed_seen : (s t : Source) (old : Stored D) (cs : Commands) (acks : Acks) (new : Stored D) → old.is_closed ≡ true
       → ((image : List ℕ) → IsImage (device old.disk).now image → StandsIn (InDoubt s t) image) → InTurn device old cs acks new
       → AreAnswered (device old.disk) (InDoubt s t) cs acks (device new.disk)
@@ -143,23 +144,17 @@ runs_are_seen device below sound old new s commands acks holds turn = seen devic
 pub counted_are_made : {D : Type 0} (device : D → DiskState) → Below device → CountedAreMade device
 counted_are_made device below sound old new s commands acks holds turn = counted_made device sound below s old commands acks new holds turn
 
+stopped_seen : Below state_of_any → (s : Source) (x : Session) → IsStoppedSession x → Holds state_of_any x.first s → IsStopped s (disk_session x)
+stopped_seen below s x is holds = record {
+  answered = seen state_of_any any_is_sound below s x.first x.commands x.acks x.last holds is.turn;
+  from = is.from;
+  to = is.to;
+  left = is.image;
+}
+
 pub sessions_are_seen : Below state_of_any → SessionsAreSeen
 sessions_are_seen below start [] are = absurd are
-sessions_are_seen below start (x ∷ []) are = record {
-  answered = seen state_of_any any_is_sound below start x.first x.commands x.acks x.last are.1 are.0.turn;
-  from = are.0.from;
-  to = are.0.to;
-  left = are.0.image;
-}
+sessions_are_seen below start (x ∷ []) are = stopped_seen below start x are.0 are.1
 sessions_are_seen below start (x ∷ y ∷ past) are =
-    let opened = are.1 in (
-      opened.0,
-      opened.1,
-      record {
-        answered = seen state_of_any any_is_sound below opened.0 x.first x.commands x.acks x.last opened.2 are.0.turn;
-        from = are.0.from;
-        to = are.0.to;
-        left = are.0.image;
-      },
-      sessions_are_seen below start (y ∷ past) are.2,
-    )
+    let opened = are.1 in
+    (opened.0, opened.1, stopped_seen below opened.0 x are.0 opened.2, sessions_are_seen below start (y ∷ past) are.2)

@@ -1,5 +1,5 @@
 -- Sessions one after another.
-use Rattle.std.proofs.Common.{◌≡◌, ⊎_elim, ℕ, zero, suc, ◌+◌, ◌≤◌, Bool, true, false, ◌&&◌, List, [], ◌∷◌, ◌++◌, length, take, refl, sym, ◌∙◌, ap, subst, arith, cond, Result, Ok, Err, true≢false, append_assoc, inl, inr, ◌<◌}
+use Rattle.std.proofs.Common.{◌≡◌, ⊎_elim, ℕ, zero, suc, ◌+◌, ◌≤◌, Bool, true, false, ◌&&◌, List, [], ◌∷◌, ◌++◌, length, map, take, refl, sym, ◌∙◌, ap, subst, arith, cond, Result, Ok, Err, true≢false, append_assoc, inl, inr, ◌<◌}
 use Rattle.std.specs.List.{AllByRecursion}
 use Rattle.std.proofs.lemmas.Bool.{le-leb}
 use Rattle.std.proofs.lemmas.List.{append-nil}
@@ -17,7 +17,8 @@ use Rattle.rs_store.specs.declared.running.Ack.{Ack}
 use Rattle.rs_store.specs.Counted.{is_accepted, is_in_doubt, is_device, answered, counted_commands, acknowledged}
 use Rattle.rs_store.specs.Runs.{InTurn, StandsForPrefix}
 use Rattle.rs_recovery.specs.AnyDisk.{AnyDisk, state_of_any, AreSound}
-use Rattle.rs_recovery.specs.Sessions.{Session, IsStoppedSession, IsOpenedOn, AreSessions, last_image, commands_standing, AreStanding, OneStanding, OpeningsStopToo}
+use Rattle.rs_recovery.specs.Sessions.{Session, IsStoppedSession, IsOpenedOn, AreSessions, last_image, disk_session, commands_standing, AreStanding, OneStanding, OpeningsStopToo}
+use Rattle.rs_recovery.proofs.DiskSessions.{image_left}
 use Rattle.rs_recovery.specs.Served.{Asking, CouldServe, HasServed, IsNoLater, IsPrefixOf, CommandsStand, SessionsStand}
 use Rattle.rs_recovery.specs.Recovered.{YieldsHeld}
 use Rattle.rs_recovery.proofs.Counts.{one_number}
@@ -132,7 +133,7 @@ module _ (below : Below state_of_any) where
       (first_of_more is_accepted n m x.commands x.acks le) in
       subst (λ (l : Commands). IsPrefixOf l (counted_commands (take m x.commands) (take m x.acks))) (sym these) front
 
-  -- what was served was served in one of the sessions
+  -- what was served was served in one session
   served_in : (sessions : List Session) (standing : List ℕ) (asking : Asking) (commands : Commands) → HasServed sessions standing asking commands → asking.sessions < length sessions
   served_in [] standing asking commands has = absurd has
   served_in (x ∷ past) [] asking commands has = absurd has
@@ -192,16 +193,11 @@ module _ (below : Below state_of_any) where
         },
       )
 
-  -- what the latest stop left
-  pub left_stands : (start : Source) (x : Session) (past : List Session) (standing : List ℕ) → AreStanding start (x ∷ past) standing → StandsFor x.image (fold_of start (commands_standing (x ∷ past) standing))
-  left_stands start x past [] stands = absurd stands
-  left_stands start x past (j ∷ standing) stands = stands.2
-
-  -- a source that was opened on it holds the same
+  -- a source that was opened on the latest image holds its state
   opened_holds : (start : Source) (x : Session) (past : List Session) (standing : List ℕ) (source : Stored AnyDisk) → AreStanding start (x ∷ past) standing → IsOpenedOn state_of_any x.image source
       → Holds state_of_any source (fold_of start (commands_standing (x ∷ past) standing))
   opened_holds start x past standing source stands (s, image, holds) =
-      subst (Holds state_of_any source) (below.stands_once x.image s (fold_of start (commands_standing (x ∷ past) standing)) image (left_stands start x past standing stands)) holds
+      subst (Holds state_of_any source) (below.stands_once x.image s (fold_of start (commands_standing (x ∷ past) standing)) image (image_left fold_of start (disk_session x) (map disk_session past) standing stands)) holds
 
   pub sessions_stand : SessionsStand
   sessions_stand start [] are = absurd are
@@ -247,8 +243,7 @@ openings_stop_too start x past before after are as_left opening =
 -- what the latest stop left, of any sessions
 pub left_standing : (start : Source) (sessions : List Session) (standing : List ℕ) → AreSessions start sessions → AreStanding start sessions standing
     → StandsFor (last_image sessions) (fold_of start (commands_standing sessions standing))
-left_standing start (x ∷ past) (j ∷ standing) are stands = stands.2
-left_standing start (x ∷ past) [] are stands = absurd stands
+left_standing start (x ∷ past) standing are stands = image_left fold_of start (disk_session x) (map disk_session past) standing stands
 left_standing start [] standing are stands = absurd are
 
 -- what a regular state yields

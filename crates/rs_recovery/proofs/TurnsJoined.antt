@@ -15,7 +15,7 @@ use Rattle.rs_store.specs.declared.refusal.Refusal.TheVariants.{Closed}
 use Rattle.rs_store.specs.Source.{Stored, Holds, state_of}
 use Rattle.rs_store.specs.Refusals.{decided, or_spent, is_spent}
 use Rattle.rs_store.specs.OnlyReads.{OnlyReads}
-use Rattle.rs_store.specs.Received.{IsCutShort}
+use Rattle.rs_store.specs.Received.{IsCutShort, coming_put}
 use Rattle.rs_store.specs.Runs.{IsIdle}
 use Rattle.rs_store.specs.Laws.{HeldStands}
 use Rattle.rs_recovery.proofs.Below.{weaker}
@@ -43,8 +43,8 @@ module _ {D : Type 0} (device : D → DiskState) (images_stand : HeldStands devi
     calls = reads.rests.leaves.later;
   }
 
-  -- a closed source is asked for no body
-  cut_open : (old new : Stored D) (name kind : List ℕ) (n now : ℕ) (came : List ℕ) → IsCutShort device old new name kind n now came → old.is_closed ≡ true → ⊥
+  -- a closed source takes no body
+  cut_open : (old new : Stored D) (name kind : List ℕ) (n now : ℕ) (came : List ℕ) → IsCutShort device old new (coming_put name kind n now) came → old.is_closed ≡ true → ⊥
   cut_open old new name kind n now came cut shut =
       let command : Command = Put name kind (replicate n 0) in
       let refused : decided old (state_of device old) command now ≡ Some Closed =
@@ -52,7 +52,7 @@ module _ {D : Type 0} (device : D → DiskState) (images_stand : HeldStands devi
       let clash : Some Closed ≡ None = sym refused ∙ cut.decides (replicate n 0) (length-replicate n 0) in
       cc
 
-  cut_idles : (old new : Stored D) (name kind : List ℕ) (n now : ℕ) (came : List ℕ) → IsCutShort device old new name kind n now came → IsIdle device old new
+  cut_idles : (old new : Stored D) (name kind : List ℕ) (n now : ℕ) (came : List ℕ) → IsCutShort device old new (coming_put name kind n now) came → IsIdle device old new
   cut_idles old new name kind n now came cut = record {
     is_closed = cut.left.is_closed;
     holds = cut.left.holds;

@@ -47,7 +47,7 @@ walk_behind device s first M N new are walk = record {
       (first ++ w.0, are w.0 w.1, subst (StandsFor image) (sym (walk-append s first w.0)) w.2);
 }
 
--- what its lists tell is the state that a source holds
+-- a source's lists have the state that it holds
 pub told : {D : Type 0} (device : D → DiskState) (sound : (disk : D) → IsMedium (device disk).size (device disk).now) (source : Stored D) (s : Source)
     → Holds device source s → state_of device source ≡ s
 told device sound source s holds = (holds.told (device source.disk).now.seen (sound source.disk).image).state

@@ -1,8 +1,9 @@
--- A source on any disk. The sessions of one source may be on disks of several types, as a file that is opened anew has another type.
+-- A source on any disk. The sessions of one source may be on disks of several types: a file that is opened anew has
+-- another type.
 use Rattle.rs_disk.specs.Medium.{DiskState, IsMedium}
 use Rattle.rs_store.specs.Source.{Stored}
 
--- Any disk, as its contract shows it: its state. What it holds has one size, and what a read gives is an image.
+-- Any disk, by the state that its contract shows. What it holds has one size, and a read gives an image.
 pub record AnyDisk : Type 0 where
   pub state : DiskState
   pub sound : IsMedium state.size state.now
@@ -10,7 +11,7 @@ pub record AnyDisk : Type 0 where
 abbrev pub state_of_any : AnyDisk → DiskState
 state_of_any disk = disk.state
 
--- What each disk of a type holds has one size, and what a read gives is an image: the law of rs_disk's trait `Disk`.
+-- What each disk of a type holds has one size, and a read gives an image: the law of rs_disk's trait `Disk`.
 abbrev pub AreSound : {D : Type 0} → (D → DiskState) → Type 0
 AreSound {D} device = (disk : D) → IsMedium (device disk).size (device disk).now
 

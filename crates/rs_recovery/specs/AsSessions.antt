@@ -1,4 +1,4 @@
--- What is a session: each run of a source, on a disk of whatever type, with any stop.
+-- Each run of a source, on a disk of any type, with any stop, is a session.
 use Rattle.std.specs.Prelude.{◌≡◌, ◌↔◌, ℕ, ◌≤◌, List}
 use Rattle.rs_disk.specs.Medium.{DiskState, IsImageAt}
 use Rattle.rs_model.specs.State.{Source}
@@ -11,7 +11,7 @@ use Rattle.rs_recovery.specs.AnyDisk.{AnyDisk, state_of_any, AreSound, on_any}
 use Rattle.rs_recovery.specs.Prefixes.{IsRunOf}
 use Rattle.rs_recovery.specs.Sessions.{Session, IsStoppedSession, IsOpenedOn}
 
--- A source holds the same state as one on any disk.
+-- A source holds the same state as the source on any disk.
 abbrev pub HoldsTheSame : {D : Type 0} → (D → DiskState) → Type 0
 HoldsTheSame {D} device = (sound : AreSound device) (source : Stored D) (s : Source) → Holds device source s ↔ Holds state_of_any (on_any device sound source) s
 
@@ -48,7 +48,7 @@ RunsAreSessions {D} device = (sound : AreSound device) (first last : Stored D) (
     → InTurn device first commands acks last → IsStopOf device first last stop image
     → IsStoppedSession (session_of (on_any device sound first) commands acks (on_any device sound last) stop image)
 
--- A session of a source that was asked commands one by one: these of its commands count.
+-- A session of a source that got commands one by one: these of its commands count.
 pub record IsSessionOf (first : Stored AnyDisk) (commands : List (Command × ℕ)) (last : Stored AnyDisk) (stop : ℕ) (image : List ℕ) (x : Session) : Type 0 where
   pub is_session : IsStoppedSession x
   pub begins : x.first ≡ first
@@ -57,7 +57,7 @@ pub record IsSessionOf (first : Stored AnyDisk) (commands : List (Command × ℕ
   pub leaves : x.image ≡ image
   pub count : counted_commands x.commands x.acks ≡ commands
 
--- Whatever a source was asked one by one, as the lines of a script or the requests of a server are, is a session, with any stop of it.
+-- Commands that a source got one by one, as from a script or from requests, are a session, with any stop.
 abbrev pub AskedAreSessions : {D : Type 0} → (D → DiskState) → Type 0
 AskedAreSessions {D} device = (sound : AreSound device) (first last : Stored D) (commands : List (Command × ℕ)) (stop : ℕ) (image : List ℕ)
     → IsRunOf device first commands last → IsStopOf device first last stop image

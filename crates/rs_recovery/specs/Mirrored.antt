@@ -1,4 +1,4 @@
--- A destination that asks sources of several sessions, between which there were stops.
+-- A destination that asks the sources of several sessions, with stops between them.
 use Rattle.std.specs.Prelude.{◌≡◌, ◌⊎◌, ℕ, ◌<◌, ◌≤◌, List, [], ◌∷◌, ◌++◌, length, take, drop, map, codes, Option, Some, is_some, IsTrue}
 use Rattle.std.specs.List.{AllByRecursion}
 use Rattle.rs_record.specs.declared.change.Change.{Change}
@@ -26,7 +26,8 @@ list_head = codes "/resourcelist.xml"
 abbrev pub changes_head : List ℕ
 changes_head = codes "/changelist.xml"
 
--- Each path is asked of a source that could be asked then, and these are the commands behind it; and so of the last time.
+-- For each path, the source that is asked for it, which could be asked then, and the commands behind that source. The
+-- same for the last request.
 pub record Asked (sessions : List Session) (standing : List ℕ) : Type 0 where
   pub asking : List ℕ → Asking
   pub behind : List ℕ → List (Command × ℕ)
@@ -35,31 +36,32 @@ pub record Asked (sessions : List Session) (standing : List ℕ) : Type 0 where
   pub behind_last : List (Command × ℕ)
   pub last_served : HasServed sessions standing last behind_last
 
--- what is answered at a path, by the source that is asked for it
+-- the answer at a path, by the source that is asked for it
 abbrev pub answered_by : (List ℕ → Asking) → List ℕ → Option (List ℕ)
 answered_by asking path = answer (state_of state_of_any (asking path).source) path
 
--- A part is asked with its head or later, and is answered.
+-- The destination asks for a part with its head or later, and gets an answer.
 pub record IsAskedPart (asking : List ℕ → Asking) (head path : List ℕ) : Type 0 where
   pub after_head : IsNoLater (asking head) (asking path)
   pub answered : IsTrue (is_some (answered_by asking path))
 
--- Of all parts that a head names as it is asked this holds.
+-- This holds of all parts that a head names when it is asked for.
 abbrev pub OfParts : (List ℕ → Asking) → List ℕ → (List ℕ → Type 0) → Type 0
 OfParts asking head IsPart =
     (text : List ℕ) (document : Document) → answered_by asking head ≡ Some text → reads text ≡ Some document
     → AllByRecursion IsPart (part_paths document)
 
--- No change between the two lists that are gathered so is missing: the Resource List's moment is not before the one at which the
--- Change List begins.
+-- No change between the two gathered lists is missing: the Resource List's moment is not before the begin of the Change
+-- List.
 abbrev pub HaveNoGap : (List ℕ → Asking) → Type 0
 HaveNoGap asking =
     (at from : ℕ) (listed : List Listed) (changes : List Change)
     → gather_resources (answered_by asking) ≡ Some (at, listed)
     → gather_changes (answered_by asking) ≡ Some (from, changes) → from ≤ at
 
--- A destination asks for the Resource List's head and its parts, and for the Change List's, in any order among the parts: the
--- Change List's head with the other head or later, and none of its documents after the last time.
+-- A destination asks for the Resource List's head and its parts, and for the Change List's, with the parts in any
+-- order. It asks for the Change List's head with the other head or later, and for none of the Change List's documents
+-- after the last request.
 pub record AsksBoth (asking : List ℕ → Asking) (last : Asking) : Type 0 where
   pub resources : OfParts asking list_head (IsAskedPart asking list_head)
   pub order : IsNoLater (asking list_head) (asking changes_head)
@@ -68,20 +70,20 @@ pub record AsksBoth (asking : List ℕ → Asking) (last : Asking) : Type 0 wher
   pub parts_by_last : OfParts asking changes_head (λ path. IsNoLater (asking path) last)
   pub no_gap : HaveNoGap asking
 
--- the changes that a command makes in a state, where it is accepted: a put or a delete one, a group one for each item
+-- the changes that an accepted command makes in a state: a put or a delete one, a group one for each item
 abbrev pub changes_made : Source → Command × ℕ → List Change
 changes_made s c = drop (length s.changes) (state_after s (step s c.0 c.1)).changes
 
--- None of these changes, or the first of those that the next of some commands makes after the ones before it: of a group, since no
+-- No changes, or the first of those that the next command makes after these ones. That command is a group, since no
 -- other makes more than one.
 abbrev pub AreOfNext : Source → List (Command × ℕ) → List (Command × ℕ) → List Change → Type 0
 AreOfNext start commands whole made =
     (made ≡ []) ⊎ ((next : Command × ℕ) × IsPrefixOf (commands ++ next ∷ []) whole
     × (k : ℕ) × (k < length (changes_made (fold_of start commands) next)) × (made ≡ take k (changes_made (fold_of start commands) next)))
 
--- Both lists read. The one mirrored with the other is what the source held after the first of the commands that stand: all that were
--- behind it as the Change List's head was asked, and none that was not yet at the last time. Where the next of these is a group, it
--- may be what was held followed by the first changes of that (`made`).
+-- Both lists read. The one mirrored with the other is what the source held after the first standing commands: at least
+-- those behind it when the destination asked for the Change List's head, and at most those at the last request. Where
+-- the next command is a group, it may be what was held followed by the group's first changes (`made`).
 pub record IsMirrored (start : Source) (sessions : List Session) (standing : List ℕ) (asked : Asked sessions standing) : Type 0 where
   pub at : ℕ
   pub listed : List Listed
@@ -97,9 +99,9 @@ pub record IsMirrored (start : Source) (sessions : List Session) (standing : Lis
   pub next : AreOfNext start commands asked.behind_last made
   pub mirrored : mirror_of (map listed_entry listed) at changes ≡ mirror_of (entries (fold_of start commands).held) start.start made
 
--- Over any number of sessions, whatever the stops, commands stand so that whoever asks for both lists mirrors what was held. The
--- first session began with the state that a formatting and then some commands made: none of them where the source was formatted; where
--- it is a copy, those that stood behind the source that was copied.
+-- Over any number of sessions, whatever the stops, commands stand so that a destination that asks for both lists
+-- mirrors what was held. The first session began with the state that a formatting and some commands made: no commands
+-- where the source was formatted, and those behind the copied source where it is a copy.
 abbrev pub SessionsAreMirrored : Type 0
 SessionsAreMirrored =
     (base : List ℕ) (limit moment : ℕ) (before : List (Command × ℕ)) (sessions : List Session)

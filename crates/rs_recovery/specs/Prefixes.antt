@@ -1,4 +1,4 @@
--- What a stop leaves of commands that a source is asked one by one, as the lines of a script or the requests of a server are.
+-- What a stop leaves of commands that a source gets one by one, as from a script or from requests.
 use Rattle.std.specs.Prelude.{◌≡◌, ℕ, ◌+◌, ◌≤◌, false, List, [], ◌∷◌, ◌++◌, length, take, Result, Ok, Err}
 use Rattle.rs_disk.specs.Medium.{DiskState, IsImage}
 use Rattle.rs_disk.specs.Leaves.{Leaves}
@@ -21,7 +21,7 @@ counted_as command now (Ok reply) = (command, now) ∷ []
 counted_as command now (Err Device) = (command, now) ∷ []
 counted_as command now (Err refusal) = []
 
--- A source was asked commands in their turn, and these of them count.
+-- A source answered commands in their turn, and these of them count.
 pub record IsRunOf {D : Type 0} (device : D → DiskState) (old : Stored D) (commands : List (Command × ℕ)) (new : Stored D) : Type 0 where
   pub asked : List (Command × ℕ)
   pub acks : List Ack
@@ -34,11 +34,12 @@ pub record StandsForFirst (s : Source) (commands : List (Command × ℕ)) (j : �
   pub stands : StandsFor image (fold_of s (take j commands))
 
 -- Whenever a stop comes, each image stands for what the first commands make of the state that was held.
--- `done m` of them had been answered when m calls were counted; it does not fall.
--- `each`: an image of that moment stands for those, or for one more, which had begun. So none of a later moment stands for fewer
--- than all but one of those that an earlier one stands for.
--- `holds`: a source that is open at the end holds what all make.
--- `at_exit`: each image then stands for all. The last may be missing where the source is closed, since the device failed in it.
+-- `done m`: how many of them were answered at m counted calls. It does not fall.
+-- `each`: an image of that moment stands for those, or for one more, which had begun. So a later image stands for at
+-- most one command fewer than an earlier one.
+-- `holds`: a source that is open at the end holds what all of them make.
+-- `at_exit`: each image at the end stands for all of them. The last one may be missing where the source is closed,
+-- since the device failed in it.
 pub record LeavesPrefixes {D : Type 0} (device : D → DiskState) (old : Stored D) (s : Source) (commands : List (Command × ℕ)) (new : Stored D) : Type 0 where
   pub done : ℕ → ℕ
   pub rises : (m n : ℕ) → m ≤ n → done m ≤ done n
@@ -48,24 +49,24 @@ pub record LeavesPrefixes {D : Type 0} (device : D → DiskState) (old : Stored 
   pub at_exit : (image : List ℕ) → IsImage (device new.disk).now image
       → (j : ℕ) × (length commands ≤ j + 1) × (new.is_closed ≡ false → j ≡ length commands) × StandsForFirst s commands j image
 
--- A source that held a state was asked these commands: a stop leaves what the first of them make.
+-- Where the source held a state before these commands, a stop leaves what the first of them make.
 abbrev pub Recovers : {D : Type 0} → (D → DiskState) → Stored D → List (Command × ℕ) → Stored D → Type 0
 Recovers device old commands new = (s : Source) → Holds device old s → LeavesPrefixes device old s commands new
 
--- Whatever was asked in turn: a stop leaves what the first of the counted commands make.
+-- A stop of any run leaves what the first counted commands make.
 abbrev pub RunsRecover : {D : Type 0} → (D → DiskState) → Type 0
 RunsRecover {D} device = (old new : Stored D) (commands : List (Command × ℕ)) → IsRunOf device old commands new → Recovers device old commands new
 
--- A source that idles was asked nothing that counts.
+-- A source that idles ran no command that counts.
 abbrev pub IdleIsRun : {D : Type 0} → (D → DiskState) → Type 0
 IdleIsRun {D} device = (old new : Stored D) → IsIdle device old new → IsRunOf device old [] new
 
--- One command, answered as it may be.
+-- One command with its answer is a run.
 abbrev pub CommandIsRun : {D : Type 0} → (D → DiskState) → Type 0
 CommandIsRun {D} device = (old new : Stored D) (command : Command) (now : ℕ) (reply : Result Reply Refusal)
     → Answers device old new command now reply → IsRunOf device old (counted_as command now reply) new
 
--- One run and then another.
+-- One run and then another are a run.
 abbrev pub RunsJoin : {D : Type 0} → (D → DiskState) → Type 0
 RunsJoin {D} device = (old mid new : Stored D) (first then : List (Command × ℕ))
     → IsRunOf device old first mid → IsRunOf device mid then new → IsRunOf device old (first ++ then) new

@@ -1,4 +1,4 @@
--- What is recovered after a stop.
+-- What an opening recovers after a stop.
 use Rattle.std.specs.Prelude.{◌≡◌, ℕ, ◌≤◌, false, List, ◌∷◌, take, Result, Ok, Err, IsTrue}
 use Rattle.std.specs.List.{AllByRecursion}
 use Rattle.rs_disk.specs.Medium.{DiskState}
@@ -18,7 +18,7 @@ use Rattle.rs_recovery.specs.Sessions.{Session, AreSessions, last_image, command
 use Rattle.rs_recovery.specs.Served.{CommandsStand}
 use Rattle.rs_recovery.specs.DiskSessions.{DiskSession, after_all, AreDiskSessions, commands_left, AreLeft}
 
--- Why a source is not opened where there is one: a call of the device failed, or memory was refused.
+-- Why an existing source is not opened: a call of the device failed, or memory was refused.
 abbrev pub IsExcuse : DiskState → DiskState → OpenFault → Type 0
 IsExcuse before after NotASource = ⊥
 IsExcuse before after Damaged = ⊥
@@ -30,8 +30,8 @@ abbrev pub HandsBack : {D : Type 0} → (D → DiskState) → D → Result (Stor
 HandsBack device disk (Ok source) s = Holds device source s
 HandsBack device disk (Err refused) s = IsExcuse (device disk) (device refused.0) refused.1
 
--- Of a run that was stopped when m calls were counted, the state after the first j counted commands is given back, for some j: no
--- command that was acknowledged by then is left out, and none is in that had not begun.
+-- Of a run that stopped at m counted calls, the opening gives back the state after the first j counted commands, for
+-- some j. No command that was acknowledged by then is missing, and none is in that had not begun.
 pub record HandsBackPrefix (IsGivenBack : Source → Type 0) (s : Source) (commands : List (Command × ℕ)) (acks : List Ack) (m : ℕ) : Type 0 where
   pub j : ℕ
   pub least : acknowledged m acks ≤ j
@@ -44,13 +44,13 @@ GivesBackRun device disk result = (s : Source) (commands : List (Command × ℕ)
     → StandsForPrefix s commands acks m (device disk).now.seen
     → IsTrue (device (disk_of result)).honest → HandsBackPrefix (HandsBack device disk result) s commands acks m
 
--- The latest Resource List, followed by the changes recorded after its at-moment in their order, yields exactly the resources
--- held; and the length, the hashes and the type of each are those of its bytes.
+-- The latest Resource List, followed by the changes recorded after its at-moment in their order, yields exactly the
+-- resources held; and the length, the hashes and the type of each are those of its bytes.
 pub record YieldsHeld (s : Source) : Type 0 where
   pub mirrored : mirror_of s.listed s.at s.changes ≡ entries s.held
   pub facts : AllByRecursion (λ held. held.1.entry.facts ≡ facts_of held.1.entry.facts.kind held.1.bytes) s.held
 
--- After sessions an opening gives back exactly the state that the commands that stand of them make.
+-- After sessions an opening gives back exactly the state that their standing commands make.
 pub record IsBack {D : Type 0} (device : D → DiskState) (disk : D) (result : Result (Stored D) (D × OpenFault))
     (start : Source) (sessions : List Session) : Type 0 where
   pub standing : List ℕ
@@ -60,37 +60,36 @@ pub record IsBack {D : Type 0} (device : D → DiskState) (disk : D) (result : R
   pub timely : IsTimely (fold_of start (commands_standing sessions standing))
   pub yields : YieldsHeld (fold_of start (commands_standing sessions standing))
 
--- The headline for sessions whose sources may be asked. It says besides: by the steps of the model; that the state is regular; that
--- the source that is opened can go on; and what was served meanwhile stands.
+-- The headline for sessions whose sources may be asked. It also says that the model's steps make the state, that the
+-- state is regular, that the opened source can go on, and that what was served meanwhile stands.
 abbrev pub GivesBackSessions : {D : Type 0} → (D → DiskState) → D → Result (Stored D) (D × OpenFault) → Type 0
 GivesBackSessions {D} device disk result = (base : List ℕ) (limit moment : ℕ) (before : List (Command × ℕ)) (sessions : List Session)
     → let start = fold_of (start_of base limit moment) before in
     AreSessions start sessions → (device disk).now.seen ≡ last_image sessions
     → IsTrue (device (disk_of result)).honest → IsBack device disk result start sessions
 
--- An opening gives back a state: the source that is opened is open, and reads this; or a call of the device failed, or memory was
--- refused.
+-- An opening gives back a state: the source is open, and this is its state; or a call of the device failed, or memory
+-- was refused.
 abbrev pub GivesBack : {D : Type 0} → (D → DiskState) → D → Result (Stored D) (D × OpenFault) → Source → Type 0
 GivesBack device disk (Ok source) s = (source.is_closed ≡ false) × (state_of device source ≡ s)
 GivesBack device disk (Err (back, Device)) s = HasFailed (device disk) (device back)
 GivesBack device disk (Err (back, NoMemory)) s = Unit {0}
 GivesBack device disk (Err refused) s = ⊥
 
--- After sessions an opening gives back the state that the commands that stand of them make.
+-- After sessions an opening gives back the state that their standing commands make.
 pub record IsRecovered {D : Type 0} (device : D → DiskState) (disk : D) (result : Result (Stored D) (D × OpenFault))
     (start : Source) (sessions : List DiskSession) : Type 0 where
   pub standing : List ℕ
-  pub left : AreLeft start sessions standing
+  pub left : AreLeft after_all start sessions standing
   pub state : GivesBack device disk result (after_all start (commands_left sessions standing))
   pub yields : YieldsHeld (after_all start (commands_left sessions standing))
 
--- Stopped before or within any disk call, during a command or between two, recovery gives exactly the resources and published
--- documents of a prefix of the accepted commands that holds every acknowledged one; and in every recovered state the latest
--- Resource List, followed by the changes recorded after its at-moment in their order, yields exactly the resources held, with
--- their lengths, hashes and types.
--- The first session began with the state that a formatting and then some commands made: none of them where the source was
--- formatted; where it is a copy, those that stood behind the source that was copied. Each session may be on a disk of another type
--- than this one, as a file that is opened anew has another.
+-- Stopped before or within any disk call, during a command or between two, recovery gives exactly the resources and
+-- published documents of a prefix of the accepted commands that holds every acknowledged one; and in every recovered
+-- state the latest Resource List, followed by the changes recorded after its at-moment in their order, yields exactly
+-- the resources held, with their lengths, hashes and types. The first session began with the state that a formatting
+-- and some commands made: no commands where the source was formatted, and those behind the copied source where it is a
+-- copy. Each session may be on a disk of another type than this one, since a file that is opened anew has another type.
 abbrev pub Headline : {D : Type 0} → (D → DiskState) → D → Result (Stored D) (D × OpenFault) → Type 0
 Headline {D} device disk result = (base : List ℕ) (limit moment : ℕ) (before : List (Command × ℕ)) (x : DiskSession) (past : List DiskSession)
     → let start = after_all (start_of base limit moment) before in

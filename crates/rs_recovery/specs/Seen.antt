@@ -9,35 +9,24 @@ use Rattle.rs_store.specs.declared.running.Ack.{Ack}
 use Rattle.rs_store.specs.Counted.{counted_commands}
 use Rattle.rs_store.specs.Runs.{InTurn}
 use Rattle.rs_recovery.specs.AnyDisk.{AreSound}
-use Rattle.rs_recovery.specs.Sessions.{Session, AreSessions}
-use Rattle.rs_recovery.specs.DiskSessions.{Holding, after_all, AreAnswered, DiskSession, AreDiskSessions}
+use Rattle.rs_recovery.specs.Sessions.{Session, AreSessions, disk_session}
+use Rattle.rs_recovery.specs.DiskSessions.{Holding, after_all, AreAnswered, AreDiskSessions}
 
--- what the disk saw of a session
-abbrev pub disk_session : Session → DiskSession
-disk_session x = record {
-  first = x.first.disk.state;
-  commands = x.commands;
-  acks = x.acks;
-  last = x.last.disk.state;
-  stop = x.stop;
-  image = x.image;
-}
-
--- The commands of a run of a source that held a state were answered so, as its disk saw it.
+-- The disk of a source that held a state saw the commands of a run answered.
 abbrev pub RunsAreSeen : {D : Type 0} → (D → DiskState) → Type 0
 RunsAreSeen {D} device = (sound : AreSound device) (old new : Stored D) (s : Source) (commands : List (Command × ℕ)) (acks : List Ack)
     → Holds device old s → InTurn device old commands acks new
     → AreAnswered (device old.disk) (Holding s) commands acks (device new.disk)
 
--- Sessions are sessions for their disks.
+-- Sessions are sessions as their disks saw them.
 abbrev pub SessionsAreSeen : Type 0
 SessionsAreSeen = (start : Source) (sessions : List Session) → AreSessions start sessions → AreDiskSessions start (map disk_session sessions)
 
--- What commands make of a state, some of which may be refused there, those of them make that are accepted.
+-- What commands make of a state, the accepted ones among them make.
 abbrev pub FoldsAreMade : Type 0
 FoldsAreMade = (s : Source) (commands : List (Command × ℕ)) → (made : List (Command × ℕ)) × (after_all s made ≡ fold_of s commands)
 
--- The model accepts each counted command of a run, where it comes in its turn.
+-- The model accepts each counted command of a run in its turn.
 abbrev pub CountedAreMade : {D : Type 0} → (D → DiskState) → Type 0
 CountedAreMade {D} device = (sound : AreSound device) (old new : Stored D) (s : Source) (commands : List (Command × ℕ)) (acks : List Ack)
     → Holds device old s → InTurn device old commands acks new

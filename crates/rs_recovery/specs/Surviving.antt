@@ -29,8 +29,8 @@ pub record HasRun {D : Type 0} (device : D → DiskState) (start : Source) (comm
   pub turn : InTurn device first commands acks last
   pub left_by : last.disk ≡ left
 
--- The run left this disk, and its image of this choice stands for the state after the first j counted commands, for some j: the
--- source holds it, and each accepted command is among them.
+-- The run left this disk. Its image by this choice stands for the state after the first j counted commands, for some j.
+-- The source holds that state, and each accepted command is among these.
 pub record Survives (start : Source) (commands : List (Command × ℕ)) (acks : List Ack) (left : MemoryDisk) (choice : List ℕ) (source : Stored MemoryDisk) : Type 0 where
   pub run : HasRun memory_state start commands acks left
   pub j : ℕ
@@ -39,7 +39,7 @@ pub record Survives (start : Source) (commands : List (Command × ℕ)) (acks : 
   pub holds : Holds memory_state source (fold_of start (take j (counted_commands commands acks)))
   pub yields : YieldsHeld (fold_of start (take j (counted_commands commands acks)))
 
--- The disk was told to hold no source, or a damaged one.
+-- The opening called the disk empty or damaged.
 abbrev pub IsLost : Halt → Type 0
 IsLost (Formatting fault) = ⊥
 IsLost (Running refusal) = ⊥
@@ -49,14 +49,14 @@ IsLost (Opening openings.Damaged) = Unit {0}
 IsLost (Opening openings.Device) = ⊥
 IsLost (Opening openings.NoMemory) = ⊥
 
--- A disk of this many bytes can be formatted with this base and limit.
+-- A disk of this size in bytes can be formatted with this base and limit.
 pub record MayFormat (base : List ℕ) (limit size : ℕ) : Type 0 where
   pub lawful : IsTrue (is_base base)
   pub among : IsLimit limit
   pub room : 16 ≤ blocks_of_disk size
 
--- Why it halted: its formatting was refused, by the first cause that is there; or there was none, and the device failed or memory
--- was refused, in the step that is told.
+-- Why it halted: the first cause that refuses the formatting; or without such a cause, a failed device or refused
+-- memory in the named step.
 abbrev pub HasHalted : List ℕ → ℕ → ℕ → Halt → Type 0
 HasHalted base limit size (Formatting formattings.BadBase) = is_base base ≡ false
 HasHalted base limit size (Formatting formattings.BadLimit) = IsTrue (is_base base) × (¬ IsLimit limit)

@@ -27,8 +27,9 @@ use rs_image::laws::stands_once;
 use rs_model::fold_is_regular;
 use rs_store::laws::{closed_sources_stay, held_sources_rest, runs_leave_prefixes, turns_go_on};
 
-/// What else is asked of a source joins a run: one run and then another are one run; one command is a run of its own; and a source
-/// that only reads, as for a body or for the damaged ones, or is asked for a put whose body does not come whole, idles.
+/// All requests to a source join into runs. One run and then another are one run. One command is a run of its own. A
+/// source idles while it only reads, as for a body or for the list of damaged ones, and when the body of a put does not
+/// come whole.
 pub fn runs_go_on<D: Disk>()
     ensures join { TurnsGoOn D.state }
     ensures command { CommandsAreTurns D.state }
@@ -39,10 +40,10 @@ pub fn runs_go_on<D: Disk>()
     held_sources_rest::<D>();
 }
 
-/// What is asked of a source one by one is a run: each command by itself, what only reads between them, and
-/// one run after another. Whenever a stop comes, what it leaves stands for what the first of the counted
-/// commands make: for all that were answered by then, and perhaps for one more, which had begun. At the end an
-/// open source holds what all of them make; of a closed one the last may be missing, in which the device failed.
+/// Requests to a source one by one are a run: each command by itself, reads between them, and one run after another.
+/// Whenever a stop comes, it leaves what the first counted commands make: all that were answered by then, and perhaps
+/// one more, which had begun. At the end an open source holds what all of them make. A closed source may lack the last
+/// one, in which the device failed.
 pub fn runs_recover<D: Disk>()
     ensures recover { RunsRecover D.state }
     ensures idle { IdleIsRun D.state }
@@ -54,7 +55,7 @@ pub fn runs_recover<D: Disk>()
     runs_go_on::<D>();
 }
 
-/// What sessions rest on of the crates below.
+/// The laws of the crates below that sessions rest on.
 fn laws_below<D: Disk>()
     ensures { Below D.state }
 {
@@ -63,16 +64,16 @@ fn laws_below<D: Disk>()
     runs_leave_prefixes::<D>();
 }
 
-/// The same of sources on any disk.
+/// The same for sources on any disk.
 pub(crate) fn laws_of_any()
     ensures { Below state_of_any }
 {
     stands_once();
 }
 
-/// A source on a disk of whatever type is one on any disk, of which sessions are made: it holds the same state, was opened
-/// on the same bytes, and answers commands in their turn by the same answers. So each run of it, with any stop, is a
-/// session; and so is whatever it was asked one by one, as by the lines of a script or by requests.
+/// A source on a disk of any type is also a source on `AnyDisk`, of which sessions are made. It holds the same state,
+/// was opened on the same bytes, and gives the same answers in turn. So each run of it, with any stop, is a session. So
+/// are commands that come one by one, as from a script or from requests.
 pub fn runs_are_sessions<D: Disk>()
     ensures holds { HoldsTheSame D.state }
     ensures opened { OpenedOnTheSame D.state }
@@ -81,8 +82,8 @@ pub fn runs_are_sessions<D: Disk>()
     ensures asked { AskedAreSessions D.state }
 {}
 
-/// What the disks saw of sessions: the commands were answered so, the model accepts each that counts, and what commands make of a
-/// state the accepted ones of them make.
+/// What the disks saw of sessions. They saw the commands answered in turn. The model accepts each command that counts.
+/// What commands make of a state, the accepted ones among them make.
 pub fn sessions_are_seen<D: Disk>()
     ensures runs { RunsAreSeen D.state }
     ensures counted { CountedAreMade D.state }
@@ -93,8 +94,8 @@ pub fn sessions_are_seen<D: Disk>()
     laws_of_any();
 }
 
-/// Whatever the stops, commands of each session stand, and those behind a source that could be asked
-/// are the first of those behind every later one. The sessions may be on disks of several types.
+/// Whatever the stops, commands of each session stand, and those behind a source that could be asked are the first of
+/// those behind every later one. The sessions may be on disks of several types.
 pub fn sessions_stand()
     ensures { SessionsStand }
 {
@@ -113,21 +114,21 @@ pub fn openings_stop_too()
     ensures { OpeningsStopToo }
 {}
 
-/// Sessions begin on a copy as they do on a formatting: where a source that held a state was copied with the answer Ok,
-/// and its device had followed the model, the copy holds that state.
+/// Sessions begin on a copy as on a formatting. Where a source that held a state was copied with the answer Ok, and its
+/// device had followed the model, the copy holds that state.
 pub fn copies_begin_sessions<D: Disk, E: Disk>()
     ensures { CopiesBeginSessions D.state E.state }
 {}
 
-/// A document of a source, as its lists show it, is the document of the state that they tell.
+/// A document that a source's lists show is the document of the state in these lists.
 pub fn documents_are_of_the_state()
     ensures { DocumentsAreOfTheState }
 {
     blocks_are_not_shown();
 }
 
-/// Each state that a stop within a run of a regular source may leave is regular: what was published,
-/// followed by the changes after its moment, is what is held.
+/// Each state that a stop within a run of a regular source may leave is regular. What was published, followed by the
+/// changes after its moment, is what is held.
 pub fn stops_leave_regular()
     ensures regular { (s t : Source) (commands : List (Command × ℕ)) (acks : List Ack)
         (m : ℕ) (image : List ℕ)

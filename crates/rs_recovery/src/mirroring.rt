@@ -1,4 +1,4 @@
-//! The law of a destination that asks sources of several sessions.
+//! The law of a destination that asks the sources of several sessions.
 
 ghost use Rattle.rs_recovery.specs.Mirrored.{SessionsAreMirrored};
 
@@ -8,9 +8,9 @@ use rs_model::walks_are_catalogued;
 
 /// Whatever the stops between sessions, commands of each stand so that this holds of a destination that asks for the
 /// Resource List and then for the Change List, each with the parts that its head names, and each document in whatever
-/// session: what it gathers and mirrors is what was held after the first of the commands that stand. All are among
-/// these that were behind the source as the Change List's head was asked, and none that was not yet behind it at
-/// the last. Where a group comes next there, it may be what was held followed by the first changes of the group.
+/// session: what it gathers and mirrors is what was held after the first of the commands that stand. These are at least
+/// those behind the source when the destination asked for the Change List's head, and at most those behind it at the
+/// last request. Where a group comes next there, the mirror may be what was held followed by the group's first changes.
 ///
 /// The source was formatted, or is a copy of one that was. Its sessions may be on disks of several types.
 pub fn sessions_are_mirrored()

@@ -18,22 +18,22 @@ use std::alloc::Global;
 /// Opens the source on a disk that a stop has left.
 ///
 /// *Stopped before or within any disk call, during a command or between two, recovery gives exactly the resources and
-/// published documents of a prefix of the accepted commands that holds every acknowledged one; and in every recovered state
-/// the latest Resource List, followed by the changes recorded after its at-moment in their order, yields exactly the resources
-/// held, with their lengths, hashes and types.*
+/// published documents of a prefix of the accepted commands that holds every acknowledged one; and in every recovered
+/// state the latest Resource List, followed by the changes recorded after its at-moment in their order, yields exactly
+/// the resources held, with their lengths, hashes and types.*
 ///
-/// The clause `headline` says it of what the disks saw of the sessions, and `sessions` of sessions whose sources may be asked
-/// meanwhile. The premises: the source was formatted with the answer Ok, or is a copy of one that was, by
-/// [`Source::copy_to`] with that answer; the disk follows the model of rs_disk, and nobody else writes it; the moments are
-/// those that were handed in; and a read gives now what the last stop left. That the source is recovered and not refused has
-/// two more, that no growth of memory is refused and that the device does not fail.
+/// The clause `headline` says it for sessions as their disks saw them, and `sessions` for sessions whose sources may be
+/// asked meanwhile. The premises: the source was formatted with the answer Ok, or is a copy of such a source by
+/// [`Source::copy_to`] with that answer; the disk follows the model of rs_disk, and nobody else writes it; the moments
+/// are those that the caller gave; and a read now gives what the last stop left. Two more premises exclude a refusal:
+/// no growth of memory is refused, and the device does not fail.
 ///
 /// # Errors
 ///
-/// As with [`Source::open`]. Where a stop of a source has left the disk so, [`OpenFault::Device`] where a device call
-/// failed, and [`OpenFault::NoMemory`]; no other.
+/// Those of [`Source::open`]. On a disk that a stop of a source has left, only [`OpenFault::Device`], where a device
+/// call failed, and [`OpenFault::NoMemory`].
 pub fn recover<D: Disk>(alloc: Global, disk: D) -> Result<Source<D>, (D, OpenFault)>
-    // Where the disk's bytes stand for a state, it is given back; and a source that is opened may begin a session more.
+    // Where the disk's bytes stand for a state, the opening gives it back. An opened source may begin one more session.
     ensures recovers { IsTrue (D.state (disk_of result)).honest
         → (s : State) → StandsFor (D.state disk).now.seen s → HandsBack D.state disk result s }
     ensures found { IfOk result (IsOpened D.state (D.state disk)) }
@@ -51,9 +51,9 @@ pub fn recover<D: Disk>(alloc: Global, disk: D) -> Result<Source<D>, (D, OpenFau
         → IsTrue (D.state e.0).honest → (D.state disk).calls + 3 < (D.state e.0).calls
         → ArePagesPlaced (D.state disk).size (D.state disk).now.seen) }
 
-    // What a read gives is as it was, and a stop within it leaves an image of its entry. A device that has followed the model then
-    // had followed it before. The answer is Device only where a call of it failed or the calls stand at their last value, and any
-    // other only where none failed.
+    // A read gives what it gave before, and a stop within the opening leaves an image of the disk at its start. A
+    // device that has followed the model at the end had followed it before. The answer is Device only where a call
+    // failed or the count of calls is at its greatest value. Any other answer comes only where no call failed.
     ensures runs { WritesNothing (IsErrAnd result (λ e. e.1 ≡ OpenFault.Device))
         (D.state disk) (D.state (disk_of result)) }
 {

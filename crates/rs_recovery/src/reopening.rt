@@ -1,10 +1,10 @@
 //! A source whose disk is opened anew after each stop, as one of another type.
 
-ghost use Rattle.std.specs.Prelude.{ℕ, List, IfOk, IfErr, IsTrue, Some};
+ghost use Rattle.std.specs.Prelude.{ℕ, List, IfOk, IfErr, IsTrue};
 ghost use Rattle.rs_image.specs.StateOfImage.{StandsFor};
 ghost use Rattle.rs_model.specs.State.{Source as State, start_of};
 ghost use Rattle.rs_recovery.specs.Surviving.{IsLost, MayFormat, HasHalted};
-ghost use Rattle.rs_recovery.specs.Reopened.{HasRunOn, SurvivesTwice, LosesNone};
+ghost use Rattle.rs_recovery.specs.Reopened.{three_disks, run_of, HasRunOn, SurvivesTwice, LosesNone};
 
 use crate::recover;
 use crate::surviving::{Halt, format_and_run};
@@ -15,7 +15,7 @@ use rs_store::{Ack, Source};
 use rs_time::Moment;
 use std::alloc::Global;
 
-/// Recovers the source on a disk and runs commands on it. It gives the answers, and the disk that the run left.
+/// Recovers the source on a disk and runs commands on it. Gives the answers, and the disk that the run left.
 fn recover_and_run<D: Disk + Drop>(
     alloc: Global,
     disk: D,
@@ -38,18 +38,18 @@ fn recover_and_run<D: Disk + Drop>(
     }
 }
 
-/// Formats a disk and runs commands; recovers the source on the disk that `second` gives then, and
-/// runs more; and recovers it on the disk that `third` gives then. Each of the two is given the disk
-/// that the run before has left, so that a file can be let go before it is opened again.
+/// Formats a disk and runs commands, recovers the source on the disk that `second` gives and runs more, and recovers it
+/// on the disk that `third` gives. Each of the two gets the disk that the run before has left, so that it can close a
+/// file before it opens it again.
 ///
-/// It gives the answers of both runs, and the source that was recovered. The three disks may be of
-/// three types: where the bytes of each are an image that a stop of the run before may have left, what
-/// is recovered is what the clause `sessions` of [`recover`] promises.
+/// Gives the answers of both runs, and the recovered source. The three disks may be of three types. Where the bytes of
+/// each are an image that a stop of the run before may have left, the source is what the clause `sessions` of
+/// [`recover`] promises.
 ///
 /// # Errors
 ///
-/// Each step's own: a formatting's by its first cause, and where there is none, that the device failed, that memory was refused, or
-/// that no disk was given. No disk is told to hold no source, or a damaged one, that holds what the stop before has left.
+/// Those of each step: the first cause that refuses the formatting; without such a cause a failed device, refused
+/// memory, or a disk that was not given. A disk with what the stop before has left is never called empty or damaged.
 pub fn format_run_recover_twice<A, B, C, F, G>(
     alloc: Global,
     disk: A,
@@ -69,11 +69,12 @@ where
     G: FnOnce(B) -> Option<C>,
     requires second { F.IsAlwaysCallable second }
     requires third { G.IsAlwaysCallable third }
-    ensures survives { IfOk result (λ x. SurvivesTwice A.state B.state C.state
-        (λ left it. F.post second left (Some it)) (λ left it. G.post third left (Some it))
-        (start_of base.now limit now) commands.now x.0.items more.now x.1.items x.2) }
-    ensures found { IfErr result (LosesNone A.state B.state C.state
-        (λ left it. F.post second left (Some it)) (λ left it. G.post third left (Some it))
+    ensures survives { IfOk result (λ x. SurvivesTwice
+        (three_disks A.state B.state C.state (F.post second) (G.post third))
+        (start_of base.now limit now) (run_of commands.now x.0.items) (run_of more.now x.1.items)
+        x.2) }
+    ensures found { IfErr result (LosesNone
+        (three_disks A.state B.state C.state (F.post second) (G.post third))
         (start_of base.now limit now) commands.now more.now) }
     ensures halted { IfErr result (HasHalted base.now limit (A.state disk).size) }
 {

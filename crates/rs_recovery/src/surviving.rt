@@ -14,20 +14,20 @@ use rs_store::{Ack, FormatFault, OpenFault, Refusal, Source};
 use rs_time::Moment;
 use std::alloc::{AllocError, Global};
 
-/// Where it did not come to a recovery.
+/// The step at which a run ended without a recovery.
 #[derive(Clone, Copy, Debug, PartialEq, Eq)]
 pub enum Halt {
     /// The disk was not formatted.
     Formatting(FormatFault),
     /// No command was run.
     Running(Refusal),
-    /// There was no disk of an image: the memory for it was refused, or none was given.
+    /// No disk of an image was made: its memory was refused, or none was given.
     Imaging,
     /// The source was not opened again.
     Opening(OpenFault),
 }
 
-/// A disk with the image of this choice of bytes that a crash of the disk `left` may leave, all settled.
+/// A disk with the image that a crash of the disk `left` may leave, by this choice of bytes. All its bytes are settled.
 fn image_disk(alloc: Global, left: &MemoryDisk, choice: &[u8]) -> Result<MemoryDisk, AllocError>
     ensures image { IfOk result (λ disk. IsImage (memory_state left.now).now
         (image_of choice.now (memory_state left.now).now)) }
@@ -37,7 +37,7 @@ fn image_disk(alloc: Global, left: &MemoryDisk, choice: &[u8]) -> Result<MemoryD
     MemoryDisk::from_bytes(alloc, &left.image(choice)?)
 }
 
-/// Formats a disk and runs commands on the source. It gives the answers, and the disk that the run left.
+/// Formats a disk and runs commands on the source. Gives the answers, and the disk that the run left.
 pub(crate) fn format_and_run<D: Disk + Drop>(
     alloc: Global,
     disk: D,
@@ -62,15 +62,14 @@ pub(crate) fn format_and_run<D: Disk + Drop>(
     }
 }
 
-/// Formats a memory disk, runs commands, and recovers the source from an image that a crash may leave
-/// then: that of this choice of bytes. Where the disk is to stop after some calls, the image is one
-/// that a crash in that call may leave.
+/// Formats a memory disk, runs commands, and recovers the source from the image that a crash then may leave by this
+/// choice of bytes. Where the disk is set to stop after some calls, a crash in that call may leave the image.
 ///
-/// It gives the answers, the disk that the run left, and the source that was recovered.
+/// Gives the answers, the disk that the run left, and the recovered source.
 ///
 /// # Errors
 ///
-/// Each step's own. The disk is never told to hold no source, or a damaged one.
+/// Those of each step. The disk is never called empty or damaged.
 pub fn format_run_recover(
     alloc: Global,
     disk: MemoryDisk,

@@ -1,4 +1,4 @@
-//! Commands as the tests write them down, and what a source holds, as one line of text.
+//! Commands as the tests write them, and a source as one line of text.
 
 use rs_disk::{Disk, MemoryDisk};
 use rs_model::{Body, Command, Reply};
@@ -8,7 +8,7 @@ use rs_time::Moment;
 use std::alloc::Global;
 use std::test::Fail;
 
-/// What is asked of a source. A body is of `text/plain`.
+/// A command as the tests write it. Each body is `text/plain`.
 #[derive(Clone, Copy, Debug)]
 pub(super) enum Asked {
     /// A put of this name with this body.
@@ -19,8 +19,7 @@ pub(super) enum Asked {
     Publish,
 }
 
-/// What is answered: a reply with its moment, in milliseconds, or a refusal. It is spelled in plain numbers, so
-/// that rows can be constants.
+/// An answer: a reply with its moment, in milliseconds, or a refusal. Its plain numbers allow constant rows.
 #[derive(Clone, Copy, Debug, PartialEq, Eq)]
 pub(super) enum Answer {
     Created(u64),
@@ -33,7 +32,7 @@ pub(super) enum Answer {
     Refused(Refusal),
 }
 
-/// The moment so many milliseconds after 1970-01-01T00:00:00.000Z.
+/// The moment `ms` milliseconds after 1970-01-01T00:00:00.000Z.
 pub(super) fn at(ms: u64) -> Result<Moment, Fail> {
     Ok(Moment::new(ms).ok_or("a moment")?)
 }
@@ -53,7 +52,7 @@ fn command_of(alloc: Global, asked: Asked) -> Result<Command, Fail> {
     }
 }
 
-/// These commands, which all come at this moment, in milliseconds.
+/// These commands, all at the moment `now`, in milliseconds.
 pub(super) fn commands_of(
     alloc: Global,
     asked: &[Asked],
@@ -108,7 +107,7 @@ fn tell_published<D: Disk>(source: &Source<D>, text: &mut String) -> Result<(), 
     Ok(())
 }
 
-/// What a source tells of itself, as `held: a=one; published 1: a; changes 1; last 2`.
+/// A source as one line of text, such as `held: a=one; published 1: a; changes 1; last 2`.
 pub(super) fn told<D: Disk>(alloc: Global, source: &mut Source<D>) -> Result<String, Fail> {
     let mut text = String::from_str(alloc, "held:")?;
     tell_held(source, &mut text)?;
@@ -120,7 +119,7 @@ pub(super) fn told<D: Disk>(alloc: Global, source: &mut Source<D>) -> Result<Str
     Ok(text)
 }
 
-/// What the source tells of itself to which an image opens.
+/// The source that an image opens to, as one line of text.
 pub(super) fn told_by(alloc: Global, image: &[u8]) -> Result<String, Fail> {
     let disk = MemoryDisk::from_bytes(alloc, image)?;
     match rs_recovery::recover(alloc, disk) {
@@ -132,10 +131,10 @@ pub(super) fn told_by(alloc: Global, image: &[u8]) -> Result<String, Fail> {
     }
 }
 
-/// What came of a run: the answers, none where the source was not opened, and the disk.
+/// The answers of a run, none where the source was not opened, and the disk.
 pub(super) type Ran = (Vec<Ack>, MemoryDisk);
 
-/// Opens the source on a disk and gives it commands.
+/// Opens the source on a disk and runs commands on it.
 pub(super) fn ran(
     alloc: Global,
     disk: MemoryDisk,

@@ -11,8 +11,8 @@ use std::alloc::Global;
 use std::process::Abort;
 use std::test::Fail;
 
-/// Runs commands at a moment on a disk of these bytes of which a call fails after the first `k`; looks at the answers, and
-/// gives the bytes that a read of the disk gives then.
+/// Runs commands at a moment on a disk of these bytes, where one call fails after the first `k`. Checks the answers,
+/// and gives the bytes that a read then gives.
 fn answers(
     rt: &(impl Abort + AllocGlobal),
     image: &[u8],
@@ -36,7 +36,7 @@ fn answers(
     Ok(disk.image(&[])?)
 }
 
-/// Looks at what a disk of these bytes tells.
+/// Checks the source on a disk of these bytes.
 fn tells(rt: &(impl Abort + AllocGlobal), image: &[u8], want: &str) -> Result<(), Fail> {
     let text = told_by(rt.alloc(), image)?;
     assert_eq!(rt; text.as_str(), want);
@@ -69,8 +69,8 @@ fn with_a(rt: &(impl Abort + AllocGlobal)) -> Result<Vec<u8>, Fail> {
 #[test]
 fn a_sync_that_fails_in_a_delete(rt: HostRuntime) -> Result<(), Fail> {
     // The opening makes a sync and reads both slots, the directory and two pages. The delete writes a page and the
-    // directory; then the spare's gate is closed, the bytes behind it are written and the gate is opened, each by a write and a
-    // sync.
+    // directory; then the spare's gate is closed, the bytes behind it are written and the gate is opened, each by a
+    // write and a sync.
     const ROWS: [(u64, &str); 3] = [
         (6 + 3, "held: a=one; published 0:; changes 1; last 1"),
         (6 + 5, "held: a=one; published 0:; changes 1; last 1"),
@@ -92,8 +92,8 @@ fn a_sync_that_fails_in_a_delete(rt: HostRuntime) -> Result<(), Fail> {
     Ok(())
 }
 
-/// Formats a disk that takes so many calls, runs a put and a delete, and recovers from the image of which each unsettled byte
-/// is 9. Gives the answers, and what is told then.
+/// Formats a disk that stops after this many calls, runs a put and a delete, and recovers from the image in which each
+/// unsettled byte is 9. Gives the answers, and the recovered source as one line of text.
 fn recovered(alloc: Global, calls: u64) -> Result<(Vec<Ack>, String), Fail> {
     let commands = commands_of(alloc, &[Put(b"a", b"one"), Delete(b"a")], 1000)?;
     let mut disk = MemoryDisk::new(alloc, 16384)?;

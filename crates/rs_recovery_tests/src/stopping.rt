@@ -1,5 +1,5 @@
-//! Runs of which a device call stops the disk, or fails once, at each of the calls in turn; and stops within the opening
-//! that follows. What each image of a crash opens to is a row of the table: the source after so many commands.
+//! One run, stopped at each of its device calls, or with a fault at each of them; and stops within the opening that
+//! follows. Each image of a crash opens to a row of the table: the source after the first commands.
 //!
 //! The last two calls of a command are the write that opens the gate of its root, and the sync that settles it.
 
@@ -9,6 +9,7 @@ use rs_disk::{Disk, MemoryDisk};
 use rs_model::Command;
 use rs_store::{Ack, Refusal};
 use rs_time::Moment;
+use std::alloc::Global;
 use std::process::Abort;
 use std::test::Fail;
 
@@ -26,7 +27,8 @@ const ASKED: [Asked; 11] = [
     Put(b"b", b"abc"),
 ];
 
-// The source after so many of them. The publications 2 and 4 drop two changes each, which are not after the one before.
+// The source after none of them, one, two and so on. Publications 2 and 4 each drop the two changes that are not after
+// the publication before.
 const TOLD: [&str; 12] = [
     "held:; published 0:; changes 0; last 0",
     "held: a=one; published 0:; changes 1; last 1",
@@ -42,21 +44,37 @@ const TOLD: [&str; 12] = [
     "held: b=abc c=three d=four e=five; published 4: a b c d e; changes 3; last 11",
 ];
 
-/// What is to be seen where the calls of a run end after the first `k`.
-#[derive(Clone, Copy)]
-struct Want {
-    /// How many commands are answered Ok.
-    accepted: u64,
-    /// Whether the call is one that opens a gate, or the sync after it.
-    is_late: bool,
+/// The run of the commands above on an empty source, without a stop.
+#[derive(Drop)]
+struct Run {
+    /// The bytes of the disk on which it begins.
+    image: Vec<u8>,
+    commands: Vec<(Command, Moment)>,
+    acks: Vec<Ack>,
+    /// How many device calls it makes, with those of the opening.
+    calls: u64,
 }
 
-impl Want {
-    /// By the calls at which the commands of a whole run were answered.
-    fn new(acks: &[Ack], k: u64) -> Want {
+impl Run {
+    fn new(alloc: Global) -> Result<Run, Fail> {
+        let commands = commands_of(alloc, &ASKED, 0)?;
+        let image = formatted(alloc)?;
+        let disk = MemoryDisk::from_bytes(alloc, &image)?;
+        let (acks, disk) = ran(alloc, disk, &commands)?;
+        let calls = disk.calls();
+        Ok(Run {
+            image,
+            commands,
+            acks,
+            calls,
+        })
+    }
+
+    /// What the run leaves where its calls end after the first `k`.
+    fn want(&self, k: u64) -> Want {
         let mut accepted: u64 = 0;
         let mut next: u64 = u64::MAX;
-        for ack in acks {
+        for ack in &self.acks {
             if ack.at_call <= k {
                 accepted = accepted.saturating_add(1);
             } else {
@@ -64,25 +82,39 @@ impl Want {
             }
         }
         Want {
+            k,
             accepted,
             is_late: next <= k.saturating_add(2),
         }
     }
+}
 
-    /// What an image tells, with zeros or with ones where nothing is settled.
+/// What a run leaves where its calls end after the first `k`.
+#[derive(Clone, Copy)]
+struct Want {
+    k: u64,
+    /// How many commands are answered Ok.
+    accepted: u64,
+    /// Whether the next call opens a gate, or is the sync after that.
+    is_late: bool,
+}
+
+impl Want {
+    /// What an image tells where each unsettled byte is zero, or one.
     fn told(&self, ones: bool) -> &str {
         let more = if ones && self.is_late { 1 } else { 0 };
         TOLD[(self.accepted.saturating_add(more) as usize).min(11)]
     }
 }
 
-/// Looks at the answers: so many are accepted, then comes Device, and then Closed.
-fn answers_until(rt: &impl Abort, acks: &[Ack], accepted: u64, k: u64) {
+/// Checks that the first answers are Ok, as many as wanted, then one is Device, and the rest are Closed.
+fn answers_until(rt: &impl Abort, acks: &[Ack], want: &Want) {
     for (i, ack) in acks.iter().enumerate() {
         let i = i as u64;
-        if i < accepted {
+        let k = want.k;
+        if i < want.accepted {
             assert!(rt; ack.reply.is_ok(), "command {i} with {k} calls");
-        } else if i == accepted {
+        } else if i == want.accepted {
             assert_eq!(rt;
                 ack.reply,
                 Err(Refusal::Device),
@@ -98,14 +130,14 @@ fn answers_until(rt: &impl Abort, acks: &[Ack], accepted: u64, k: u64) {
     }
 }
 
-/// Looks at three images of a disk.
+/// Checks what three images of a disk tell.
 fn images_tell(
     rt: &(impl Abort + AllocGlobal),
     disk: &MemoryDisk,
     want: &Want,
-    k: u64,
 ) -> Result<(), Fail> {
     const CHOICES: [(&[u8], bool); 3] = [(&[0], false), (&[1], true), (&[0, 1], false)];
+    let k = want.k;
     for (choice, ones) in CHOICES {
         let text = told_by(rt.alloc(), &disk.image(choice)?)?;
         assert_eq!(rt;
@@ -117,13 +149,13 @@ fn images_tell(
     Ok(())
 }
 
-/// Looks at three images of a disk, each of which is one that the stop before might have left.
+/// Checks that three images of a disk tell what the stop before might have left.
 fn images_are_old(
     rt: &(impl Abort + AllocGlobal),
     disk: &MemoryDisk,
     want: &Want,
-    k: u64,
 ) -> Result<(), Fail> {
+    let k = want.k;
     for choice in [&[0], &[1], &[0, 1]] as [&[u8]; 3] {
         let text = told_by(rt.alloc(), &disk.image(choice)?)?;
         let is_old = text.as_str() == want.told(false) || text.as_str() == want.told(true);
@@ -132,91 +164,69 @@ fn images_are_old(
     Ok(())
 }
 
-/// Stops the opening of a disk after so many calls.
-fn stops_opening(
-    rt: &(impl Abort + AllocGlobal),
-    disk: MemoryDisk,
-    want: &Want,
-    k: u64,
-    calls: u64,
-) -> Result<MemoryDisk, Fail> {
-    let mut disk = disk;
-    disk.stop_after(calls);
-    let (_, disk) = ran(rt.alloc(), disk, &[])?;
-    images_are_old(rt, &disk, want, k)?;
-    Ok(disk)
-}
-
 /// Stops the disk after `k` calls of a run, and gives it back.
-fn stopped(
-    rt: &(impl Abort + AllocGlobal),
-    image: &[u8],
-    commands: &[(Command, Moment)],
-    want: &Want,
-    k: u64,
-) -> Result<MemoryDisk, Fail> {
-    let mut disk = MemoryDisk::from_bytes(rt.alloc(), image)?;
+fn stopped(rt: &(impl Abort + AllocGlobal), run: &Run, k: u64) -> Result<MemoryDisk, Fail> {
+    let want = run.want(k);
+    let mut disk = MemoryDisk::from_bytes(rt.alloc(), &run.image)?;
     disk.stop_after(k);
-    let (acks, disk) = ran(rt.alloc(), disk, commands)?;
-    answers_until(rt, &acks, want.accepted, k);
-    images_tell(rt, &disk, want, k)?;
+    let (acks, disk) = ran(rt.alloc(), disk, &run.commands)?;
+    answers_until(rt, &acks, &want);
+    images_tell(rt, &disk, &want)?;
     Ok(disk)
 }
 
 #[test]
 fn a_stop_at_each_call(rt: HostRuntime) -> Result<(), Fail> {
-    let commands = commands_of(rt.alloc(), &ASKED, 0)?;
-    let image = formatted(rt.alloc())?;
-    let disk = MemoryDisk::from_bytes(rt.alloc(), &image)?;
-    let (acks, disk) = ran(rt.alloc(), disk, &commands)?;
-    for k in 0..disk.calls().saturating_add(1) {
-        let _disk = stopped(&rt, &image, &commands, &Want::new(&acks, k), k)?;
+    let run = Run::new(rt.alloc())?;
+    for k in 0..run.calls.saturating_add(1) {
+        let _disk = stopped(&rt, &run, k)?;
     }
-    assert_eq!(rt; acks.len(), 11);
+    assert_eq!(rt; run.acks.len(), 11);
     Ok(())
 }
 
-/// Stops the disk after `k` calls of a run, and then the opening that follows after each number of its calls.
-fn stops_opening_at(
+/// Stops the opening of a disk after its first calls, this many.
+fn stops_opening(
     rt: &(impl Abort + AllocGlobal),
-    image: &[u8],
-    commands: &[(Command, Moment)],
+    disk: MemoryDisk,
     want: &Want,
-    k: u64,
-) -> Result<(), Fail> {
-    let mut disk = stopped(rt, image, commands, want, k)?;
+    calls: u64,
+) -> Result<MemoryDisk, Fail> {
+    let mut disk = disk;
+    disk.stop_after(calls);
+    let (_, disk) = ran(rt.alloc(), disk, &[])?;
+    images_are_old(rt, &disk, want)?;
+    Ok(disk)
+}
+
+/// Stops the disk after `k` calls of a run, and then the opening that follows, after each number of its calls.
+fn stops_opening_at(rt: &(impl Abort + AllocGlobal), run: &Run, k: u64) -> Result<(), Fail> {
+    let mut disk = stopped(rt, run, k)?;
     // A sync, both slots, the directory and three pages.
     for calls in 0..8 {
-        disk = stops_opening(rt, disk, want, k, calls)?;
+        disk = stops_opening(rt, disk, &run.want(k), calls)?;
     }
     Ok(())
 }
 
 #[test]
 fn a_stop_within_an_opening(rt: HostRuntime) -> Result<(), Fail> {
-    let commands = commands_of(rt.alloc(), &ASKED, 0)?;
-    let image = formatted(rt.alloc())?;
-    let disk = MemoryDisk::from_bytes(rt.alloc(), &image)?;
-    let (acks, disk) = ran(rt.alloc(), disk, &commands)?;
-    // The stops before are those of the last command.
-    for k in disk.calls().saturating_sub(10)..disk.calls().saturating_add(1) {
-        stops_opening_at(&rt, &image, &commands, &Want::new(&acks, k), k)?;
+    let run = Run::new(rt.alloc())?;
+    // The first stops are those within the last command.
+    for k in run.calls.saturating_sub(10)..run.calls.saturating_add(1) {
+        stops_opening_at(&rt, &run, k)?;
     }
     Ok(())
 }
 
-/// Looks at what is left after one call has failed: the source with the command that met it, or without.
-fn fails_at(
-    rt: &(impl Abort + AllocGlobal),
-    image: &[u8],
-    commands: &[(Command, Moment)],
-    want: &Want,
-    k: u64,
-) -> Result<(), Fail> {
-    let mut disk = MemoryDisk::from_bytes(rt.alloc(), image)?;
+/// Lets one call fail after the first `k` of a run. Checks that the disk then holds the source with the command that
+/// met the fault, or without it.
+fn fails_at(rt: &(impl Abort + AllocGlobal), run: &Run, k: u64) -> Result<(), Fail> {
+    let want = run.want(k);
+    let mut disk = MemoryDisk::from_bytes(rt.alloc(), &run.image)?;
     disk.fail_once(k);
-    let (acks, disk) = ran(rt.alloc(), disk, commands)?;
-    answers_until(rt, &acks, want.accepted, k);
+    let (acks, disk) = ran(rt.alloc(), disk, &run.commands)?;
+    answers_until(rt, &acks, &want);
     let text = told_by(rt.alloc(), &disk.image(&[])?)?;
     let is_without = text.as_str() == want.told(false);
     assert!(rt;
@@ -228,12 +238,9 @@ fn fails_at(
 
 #[test]
 fn a_fault_at_each_call(rt: HostRuntime) -> Result<(), Fail> {
-    let commands = commands_of(rt.alloc(), &ASKED, 0)?;
-    let image = formatted(rt.alloc())?;
-    let disk = MemoryDisk::from_bytes(rt.alloc(), &image)?;
-    let (acks, disk) = ran(rt.alloc(), disk, &commands)?;
-    for k in 0..disk.calls() {
-        fails_at(&rt, &image, &commands, &Want::new(&acks, k), k)?;
+    let run = Run::new(rt.alloc())?;
+    for k in 0..run.calls {
+        fails_at(&rt, &run, k)?;
     }
     Ok(())
 }

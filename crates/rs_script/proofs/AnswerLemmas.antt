@@ -36,14 +36,14 @@ use Rattle.rs_script.specs.Session.{ScriptState, script_state, LineOutcome, mome
 abbrev was : {S : Type 0} {Gives : Answer S → Type 0} {P : List ℕ → Type 0} (answer : Answer S) → Gives answer → P (outcome_text answer.outcome) → IsAnswered Gives answer.session P
 was answer gives w = record { answer = answer; gives = gives; session_is = refl; written = w }
 
--- a command was asked of the source
+-- the source got a command
 pub ran : {D : Type 0} (device : D → DiskState) (old new : Stored D) (command : Command) (now : ℕ) (result : Result Reply denials.Refusal) (P : List ℕ → Type 0)
     → stored.Answers device old new command now result → P (outcome_text (outcome_of_reply result))
     → IsAnswered (RequestGives device (script_state old now) (Ok (Run command))) (script_state new now) P
 ran device old new command now result P a w =
     was (record { outcome = outcome_of_reply result; commands = counted_as command now result; session = script_state new now }) (record { result = result; answers = a; outcome = refl; commands = refl; now = refl }) w
 
--- a body was asked of the source
+-- the source was asked for a body
 pub was_read : {D : Type 0} (device : D → DiskState) (old new : Stored D) (name : List ℕ) (now : ℕ) (result : Result (Vec ℕ Global) denials.Refusal) (P : List ℕ → Type 0)
     → AnswersBody device old new name result → P (outcome_text (shown_as result))
     → IsAnswered (RequestGives device (script_state old now) (Ok (Body name))) (script_state new now) P
@@ -59,7 +59,7 @@ moment_answered device s now t P w = was (record { outcome = moment_set; command
 when_open : (closed : Bool) (outcome : LineOutcome) → closed ≡ false → (if closed then refused (Source Closed) else outcome) ≡ outcome
 when_open closed outcome opened = ap (λ b. if b then refused (Source Closed) else outcome) opened
 
--- a document is shown, or there is none
+-- a document is shown, or does not exist
 pub document_answered : DocumentsAreOfTheState → {D : Type 0} (device : D → DiskState) (s : Stored D) (now : ℕ) (doc : Doc) (view : Shown) (outcome : LineOutcome) (P : List ℕ → Type 0)
     → s.is_closed ≡ false → view ≡ views.shown_in s.contents → shown_or NoSuchDocument (document_text view doc) ≡ outcome
     → P (outcome_text outcome) → IsAnswered (RequestGives device (script_state s now) (Ok (Document doc))) (script_state s now) P
@@ -75,28 +75,28 @@ pub document_closed : {D : Type 0} (device : D → DiskState) (s : Stored D) (no
 document_closed device s now doc refusal P same closed w =
     was (unchanged (script_state s now) (refused (Source Closed))) (rw closed refl) (subst (λ r. P (outcome_text (refused (Source r)))) same w)
 
--- what is held is counted
+-- an open source is counted
 pub counted_answered : {D : Type 0} (device : D → DiskState) (s : Stored D) (now : ℕ) (status : counts.Status) (P : List ℕ → Type 0)
     → s.is_closed ≡ false → status ≡ status_of (state_of device s) → P (outcome_text (counted status))
     → IsAnswered (RequestGives device (script_state s now) (Ok Status)) (script_state s now) P
 counted_answered device s now status P opened e w =
     was (unchanged (script_state s now) (counted status)) (ap (unchanged (script_state s now)) (ap counted e ∙ sym (when_open s.is_closed (counted (status_of (state_of device s))) opened))) w
 
--- and nothing of a closed source
+-- a closed source is not counted
 pub counted_closed : {D : Type 0} (device : D → DiskState) (s : Stored D) (now : ℕ) (refusal : denials.Refusal) (P : List ℕ → Type 0)
     → refusal ≡ Closed → s.is_closed ≡ true → P (outcome_text (refused (Source refusal)))
     → IsAnswered (RequestGives device (script_state s now) (Ok Status)) (script_state s now) P
 counted_closed device s now refusal P same closed w =
     was (unchanged (script_state s now) (refused (Source Closed))) (rw closed refl) (subst (λ r. P (outcome_text (refused (Source r)))) same w)
 
--- the damaged bodies were asked of the source
+-- the source was asked for the damaged bodies
 pub was_verified : {D : Type 0} (device : D → DiskState) (old new : Stored D) (now : ℕ) (result : Result (Vec (List ℕ) Global) denials.Refusal) (P : List ℕ → Type 0)
     → AnswersVerify device old new result → P (outcome_text (verified_as (length (state_of device old).held) result))
     → IsAnswered (RequestGives device (script_state old now) (Ok Verify)) (script_state new now) P
 was_verified device old new now result P a w =
     was (record { outcome = verified_as (length (state_of device old).held) result; commands = []; session = script_state new now }) (record { result = result; answers = a; outcome = refl; commands = refl; now = refl }) w
 
--- and are told, with the number of the sound ones
+-- they are shown, with the number of sound ones
 pub damaged_told : {D : Type 0} (device : D → DiskState) (old new : Stored D) (now : ℕ) (names : Vec (List ℕ) Global) (written : List (List ℕ)) (sound : ℕ) (status : counts.Status) (P : List ℕ → Type 0)
     → AnswersVerify device old new (Ok names) → written ≡ names.items → status ≡ status_of (state_of device old)
     → sound ≡ status.resources - length names.items → P (verified_text written sound)
@@ -105,7 +105,7 @@ damaged_told device old new now names written sound status P a same e is w =
     let number : sound ≡ length (state_of device old).held - length names.items = is ∙ ap (λ (s : counts.Status). s.resources - length names.items) e in
     was_verified device old new now (Ok names) P a (subst (λ n. P (verified_text names.items n)) number (subst (λ l. P (verified_text l sound)) same w))
 
--- no body of a closed source is looked at
+-- a closed source checks no body
 pub verified_closed : {D : Type 0} (device : D → DiskState) (s : Stored D) (now : ℕ) (refusal : denials.Refusal) (P : List ℕ → Type 0)
     → refusal ≡ Closed → s.is_closed ≡ true → P (outcome_text (refused (Source refusal)))
     → IsAnswered (RequestGives device (script_state s now) (Ok Verify)) (script_state s now) P
@@ -123,7 +123,7 @@ verified_closed device s now refusal P same closed w =
 abbrev denied : Refusal → Result Request Refusal
 denied refusal = Err refusal
 
--- the line asks for nothing, or room for what it asks was refused
+-- the line asks for nothing, or there was no memory for what it asks for
 pub refused_answered : {D : Type 0} (device : D → DiskState) (s : ScriptState (Stored D)) (found : Result Request Refusal) (Room : Type 0) (refusal : Refusal) (P : List ℕ → Type 0)
     → (Err refusal ≡ found) ⊎ ((denied refusal ≡ denied NoMemory) × Room) → P (outcome_text (refused refusal)) → IsAnswered (AnswerGives device s found Room) s P
 refused_answered device s found Room refusal P (inl e) w = was (unchanged s (refused refusal)) (inl (rw (sym e) refl)) w
@@ -154,7 +154,7 @@ pub long_answered : {D : Type 0} (device : D → DiskState) (s : ScriptState (St
     → line_limit < length line → P (outcome_text (refused LongLine)) → IsAnswered (LineGives device s line) s P
 long_answered device s line P h w = was (unchanged s (refused LongLine)) (inl (h, refl)) w
 
--- room for a line was refused
+-- there was no memory for a line
 pub no_room_for_line : {D : Type 0} (device : D → DiskState) (s : ScriptState (Stored D)) (line : List ℕ) (P : List ℕ → Type 0)
     → (length line ≤ line_limit) × (9 ≤ length line) → P (outcome_text (refused NoMemory)) → IsAnswered (LineGives device s line) s P
 no_room_for_line device s line P h w = was (unchanged s (refused NoMemory)) (inr (h.0, inr (inl h.1, refl))) w
@@ -170,7 +170,7 @@ bytes_answered device s new bytes line P h given = record {
   written = given.written;
 }
 
--- the body that was asked of the source is shown
+-- the body is shown
 pub body_shown : {D : Type 0} (device : D → DiskState) (old new : Stored D) (name : List ℕ) (now : ℕ) (bytes : Vec ℕ Global) (written : List ℕ) (P : List ℕ → Type 0)
     → AnswersBody device old new name (Ok bytes) → written ≡ bytes.items → P (shown_text written)
     → IsAnswered (RequestGives device (script_state old now) (Ok (Body name))) (script_state new now) P
@@ -182,21 +182,21 @@ pub is_open : {T : Type 0} (result : Result T denials.Refusal) (given : T) (clos
 is_open result given false is h = refl
 is_open result given true is h = let no : IsErrOf result Closed = h.1 refl in absurd cc
 
--- and one that refuses whatever it is asked is closed
+-- a source that refuses every request is closed
 pub is_closed : {T : Type 0} (result : Result T denials.Refusal) (refusal : denials.Refusal) (closed : Bool) → result ≡ Err refusal → refusal ≡ Closed
     → IsErrOf result Closed ↔ IsTrue closed → closed ≡ true
 is_closed result refusal closed is same h = h.0 (is ∙ ap Err same)
 
--- a document that has a length is there
+-- a document with a length exists
 pub is_there : (found : Option (List ℕ)) (count : ℕ) → option_map length found ≡ Some count → (text : List ℕ) × (found ≡ Some text) × (length text ≡ count)
 is_there None count e = absurd cc
 is_there (Some text) count e = (text, refl, let same : Some (length text) ≡ Some count = e in cc)
 
--- what is written of it: its length, its text and a line feed
+-- its answer: its length, its text and a line feed
 pub shown_head : (text : List ℕ) (count : ℕ) → length text ≡ count → (codes "bytes " ++ (decimal count ++ codes "\n")) ++ (text ++ 10 ∷ []) ≡ shown_text text
 shown_head text count same = ap (λ (n : ℕ). (codes "bytes " ++ (decimal n ++ codes "\n")) ++ (text ++ 10 ∷ [])) (sym same)
 
--- one that has none is not there
+-- a document without a length does not exist
 pub shown_none : (found : Option (List ℕ)) → option_map length found ≡ None → found ≡ None
 shown_none None e = refl
 shown_none (Some text) e = absurd cc

@@ -1,4 +1,4 @@
--- Where the first line feed of some bytes stands.
+-- The first line feed in bytes.
 use Rattle.std.proofs.Common.{◌≡◌, ◌≢◌, ◌∷◌, [], ◌++◌, ◌==◌, ◌+◌, ◌<◌, ℕ, length, take, drop, get_or, List, Some, None, true, false, arith, sym, ap, ◌∙◌, append_assoc, length-take}
 use Rattle.std.specs.List.{position}
 use Rattle.std.proofs.lemmas.Grind.{common_steps}
@@ -15,7 +15,7 @@ not_break b h = λ e. absurd (grind (arith, nat_tests))
 is_break : (b : ℕ) → (b == 10) ≡ true → b ≡ 10
 is_break b h = grind (arith, nat_tests)
 
--- none stands before it
+-- there is none before it
 pub before_break : (bytes : List ℕ) (i : ℕ) → position (λ b. b == 10) bytes ≡ Some i → HasNoBreak (take i bytes)
 before_break bytes i e =
     let at = position-some (λ b. b == 10) bytes i e in
@@ -25,7 +25,7 @@ before_break bytes i e =
     let same : get_or (take i bytes) k 0 ≡ get_or bytes k 0 = grind (arith, common_steps) in
     rw same (not_break (get_or bytes k 0) fails))
 
--- none stands anywhere
+-- there is none at all
 pub no_break : (bytes : List ℕ) → position (λ b. b == 10) bytes ≡ None → HasNoBreak bytes
 no_break bytes e =
     let none = position-none (λ b. b == 10) bytes e in
@@ -43,7 +43,7 @@ cut_at_break bytes i e =
     let whole : bytes ≡ take (i + 1) bytes ++ drop (i + 1) bytes = grind (arith, common_steps) in
     whole ∙ ap (λ z. z ++ drop (i + 1) bytes) (front ∙ ap (λ b. take i bytes ++ b ∷ []) here)
 
--- of a piece whose front has been used
+-- in a piece whose front has been used
 pub piece_cut : (piece used rest : List ℕ) (i : ℕ) → piece ≡ used ++ rest → position (λ b. b == 10) rest ≡ Some i
     → piece ≡ (used ++ with_break (take i rest)) ++ drop (i + 1) rest
 piece_cut piece used rest i e found =

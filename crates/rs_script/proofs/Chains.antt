@@ -1,4 +1,4 @@
--- What a statement leaves of a stored source, and what its commands make of the state.
+-- The stored source after a statement, and the state that its commands make.
 use Rattle.std.proofs.Common.{◌≡◌, ◌≤◌, ℕ, List, [], Result, Ok, Err, true, false, refl, ap, sym, ◌∙◌, subst, inl, inr, arith, IsTrue}
 use Rattle.rs_disk.specs.Medium.{DiskState, IsImage, Medium}
 use Rattle.rs_commit.specs.Slots.{Standing}
@@ -53,7 +53,7 @@ module _ {D : Type 0} (device : D → DiskState) (old : Stored D) where
         holds = λ s held free. holds s held;
       }
 
-  -- a command was asked
+  -- the source got a command
   run_follows : (new : Stored D) (command : Command) (now : ℕ) (result : Result Reply stored.Refusal) (commands : List (Command × ℕ))
       → commands ≡ counted_as command now result → Answers device old new command now result → Follows device old new commands
   run_follows new command now (Ok reply) commands is a =

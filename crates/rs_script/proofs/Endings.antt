@@ -23,7 +23,7 @@ last_line-some : (rest : List ℕ) → 0 < length rest → last_line rest ≡ re
 last_line-some [] h = absurd (omega arith)
 last_line-some (b ∷ rest) h = refl
 
--- all statements are there
+-- all statements are whole
 all_statements : {D W : Type 0} (device : D → DiskState) (start : ScriptState (Stored D)) (input : List ℕ) (raws : List (List ℕ)) (rest : List ℕ) (here : Stand D W) → Splits input raws rest
     → (t : LinesTaken device start (script_lines raws rest) (between_at here)) → IsScript input (t.whole ++ last_statement t.part)
 all_statements device start input raws rest here splits t = record {

@@ -1,4 +1,4 @@
--- A line that begins as no line with fields, and is longer than each without, asks for nothing.
+-- A line that does not begin as one with fields, and is longer than any without, asks for nothing.
 use Rattle.std.proofs.Common.{◌≡◌, ◌∷◌, [], ◌++◌, ◌+◌, ◌-◌, ◌≤◌, ◌<◌, ℕ, length, take, drop, get_or, List, Option, Some, None, Bool, true, false, nat_eq, refl, arith, ap, ◌∙◌, codes, bytes_eq, Err, length-append, length-take, length-drop, nat_le, if◌then◌else◌, ◌||◌, ◌==◌, slice_index}
 use Rattle.std.specs.List.{position, starts_with}
 use Rattle.std.proofs.lemmas.List.{take_more, take-take}
@@ -9,7 +9,7 @@ use Rattle.rs_record.specs.Decimal.{number_in}
 use Rattle.rs_items.specs.declared.item.ItemFault.TheVariants as fault
 use Rattle.rs_items.specs.Fields.{fields, is_space, after_space, first_field, after_field}
 use Rattle.rs_items.specs.Items.{item_of_fields, item_of_line}
-use Rattle.rs_script.proofs.FromBelow.{position-some, fields-cut, fields-last, other_word as no_item}
+use Rattle.rs_script.proofs.FromBelow.{position-some, fields-cut, fields-last, no_item}
 use Rattle.rs_script.specs.declared.refusal.Refusal.TheVariants.{BadLine}
 use Rattle.rs_script.specs.Lines.{line_of}
 use Rattle.rs_script.specs.PartialLine.{AsksNothing}
@@ -24,7 +24,7 @@ is_false false h = refl
 other_length : (xs ys : List ℕ) → (length xs ≡ length ys → ⊥) → bytes_eq xs ys ≡ false
 other_length xs ys h = is_false (bytes_eq xs ys) (λ e. h (ap length ((bytes_eq-Decides xs ys).0 e)))
 
--- the first field is no word with which, and a space, the line does not begin
+-- a line that does not begin with a word and a space has another first field
 other_word : (line word : List ℕ) (i : ℕ) → position is_space line ≡ Some i
     → starts_with nat_eq line (word ++ 32 ∷ []) ≡ false → bytes_eq (take i line) word ≡ false
 other_word line word i found h =
@@ -41,7 +41,7 @@ other_word line word i found h =
     let yes : starts_with nat_eq line (word ++ 32 ∷ []) ≡ true = (bytes_eq-Decides (word ++ 32 ∷ []) (take (length (word ++ 32 ∷ [])) line)).1 whole in
     (cc))
 
--- a line that is no item, of another word than those with two fields, asks for nothing
+-- a line that is no item, and has none of the words with two fields, asks for nothing
 other_request : (line word rest : List ℕ) → bytes_eq word (codes "at") ≡ false → bytes_eq word (codes "show") ≡ false
     → bytes_eq word (codes "group") ≡ false → item_of_line line ≡ Err fault.BadLine → of_fields line (word ∷ fields 1 rest) ≡ Err BadLine
 unfolding fields
@@ -55,7 +55,7 @@ pub either_false : (a b : Bool) → (a || b) ≡ false → (a ≡ false) × (b �
 either_false true b e = absurd (cc)
 either_false false b e = (refl, e)
 
--- it begins with none of the words that fields follow
+-- it begins with none of the words before fields
 record BeginsNone (line : List ℕ) : Type 0 where
   no_at : starts_with nat_eq line (codes "at ") ≡ false
   no_put : starts_with nat_eq line (codes "put ") ≡ false
@@ -72,7 +72,7 @@ begins_none line h =
     let g = either_false (starts_with nat_eq line (codes "group ")) false s.1 in
     record { no_at = a.0; no_put = p.0; no_delete = d.0; no_show = s.0; no_group = g.0 }
 
--- a line that begins as none is no item
+-- a line that does not begin as an item is none
 pub is_no_item : (line : List ℕ) → starts_with nat_eq line (codes "put ") ≡ false → starts_with nat_eq line (codes "delete ") ≡ false → item_of_line line ≡ Err fault.BadLine
 unfolding item_of_line
 is_no_item line no_put no_delete = by_space (position is_space line) refl
@@ -83,7 +83,7 @@ is_no_item line no_put no_delete = by_space (position is_space line) refl
         rw (fields-cut line i 2 e)
         (no_item (take i line) (drop (i + 1) line) (other_word line (codes "put") i e no_put) (other_word line (codes "delete") i e no_delete))
 
--- nor does a line that is longer than each of one field, and begins as none with more
+-- a line that is longer than any of one field, and does not begin as one with more, asks for nothing
 asks_alone : (line : List ℕ) → 8 ≤ length line → BeginsNone line → request_of line ≡ Err BadLine
 unfolding request_of
 asks_alone line long b = by_space (position is_space line) refl
@@ -108,7 +108,7 @@ asks_nothing line long h =
     let b = begins_none line h in
     record { alone = asks_alone line long b; within = is_no_item line b.no_put b.no_delete; no_group = begins_no_group line b.no_group }
 
--- a line that is longer than each that begins a group begins none
+-- a line that is longer than any that begins a group begins none
 long_number : (text : List ℕ) → 2 < length text → number_in 2 text ≡ None
 unfolding number_in
 long_number text long =
@@ -139,7 +139,7 @@ foreign raw true long h = by_last (slice_index raw (length raw - 1) == 13)
     by_last true = asks_nothing (take (length raw - 1) raw) (omega (arith, length-take (length raw - 1) raw)) (begins_same raw (length raw - 1) (omega arith) ∙ h)
     by_last false = asks_nothing raw (omega arith) h
 
--- a line of more bytes than there is always room for, also without its carriage return
+-- a line of more than nine bytes, even without its carriage return
 pub refused_long : (raw : List ℕ) (has_break : Bool) → 9 < length raw → 9 ≤ length (line_of has_break raw)
 refused_long raw false long = omega (arith, long)
 refused_long raw true long = by_last (slice_index raw (length raw - 1) == 13)

@@ -1,4 +1,4 @@
--- The items of one line more.
+-- The items with that of one more line.
 use Rattle.std.proofs.Common.{◌≡◌, ◌⊎◌, inl, inr, List, ℕ, [], ◌∷◌, ◌++◌, Bool, true, false, Result, Ok, Err, Vec, Global, refl, sym, ◌∙◌, ap, append_assoc, codes, nat_eq, nat_lt, length, if◌then◌else◌}
 use Rattle.std.specs.Prelude.{is_ok}
 use Rattle.std.specs.List.{starts_with}
@@ -38,7 +38,7 @@ unfolding items_of_group
 items_more [] line = alone (grouped_item line)
 items_more (first ∷ lines) line = ap (and_items (grouped_item first)) (items_more lines line) ∙ behind (grouped_item first) (items_of_group lines) (grouped_item line)
 
--- the line takes room, and those before it are items
+-- the line takes memory, and those before it are items
 here : (items : Vec Item Global) (lines : List (List ℕ)) (line : List ℕ) → KeepsItems (Ok items) lines → TakesRoom line → GroupTakesRoom (lines ++ line ∷ [])
 here items lines line k takes = record { before = lines; line = line; after = []; lines_are = refl; items = ap is_ok k; takes = takes }
 
@@ -53,7 +53,7 @@ stays_in lines line room = record {
   takes = room.takes;
 }
 
--- a line that is an item takes room
+-- a line that is an item takes memory
 item_takes : (line : List ℕ) (item : Item) → Ok item ≡ grouped_item line → TakesRoom line
 item_takes line item e = by_begin (begins_item line) refl
   where
@@ -81,7 +81,7 @@ is_refused items lines line refusal k (inl e) =
     inl (items_more lines line ∙ ap (λ found. then_item found (grouped_item line)) k ∙ ap (then_item (Ok items.items)) (sym e))
 is_refused items lines line refusal k (inr (e, room)) = inr (e, here items lines line k room)
 
--- room for one item more was refused
+-- there was no memory for one more item
 pub no_room : (items : Vec Item Global) (lines : List (List ℕ)) (line : List ℕ) (item : Item) → KeepsItems (Ok items) lines → Ok item ≡ grouped_item line
     → KeepsItems (Err NoMemory) (lines ++ line ∷ [])
 no_room items lines line item k e = inr (refl, here items lines line k (item_takes line item e))

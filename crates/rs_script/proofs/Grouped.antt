@@ -1,4 +1,4 @@
--- Lines are taken as statements in one way.
+-- Lines make statements in one way.
 use Rattle.std.proofs.Common.{◌≡◌, ℕ, ◌+◌, ◌<◌, List, [], ◌∷◌, ◌++◌, length, map, Option, Some, None, refl, ap, sym, ◌∙◌, subst, arith, append_assoc, append-nil, length-append}
 use Rattle.std.proofs.lemmas.List.Elements.{All-head, All-tail}
 use Rattle.std.proofs.lemmas.Grind.{flat_map-append}
@@ -10,7 +10,7 @@ use Rattle.rs_script.specs.Statements.{Statement, single, grouped, cut_off, grou
 use Rattle.rs_script.specs.Taken.{KeepsGroup}
 use Rattle.rs_script.proofs.Cut.{Splits-once}
 
--- of no group nothing is kept
+-- without a group nothing is kept
 pub none_kept : (group : Option Taking) (part : List (List ℕ)) → group ≡ None → KeepsGroup group part → part ≡ []
 none_kept None part is k = k
 none_kept (Some taking) part is k = absurd cc

@@ -59,7 +59,7 @@ missing : {X : Type 0} (f : X → List ℕ) (found : Option X) → is_some found
 missing f None e = refl
 missing f (Some x) e = absurd cc
 
--- what is not damaged is sound
+-- a body that is not damaged is sound
 sound_rest : (s : Source) → length s.held - length (damaged_names s) ≡ sound_count s
 sound_rest s =
     let sound = λ (e : List ℕ × Held). is_sound e.1 in
@@ -93,7 +93,7 @@ module _ {D : Type 0} (device : D → DiskState) (old : ScriptState (Stored D)) 
         session = ap (λ s. script_state s answer.session.now) same ∙ ap (script_state state) n;
       }
 
-  -- a command is asked
+  -- the source gets a command
   run_same : (command : Command) (result : Result Reply stored.Refusal) → Answers device old.source answer.session.source command old.now result
       → old.source.slots.root.generation + 1 < 2 ^ 64
       → answer.outcome ≡ outcome_of_reply result → answer.commands ≡ counted_as command old.now result → answer.session.now ≡ old.now
@@ -124,14 +124,14 @@ module _ {D : Type 0} (device : D → DiskState) (old : ScriptState (Stored D)) 
   run_same command (Err Exhausted) a left o c n =
       run_refused command Exhausted (λ e. absurd cc) left (a.refused Exhausted refl) o c n (a.unchanged Exhausted refl (λ e. absurd cc)).state
 
-  -- the script_state after a reading tells what it told
+  -- the state of the script is the same after a read
   read_session : OnlyReads device old.source answer.session.source → answer.session.now ≡ old.now → told device answer.session ≡ told device old
   read_session a n =
       ap (λ held. script_state (state_in held.seen answer.session.source.contents) answer.session.now) a.rests.now
       ∙ ap (λ c. script_state (state_in (device old.source.disk).now.seen c) answer.session.now) a.contents
       ∙ ap (script_state state) n
 
-  -- a body is asked
+  -- the source is asked for a body
   read_same : (name : List ℕ) (result : Result (Vec ℕ Global) stored.Refusal) → AnswersBody device old.source answer.session.source name result
       → IsTrue (device answer.session.source.disk).honest
       → answer.outcome ≡ shown_as result → answer.commands ≡ [] → answer.session.now ≡ old.now
@@ -153,7 +153,7 @@ module _ {D : Type 0} (device : D → DiskState) (old : ScriptState (Stored D)) 
   read_same name (Err TooManyChanges) a honest o c n = absurd a.others
   read_same name (Err Exhausted) a honest o c n = absurd a.others
 
-  -- the damaged bodies are asked
+  -- the source is asked for the damaged bodies
   verify_same : (result : Result (Vec (List ℕ) Global) stored.Refusal) → AnswersVerify device old.source answer.session.source result
       → IsTrue (device answer.session.source.disk).honest
       → answer.outcome ≡ verified_as (length state.held) result → answer.commands ≡ [] → answer.session.now ≡ old.now
@@ -183,7 +183,7 @@ module _ {D : Type 0} (device : D → DiskState) (old : ScriptState (Stored D)) 
   open_same outcome true is e = machine_refused Closed tt (ap (λ (a : Answer (Stored D)). a.outcome) e ∙ ap (λ b. if b then refused (refusals.Source Closed) else outcome) is)
   open_same outcome false is e = e ∙ ap (λ b. unchanged old (if b then refused (refusals.Source Closed) else outcome)) is
 
-  -- nothing changed, and this came of it
+  -- nothing changed, and this is the outcome
   left_same : (outcome : LineOutcome) → answer ≡ unchanged old outcome → IsSame device answer (unchanged (told device old) outcome)
   left_same outcome e = record {
     outcome = ap (λ (a : Answer (Stored D)). a.outcome) e;
@@ -191,7 +191,7 @@ module _ {D : Type 0} (device : D → DiskState) (old : ScriptState (Stored D)) 
     session = ap (λ (a : Answer (Stored D)). told device a.session) e;
   }
 
-  -- a request is line_answer as the model answers it
+  -- a request is answered as the model answers it
   request_same : (request : Result Request Refusal) → RequestGives device old request answer
       → IsTrue (device answer.session.source.disk).honest → old.source.slots.root.generation + 1 < 2 ^ 64
       → IsSame device answer (answer_to (told device old) request)
@@ -211,7 +211,7 @@ module _ {D : Type 0} (device : D → DiskState) (old : ScriptState (Stored D)) 
   request_same (Ok Verify) r honest left = verify_same r.result r.answers honest r.outcome r.commands r.now
   request_same (Err refusal) e honest left = left_same (refused refusal) e
 
-  -- and so is one for which there may be no room
+  -- and so is a request for which there may be no memory
   possible_same : (request : Result Request Refusal) (Room : Type 0) → AnswerGives device old request Room answer
       → IsTrue (device answer.session.source.disk).honest → old.source.slots.root.generation + 1 < 2 ^ 64
       → IsSame device answer (answer_to (told device old) request)

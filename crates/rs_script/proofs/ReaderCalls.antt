@@ -1,4 +1,4 @@
--- What calls of an end that may have failed before make of its counts.
+-- The counts of an end after calls, where it may have failed before.
 use Rattle.std.proofs.Common.{◌≡◌, ℕ, ◌+◌, ◌≤◌, ◌==◌, Bool, true, false, not, Result, Ok, IsTrue, refl, sym, ap, ◌∙◌, inl, inr, arith}
 use Rattle.std.specs.Prelude.{is_err}
 use Rattle.rs_io.specs.declared.watch.Watched.{Watched}
@@ -17,11 +17,11 @@ answers r value a b is refused = is_false (is_broken a) (λ h. let failed : is_e
 pub was_sound : {T : Type 0} (a b : Watched T) → failures b ≡ failures a → is_broken b ≡ false → is_broken a ≡ false
 was_sound a b same sound = ap (λ f. not (f.all == 0)) (sym same) ∙ sound
 
--- so nothing holds of it that holds of one that had
+-- so it differs from an end that had failed
 pub not_broken : {T P : Type 0} (a : Watched T) → is_broken a ≡ false → IsTrue (is_broken a) → P
 not_broken a sound h = absurd (cc)
 
--- so many calls were made, or their count stands at its last value
+-- this many calls were made, or their count is at its greatest value
 pub one_more : {T : Type 0} (a b c : Watched T) (n : ℕ) → IsCalled n a b → IsCalledOnce b c → IsCalled (n + 1) a c
 one_more a b c n (inl many) (inl once) = inl (omega (arith, many, once))
 one_more a b c n (inl many) (inr (same, last)) = inr (omega (arith, same, last))

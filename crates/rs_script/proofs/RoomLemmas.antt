@@ -1,4 +1,4 @@
--- Which lines take room.
+-- Which lines take memory.
 use Rattle.std.proofs.Common.{◌≡◌, ◌⊎◌, inl, inr, ℕ, ◌≤◌, List, [], ◌∷◌, length, ap, arith, length-drop}
 use Rattle.std.specs.List.{position_or_len}
 use Rattle.rs_items.specs.Fields.{fields, first_field, after_field, after_space, is_space}

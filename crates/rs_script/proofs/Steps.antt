@@ -1,4 +1,4 @@
--- One more run of bytes, one more line, and what has come when no more is read.
+-- One more run of bytes, one more line, and the input when no more is read.
 use Rattle.std.proofs.Common.{◌≡◌, ◌≢◌, ℕ, ◌+◌, ◌*◌, ◌≤◌, List, [], ◌∷◌, ◌++◌, length, take, drop, map, Option, None, refl, ap, sym, ◌∙◌, append_assoc, append-nil, arith, subst, inl, inr, length-append, length-take}
 use Rattle.std.proofs.lemmas.Grind.{common_steps, flat_map-append}
 use Rattle.std.proofs.lemmas.List.{map-append, take-map, drop-map, take-append-drop}
@@ -47,7 +47,7 @@ Transcript-append device (statement ∷ first) more old outcomes commands mid ot
   Transcript-append device first more h.0.session h.1 h.2 mid others later new h.6 g,
 )
 
--- what is written of more outcomes
+-- the answers to more outcomes
 pub output-append : (outcomes more : List LineOutcome) → output_of (outcomes ++ more) ≡ output_of outcomes ++ output_of more
 output-append outcomes more = flat_map-append outcome_text outcomes more
 
@@ -69,13 +69,13 @@ Splits-break input raws rest run h s =
       partial = grind (arith, common_steps);
     }
 
--- the answers to more statements are written behind those before
+-- the answers to more statements are written after the earlier ones
 pub wrote_more : {W : Type 0} (contents : W → Option (List ℕ)) (a b c : Watched W) (outcomes more : List LineOutcome)
     → Wrote contents a b (output_of outcomes) → Wrote contents b c (output_of more) → Wrote contents a c (output_of (outcomes ++ more))
 wrote_more contents a b c outcomes more first second =
     subst (λ (text : List ℕ). Wrote contents a c text) (sym (output-append outcomes more)) (wrote_then contents a b c (output_of outcomes) (output_of more) first second)
 
--- the same lines were taken, spelled otherwise
+-- the same lines were taken, written another way
 abbrev pub lines_as : {D : Type 0} (device : D → DiskState) (start : ScriptState (Stored D)) (lines all : List (List ℕ)) (here : Between D) → all ≡ lines
     → LinesTaken device start lines here → LinesTaken device start all here
 lines_as device start lines all here is t = record {
@@ -120,12 +120,12 @@ pub on_err : {T E P : Type 0} (r : Result T E) → P → OnErr r P
 on_err (Ok x) p = tt
 on_err (Err e) p = p
 
--- a line was taken of the bytes that are kept of it
+-- a line was taken from the bytes that are kept
 abbrev pub Takes : {T E D W : Type 0} → (D → DiskState) → (W → Option (List ℕ)) → Result T E → Line → (List ℕ → List ℕ) → Stand D W → Stand D W → Type 0
 Takes device contents r line cut old new =
     (raw : List ℕ) → KeepsLine line raw → TakesLine device (between_at old) (cut raw) (between_at new) (λ text. WritesOut contents old.writer new.writer r text)
 
--- a line feed has come, and what is answered is written
+-- a line feed has come, and the answer is written
 pub take_ok : {T E D W : Type 0} (device : D → DiskState) (contents : W → Option (List ℕ)) (r : Result T E) (mid : Line) (old new : Stand D W) (run : List ℕ)
     → ((raw : List ℕ) → KeepsLine old.pending.line raw → KeepsLine mid (raw ++ run)) → Takes device contents r mid cut_return old new
     → KeepsLine new.pending.line [] → OnOk r (HasNoBreak run → ComesTo device contents old new (with_break run))
@@ -143,7 +143,7 @@ take_ok device contents (Ok x) mid old new run k given fresh = λ h begin input 
       written = wrote_more contents begin.writer old.writer new.writer p.taken.outcomes e.0.outcomes p.written e.2;
     }
 
--- all answers but the last were taken whole, and a put of that one failed
+-- the writer took all answers but the last, and failed in a write of that one
 pub broke_within : {W : Type 0} (contents : W → Option (List ℕ)) (a b c : Watched W) (outcomes : List LineOutcome) (last : LineOutcome)
     → Wrote contents a b (output_of outcomes) → FailedWithin contents b c (outcome_text last) → BreaksWithin contents a c (outcomes ++ last ∷ [])
 broke_within contents a b c outcomes last wrote failed = record {
@@ -153,12 +153,12 @@ broke_within contents a b c outcomes last wrote failed = record {
   failed = failed_after contents a b c (output_of outcomes) (outcome_text last) wrote failed;
 }
 
--- a flush that fails after calls that did not is one of the whole run
+-- where the calls before it did not fail, a failed flush is the fault of the whole run
 later_flush_fault : {W : Type 0} (a b c : Watched W) → failures b ≡ failures a → FlushFailed b c → FlushFailed a c
 later_flush_fault a b c same (inl rose) = inl (omega (arith, ap (λ f. f.flushes) same, rose))
 later_flush_fault a b c same (inr last) = inr last
 
--- a flush failed with all answers taken
+-- the writer took all answers, and a flush failed
 pub broke_after : {W : Type 0} (contents : W → Option (List ℕ)) (a b c : Watched W) (outcomes : List LineOutcome)
     → Wrote contents a b (output_of outcomes) → KnownKeeps (contents (watched b)) (contents (watched c)) → FlushFailed b c → (failures c).all ≤ (failures b).all + 1
     → BreaksAfter contents a c outcomes
@@ -276,7 +276,7 @@ last_lines raws a b e = sym (drop-map cut_return (length a) raws) ∙ ap (drop (
 raws_whole : (raws : List (List ℕ)) → All HasNoBreak raws → Splits (flat_map with_break raws) raws []
 raws_whole raws each = record { whole = sym (append-nil (flat_map with_break raws)); each = each; partial = grind (arith, common_steps) }
 
--- the whole statements of what came, and the part of one after them
+-- the whole statements that came, and the part of one after them
 pub Progress-whole : {D W : Type 0} (device : D → DiskState) (contents : W → Option (List ℕ)) → ScriptsRecover device × ScriptsMakeWalks device → (start : Stored D) (before : Watched W)
     (input : List ℕ) (here : Stand D W) → Progress device contents (record { session = script_state start 0; writer = before }) input here
     → (ran : Ran device start here.source) × (part : List ℕ) × (input ≡ ran.input ++ part) × AreWholeStatements ran.input × IsUnfinished part
@@ -313,7 +313,7 @@ Consumes-end r s t input buf n e h k =
     let Q : List ℕ → Type 0 = λ bytes. Consumes r t bytes in
     subst Q (ap (λ m. input ++ take m buf) e ∙ append-nil input) (Consumes-trans r s t input (take n buf) h k)
 
--- a piece of which a front was used
+-- a piece whose front was used
 pub Gave-front : (r s t : Option (List ℕ)) (input piece used tail : List ℕ) → piece ≡ used ++ tail
     → Consumes r s input → Consumes s t piece → Gave r t (input ++ used)
 Gave-front r s t input piece used tail e h k =
@@ -325,7 +325,7 @@ pub count_more : (counter n : ℕ) (input buf : List ℕ) → counter ≤ length
     → counter + 1 ≤ length (input ++ take n buf)
 count_more counter n input buf le some fits = simp length-append (omega (arith, length-take n buf))
 
--- and no more than there is room for
+-- and no more bytes than the buffer has
 pub no_more : (counter n : ℕ) (input buf : List ℕ) → length input ≤ counter * 65536 → n ≤ length buf → length buf ≡ 65536
     → length (input ++ take n buf) ≤ (counter + 1) * 65536
 no_more counter n input buf le fits room = simp length-append (omega (arith, length-take n buf, le, fits, room))

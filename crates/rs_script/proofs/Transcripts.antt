@@ -19,7 +19,7 @@ fold_of-append : (s : Source) (commands more : List (Command × ℕ)) → fold_o
 fold_of-append s [] more = refl
 fold_of-append s (c ∷ commands) more = fold_of-append (state_after s (step s c.0 c.1)) commands more
 
--- what each of them is in the model
+-- each of them in the model
 abbrev outcomes_in : List (Answer Source) → List LineOutcome
 outcomes_in answers = map (λ (a : Answer Source). a.outcome) answers
 
@@ -71,7 +71,7 @@ module _ {D : Type 0} (device : D → DiskState) where
       let P : List Statement → Type 0 = λ l. Transcript device old l outcomes commands new in
       statements_same statements old outcomes commands new (subst P same s.2) h honest left
 
-  -- an free source was free before
+  -- an open source was open before
   statements_open : (statements : List Statement) (old : ScriptState (Stored D)) (outcomes : List LineOutcome) (commands : List (Command × ℕ)) (new : ScriptState (Stored D))
       → Transcript device old statements outcomes commands new → new.source.is_closed ≡ false → old.source.is_closed ≡ false
   statements_open [] old outcomes commands new t free = subst (λ (s : ScriptState (Stored D)). s.source.is_closed ≡ false) t.2 free

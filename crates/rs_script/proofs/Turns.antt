@@ -18,7 +18,7 @@ use Rattle.rs_script.proofs.Steps.{Progress-whole, ran_of, broke_after, no_more}
 abbrev pub from_start : {D W : Type 0} → Stored D → Watched W → Beginning D W
 from_start source writer = record { session = script_state source 0; writer = writer }
 
--- So many reads gave these bytes, at most as many each time as there is room for, and none failed.
+-- n reads gave these bytes, at most 65,536 each, and none failed
 pub record Reads {R : Type 0} (remaining : R → Option (List ℕ)) (first : Watched R) (n : ℕ) (reader : Watched R) (input : List ℕ) : Type 0 where
   pub took : Took remaining first reader input
   pub most : length input ≤ n * 65536
@@ -48,7 +48,8 @@ reads_within remaining first reader n input reads few = record {
   once = omega (arith, ap (λ f. f.all) reads.took.1);
 }
 
--- What came in so many turns has been taken, and each of them gave at least one byte. An end that had failed gives and takes nothing.
+-- The bytes of n reads have been taken, and each read gave at least one byte. An end that had failed gives and takes
+-- nothing.
 pub record Turned {D R W : Type 0} (device : D → DiskState) (remaining : R → Option (List ℕ)) (contents : W → Option (List ℕ)) (start : Stored D) (first : Watched R) (before : Watched W)
     (n : ℕ) (reader : Watched R) (here : Stand D W) : Type 0 where
   pub input : List ℕ
@@ -58,7 +59,7 @@ pub record Turned {D R W : Type 0} (device : D → DiskState) (remaining : R →
   pub writer_still : IsTrue (is_broken before) → (here.writer ≡ before) × (reader ≡ first) × (here.source ≡ start)
   pub reader_still : IsTrue (is_broken first) → (reader ≡ first) × (here.source ≡ start)
 
--- what is told of a writer that failed is told of it as it is seen
+-- a writer that failed within an answer, as its bytes show it
 seen_within : {W : Type 0} (contents : W → Option (List ℕ)) (a b : Watched W) (outcomes : List LineOutcome) → BreaksWithin contents a b outcomes
     → BreaksWithin bytes_of (seen_by contents a) (seen_by contents b) outcomes
 seen_within contents a b outcomes breaks = record {

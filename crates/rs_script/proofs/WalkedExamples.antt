@@ -23,8 +23,8 @@ use Rattle.rs_script.specs.Walked.{IsWalkOf}
 abbrev start : Source
 start = start_of (codes "http://a") 2 1000
 
--- The model refuses the first delete; the machine refuses the publication, since the disk is full; what is shown is not held;
--- the device fails in the second publication, and the source is closed from then on.
+-- The model refuses the delete. The machine refuses the first publication, since the disk is full. The resource is not
+-- held. The device fails in the second publication, and the source is closed from then on.
 abbrev statements : List Statement
 statements =
     single (codes "at 5000") ∷ single (codes "delete a") ∷ single (codes "publish") ∷ single (codes "show /resource/a")
@@ -38,7 +38,7 @@ outcomes =
 abbrev delete : Event
 delete = Tried (Delete (codes "a")) 5000
 
--- no refusal of the model is that the source is closed
+-- no refusal of the model is named `Closed`
 never_closed : (reason : model.Refusal) → named_as reason ≡ Closed → ⊥
 never_closed decides.BadGroup is = cc
 never_closed decides.TooLong is = cc

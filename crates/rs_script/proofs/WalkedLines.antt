@@ -1,4 +1,4 @@
--- The statements of a script, one after another, make a walk.
+-- The statements of a script make a walk, one after another.
 use Rattle.std.proofs.Common.{◌≡◌, true≢false, ℕ, Bool, true, false, List, [], ◌∷◌, ◌++◌, refl, sym, ◌∙◌, ap, subst, IsTrue}
 use Rattle.rs_disk.specs.Medium.{DiskState, IsImage, Medium, IsMedium}
 use Rattle.rs_model.specs.State.{Source}

@@ -38,7 +38,7 @@ use Rattle.rs_script.proofs.NamedDocuments.{HasPath}
 abbrev Kind : Type 1
 Kind = List Event → Type 0
 
--- what comes of a request that was refused memory, and of a line past the limit
+-- the outcome of a request that was refused memory, and of a line past the limit
 no_room : (s : Source) (now : ℕ) (request : Result Request Refusal)
     → (events : List Event) × StatementEvents s now request (refused refusals.NoMemory) events × (walk_of s events ≡ s)
 no_room s now (Ok (At t)) = ([], refl, refl)
@@ -103,11 +103,11 @@ module _ {D : Type 0} (device : D → DiskState) where
   statement_now old (grouped first lines) answer gives = answer_now old (request_by (grouped first lines)) (GroupTakesRoom lines) answer gives
   statement_now old cut_off answer gives = request_now old (request_by cut_off) answer gives
 
--- a line that was asked of an open source
+-- a line to an open source
 module _ {D : Type 0} (device : D → DiskState) (sound : (disk : D) → IsMedium (device disk).size (device disk).now) (stands : HeldStands device)
     (reading : ReadingsIdle device) (commands : CommandsMakeWalks device) (documents : DocumentsAreAnswered) (bodies : BodiesAreAnswered)
     (old : ScriptState (Stored D)) (s : Source) (holds : Holds device old.source s) where
-  -- the walk of what comes of a request
+  -- the walk of the outcome of a request
   Walk : Result Request Refusal → Answer (Stored D) → Type 0
   Walk request answer = LeavesWalk device s (StatementEvents s old.now request answer.outcome) answer.session.source
 
@@ -133,7 +133,7 @@ module _ {D : Type 0} (device : D → DiskState) (sound : (disk : D) → IsMediu
   shown_walk path refusal (Some bytes) new is held =
       walked device stands s (ShowEvents s path (shown bytes)) new (Fetch ∷ []) (is, refl) held
 
-  -- what an open source shows of the state that it holds
+  -- an open source shows the state that it holds
   open_shows : (doc : Doc) → if_open old (shown_or refusals.NoSuchDocument (document_text (shown_of (state_of device old.source)) doc))
       ≡ shown_or refusals.NoSuchDocument (document_text (shown_of s) doc)
   open_shows doc =
@@ -210,7 +210,7 @@ module _ {D : Type 0} (device : D → DiskState) (sound : (disk : D) → IsMediu
   statement_walk (grouped first lines) has answer gives honest = answer_walk (request_by (grouped first lines)) (GroupTakesRoom lines) has answer gives honest
   statement_walk cut_off has answer gives honest = request_walk (request_by cut_off) has answer gives honest
 
--- What comes of a line of a closed source: it stays closed, its disk holds what it held, and the state of a walk is not changed.
+-- A line to a closed source: the source stays closed, its disk holds the same, and the state of the walk stays.
 pub record Shut {D : Type 0} (device : D → DiskState) (old new : Stored D) (s : Source) (M : Kind) : Type 0 where
   pub events : List Event
   pub are : M events

@@ -1,4 +1,4 @@
--- The text of each answer, exactly the bytes written.
+-- The exact bytes of each answer.
 use Rattle.std.specs.Prelude.{ℕ, List, [], ◌∷◌, ◌++◌, length, codes, flat_map}
 use Rattle.std.specs.Fmt.{decimal}
 use Rattle.rs_time.specs.Moment.{moment_text}
@@ -34,7 +34,7 @@ word_of NoSuchDocument = codes "NoSuchDocument"
 word_of (Source refusal) = refusal_word refusal
 word_of NoMemory = codes "NoMemory"
 
--- bytes, after their number
+-- bytes, behind their number
 abbrev pub shown_text : List ℕ → List ℕ
 shown_text bytes = (codes "bytes " ++ (decimal (length bytes) ++ codes "\n")) ++ (bytes ++ 10 ∷ [])
 
@@ -46,11 +46,11 @@ status_text s =
 abbrev pub damaged_line : List ℕ → List ℕ
 damaged_line name = codes "damaged " ++ (name ++ 10 ∷ [])
 
--- the damaged bodies, a line each, and how many are sound
+-- the damaged bodies, a line each, and the number of sound ones
 abbrev pub verified_text : List (List ℕ) → ℕ → List ℕ
 verified_text names sound = flat_map damaged_line names ++ (codes "verified " ++ (decimal sound ++ codes "\n"))
 
--- what is written of an outcome
+-- the answer to an outcome
 abbrev pub outcome_text : LineOutcome → List ℕ
 outcome_text moment_set = codes "ok\n"
 outcome_text (replied reply) = reply_text reply
@@ -59,6 +59,6 @@ outcome_text (counted status) = status_text status
 outcome_text (verified names sound) = verified_text names sound
 outcome_text (refused refusal) = codes "refused " ++ (word_of refusal ++ codes "\n")
 
--- what is written of a run of them
+-- the answers to outcomes in a row
 abbrev pub output_of : List LineOutcome → List ℕ
 output_of outcomes = flat_map outcome_text outcomes

@@ -1,4 +1,4 @@
--- What a writer took that failed while the answers of a script were written.
+-- What a failed writer took of the answers of a script.
 use Rattle.std.specs.Prelude.{◌≡◌, ◌⊎◌, ℕ, ◌+◌, ◌≤◌, false, List, [], ◌∷◌, ◌++◌, Option}
 use Rattle.std.specs.Io.KnownBytes.{Appends}
 use Rattle.rs_io.specs.declared.watch.Watched.{Watched}
@@ -6,7 +6,7 @@ use Rattle.rs_io.specs.Watch.{watched, failures, is_broken, FailedAfter, FlushFa
 use Rattle.rs_script.specs.Answers.{outcome_text, output_of}
 use Rattle.rs_script.specs.Session.{LineOutcome}
 
--- A put failed within the last answer, and no flush failed. The writer took each answer before it whole.
+-- A write failed within the last answer, and no flush failed. The writer took each answer before it whole.
 pub record BreaksWithin {W : Type 0} (contents : W → Option (List ℕ)) (old new : Watched W) (outcomes : List LineOutcome) : Type 0 where
   pub whole : List LineOutcome
   pub last : LineOutcome
@@ -19,8 +19,8 @@ pub record BreaksAfter {W : Type 0} (contents : W → Option (List ℕ)) (old ne
   pub failed : FlushFailed old new
   pub once : (failures new).all ≤ (failures old).all + 1
 
--- A writer that had not failed did so within the last answer, or a flush failed behind it. A writer takes nothing more once it
--- has failed: so no statement was begun after the fault.
+-- A writer that had not failed before failed within the last answer, or in a flush after it. A failed writer takes no
+-- more bytes, so no statement was begun after the fault.
 abbrev pub BreaksOff : {W : Type 0} → (W → Option (List ℕ)) → Watched W → Watched W → List LineOutcome → Type 0
 BreaksOff contents old new outcomes =
     ((is_broken old ≡ false) × BreaksWithin contents old new outcomes) ⊎ BreaksAfter contents old new outcomes

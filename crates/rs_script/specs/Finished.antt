@@ -1,4 +1,4 @@
--- How a script ends, as its two ends see it.
+-- How a script ends, for its reader and its writer.
 use Rattle.std.specs.Prelude.{◌≡◌, ◌⊎◌, ◌≤◌, ◌+◌, ◌*◌, ℕ, true, List, [], ◌∷◌, ◌++◌, length, Option}
 use Rattle.std.specs.Io.KnownBytes.{Consumes}
 use Rattle.rs_disk.specs.Medium.{DiskState}
@@ -12,19 +12,19 @@ use Rattle.rs_script.specs.Script.{Ran}
 use Rattle.rs_script.specs.Session.{LineOutcome}
 use Rattle.rs_script.specs.Statements.{AreWholeStatements}
 
--- the bytes of an end that is seen by them
+-- the bytes of an end that is seen by its bytes
 abbrev pub bytes_of : Option (List ℕ) → Option (List ℕ)
 bytes_of bytes = bytes
 
--- All that the reader gave, up to its end, was answered, and all that was written is flushed.
+-- The whole input was answered, and all answers are flushed.
 pub record EndsWell {D : Type 0} (device : D → DiskState) (old new : Stored D) (ends : Ends) : Type 0 where
   pub ran : Ran device old new
   pub took : TookAll bytes_of ends.left ends.rest ran.input
   pub wrote : Wrote bytes_of ends.before ends.after (output_of ran.outcomes)
   pub flushed : is_flushed ends.after ≡ true
 
--- A read failed, and all answers were flushed before it; or 2^40 reads came to no end. The whole statements were answered, and a part of
--- one after them was not.
+-- A read failed, and all answers were flushed before it; or 2^40 reads did not reach the end. The whole statements were
+-- answered, and a part of one after them was not.
 pub record StopsReading {D : Type 0} (device : D → DiskState) (old new : Stored D) (ends : Ends) : Type 0 where
   pub ran : Ran device old new
   pub part : List ℕ
@@ -32,15 +32,15 @@ pub record StopsReading {D : Type 0} (device : D → DiskState) (old new : Store
   pub wrote : Wrote bytes_of ends.before ends.after (output_of ran.outcomes)
   pub no_more : ReadsNoMore ends.left ends.rest ends.after (ran.input ++ part)
 
--- A call of the writer failed, and none of the reader: what the statements so far asked for is done. They had come whole, or the input had
--- ended. A put failed within the last answer, and the others went out whole; or all did, and a flush failed.
+-- A call of the writer failed, and none of the reader. The statements so far are done; they came whole, or the input
+-- had ended. A write failed within the last answer, behind the other ones; or a flush failed behind all answers.
 pub record StopsWriting {D : Type 0} (device : D → DiskState) (old new : Stored D) (ends : Ends) : Type 0 where
   pub ran : Ran device old new
   pub came : Came bytes_of ends.left ends.rest ran.input
   pub breaks : BreaksOff bytes_of ends.before ends.after ran.outcomes
   pub read : failures ends.rest ≡ failures ends.left
 
--- So many reads were made at most, each of at most so many bytes, and one that failed was not tried again.
+-- At most `turns` reads were made, of at most `size` bytes each, and none after one that failed.
 pub record ReadsWithin (turns size : ℕ) (left rest : End) : Type 0 where
   pub gave : List ℕ
   pub came : Consumes (watched left) (watched rest) gave
@@ -48,7 +48,8 @@ pub record ReadsWithin (turns size : ℕ) (left rest : End) : Type 0 where
   pub reads : calls rest ≤ calls left + turns
   pub once : (failures rest).all ≤ (failures left).all + 1
 
--- The statements of a beginning of this input are done, up to one whose answer is not whole: they had come whole, or the input had ended.
+-- The statements of a beginning of this input are done, up to one whose answer is not whole. They came whole, or the
+-- input had ended.
 pub record StopsWithin {D : Type 0} (device : D → DiskState) (old new : Stored D) (input : List ℕ) : Type 0 where
   pub ran : Ran device old new
   pub tail : List ℕ

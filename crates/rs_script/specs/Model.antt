@@ -1,4 +1,4 @@
--- What the model answers to the statements of a script.
+-- The answers of the model to the statements of a script.
 use Rattle.std.specs.Prelude.{ℕ, nat_lt, if◌then◌else◌, List, [], ◌∷◌, length, Option, Some, None, Result, Ok, Err}
 use Rattle.std.specs.List.{filter}
 use Rattle.rs_model.specs.State.{Source, body_of}
@@ -21,22 +21,22 @@ use Rattle.rs_script.specs.Requests.{request_of}
 use Rattle.rs_script.specs.Statements.{Statement, single, grouped, cut_off, request_by}
 use Rattle.rs_script.specs.Session.{ScriptState, LineOutcome, moment_set, replied, shown, counted, verified, refused, Answer, unchanged}
 
--- a command was accepted, or not
+-- the answer to a command, which was accepted or refused
 abbrev pub stepped : ScriptState Source → Command → Result (Source × Reply) model.Refusal → Answer Source
 stepped s command (Ok next) =
     record { outcome = replied next.1; commands = (command, s.now) ∷ []; session = record { source = next.0; now = s.now } }
 stepped s command (Err refusal) = unchanged s (refused (refusals.Source (named_as refusal)))
 
--- these bytes, or this refusal where there are none
+-- these bytes, or the refusal where there are none
 abbrev pub shown_or : Refusal → Option (List ℕ) → LineOutcome
 shown_or refusal None = refused refusal
 shown_or refusal (Some bytes) = shown bytes
 
--- how many resources have their recorded SHA-256
+-- the number of resources that have their recorded SHA-256
 abbrev pub sound_count : Source → ℕ
 sound_count s = length (filter (λ e. is_sound e.1) s.held)
 
--- what the model answers to a request
+-- the answer of the model to a request
 abbrev pub answer_to : ScriptState Source → Result Request Refusal → Answer Source
 answer_to s (Ok (At t)) = record { outcome = moment_set; commands = []; session = record { source = s.source; now = t } }
 answer_to s (Ok (Run command)) = stepped s command (step s.source command s.now)
@@ -46,17 +46,17 @@ answer_to s (Ok Status) = unchanged s (counted (status_of s.source))
 answer_to s (Ok Verify) = unchanged s (verified (damaged_names s.source) (sound_count s.source))
 answer_to s (Err refusal) = unchanged s (refused refusal)
 
--- what the model answers to a line, where one past the limit is refused whatever it says
+-- the answer of the model to a line: one past the limit is refused, whatever it says
 abbrev pub line_answer : ScriptState Source → List ℕ → Answer Source
 line_answer s line = if nat_lt line_limit (length line) then unchanged s (refused refusals.LongLine) else answer_to s (request_of line)
 
--- what the model answers to a statement
+-- the answer of the model to a statement
 abbrev pub statement_answer : ScriptState Source → Statement → Answer Source
 statement_answer s (single line) = line_answer s line
 statement_answer s (grouped first lines) = answer_to s (request_by (grouped first lines))
 statement_answer s cut_off = answer_to s (request_by cut_off)
 
--- what it answers to statements, one after another
+-- its answers to statements, one after another
 abbrev pub answers_of : ScriptState Source → List Statement → List (Answer Source)
 answers_of s [] = []
 answers_of s (statement ∷ statements) = statement_answer s statement ∷ answers_of (statement_answer s statement).session statements

@@ -1,4 +1,4 @@
--- What may come of a statement that is asked of a stored source.
+-- The possible outcomes of a statement on a stored source.
 use Rattle.std.specs.Prelude.{◌≡◌, ◌⊎◌, ◌<◌, ◌≤◌, ◌-◌, ℕ, if◌then◌else◌, List, [], length, Result, Ok, Err, Vec}
 use Rattle.std.specs.Global.{Global}
 use Rattle.rs_disk.specs.Medium.{DiskState}
@@ -25,12 +25,12 @@ use Rattle.rs_script.specs.Room.{TakesRoom, GroupTakesRoom}
 use Rattle.rs_script.specs.Statements.{Statement, single, grouped, cut_off, request_by, items_of_group, group_request}
 use Rattle.rs_script.specs.Session.{ScriptState, LineOutcome, moment_set, replied, shown, counted, verified, refused, Answer, unchanged}
 
--- what comes of an answer to a command
+-- the outcome by the answer to a command
 abbrev pub outcome_of_reply : Result Reply stored.Refusal → LineOutcome
 outcome_of_reply (Ok reply) = replied reply
 outcome_of_reply (Err refusal) = refused (refusals.Source refusal)
 
--- A command was asked of the source, which answered as it may.
+-- the source got a command, and answered it
 pub record RunAnswers {D : Type 0} (device : D → DiskState) (old : ScriptState (Stored D)) (command : Command) (answer : Answer (Stored D)) : Type 0 where
   pub result : Result Reply stored.Refusal
   pub answers : Answers device old.source answer.session.source command old.now result
@@ -38,12 +38,12 @@ pub record RunAnswers {D : Type 0} (device : D → DiskState) (old : ScriptState
   pub commands : answer.commands ≡ counted_as command old.now result
   pub now : answer.session.now ≡ old.now
 
--- what comes of an answer to the question for a body
+-- the outcome by the answer to a read of a body
 abbrev pub shown_as : Result (Vec ℕ Global) stored.Refusal → LineOutcome
 shown_as (Ok bytes) = shown bytes.items
 shown_as (Err refusal) = refused (refusals.Source refusal)
 
--- A body was asked of the source, which answered as it may.
+-- the source was asked for a body, and answered
 pub record ReadAnswers {D : Type 0} (device : D → DiskState) (old : ScriptState (Stored D)) (name : List ℕ) (answer : Answer (Stored D)) : Type 0 where
   pub result : Result (Vec ℕ Global) stored.Refusal
   pub answers : AnswersBody device old.source answer.session.source name result
@@ -51,12 +51,12 @@ pub record ReadAnswers {D : Type 0} (device : D → DiskState) (old : ScriptStat
   pub commands : answer.commands ≡ []
   pub now : answer.session.now ≡ old.now
 
--- what comes of an answer to the question for damaged bodies, where this many are held: those that are not damaged are sound
+-- the outcome by the answer to `verify`, where `held` bodies are held: those that are not damaged are sound
 abbrev pub verified_as : ℕ → Result (Vec (List ℕ) Global) stored.Refusal → LineOutcome
 verified_as held (Ok names) = verified names.items (held - length names.items)
 verified_as held (Err refusal) = refused (refusals.Source refusal)
 
--- The damaged bodies were asked of the source, which answered as it may.
+-- the source was asked for the damaged bodies, and answered
 pub record VerifyAnswers {D : Type 0} (device : D → DiskState) (old : ScriptState (Stored D)) (answer : Answer (Stored D)) : Type 0 where
   pub result : Result (Vec (List ℕ) Global) stored.Refusal
   pub answers : AnswersVerify device old.source answer.session.source result
@@ -64,11 +64,11 @@ pub record VerifyAnswers {D : Type 0} (device : D → DiskState) (old : ScriptSt
   pub commands : answer.commands ≡ []
   pub now : answer.session.now ≡ old.now
 
--- a closed source refuses whatever it is asked
+-- a closed source refuses every request
 abbrev pub if_open : {D : Type 0} → ScriptState (Stored D) → LineOutcome → LineOutcome
 if_open s outcome = if s.source.is_closed then refused (refusals.Source Closed) else outcome
 
--- what may come of a request: documents and counts are those of the state that the source tells
+-- the possible outcomes of a request: documents and counts are those of the state of the source
 abbrev pub RequestGives : {D : Type 0} → (D → DiskState) → ScriptState (Stored D) → Result Request Refusal → Answer (Stored D) → Type 0
 RequestGives device old (Ok (At t)) answer =
     answer ≡ record { outcome = moment_set; commands = []; session = record { source = old.source; now = t } }
@@ -80,21 +80,21 @@ RequestGives device old (Ok Status) answer = answer ≡ unchanged old (if_open o
 RequestGives device old (Ok Verify) answer = VerifyAnswers device old answer
 RequestGives device old (Err refusal) answer = answer ≡ unchanged old (refused refusal)
 
--- this, or the statement takes room, which was refused, and nothing changed
+-- the outcomes of a request; or the statement takes memory, which was refused, and nothing changed
 abbrev pub AnswerGives : {D : Type 0} → (D → DiskState) → ScriptState (Stored D) → Result Request Refusal → Type 0 → Answer (Stored D) → Type 0
 AnswerGives device old request Room answer = RequestGives device old request answer ⊎ (Room × (answer ≡ unchanged old (refused refusals.NoMemory)))
 
--- what may come of a line, where one past the limit is refused whatever it says
+-- the possible outcomes of a line: one past the limit is refused, whatever it says
 abbrev pub LineGives : {D : Type 0} → (D → DiskState) → ScriptState (Stored D) → List ℕ → Answer (Stored D) → Type 0
 LineGives device old line answer =
     ((line_limit < length line) × (answer ≡ unchanged old (refused refusals.LongLine)))
     ⊎ ((length line ≤ line_limit) × AnswerGives device old (request_of line) (TakesRoom line) answer)
 
--- what may come of a group of these lines
+-- the possible outcomes of a group of these lines
 abbrev pub GroupGives : {D : Type 0} → (D → DiskState) → ScriptState (Stored D) → List (List ℕ) → Answer (Stored D) → Type 0
 GroupGives device old lines answer = AnswerGives device old (group_request (items_of_group lines)) (GroupTakesRoom lines) answer
 
--- what may come of a statement: a group that is cut off by the end of the input is refused as such
+-- the possible outcomes of a statement: a group that the end of the input cuts off is refused as such
 abbrev pub StatementGives : {D : Type 0} → (D → DiskState) → ScriptState (Stored D) → Statement → Answer (Stored D) → Type 0
 StatementGives device old (single line) answer = LineGives device old line answer
 StatementGives device old (grouped first lines) answer = GroupGives device old lines answer

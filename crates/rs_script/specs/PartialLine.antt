@@ -1,4 +1,4 @@
--- What is kept of a line while it comes.
+-- What is kept of a line that is still coming.
 use Rattle.std.specs.Prelude.{◌≡◌, ℕ, ◌+◌, ◌-◌, ◌<◌, ◌≤◌, false, List, length, slice_index, Err, None}
 use Rattle.rs_script.specs.declared.line.Kept.{Kept}
 use Rattle.rs_script.specs.declared.line.Kept.TheVariants as kept
@@ -12,13 +12,14 @@ use Rattle.rs_items.specs.Items.{item_of_line}
 use Rattle.rs_script.specs.Requests.{begins_request, request_of}
 use Rattle.rs_script.specs.Statements.{group_size}
 
--- the length and the last byte of these bytes, which may be a line with a carriage return at its end
+-- the length and the last byte of these bytes, which may be a line with a carriage return
 pub record CountsLine (line : Line) (raw : List ℕ) : Type 0 where
   pub count_is : line.count ≡ length raw
   pub last_is : line.last ≡ slice_index raw (length raw - 1)
   pub fits : length raw ≤ line_limit + 1
 
--- 9 bytes are longer than each line of one field, also with a carriage return at its end, and room for them is never refused
+-- Any line of one field is shorter than 9 bytes, even with a carriage return at its end, and there is always memory for
+-- 9 bytes.
 abbrev pub KeepsLineAs : Line → Kept → List ℕ → Type 0
 KeepsLineAs line kept.Whole raw = CountsLine line raw × (line.bytes.items ≡ raw)
 KeepsLineAs line kept.Foreign raw = CountsLine line raw × (9 ≤ length raw) × (begins_request raw ≡ false)
@@ -29,13 +30,13 @@ KeepsLineAs line kept.TooLong raw = line_limit + 1 < length raw
 abbrev pub KeepsLine : Line → List ℕ → Type 0
 KeepsLine line raw = KeepsLineAs line line.kept raw
 
--- it asks for nothing, by itself and in a group, and begins no group
+-- the line asks for nothing, by itself and in a group, and begins no group
 pub record AsksNothing (line : List ℕ) : Type 0 where
   pub alone : request_of line ≡ Err BadLine
   pub within : item_of_line line ≡ Err fault.BadLine
   pub no_group : group_size line ≡ None
 
--- what a line is that has come
+-- this whole line has this content
 abbrev pub IsContent : Content → List ℕ → Type 0
 IsContent (Bytes bytes) line = (bytes.now ≡ line) × (length line ≤ line_limit)
 IsContent Foreign line = (length line ≤ line_limit) × AsksNothing line

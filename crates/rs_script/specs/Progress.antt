@@ -18,14 +18,14 @@ use Rattle.rs_script.specs.Statements.{Statement, statement_lines, IsWholeStatem
 use Rattle.rs_script.specs.Script.{Transcript, ScriptGives}
 use Rattle.rs_script.specs.Session.{ScriptState, script_state, Answer, LineOutcome}
 
--- It was answered as it may be, the session is the one after that, and this holds of the answer's text.
+-- there was a possible answer, this is the session after it, and the text of the answer has this property
 pub record IsAnswered {S : Type 0} (Gives : Answer S → Type 0) (new : ScriptState S) (Written : List ℕ → Type 0) : Type 0 where
   pub answer : Answer S
   pub gives : Gives answer
   pub session_is : answer.session ≡ new
   pub written : Written (outcome_text answer.outcome)
 
--- where a script stands between two lines: its session, and what is kept of a group
+-- a script between two lines: its session, and what is kept of a group
 pub record Between (D : Type 0) : Type 0 where
   pub session : ScriptState (Stored D)
   pub group : Option Taking
@@ -33,7 +33,8 @@ pub record Between (D : Type 0) : Type 0 where
 abbrev pub between : {D : Type 0} → Stored D → ℕ → Option Taking → Between D
 between source now group = record { session = script_state source now; group = group }
 
--- From this session on these lines were taken: whole statements, which were answered, and then those that are kept of a group.
+-- these lines were taken from this session on: whole statements, which were answered, and then those that are kept of a
+-- group
 pub record LinesTaken {D : Type 0} (device : D → DiskState) (start : ScriptState (Stored D)) (lines : List (List ℕ)) (here : Between D) : Type 0 where
   pub whole : List Statement
   pub part : List (List ℕ)
@@ -44,18 +45,19 @@ pub record LinesTaken {D : Type 0} (device : D → DiskState) (start : ScriptSta
   pub kept : KeepsGroup here.group part
   pub answered : Transcript device start whole outcomes commands here.session
 
--- One more line was taken, after those that are kept of a group: one statement was answered, or none, and this holds of the answer's text.
+-- one more line was taken, behind those that are kept of a group: one statement was answered, or none, and the text of
+-- the answer has this property
 abbrev pub TakesLine : {D : Type 0} → (D → DiskState) → Between D → List ℕ → Between D → (List ℕ → Type 0) → Type 0
 TakesLine device old line new Written =
     (begun : List (List ℕ)) → KeepsGroup old.group begun
     → (taken : LinesTaken device old.session (begun ++ line ∷ []) new) × (length taken.outcomes ≤ 1) × Written (output_of taken.outcomes)
 
--- where a script began: its session and its writer
+-- a script at its beginning: its session and its writer
 pub record Beginning (D W : Type 0) : Type 0 where
   pub session : ScriptState (Stored D)
   pub writer : Watched W
 
--- where a script stands: what is kept of its input, the source, and the writer
+-- a script between two reads: what is kept of its input, its source, and its writer
 pub record Stand (D W : Type 0) : Type 0 where
   pub pending : Pending
   pub source : Stored D
@@ -70,7 +72,7 @@ session_at here = script_state here.source here.pending.now
 abbrev pub between_at : {D W : Type 0} → Stand D W → Between D
 between_at here = between here.source here.pending.now here.pending.group
 
--- these bytes came: whole statements, whose answers were written, and then what is kept of the next
+-- these bytes came: whole statements, whose answers were written, and then what is kept of the next one
 pub record Progress {D W : Type 0} (device : D → DiskState) (contents : W → Option (List ℕ)) (begin : Beginning D W) (input : List ℕ) (here : Stand D W) : Type 0 where
   pub raws : List (List ℕ)
   pub rest : List ℕ
@@ -79,7 +81,7 @@ pub record Progress {D W : Type 0} (device : D → DiskState) (contents : W → 
   pub taken : LinesTaken device begin.session (map cut_return raws) (between_at here)
   pub written : Wrote contents begin.writer here.writer (output_of taken.outcomes)
 
--- this whole input came: all its statements are answered but for a group that it ends within
+-- this whole input came: all its statements are answered, except a group that it ends within
 pub record Ended {D W : Type 0} (device : D → DiskState) (contents : W → Option (List ℕ)) (begin : Beginning D W) (input : List ℕ) (here : Stand D W) : Type 0 where
   pub raws : List (List ℕ)
   pub rest : List ℕ
@@ -87,46 +89,46 @@ pub record Ended {D W : Type 0} (device : D → DiskState) (contents : W → Opt
   pub taken : LinesTaken device begin.session (script_lines raws rest) (between_at here)
   pub written : Wrote contents begin.writer here.writer (output_of taken.outcomes)
 
--- the statements of this input were answered, and a put failed within the last answer
+-- the statements of this input were answered, and a write failed within the last answer
 abbrev pub Answered : {D W : Type 0} → (D → DiskState) → (W → Option (List ℕ)) → Beginning D W → List ℕ → Stand D W → Type 0
 Answered device contents begin input here = (outcomes : List LineOutcome) × (commands : List (Command × ℕ))
     × ScriptGives device begin.session input outcomes commands (session_at here) × BreaksWithin contents begin.writer here.writer outcomes
 
--- a script that had come to the one stand has come to the other with these bytes more
+-- from one stand a script got to the other by these bytes
 abbrev pub ComesTo : {D W : Type 0} → (D → DiskState) → (W → Option (List ℕ)) → Stand D W → Stand D W → List ℕ → Type 0
 ComesTo {D} {W} device contents old new bytes =
     (begin : Beginning D W) (input : List ℕ) → Progress device contents begin input old → Progress device contents begin (input ++ bytes) new
 
--- of a script that had come to the one stand, the statements up to these bytes more are answered, and they are whole; a put of the last
--- answer failed at the other
+-- from one stand a script got to the other by these bytes: the statements up to their end are whole, and they are
+-- answered, but a write failed within the last answer
 abbrev pub StopsBy : {D W : Type 0} → (D → DiskState) → (W → Option (List ℕ)) → Stand D W → Stand D W → List ℕ → Type 0
 StopsBy {D} {W} device contents old new bytes =
     (begin : Beginning D W) (input : List ℕ) → Progress device contents begin input old
     → Answered device contents begin (input ++ bytes) new × AreWholeStatements (input ++ bytes)
 
--- a script that had come to the one stand has taken its last line, and stands at the other
+-- from one stand a script got to the other by its last line
 abbrev pub EndsLine : {D W : Type 0} → (D → DiskState) → (W → Option (List ℕ)) → Stand D W → Stand D W → Type 0
 EndsLine {D} {W} device contents old new =
     (begin : Beginning D W) (input : List ℕ) → Progress device contents begin input old → Ended device contents begin input new
 
--- a script that had come to the one stand has ended at the other: all its statements are answered, and the answers written
+-- from one stand a script ended at the other: all its statements are answered, and the answers are written
 abbrev pub EndsAt : {D W : Type 0} → (D → DiskState) → (W → Option (List ℕ)) → Stand D W → Stand D W → Type 0
 EndsAt {D} {W} device contents old new =
     (begin : Beginning D W) (input : List ℕ) → Progress device contents begin input old
     → (outcomes : List LineOutcome) × (commands : List (Command × ℕ))
     × ScriptGives device begin.session input outcomes commands (session_at new) × Wrote contents begin.writer new.writer (output_of outcomes)
 
--- of a script that had come to the one stand, and whose input ended there, all statements are answered; a put of the last answer failed at
--- the other
+-- from one stand a script ended at the other: all its statements are answered, but a write failed within the last
+-- answer
 abbrev pub StopsAt : {D W : Type 0} → (D → DiskState) → (W → Option (List ℕ)) → Stand D W → Stand D W → Type 0
 StopsAt {D} {W} device contents old new =
     (begin : Beginning D W) (input : List ℕ) → Progress device contents begin input old → Answered device contents begin input new
 
--- the reader gave this input, and then a tail that was not looked at
+-- the reader gave this input, and then a tail that no statement used
 abbrev pub Gave : Option (List ℕ) → Option (List ℕ) → List ℕ → Type 0
 Gave old new input = (tail : List ℕ) × Consumes old new (input ++ tail)
 
--- the reader gave whole statements, and then a tail that was not looked at; or this input, and nothing is left
+-- the reader gave whole statements, and then a tail that no statement used; or it gave this input, and nothing is left
 abbrev pub Came : {R : Type 0} → (R → Option (List ℕ)) → Watched R → Watched R → List ℕ → Type 0
 Came remaining old new input =
     (Gave (remaining (watched old)) (remaining (watched new)) input × AreWholeStatements input)
@@ -141,11 +143,11 @@ abbrev pub GaveStatements : {R : Type 0} → (R → Option (List ℕ)) → Watch
 GaveStatements remaining old new input part =
     Consumes (remaining (watched old)) (remaining (watched new)) (input ++ part) × AreWholeStatements input × IsUnfinished part
 
--- this many calls were made, or their count stands at its last value
+-- this many calls were made, or their count is at its greatest value
 abbrev pub IsCalled : {T : Type 0} → ℕ → Watched T → Watched T → Type 0
 IsCalled count old new = (calls new ≡ calls old + count) ⊎ (2 ^ 64 ≤ calls new + 1)
 
--- Nothing more is read: the reader failed, and all that was written before was flushed; or 2^40 reads of it were made, and each gave a
--- byte at least.
+-- Nothing more is read: the reader failed, and everything written before was flushed; or 2^40 reads were made, and each
+-- gave at least one byte.
 abbrev pub ReadsNoMore : {R W : Type 0} → Watched R → Watched R → Watched W → List ℕ → Type 0
 ReadsNoMore old new writer input = (EndFailed old new × (is_flushed writer ≡ true)) ⊎ (IsCalled (2 ^ 40) old new × (2 ^ 40 ≤ length input))

@@ -32,11 +32,11 @@ abbrev pub moment_in : Option ℕ → Option ℕ
 moment_in None = None
 moment_in (Some ms) = moment_of ms
 
--- `at MS`: 1 to 15 digits, of a moment
+-- `at MS`, where MS is a moment of 1 to 15 digits
 abbrev pub at_request : List ℕ → Result Request Refusal
 at_request ms = asked (at_moment (moment_in (number_in 15 ms))) BadMoment
 
--- why a line is refused that is no item, by the same name
+-- the refusal of a line that is no item: it has the same word as the fault
 abbrev pub refusal_by : ItemFault → Refusal
 refusal_by fault.BadLine = BadLine
 refusal_by fault.BadName = BadName
@@ -69,7 +69,7 @@ request_alone word =
     else if bytes_eq word (codes "verify") then Ok Verify
     else Err BadLine
 
--- a line of two fields: a `group` by itself is none
+-- a line of two fields: a `group` by itself asks for nothing
 abbrev pub request_with : List ℕ → List ℕ → List ℕ → Result Request Refusal
 request_with line word argument =
     if bytes_eq word (codes "at") then at_request argument
@@ -77,13 +77,13 @@ request_with line word argument =
     else if bytes_eq word (codes "group") then Err BadGroup
     else item_request (item_of_line line)
 
--- what a line asks for by its fields: one of another form asks for an item or for nothing
+-- what a line asks for by its fields: a line of any other form is an item or asks for nothing
 abbrev pub of_fields : List ℕ → List (List ℕ) → Result Request Refusal
 of_fields line (word ∷ []) = request_alone word
 of_fields line (word ∷ argument ∷ []) = request_with line word argument
 of_fields line _ = item_request (item_of_line line)
 
--- what a line asks for by itself, or why it is refused before a source is asked
+-- what a line asks for by itself, or why it is refused before the source sees it
 unfoldable pub request_of : List ℕ → Result Request Refusal
 request_of line = of_fields line (fields 2 line)
 

@@ -1,13 +1,13 @@
--- Which statements take room in memory, which may be refused.
+-- Which statements take memory, which may be refused.
 use Rattle.std.specs.Prelude.{◌≡◌, ◌⊎◌, ℕ, ◌≤◌, List, ◌∷◌, ◌++◌, length, IsOk, IsTrue}
 use Rattle.rs_script.specs.Requests.{begins_item}
 use Rattle.rs_script.specs.Statements.{items_of_group}
 
--- Room is taken to keep a line, from 9 bytes on, and for the name, the type and the bytes of an item.
+-- a line takes memory from 9 bytes on, and for the name, the type and the bytes of an item
 abbrev pub TakesRoom : List ℕ → Type 0
 TakesRoom line = (9 ≤ length line) ⊎ IsTrue (begins_item line)
 
--- one of these lines of a group takes room, and each before it is an item
+-- one of these lines of a group takes memory, and each line before it is an item
 pub record GroupTakesRoom (lines : List (List ℕ)) : Type 0 where
   pub before : List (List ℕ)
   pub line : List ℕ

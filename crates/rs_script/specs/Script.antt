@@ -1,4 +1,4 @@
--- A script: each statement is answered in turn.
+-- A script and its answers, one after another.
 use Rattle.std.specs.Prelude.{◌≡◌, ◌<◌, ◌+◌, ◌^◌, ℕ, false, List, [], ◌∷◌, ◌++◌, All, map, flat_map, IsTrue}
 use Rattle.rs_disk.specs.Medium.{DiskState}
 use Rattle.rs_model.specs.State.{Source}
@@ -15,7 +15,7 @@ use Rattle.rs_script.specs.Statements.{Statement, IsScript}
 use Rattle.rs_script.specs.Walked.{MakesWalk}
 use Rattle.rs_script.specs.Session.{ScriptState, script_state, LineOutcome, refused, Answer}
 
--- The statements are answered in turn: what comes of each, the commands that count, and the script_state after them.
+-- the statements are answered one after another: the outcome of each, the commands that count, and the state after them
 abbrev pub Transcript : {D : Type 0} → (D → DiskState) → ScriptState (Stored D) → List Statement → List LineOutcome → List (Command × ℕ) → ScriptState (Stored D) → Type 0
 Transcript device old [] outcomes commands new = (outcomes ≡ []) × (commands ≡ []) × (new ≡ old)
 Transcript {D} device old (statement ∷ statements) outcomes commands new =
@@ -23,14 +23,14 @@ Transcript {D} device old (statement ∷ statements) outcomes commands new =
     × StatementGives device old statement answer × (outcomes ≡ answer.outcome ∷ more) × (commands ≡ answer.commands ++ later)
     × Transcript device answer.session statements more later new
 
--- the input is taken as statements, and these are answered in turn
+-- the input is cut into statements, and these are answered one after another
 abbrev pub ScriptGives : {D : Type 0} → (D → DiskState) → ScriptState (Stored D) → List ℕ → List LineOutcome → List (Command × ℕ) → ScriptState (Stored D) → Type 0
 ScriptGives device old input outcomes commands new =
     (statements : List Statement) × IsScript input statements × Transcript device old statements outcomes commands new
 
--- What ran on a source, from the moment 0 on: the input, what came of each of its statements, the commands that count, and the
--- moment at which the next would come. Whenever a stop comes, it leaves what the first of these commands make; and the script
--- makes a walk, whose fetches give what was shown.
+-- What ran on a source, from the moment 0 on: the input, the outcome of each of its statements, the commands that
+-- count, and the moment of the next command. Whenever the disk stops, it holds the state after the first of these
+-- commands. The script makes a walk, whose fetches give what was shown.
 pub record Ran {D : Type 0} (device : D → DiskState) (old new : Stored D) : Type 0 where
   pub input : List ℕ
   pub outcomes : List LineOutcome
@@ -40,22 +40,22 @@ pub record Ran {D : Type 0} (device : D → DiskState) (old new : Stored D) : Ty
   pub recovers : Recovers device old commands new
   pub walks : MakesWalk device old 0 input outcomes new
 
--- What a script asks of its source is a run, whose commands that count are those of the script.
+-- a script is a run of its commands that count
 abbrev pub ScriptsAreRuns : {D : Type 0} → (D → DiskState) → Type 0
 ScriptsAreRuns {D} device = (old new : ScriptState (Stored D)) (input : List ℕ) (outcomes : List LineOutcome) (commands : List (Command × ℕ))
     → ScriptGives device old input outcomes commands new → IsRunOf device old.source commands new.source
 
--- Whenever a stop comes within a script, it leaves what the first of the commands make that count in it.
+-- whenever the disk stops within a script, it holds the state after the first commands that count
 abbrev pub ScriptsRecover : {D : Type 0} → (D → DiskState) → Type 0
 ScriptsRecover {D} device = (old new : ScriptState (Stored D)) (input : List ℕ) (outcomes : List LineOutcome) (commands : List (Command × ℕ))
     → ScriptGives device old input outcomes commands new → Recovers device old.source commands new.source
 
--- Each script makes a walk.
+-- each script makes a walk
 abbrev pub ScriptsMakeWalks : {D : Type 0} → (D → DiskState) → Type 0
 ScriptsMakeWalks {D} device = (old new : ScriptState (Stored D)) (input : List ℕ) (outcomes : List LineOutcome) (commands : List (Command × ℕ))
     → ScriptGives device old input outcomes commands new → MakesWalk device old.source old.now input outcomes new.source
 
--- the refusals of a source that the model does not decide, but for a generation that is not left
+-- the refusals of a source that the model does not decide, other than for want of a generation
 abbrev pub IsOfMachine : stored.Refusal → Type 0
 IsOfMachine machine.Closed = Unit {0}
 IsOfMachine machine.Full = Unit {0}
@@ -70,16 +70,16 @@ IsMachine (refused refusals.NoMemory) = Unit {0}
 IsMachine (refused (refusals.Source refusal)) = IsOfMachine refusal
 IsMachine outcome = ⊥
 
--- the model decides each of them
+-- the model decides each outcome
 abbrev pub AreDecided : List LineOutcome → Type 0
 AreDecided outcomes = All (λ outcome. ¬ IsMachine outcome) outcomes
 
--- the script_state as the model sees it: the state that the source tells
+-- the state of a script as the model sees it: that of its source, and its moment
 abbrev pub told : {D : Type 0} → (D → DiskState) → ScriptState (Stored D) → ScriptState Source
 told device s = script_state (state_of device s.source) s.now
 
--- Where no refusal is the machine's, generations are left and the device has followed the model, each statement of a script is answered as
--- the model answers it.
+-- where no refusal is the machine's, generations are left and the device has followed the model, each statement of a
+-- script is answered as the model answers it
 abbrev pub ScriptsFollowTheModel : {D : Type 0} → (D → DiskState) → Type 0
 ScriptsFollowTheModel {D} device = (old new : ScriptState (Stored D)) (input : List ℕ) (outcomes : List LineOutcome) (commands : List (Command × ℕ))
     (statements : List Statement) → ScriptGives device old input outcomes commands new → AreDecided outcomes → IsTrue (device new.source.disk).honest
@@ -87,12 +87,12 @@ ScriptsFollowTheModel {D} device = (old new : ScriptState (Stored D)) (input : L
     → (outcomes ≡ map (λ a. a.outcome) (answers_of (told device old) statements))
     × (commands ≡ flat_map (λ a. a.commands) (answers_of (told device old) statements))
 
--- The commands that a script counts make the state that its source tells, unless that is closed.
+-- the commands that count in a script make the state of its source, unless the source is closed
 abbrev pub ScriptsTellTheFold : {D : Type 0} → (D → DiskState) → Type 0
 ScriptsTellTheFold {D} device = (old new : ScriptState (Stored D)) (input : List ℕ) (outcomes : List LineOutcome) (commands : List (Command × ℕ))
     → ScriptGives device old input outcomes commands new → new.source.is_closed ≡ false → state_of device new.source ≡ fold_of (state_of device old.source) commands
 
--- And so they do of a state that it held.
+-- those commands turn a state that its source held into the state that it holds then, unless the source is closed
 abbrev pub ScriptsHoldTheFold : {D : Type 0} → (D → DiskState) → Type 0
 ScriptsHoldTheFold {D} device = (old new : ScriptState (Stored D)) (input : List ℕ) (outcomes : List LineOutcome) (commands : List (Command × ℕ)) (s : Source)
     → ScriptGives device old input outcomes commands new → Holds device old.source s → new.source.is_closed ≡ false → Holds device new.source (fold_of s commands)

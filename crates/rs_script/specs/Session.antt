@@ -1,11 +1,11 @@
--- Where a script stands, and what comes of a statement.
+-- The state of a script, and the outcome of a statement.
 use Rattle.std.specs.Prelude.{ℕ, List, []}
 use Rattle.rs_model.specs.declared.command.Command.{Command}
 use Rattle.rs_model.specs.declared.command.Reply.{Reply}
 use Rattle.rs_store.specs.declared.reading.Status as counts
 use Rattle.rs_script.specs.declared.refusal.Refusal.{Refusal}
 
--- the source, and the moment at which commands come
+-- the source, and the moment of the next command
 pub record ScriptState (S : Type 0) : Type 0 where
   pub source : S
   pub now : ℕ
@@ -13,21 +13,22 @@ pub record ScriptState (S : Type 0) : Type 0 where
 abbrev pub script_state : {S : Type 0} → S → ℕ → ScriptState S
 script_state source now = record { source = source; now = now }
 
--- what comes of a statement
+-- the outcome of a statement
 pub data LineOutcome : Type 0 where
   -- the moment is set
   moment_set : LineOutcome
   -- the source accepted a command
   replied : Reply → LineOutcome
-  -- these are the bytes of a document or a resource
+  -- the bytes of a document or of a resource
   shown : List ℕ → LineOutcome
-  -- so much is held
+  -- the counts that `status` shows
   counted : counts.Status → LineOutcome
   -- the bodies of these names are damaged, and this many are sound
   verified : List (List ℕ) → ℕ → LineOutcome
+  -- the statement is refused
   refused : Refusal → LineOutcome
 
--- what comes of a statement, the command that counts with its moment (one or none), and where the script stands after it
+-- the outcome of a statement, the command that counts with its moment (one or none), and the state after it
 pub record Answer (S : Type 0) : Type 0 where
   pub outcome : LineOutcome
   pub commands : List (Command × ℕ)

@@ -19,7 +19,7 @@ abbrev pub size_in : Option ℕ → Option ℕ
 size_in None = None
 size_in (Some n) = if nat_le 1 n && nat_le n 16 then Some n else None
 
--- `group N`, N of 1 or 2 digits: how many lines the group takes that begins so
+-- `group N`, N of 1 or 2 digits: the number of lines of the group that begins so
 unfoldable pub group_size : List ℕ → Option ℕ
 group_size line = if starts_with nat_eq line (codes "group ") then size_in (number_in 2 (drop 6 line)) else None
 
@@ -36,7 +36,7 @@ statement_lines (single line) = line ∷ []
 statement_lines (grouped first lines) = first ∷ lines
 statement_lines cut_off = []
 
--- no group begins here, or all its lines are there
+-- a line that begins no group, or a group with all its lines
 abbrev pub IsWholeStatement : Statement → Type 0
 IsWholeStatement (single line) = group_size line ≡ None
 IsWholeStatement (grouped first lines) = group_size first ≡ Some (length lines)
@@ -47,7 +47,7 @@ abbrev pub IsPart : List (List ℕ) → Type 0
 IsPart [] = Unit {0}
 IsPart (first ∷ lines) = (size : ℕ) × (group_size first ≡ Some size) × (length lines < size)
 
--- the lines are those of these statements, and then a part of one
+-- the lines are those of these statements, and then those of a part of one
 pub record Groups (lines : List (List ℕ)) (whole : List Statement) (part : List (List ℕ)) : Type 0 where
   pub all : lines ≡ flat_map statement_lines whole ++ part
   pub each : All IsWholeStatement whole
@@ -58,7 +58,7 @@ abbrev pub last_statement : List (List ℕ) → List Statement
 last_statement [] = []
 last_statement (first ∷ lines) = cut_off ∷ []
 
--- the input is cut into lines, and these are taken as these statements
+-- the input is cut into lines, which make these statements
 pub record IsScript (input : List ℕ) (statements : List Statement) : Type 0 where
   pub raws : List (List ℕ)
   pub rest : List ℕ
@@ -68,7 +68,7 @@ pub record IsScript (input : List ℕ) (statements : List Statement) : Type 0 wh
   pub groups : Groups (script_lines raws rest) whole part
   pub statements_are : statements ≡ whole ++ last_statement part
 
--- whole statements: the last byte is a line feed, or there is none, and no group lacks a line
+-- whole statements: the input ends with a line feed or is empty, and no group lacks a line
 abbrev pub AreWholeStatements : List ℕ → Type 0
 AreWholeStatements input =
     (raws : List (List ℕ)) × (whole : List Statement) × Splits input raws [] × Groups (map cut_return raws) whole []
@@ -77,11 +77,12 @@ AreWholeStatements input =
 abbrev pub IsUnfinished : List ℕ → Type 0
 IsUnfinished input = (raws : List (List ℕ)) × (rest : List ℕ) × Splits input raws rest × IsPart (map cut_return raws)
 
--- the item of a line of a group, where one past the limit is refused whatever it says
+-- the item of a line, or its refusal
 abbrev pub or_refused : Result Item ItemFault → Result Item Refusal
 or_refused (Ok item) = Ok item
 or_refused (Err why) = Err (refusal_by why)
 
+-- the item of a line of a group: a line past the limit is refused, whatever it says
 abbrev pub grouped_item : List ℕ → Result Item Refusal
 grouped_item line = if nat_lt line_limit (length line) then Err LongLine else or_refused (item_of_line line)
 
@@ -90,7 +91,7 @@ and_items (Err refusal) more = Err refusal
 and_items (Ok item) (Err refusal) = Err refusal
 and_items (Ok item) (Ok items) = Ok (item ∷ items)
 
--- the items of the lines of a group, or the first fault of a line
+-- the items of the lines of a group, or the first refusal
 unfoldable pub items_of_group : List (List ℕ) → Result (List Item) Refusal
 items_of_group [] = Ok []
 items_of_group (line ∷ lines) = and_items (grouped_item line) (items_of_group lines)
@@ -99,7 +100,7 @@ abbrev pub group_request : Result (List Item) Refusal → Result Request Refusal
 group_request (Err refusal) = Err refusal
 group_request (Ok items) = Ok (Run (Group items))
 
--- what a statement asks for: a group all its items at once
+-- what a statement asks for: a group asks for all its items at once
 abbrev pub request_by : Statement → Result Request Refusal
 request_by (single line) = request_of line
 request_by (grouped first lines) = group_request (items_of_group lines)

@@ -1,4 +1,4 @@
--- The walk that the statements of a script make of a source.
+-- The walk that a script makes.
 use Rattle.std.specs.Prelude.{◌≡◌, ℕ, List, [], ◌∷◌, ◌++◌, Some, Result, Ok, Err, IsTrue}
 use Rattle.rs_disk.specs.Medium.{DiskState}
 use Rattle.rs_model.specs.State.{Source}
@@ -18,20 +18,20 @@ use Rattle.rs_script.specs.declared.request.Request.TheVariants.{At, Run, Docume
 use Rattle.rs_script.specs.Statements.{Statement, IsScript, request_by}
 use Rattle.rs_script.specs.Session.{LineOutcome, moment_set, replied, shown, refused}
 
--- The events of a statement that asks for a command, by what came of it. Where the statement itself is refused no command was asked, but
--- where room for it was refused.
+-- The event of a statement that asks for a command, by its outcome. A refused statement gives the source no command,
+-- and has no event. Where there was no memory for it, its command is refused.
 abbrev pub RunEvents : Source → Command → ℕ → LineOutcome → List Event → Type 0
 RunEvents s command now (replied reply) events = CommandEvents s command now (Ok reply) events
 RunEvents s command now (refused (refusals.Source refusal)) events = CommandEvents s command now (Err refusal) events
 RunEvents s command now (refused refusals.NoMemory) events = events ≡ Refused command ∷ []
 RunEvents s command now outcome events = events ≡ []
 
--- What is shown was fetched: the bytes are those that are answered at its path. Else nothing was.
+-- what is shown is fetched, the bytes that are answered at its path; otherwise there is no fetch
 abbrev pub ShowEvents : Source → List ℕ → LineOutcome → List Event → Type 0
 ShowEvents s path (shown bytes) events = (answer s path ≡ Some bytes) × (events ≡ Fetch ∷ [])
 ShowEvents s path outcome events = events ≡ []
 
--- the events of a statement that asks for this, in a state and at a moment: one, or none
+-- the event of a statement that asks for this, in a state and at a moment, or none
 abbrev pub StatementEvents : Source → ℕ → Result Request Refusal → LineOutcome → List Event → Type 0
 StatementEvents s now (Ok (Run command)) outcome events = RunEvents s command now outcome events
 StatementEvents s now (Ok (Document doc)) outcome events = ShowEvents s (path_of doc) outcome events
@@ -43,8 +43,8 @@ abbrev pub now_after : ℕ → Result Request Refusal → LineOutcome → ℕ
 now_after now (Ok (At t)) moment_set = t
 now_after now request outcome = now
 
--- The statements, with what came of each, are these events in their order, from a state and a moment on: those of each in the
--- state after the events before it.
+-- The statements with these outcomes are these events in their order, from a state and a moment on. Each event comes in
+-- the state after the events before it.
 abbrev pub IsWalkOf : Source → ℕ → List Statement → List LineOutcome → List Event → Type 0
 IsWalkOf s now [] [] events = events ≡ []
 IsWalkOf s now (statement ∷ statements) (outcome ∷ outcomes) events =
@@ -53,12 +53,13 @@ IsWalkOf s now (statement ∷ statements) (outcome ∷ outcomes) events =
 IsWalkOf s now [] (outcome ∷ outcomes) events = ⊥
 IsWalkOf s now (statement ∷ statements) [] events = ⊥
 
--- and so are the statements of this input
+-- the statements of this input are these events
 abbrev pub IsScriptWalk : Source → ℕ → List ℕ → List LineOutcome → List Event → Type 0
 IsScriptWalk s now input outcomes events =
     (statements : List Statement) × IsScript input statements × IsWalkOf s now statements outcomes events
 
--- A script on a source that held a state, of a device that has followed the model, leaves a walk of the events of its statements.
+-- the source held a state, and its device has followed the model: then the script leaves a walk of the events of its
+-- statements
 abbrev pub MakesWalk : {D : Type 0} → (D → DiskState) → Stored D → ℕ → List ℕ → List LineOutcome → Stored D → Type 0
 MakesWalk device old now input outcomes new =
     (s : Source) → Holds device old s → IsTrue (device new.disk).honest → LeavesWalk device s (IsScriptWalk s now input outcomes) new

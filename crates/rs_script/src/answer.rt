@@ -16,7 +16,7 @@ use rs_store::Status;
 use rs_time::Moment;
 use std::io::Write;
 
-/// The name that stands after `refused ` in an answer.
+/// The word of a refusal, which follows `refused ` in an answer.
 fn name_of(refusal: Refusal) -> &'static str
     ensures { result.now ≡ word_of refusal }
 {
@@ -57,37 +57,23 @@ fn write_word<W: Write>(
     writer.put_all(&[word, &moment.text(), b"\n"])
 }
 
-/// Writes the answer of a publication.
-fn write_published<W: Write>(
+/// Writes a word, a number, a space, the text of a moment and the end of the line.
+fn write_numbered<W: Write>(
+    word: &[u8],
     number: u64,
     moment: Moment,
     writer: &mut Watched<W>,
 ) -> Result<(), WriteFault>
     ensures written { WritesOut W.contents writer.old writer.new result
-        (reply_text (Reply.Published number moment)) }
+        ((word.now ++ (decimal number ++ codes " ")) ++ moment_end moment) }
     ensures failed { OnErr result (EndFailed writer.old writer.new) }
 {
     let mut digits = Buffer::new();
     let number = digits.format(number).as_bytes();
-    writer.put_all(&[b"published ", number, b" ", &moment.text(), b"\n"])
+    writer.put_all(&[word, number, b" ", &moment.text(), b"\n"])
 }
 
-/// Writes the answer of a group.
-fn write_grouped<W: Write>(
-    count: u8,
-    moment: Moment,
-    writer: &mut Watched<W>,
-) -> Result<(), WriteFault>
-    ensures written { WritesOut W.contents writer.old writer.new result
-        (reply_text (Reply.Grouped count moment)) }
-    ensures failed { OnErr result (EndFailed writer.old writer.new) }
-{
-    let mut digits = Buffer::new();
-    let count = digits.format(count).as_bytes();
-    writer.put_all(&[b"grouped ", count, b" ", &moment.text(), b"\n"])
-}
-
-/// Writes the answer of an accepted command.
+/// Writes the answer to an accepted command.
 pub fn write_reply<W: Write>(reply: Reply, writer: &mut Watched<W>) -> Result<(), WriteFault>
     ensures written { WritesOut W.contents writer.old writer.new result (reply_text reply) }
     ensures failed { OnErr result (EndFailed writer.old writer.new) }
@@ -96,12 +82,12 @@ pub fn write_reply<W: Write>(reply: Reply, writer: &mut Watched<W>) -> Result<()
         Reply::Created(moment) => write_word(b"created ", moment, writer),
         Reply::Updated(moment) => write_word(b"updated ", moment, writer),
         Reply::Deleted(moment) => write_word(b"deleted ", moment, writer),
-        Reply::Published(number, moment) => write_published(number, moment, writer),
-        Reply::Grouped(count, moment) => write_grouped(count, moment, writer),
+        Reply::Published(number, moment) => write_numbered(b"published ", number, moment, writer),
+        Reply::Grouped(count, moment) => write_numbered(b"grouped ", count as u64, moment, writer),
     }
 }
 
-/// Writes the answer of `status`.
+/// Writes the answer to `status`.
 pub fn write_status<W: Write>(status: Status, writer: &mut Watched<W>) -> Result<(), WriteFault>
     ensures written { WritesOut W.contents writer.old writer.new result (status_text status) }
     ensures failed { OnErr result (EndFailed writer.old writer.new) }
@@ -129,7 +115,6 @@ fn write_damaged_name<W: Write>(name: &Name, writer: &mut Watched<W>) -> Result<
 }
 
 /// Writes `damaged NAME` and the end of the line for each name.
-#[tactic(auto, using(rs_io::proofs::Growth::appends_each))]
 fn write_damaged<W: Write>(names: &[Name], writer: &mut Watched<W>) -> Result<(), WriteFault>
     ensures ok { OnOk result (Wrote W.contents writer.old writer.new
         (flat_map damaged_line names.now)) }
@@ -143,7 +128,7 @@ fn write_damaged<W: Write>(names: &[Name], writer: &mut Watched<W>) -> Result<()
     Ok(())
 }
 
-/// Writes how many bodies are sound.
+/// Writes the number of sound bodies.
 fn write_sound<W: Write>(sound: usize, writer: &mut Watched<W>) -> Result<(), WriteFault>
     ensures written { WritesOut W.contents writer.old writer.new result
         (codes "verified " ++ (decimal sound ++ codes "\n")) }
@@ -153,7 +138,7 @@ fn write_sound<W: Write>(sound: usize, writer: &mut Watched<W>) -> Result<(), Wr
     writer.put_all(&[b"verified ", digits.format(sound).as_bytes(), b"\n"])
 }
 
-/// Writes the answer of `verify`: the names of the damaged bodies, and how many are sound.
+/// Writes the answer to `verify`: the names of the damaged bodies, and the number of sound ones.
 pub fn write_verified<W: Write>(
     names: &[Name],
     sound: usize,

@@ -1,4 +1,4 @@
-//! One line: what it asks for is asked of the source, and its answer is written.
+//! Does what one line or one group asks for, and writes the answer.
 
 ghost use Rattle.std.specs.Prelude.{◌≡◌, ℕ, List, Ok, OnOk, OnErr};
 ghost use Rattle.rs_io.specs.Watch.{failures, EndFailed, WritesOut};
@@ -48,7 +48,7 @@ fn run_command<D: Disk, W: Write>(
 ///
 /// # Errors
 ///
-/// [`WriteFault`] where the answer is not written whole. What the group asked for is done.
+/// [`WriteFault`] where the writer failed in the answer. What the group asked for is done.
 pub fn answer_group<D: Disk, W: Write>(
     source: &mut Source<D>,
     now: Moment,
@@ -174,12 +174,11 @@ fn answer_request<D: Disk, W: Write>(
     }
 }
 
-/// Answers `line`, which is no longer than a line may be. An `at` changes `now`, the moment at
-/// which commands come.
+/// Answers `line`, which is not too long. An `at` changes `now`, the moment at which commands come.
 ///
 /// # Errors
 ///
-/// [`WriteFault`] where the answer is not written whole. What the line asked for is done.
+/// [`WriteFault`] where the writer failed in the answer. What the line asked for is done.
 pub fn answer_line<D: Disk, W: Write>(
     alloc: Global,
     source: &mut Source<D>,

@@ -16,13 +16,13 @@ use std::alloc::Global;
 /// A group that lacks at least one of its lines.
 #[derive(Drop)]
 pub struct Taking {
-    /// How many lines belong to it after the next one.
+    /// How many lines it lacks after the next one.
     pub later: usize,
-    /// The items of the lines that have come, or the first fault of one, for which it is refused.
+    /// The items of the lines that have come, or the first fault, for which the group is refused.
     pub items: Result<Vec<Item>, Refusal>,
 }
 
-/// How many lines the group takes that `line` begins, 1 to 16, or `None` where it begins none.
+/// The number of lines of the group that `line` begins, 1 to 16, or `None` where it begins none.
 fn group_size(line: &[u8]) -> Option<usize>
     ensures value { result ≡ size_of line.now }
     ensures some { IfSome result (λ size. 1 ≤ size) }
@@ -37,7 +37,7 @@ fn group_size(line: &[u8]) -> Option<usize>
     Some(size)
 }
 
-/// How many lines the group takes that such a line begins, or `None` where it begins none.
+/// The number of lines of the group that this line begins, or `None` where it begins none.
 pub fn size_begun(content: Content<'_>) -> Option<usize>
     ensures value { (line : List ℕ) → IsContent content.entry line → result ≡ size_of line }
     ensures some { IfSome result (λ size. 1 ≤ size) }
@@ -48,7 +48,7 @@ pub fn size_begun(content: Content<'_>) -> Option<usize>
     }
 }
 
-/// The items of one line more, or the first fault. Want of room for one is a fault as well.
+/// The items with that of one more line, or the first fault. Want of memory is a fault as well.
 pub fn with_line(
     alloc: Global,
     items: Result<Vec<Item>, Refusal>,

@@ -1,5 +1,5 @@
-//! Laws of the definitions: what a script does is what the model does, and its commands make the state
-//! that it leaves.
+//! Laws of the definitions: a script does what the model does, and its commands make the state that it
+//! leaves.
 
 ghost use Rattle.std.specs.Prelude.{◌≡◌, ℕ, List};
 ghost use Rattle.rs_script.specs.Lines.{Splits};
@@ -18,28 +18,27 @@ pub fn one_cut()
         → Splits input raws rest → Splits input others tail → (raws ≡ others) × (rest ≡ tail) }
 {}
 
-/// And its lines are taken as statements in one way.
+/// Its lines make statements in one way.
 pub fn one_script()
     ensures { (input : List ℕ) (statements others : List Statement)
         → IsScript input statements → IsScript input others → statements ≡ others }
 {}
 
-/// Where no refusal is the machine's, generations are left and the device has followed the model, what
-/// comes of a script is a function of its input and of the state and the moment at which it begins:
-/// each statement is answered as the model answers it.
+/// Where no refusal is the machine's, generations are left and the device has followed the model, the
+/// outcomes of a script are a function of its input, of its first state and of its first moment: each
+/// statement is answered as the model answers it.
 pub fn one_transcript<D: Disk>()
     ensures { ScriptsFollowTheModel D.state }
 {}
 
-/// The commands that a script counts, each at its moment, make the state that it leaves, unless the
+/// The commands that count in a script, each at its moment, make the state that it leaves, unless the
 /// device failed and the source is closed.
 pub fn transcript_folds<D: Disk>()
     ensures told { ScriptsTellTheFold D.state }
     ensures held { ScriptsHoldTheFold D.state }
 {}
 
-/// What a script asks of its source is a run: its commands are asked in turn, and those that count are the
-/// run's. So what holds of runs holds of scripts.
+/// A script is a run of its commands that count. So what holds of runs holds of scripts.
 pub fn scripts_are_runs<D: Disk>()
     ensures { ScriptsAreRuns D.state }
 {
@@ -48,8 +47,8 @@ pub fn scripts_are_runs<D: Disk>()
     runs_recover::<D>();
 }
 
-/// The commands of a script are asked in turn: whenever a stop comes, it leaves what the first of them make that
-/// count, all that were answered by then among them.
+/// Whenever the disk stops within a script, it holds the state after the first commands that count. All that were
+/// answered by then are among them.
 pub fn scripts_recover<D: Disk>()
     ensures { ScriptsRecover D.state }
 {
@@ -57,9 +56,9 @@ pub fn scripts_recover<D: Disk>()
     runs_recover::<D>();
 }
 
-/// A script makes a walk: a command that the model decides is tried, one that the machine refuses is refused,
-/// and one in which the device failed is stopped; what is shown is fetched, and is what is answered at its
-/// path; all else is no event. At the end each image of the disk stands for the state after such a walk.
+/// A script makes a walk. A command is tried where the model decides the answer, refused where the machine does, and
+/// stopped where the device failed in it. A `show` fetches what is answered at its path. All else is no event. At the
+/// end each image of the disk represents the state after the walk.
 pub fn scripts_make_walks<D: Disk>()
     ensures { ScriptsMakeWalks D.state }
 {

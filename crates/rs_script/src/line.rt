@@ -1,4 +1,4 @@
-//! A line while it comes.
+//! A line that is still coming.
 
 ghost use Rattle.std.specs.Prelude.{◌≡◌, [], ◌++◌, ◌-◌, ◌+◌, ◌<◌, ◌≤◌, IsTrue, IsFalse, ℕ, List};
 ghost use Rattle.rs_script.specs.Lines.{line_limit, line_of};
@@ -10,7 +10,7 @@ use std::alloc::Global;
 /// The longest line, in bytes, without its line feed and a carriage return before that.
 pub const LINE_LIMIT: usize = 33_600_000;
 
-/// So many bytes are more than a line of one field has, also with a carriage return at its end.
+/// A line of this many bytes is longer than any line of one field, even with a carriage return at its end.
 const FOREIGN_LENGTH: usize = 9;
 
 /// How much is kept of a line.
@@ -18,35 +18,35 @@ const FOREIGN_LENGTH: usize = 9;
 pub enum Kept {
     /// All bytes that have come.
     Whole,
-    /// Their number and the last of them: they begin no request, whatever follows.
+    /// Their number and the last of them. They begin no request, whatever follows.
     Foreign,
-    /// Their number and the last of them: room for them was refused.
+    /// Their number and the last of them. There was no memory for them.
     Refused,
-    /// Nothing: they are more than a line may have.
+    /// Nothing. They are more than a line may have.
     TooLong,
 }
 
-/// What a line is, when its end has come.
+/// A whole line.
 #[derive(Clone, Copy, Debug)]
 pub enum Content<'a> {
     /// These bytes, no more than a line may have.
     Bytes(&'a [u8]),
     /// A line that asks for nothing.
     Foreign,
-    /// A line for which room was refused.
+    /// A line for which there was no memory.
     Refused,
     /// More bytes than a line may have.
     TooLong,
 }
 
-/// A line while it comes: at most [`LINE_LIMIT`] + 1 bytes of it are kept.
+/// A line that is still coming. At most [`LINE_LIMIT`] + 1 bytes of it are kept.
 #[derive(Drop)]
 pub struct Line {
-    /// The bytes that have come, while all are kept. There is always room for a few.
+    /// The bytes that have come, while all are kept. There is always room for nine.
     pub bytes: SmallVec<u8, 9>,
-    /// How many have come, while they are no more than a line may have with a carriage return.
+    /// How many bytes have come, unless the line is too long.
     pub count: usize,
-    /// The last of them, or 0.
+    /// The last byte, or 0.
     pub last: u8,
     /// How much is kept.
     pub kept: Kept,
@@ -58,7 +58,7 @@ impl Line {
     ghost use Rattle.std.specs.Prelude.{length, slice_index};
     ghost use Rattle.rs_script.specs.PartialLine.{KeepsLine, KeepsLineAs, CountsLine, IsContent};
 
-    /// A line of which nothing has come.
+    /// A line without bytes.
     pub fn new(alloc: Global) -> Line
         ensures { KeepsLine result [] }
     {
@@ -78,7 +78,7 @@ impl Line {
         self.kept == Kept::Whole && self.bytes.is_empty()
     }
 
-    /// The line begins anew: a line feed has come.
+    /// Begins a new line, after a line feed.
     pub fn clear(&mut self)
         ensures { KeepsLine self.new [] }
     {
@@ -88,7 +88,7 @@ impl Line {
         self.kept = Kept::Whole;
     }
 
-    /// More bytes of the line, without a line feed.
+    /// Adds bytes, none of them a line feed.
     pub fn extend(&mut self, run: &[u8])
         ensures { (raw : List ℕ) → KeepsLine self.old raw → KeepsLine self.new (raw ++ run.now) }
     {
@@ -110,7 +110,7 @@ impl Line {
         }
     }
 
-    /// Keeps `run`, which ends in `last`, if there is room, and if the line can be a request.
+    /// Keeps `run`, which ends in `last`, where there is memory and the line can be a request.
     fn keep(&mut self, run: &[u8], last: u8)
         requires room { self.old.count + length run.now ≤ line_limit + 1 }
         requires some { 0 < length run.now }
@@ -133,8 +133,7 @@ impl Line {
         self.kept = Kept::Whole;
     }
 
-    /// What the line is, `has_break` where a line feed ended it: a carriage return before that is
-    /// dropped.
+    /// The whole line. Where a line feed ended it (`has_break`), a carriage return before that is left out.
     pub fn content(&self, has_break: bool) -> Content<'_>
         ensures { (raw : List ℕ) → KeepsLine self.now raw
             → IsContent result (line_of has_break raw) }
@@ -154,7 +153,7 @@ impl Line {
         }
     }
 
-    /// How many bytes the line has, `has_break` where a line feed ended it.
+    /// The number of bytes of the whole line.
     fn len(&self, has_break: bool) -> usize
         ensures { (raw : List ℕ) → CountsLine self.now raw
             → result ≡ length (line_of has_break raw) }
@@ -167,7 +166,7 @@ impl Line {
     }
 }
 
-/// The line of these bytes, `has_break` where a line feed ended it.
+/// The line of these bytes. Where a line feed ended it (`has_break`), a carriage return at its end is left out.
 fn line_bytes(bytes: &[u8], has_break: bool) -> &[u8]
     ensures { result.now ≡ line_of has_break bytes.now }
 {

@@ -1,4 +1,4 @@
-//! Scripts that lie in memory.
+//! Scripts in memory.
 
 ghost use Rattle.std.specs.Prelude.{◌≡◌, IfOk, OnErr, IsOkUnless};
 ghost use Rattle.rs_script.specs.Answers.{output_of};
@@ -13,12 +13,12 @@ use rs_io::Watched;
 use rs_store::Source;
 use std::alloc::Global;
 
-/// What the script `input` writes, run on `source`.
+/// Runs the script `input` on `source`, and gives its answers.
 ///
 /// # Errors
 ///
-/// [`ScriptFault::Write`] where there is no room for an answer. What its statement asked for, and those
-/// before it, is done, and no other statement was begun.
+/// [`ScriptFault::Write`] where there is no memory for an answer. Its statement and those before it are done, and no
+/// other was begun.
 pub fn script_bytes<D: Disk>(
     alloc: Global,
     source: &mut Source<D>,
@@ -27,7 +27,7 @@ pub fn script_bytes<D: Disk>(
     ensures ok { IfOk result (λ output. (ran : Ran D.state source.old source.new)
         × (ran.input ≡ input.now) × (output.items ≡ output_of ran.outcomes)) }
 
-    // The statements up to one are done, and its answer is not whole.
+    // The statements up to one are done, and the answer to that one is not whole.
     ensures err { OnErr result (StopsWithin D.state source.old source.new input.now) }
 
     ensures fault { IsOkUnless result ScriptFault.Write }

@@ -1,4 +1,4 @@
-//! What is kept of a script while its input comes.
+//! The state of a script between two reads.
 
 ghost use Rattle.std.specs.Prelude.{◌≡◌, [], ◌++◌, ℕ, List, None, OnOk, OnErr};
 ghost use Rattle.rs_io.specs.Watch.{failures, EndFailed};
@@ -19,19 +19,19 @@ use rs_time::Moment;
 use std::alloc::Global;
 use std::io::Write;
 
-/// What is kept of a script from one read to the next.
+/// The state of a script between two reads.
 #[derive(Drop)]
 pub struct Pending {
     /// The moment at which commands come.
     pub now: Moment,
-    /// The group whose lines come, if there is one.
+    /// The group that lacks lines, if there is one.
     pub group: Option<Taking>,
-    /// The line that comes.
+    /// The line that is still coming.
     pub line: Line,
 }
 
 impl Pending {
-    /// Nothing has come, and commands come at the moment 0.
+    /// The state before the first read. Commands come at the moment 0.
     pub fn new(alloc: Global) -> Pending
         ensures now { result.now ≡ 0 }
         ensures group { result.group ≡ None }
@@ -44,7 +44,7 @@ impl Pending {
         }
     }
 
-    /// More bytes of the input: `run`, without a line feed, and the line feed that ends the line.
+    /// Takes the rest of a line: `run`, without a line feed, and the line feed after it.
     fn take_line<D: Disk, W: Write>(
         &mut self,
         alloc: Global,
@@ -75,11 +75,11 @@ impl Pending {
         taken
     }
 
-    /// More bytes of the input.
+    /// Takes more bytes of the input.
     ///
     /// # Errors
     ///
-    /// [`WriteFault`] where an answer is not written whole. Nothing of the bytes after its statement is done.
+    /// [`WriteFault`] where the writer failed in an answer. No later statement is done.
     pub fn take_piece<D: Disk, W: Write>(
         &mut self,
         alloc: Global,
@@ -104,7 +104,7 @@ impl Pending {
         Ok(())
     }
 
-    /// The last line of the input, if there is one that no line feed ended, is taken.
+    /// Takes the last line of the input, where no line feed ended it.
     fn take_last<D: Disk, W: Write>(
         &mut self,
         alloc: Global,
@@ -132,11 +132,11 @@ impl Pending {
         )
     }
 
-    /// The end of the input: the last line is taken, and a group that lacks a line then is refused.
+    /// Takes the end of the input: its last line, and a refusal of a group that lacks a line then.
     ///
     /// # Errors
     ///
-    /// [`WriteFault`] where an answer is not written whole.
+    /// [`WriteFault`] where the writer failed in an answer.
     pub fn take_end<D: Disk, W: Write>(
         &mut self,
         alloc: Global,

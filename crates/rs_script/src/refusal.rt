@@ -1,4 +1,4 @@
-//! Why a line is refused.
+//! Why a statement is refused.
 
 ghost use Rattle.std.specs.Prelude.{◌≡◌};
 ghost use Rattle.rs_script.specs.Requests.{refusal_by};
@@ -6,17 +6,17 @@ ghost use Rattle.rs_script.specs.Requests.{refusal_by};
 use rs_items::ItemFault;
 use thiserror::Error;
 
-/// Why a line of a script is refused, or the source refuses what it asks for. Nothing
-/// changes, but where the device failed in a command: its step may stand then, and the source is closed.
+/// Why a statement is refused, by the script engine or by the source. Nothing changes, unless the device failed in a
+/// command: its step may stand then, and the source is closed.
 #[derive(Clone, Copy, Debug, PartialEq, Eq, Error)]
 pub enum Refusal {
-    /// The line has no such form: its first word is unknown, or its fields are too few or too many.
+    /// The line has none of the known forms: its first word is unknown, or it has too few fields or too many.
     #[error("the line has no known form")]
     BadLine,
     /// The line is longer than a line may be.
     #[error("the line is too long")]
     LongLine,
-    /// The field of `at` is not 1 to 15 decimal digits, or past the last moment.
+    /// The field of `at` is not 1 to 15 decimal digits, or is past the last moment.
     #[error("the field is no moment")]
     BadMoment,
     /// The field is no lawful name.
@@ -28,7 +28,7 @@ pub enum Refusal {
     /// The field is no lawful media type.
     #[error("the media type is not lawful")]
     BadType,
-    /// A group is not of 1 to 16 lines, or the input ends within it.
+    /// The group does not have 1 to 16 lines, or the input ends within it.
     #[error("the group has no known size, or lacks a line")]
     BadGroup,
     /// No document has the path, or the document of the path does not exist now.

@@ -32,18 +32,16 @@ pub enum Request {
     Verify,
 }
 
-/// What `line`, at most [`LINE_LIMIT`](crate::line::LINE_LIMIT) bytes without its end, asks for by
-/// itself.
+/// What `line` asks for by itself. It has at most [`LINE_LIMIT`](crate::line::LINE_LIMIT) bytes.
 ///
 /// # Errors
 ///
 /// - [`Refusal::BadLine`]: the line has none of the known forms.
-/// - [`Refusal::BadGroup`]: the line has the form of one that begins a group, which is nothing by
-///   itself.
+/// - [`Refusal::BadGroup`]: the line begins a group, so it asks for nothing by itself.
 /// - [`Refusal::BadMoment`], [`Refusal::BadName`], [`Refusal::BadHex`], [`Refusal::BadType`]: the
 ///   first field that is not lawful.
 /// - [`Refusal::NoSuchDocument`]: no document has the path, at any time.
-/// - [`Refusal::NoMemory`]: there is no room for the name, the type or the bytes.
+/// - [`Refusal::NoMemory`]: there is no memory for the name, the type or the bytes.
 pub fn parse_request(alloc: Global, line: &[u8]) -> Result<Request, Refusal>
     ensures { (result ≡ request_of line.now)
         ⊎ ((result ≡ Err Refusal.NoMemory) × TakesRoom line.now) }
@@ -57,7 +55,7 @@ pub fn parse_request(alloc: Global, line: &[u8]) -> Result<Request, Refusal>
     }
 }
 
-/// What a line of an item asks for.
+/// What an item by itself asks for.
 fn parse_item(alloc: Global, line: &[u8]) -> Result<Request, Refusal>
     ensures { (result ≡ item_request (item_of_line line.now))
         ⊎ ((result ≡ Err Refusal.NoMemory) × IsTrue (begins_item_of line.now)) }
@@ -69,7 +67,7 @@ fn parse_item(alloc: Global, line: &[u8]) -> Result<Request, Refusal>
     Ok(Request::Run(command))
 }
 
-/// The item of a line. Room is asked for only where the line begins as an item does.
+/// The item of a line. It takes memory only where the line begins as an item does.
 pub fn item_in_line(alloc: Global, line: &[u8]) -> Result<Item, Refusal>
     ensures { (result ≡ or_refused (item_of_line line.now))
         ⊎ ((result ≡ Err Refusal.NoMemory) × IsTrue (begins_item_of line.now)) }
@@ -87,8 +85,8 @@ fn begins_item(bytes: &[u8]) -> bool
     bytes.starts_with(b"put ") || bytes.starts_with(b"delete ")
 }
 
-/// Whether `bytes` begin as a line with fields after its first word. A line that does not, and is
-/// longer than `publish`, asks for nothing.
+/// Whether `bytes` begin as a line with fields after its first word. Any other line that is longer than
+/// `publish` asks for nothing.
 pub fn begins_request(bytes: &[u8]) -> bool
     ensures { result ≡ begins bytes.now }
 {

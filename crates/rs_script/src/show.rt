@@ -41,7 +41,7 @@ fn write_count<W: Write>(count: u64, writer: &mut Watched<W>) -> Result<(), Writ
     writer.put_all(&[b"bytes ", digits.format(count).as_bytes(), b"\n"])
 }
 
-/// Writes `bytes N`, a line feed, the N bytes of the text of a document that is there, and a line feed.
+/// Writes `bytes N`, a line feed, the N bytes of the text of a document that exists, and a line feed.
 ///
 /// # Errors
 ///

@@ -1,4 +1,4 @@
-//! One line more of a script: it is answered, or it goes into a group.
+//! Takes one line of a script: it is answered, or it belongs to a group.
 
 ghost use Rattle.std.specs.Prelude.{◌≡◌, ◌≤◌, ◌∷◌, [], ℕ, List, Some, None, OnOk, OnErr};
 ghost use Rattle.rs_io.specs.Watch.{failures, EndFailed, WritesOut};
@@ -43,7 +43,7 @@ fn answer_content<D: Disk, W: Write>(
     }
 }
 
-/// Begins a group of so many lines.
+/// Begins a group of this many lines.
 fn begin_group(alloc: Global, size: usize) -> Taking
     requires { 1 ≤ size }
     ensures { (first : List ℕ) → size_of first ≡ Some size
@@ -55,7 +55,7 @@ fn begin_group(alloc: Global, size: usize) -> Taking
     }
 }
 
-/// Takes a line that stands in no group: it begins one, or is answered by itself.
+/// Takes a line outside a group: it begins a group, or is answered by itself.
 fn take_first<D: Disk, W: Write>(
     alloc: Global,
     source: &mut Source<D>,
@@ -81,12 +81,12 @@ fn take_first<D: Disk, W: Write>(
     }
 }
 
-/// Takes a line. In a group its item is kept, and the last line of the group has the group
-/// answered; in none it begins a group, or is answered by itself.
+/// Takes a line. In a group it keeps the item of the line, and answers the group after its last line. Outside a
+/// group the line begins one, or is answered by itself.
 ///
 /// # Errors
 ///
-/// [`WriteFault`] where the answer is not written whole. What the statement asked for is done.
+/// [`WriteFault`] where the writer failed in the answer. What the statement asked for is done.
 pub fn take_content<D: Disk, W: Write>(
     alloc: Global,
     source: &mut Source<D>,

@@ -1,4 +1,4 @@
--- Where a source can be made.
+-- When a source can be made.
 use Rattle.std.proofs.Common.{◌≡◌, ◌<◌, ℕ, Bool, true, false, List, refl, arith, inl, inr, IsTrue}
 use Rattle.std.proofs.lemmas.Bool.{cases_lt}
 use Rattle.rs_record.specs.Base.{is_base}
@@ -14,7 +14,7 @@ true_or_not : (b : Bool) → (b ≡ false → ⊥) → IsTrue b
 true_or_not true not_false = refl
 true_or_not false not_false = absurd (not_false refl)
 
--- a number is a limit where it can't be none
+-- a number that cannot fail to be a limit is one
 limit_or_not : (limit : ℕ) → (¬ ¬ IsLimit limit) → IsLimit limit
 limit_or_not limit may = elim (cases_lt limit 2) [
   | inl few ↦ absurd (may (λ is. absurd (omega (arith, few, is.low))))
@@ -24,7 +24,7 @@ limit_or_not limit may = elim (cases_lt limit 2) [
   ]
 ]
 
--- a source can be made where none of the refusals before comes
+-- a source can be made where no earlier refusal applies
 pub may_begin : (base : List ℕ) (limit size : ℕ) → (is_base base ≡ false → ⊥) → (IsTrue (is_base base) × (¬ IsLimit limit) → ⊥)
     → (IsTrue (is_base base) × IsLimit limit × (blocks_of_disk size < 16) → ⊥) → MayBegin base limit size
 may_begin base limit size lawful among room =
@@ -39,7 +39,7 @@ may_begin base limit size lawful among room =
       ];
     }
 
--- Device is told of no refusal before it
+-- no earlier refusal is the error Device
 pub device_alone : (fault : FormatFault) → error_of_format fault ≡ errors.Device
     → (fault ≡ formattings.BadBase → ⊥) × (fault ≡ formattings.BadLimit → ⊥) × (fault ≡ formattings.TooSmall → ⊥)
 device_alone formattings.BadBase is = absurd cc

@@ -1,4 +1,4 @@
--- What a request on a connection does, and what connections make of the state that is held.
+-- What a request on a connection does, and the held state after connections.
 use Rattle.std.proofs.Common.{◌≡◌, ◌≤◌, ◌+◌, ℕ, zero, suc, List, [], ◌∷◌, ◌++◌, length, length-append, Result, Ok, Err, false, refl, ap, sym, ◌∙◌, subst, inl, inr, arith}
 use Rattle.std.specs.Prelude.{IfOk, IsErrOf}
 use Rattle.rs_disk.specs.Medium.{DiskState}
@@ -20,7 +20,7 @@ fold_of-append s [] more = refl
 fold_of-append s (c ∷ commands) more = fold_of-append (state_after s (step s c.0 c.1)) commands more
 
 module _ {D : Type 0} (device : D → DiskState) (old new : Stored D) where
-  -- whatever came of a request
+  -- each outcome of a request
   pub request_connects : (now : ℕ) (ends : Ends) (result : Result Served FrontFault) → IfOk result (Serves (turn device old now new) ends)
       → (IsErrOf result Read → Breaks (turn device old now new) ends) → (IsErrOf result Write → Halts (turn device old now new) ends)
       → GoesOnOnce device old now new → Connects device old new
@@ -29,7 +29,7 @@ module _ {D : Type 0} (device : D → DiskState) (old new : Stored D) where
   request_connects now ends (Err Write) ok read write on = inr (now, ends, inr (inr (write refl)), on)
 
 module _ {D : Type 0} (device : D → DiskState) where
-  -- a source that nothing was asked of
+  -- a source that got no request
   stays : (old new : Stored D) → new ≡ old → GoesOnBy device old new []
   stays old new same = subst (λ (x : Stored D). GoesOnBy device old x []) (sym same) (record {
     opened = λ h. h;
@@ -50,7 +50,7 @@ module _ {D : Type 0} (device : D → DiskState) where
   connection_goes old new (inl same) = ([], omega arith, stays old new same)
   connection_goes old new (inr came) = (came.3.commands, came.3.few, came.3.goes_on)
 
-  -- so many commands at most make the state that is held after so many connections
+  -- at most one command a connection makes the state that is held after the connections
   pub connections_go : (count : ℕ) (old new : Stored D) → Connections device old count new
       → (commands : List (Command × ℕ)) × (length commands ≤ count) × GoesOnBy device old new commands
   connections_go zero old new same = ([], omega arith, stays old new same)

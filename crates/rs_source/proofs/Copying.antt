@@ -5,19 +5,19 @@ use Rattle.rs_file.specs.Events.{Event}
 use Rattle.rs_file.specs.Replay.{opened, replay_events}
 use Rattle.rs_store.specs.Copied.{AnswersCopy}
 use Rattle.rs_store.specs.Source.{Stored}
-use Rattle.rs_store.specs.declared.copying.CopyFault.{CopyFault}
+use Rattle.rs_store.specs.declared.copying.CopyRefusal.{CopyRefusal}
 use Rattle.rs_source.specs.declared.file.NoSource.{NoSource}
 use Rattle.rs_source.specs.Arguments.{error_of_copy}
 use Rattle.rs_source.specs.Files.{IsUncopied}
 
--- a file of this size on which no call was made
+-- a file of this size before any call
 pub as_opened : (first : List ℕ) (torn : ℕ → List ℕ) (held size : ℕ) (events : List Event) → events ≡ [] → (replay_events first torn held events).size ≡ size
     → replay_events first torn held events ≡ opened first size
 as_opened first torn held size events none long =
     let fresh : replay_events first torn held events ≡ opened first held = ap (replay_events first torn held) none in
     fresh ∙ ap (opened first) (sym (ap (λ disk. disk.size) fresh) ∙ long)
 
-pub uncopied : {D E : Type 0} (device : D → DiskState) (other : E → DiskState) (old new : Stored D) (first : List ℕ) (size : ℕ) (lack : NoSource E) (disk to : E) (fault : CopyFault)
-    → lack.disk ≡ Some disk → lack.error ≡ error_of_copy fault → other to ≡ opened first size → AnswersCopy device other old new to (Err (disk, fault))
-    → IsUncopied device other old new first size lack
-uncopied device other old new first size lack disk to fault is error state answers = rw is (fault, to, error, state, answers)
+pub uncopied : {D E : Type 0} (device : D → DiskState) (other : E → DiskState) (old new : Stored D) (first : List ℕ) (size : ℕ) (lack : NoSource E) (disk to : E) (refusal : CopyRefusal)
+    → lack.disk ≡ Some disk → lack.error ≡ error_of_copy refusal → other to ≡ opened first size → AnswersCopy device other old new to (Err (disk, refusal))
+    → IsUncopied device other old new (opened first size) lack
+uncopied device other old new first size lack disk to refusal is error state answers = rw is (refusal, to, error, state, answers)

@@ -16,23 +16,24 @@ use Rattle.rs_store.specs.declared.formatting.FormatFault.{FormatFault}
 use Rattle.rs_store.specs.declared.formatting.FormatFault.TheVariants as formatting
 use Rattle.rs_store.specs.declared.opening.OpenFault.{OpenFault}
 use Rattle.rs_store.specs.declared.opening.OpenFault.TheVariants as opening
-use Rattle.rs_store.specs.declared.copying.CopyFault.{CopyFault}
-use Rattle.rs_store.specs.declared.copying.CopyFault.TheVariants as copying
+use Rattle.rs_copy.specs.declared.faults.CopyFault.TheVariants as copying
+use Rattle.rs_store.specs.declared.copying.CopyRefusal.{CopyRefusal}
+use Rattle.rs_store.specs.declared.copying.CopyRefusal.TheVariants.{Closed, Fault}
 use Rattle.rs_script.specs.declared.engine.ScriptFault.{ScriptFault}
 use Rattle.rs_script.specs.declared.engine.ScriptFault.TheVariants as fault
 
--- how a source is made: the bytes of its disk, its base, and its item limit
+-- how to make a source: the bytes of its disk, its base, and its item limit
 pub record Made : Type 0 where
   pub size : ℕ
   pub base : List ℕ
   pub limit : ℕ
 
--- which connections are served: the port, and how many
+-- which connections to serve: the port, and how many
 pub record Served : Type 0 where
   pub port : ℕ
   pub count : ℕ
 
--- what the program is asked to do
+-- what the arguments ask for
 pub data Task : Type 0 where
   -- run a script on a new source in memory
   mem : Made → Task
@@ -42,10 +43,10 @@ pub data Task : Type 0 where
   run : List ℕ → Task
   -- serve connections to the source on the file of this name
   serve : List ℕ → Served → Task
-  -- copy the source on the file of the first name to a new file of the second one, of so many bytes
+  -- copy the source on the file of the first name to a new file of the second name, of this many bytes
   copy : List ℕ → List ℕ → ℕ → Task
 
--- where both numbers are there: a greater limit than 65,535 is taken as that
+-- where both numbers are valid: a limit past 65,535 is cut to it
 abbrev pub with_numbers : Option ℕ → List ℕ → Option ℕ → Option Made
 with_numbers None base limit = None
 with_numbers (Some size) base None = None
@@ -72,13 +73,13 @@ abbrev pub run_of : List (List ℕ) → Option Task
 run_of (program ∷ command ∷ file ∷ []) = if bytes_eq command (codes "run") then Some (run file) else None
 run_of _ = None
 
--- where both numbers are there, and in range
+-- where both numbers are valid and in range
 abbrev pub served_if : Option ℕ → Option ℕ → Option Served
 served_if (Some port) (Some count) =
     if nat_le port 65535 && nat_le 1 count && nat_le count 1000000000 then Some (record { port = port; count = count }) else None
 served_if port count = None
 
--- PORT and COUNT, numbers of 1 to 18 digits, the one up to 65,535 and the other from 1 to 1,000,000,000
+-- PORT and COUNT, numbers of 1 to 18 digits: PORT up to 65,535, COUNT from 1 to 1,000,000,000
 abbrev pub served_of : List ℕ → List ℕ → Option Served
 served_of port count = served_if (number_in 18 port) (number_in 18 count)
 
@@ -93,11 +94,11 @@ abbrev pub copy_of : List (List ℕ) → Option Task
 copy_of (program ∷ command ∷ old ∷ new ∷ size ∷ []) = if bytes_eq command (codes "copy") then option_map (copy old new) (number_in 18 size) else None
 copy_of _ = None
 
--- what the words ask for that the program is started with, its name first
+-- what the arguments of the program ask for, its name first
 abbrev pub asked_of : List (List ℕ) → Option Task
 asked_of words = option_or (option_or (option_or (option_or (mem_of words) (format_of words)) (run_of words)) (serve_of words)) (copy_of words)
 
--- what the program found that it is asked to do
+-- what the program makes of its arguments
 abbrev pub made_by : SourceArguments → Made
 made_by made = record { size = made.size; base = made.base.now; limit = made.limit }
 
@@ -111,7 +112,7 @@ asked_by (Run file) = run file.now
 asked_by (Serve file serving) = serve file.now (served_by serving)
 asked_by (Copy old new size) = copy old.now new.now size
 
--- wrong arguments end the program with status 2, all else that ends it early with status 1
+-- the exit status: 2 for wrong arguments, 1 for each other error
 abbrev pub exit_status : ProgramError → ℕ
 exit_status Usage = 2
 exit_status Exists = 1
@@ -126,17 +127,17 @@ exit_status NoMemory = 1
 exit_status Read = 1
 exit_status Write = 1
 
--- words that cannot be read are wrong arguments, but for want of memory
+-- arguments that cannot be read are wrong, except for want of memory
 abbrev pub unread_of : ErrorKind → ProgramError
 unread_of OutOfMemory = NoMemory
 unread_of _ = Usage
 
--- the fault of a script is the fault of the program
+-- the error of the program by the fault of a script
 abbrev pub error_of : ScriptFault → ProgramError
 error_of fault.Read = Read
 error_of fault.Write = Write
 
--- and so is the fault of a formatting
+-- by the fault of a formatting
 abbrev pub error_of_format : FormatFault → ProgramError
 error_of_format formatting.BadBase = BadBase
 error_of_format formatting.BadLimit = BadLimit
@@ -144,12 +145,12 @@ error_of_format formatting.TooSmall = TooSmall
 error_of_format formatting.Device = Device
 error_of_format formatting.NoMemory = NoMemory
 
--- and of a file that is opened or made
+-- by the fault of opening or making a file
 abbrev pub error_of_file : FileFault → ProgramError
 error_of_file file.Exists = Exists
 error_of_file file.Device = Device
 
--- and of a source that is opened
+-- by the fault of opening a source
 abbrev pub error_of_opening : OpenFault → ProgramError
 error_of_opening opening.NotASource = NotASource
 error_of_opening opening.Damaged = Damaged
@@ -157,13 +158,13 @@ error_of_opening opening.Device = Device
 error_of_opening opening.NoMemory = NoMemory
 
 -- And of a copy. A source is closed after a fault of its device.
-abbrev pub error_of_copy : CopyFault → ProgramError
-error_of_copy copying.Closed = Device
-error_of_copy copying.TooSmall = TooSmall
-error_of_copy copying.Full = Full
-error_of_copy copying.Device = Device
-error_of_copy copying.Damaged = Damaged
-error_of_copy copying.NoMemory = NoMemory
+abbrev pub error_of_copy : CopyRefusal → ProgramError
+error_of_copy Closed = Device
+error_of_copy (Fault copying.TooSmall) = TooSmall
+error_of_copy (Fault copying.Full) = Full
+error_of_copy (Fault copying.Device) = Device
+error_of_copy (Fault copying.Damaged) = Damaged
+error_of_copy (Fault copying.NoMemory) = NoMemory
 
 -- the errors with which a source on a file is not opened
 abbrev pub IsOfOpen : ProgramError → Type 0
@@ -193,7 +194,7 @@ IsOfCopy Device = Unit {0}
 IsOfCopy NoMemory = Unit {0}
 IsOfCopy error = ⊥
 
--- the errors with which a source in memory does not begin
+-- the errors with which a source in memory is not made
 abbrev pub IsOfStart : ProgramError → Type 0
 IsOfStart BadBase = Unit {0}
 IsOfStart BadLimit = Unit {0}

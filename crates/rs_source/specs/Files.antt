@@ -8,31 +8,32 @@ use Rattle.rs_store.specs.Opening.{IsNotOpened}
 use Rattle.rs_store.specs.Copied.{AnswersCopy}
 use Rattle.rs_store.specs.Source.{Stored}
 use Rattle.rs_store.specs.declared.opening.OpenFault.{OpenFault}
-use Rattle.rs_store.specs.declared.copying.CopyFault.{CopyFault}
+use Rattle.rs_store.specs.declared.copying.CopyRefusal.{CopyRefusal}
 use Rattle.rs_source.specs.declared.file.NoSource.{NoSource}
 use Rattle.rs_source.specs.declared.program.ProgramError.TheVariants.{Exists, Device}
 use Rattle.rs_source.specs.Arguments.{error_of_opening, error_of_copy}
 
--- A source can be made so: the base and the limit are lawful, and the disk has room.
+-- a source can be made so: the base and the limit are lawful, and the disk has room
 pub record MayBegin (base : List ℕ) (limit size : ℕ) : Type 0 where
   pub lawful : IsTrue (is_base base)
   pub among : IsLimit limit
   pub room : 8192 ≤ size
 
--- No source was opened on a file that held these bytes first: it could not be opened as a disk; or it was, and the cause of the
--- refusal is there.
+-- No source was opened on a file that held these bytes first. The file could not be opened as a disk; or it was, and
+-- the cause of the refusal applies.
 abbrev pub IsUnopened : {D : Type 0} → (D → DiskState) → List ℕ → NoSource D → Type 0
 IsUnopened device first lack =
     MatchOption lack.disk (lack.error ≡ Device)
     (λ disk. (fault : OpenFault) × (lack.error ≡ error_of_opening fault) × IsNotOpened (opened first (device disk).size) (device disk) fault)
 
--- a new file could not be made as a disk: there is something of its name, or the system failed
+-- a new file could not be made as a disk: its name is taken, or the system failed
 abbrev pub IsUnmade : {D : Type 0} → NoSource D → Type 0
 IsUnmade lack = MatchOption lack.disk ((lack.error ≡ Exists) ⊎ (lack.error ≡ Device)) (λ _. ¬ (lack.error ≡ Exists))
 
--- No source was copied to a new file that held these bytes first: it could not be made as a disk; or it was, and the source answers so.
-abbrev pub IsUncopied : {D E : Type 0} → (D → DiskState) → (E → DiskState) → Stored D → Stored D → List ℕ → ℕ → NoSource E → Type 0
-IsUncopied {D} {E} device other old new first size lack =
+-- No source was copied to a new file, which would be this disk at first. The file could not be made as a disk; or it was,
+-- and the source answers so.
+abbrev pub IsUncopied : {D E : Type 0} → (D → DiskState) → (E → DiskState) → Stored D → Stored D → DiskState → NoSource E → Type 0
+IsUncopied {D} {E} device other old new start lack =
     MatchOption lack.disk (((lack.error ≡ Exists) ⊎ (lack.error ≡ Device)) × (new ≡ old))
-    (λ disk. (fault : CopyFault) × (to : E) × (lack.error ≡ error_of_copy fault) × (other to ≡ opened first size)
-    × AnswersCopy device other old new to (Err (disk, fault)))
+    (λ disk. (refusal : CopyRefusal) × (to : E) × (lack.error ≡ error_of_copy refusal) × (other to ≡ start)
+    × AnswersCopy device other old new to (Err (disk, refusal)))

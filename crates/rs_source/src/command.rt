@@ -6,23 +6,23 @@ ghost use Rattle.rs_source.specs.Arguments.{asked_by, asked_of, copy_of, format_
 
 use rs_record::number;
 
-/// SIZE, BASE and LIMIT: how a source is made.
+/// SIZE, BASE and LIMIT: how to make a source.
 #[derive(Clone, Copy, Debug, PartialEq, Eq)]
 pub struct SourceArguments<'a> {
-    /// SIZE: how many bytes its disk has.
+    /// SIZE: the number of bytes of its disk.
     pub size: u64,
     /// BASE.
     pub base: &'a [u8],
-    /// LIMIT, the number of items from which on a list is cut into parts; 65,535 for all above.
+    /// LIMIT: the item limit. A number past 65,535 is cut to that.
     pub limit: u16,
 }
 
-/// PORT and COUNT: which connections are served.
+/// PORT and COUNT: which connections to serve.
 #[derive(Clone, Copy, Debug, PartialEq, Eq)]
 pub struct ServingArguments {
     /// PORT, or 0 for a free one.
     pub port: u16,
-    /// COUNT: how many connections are served.
+    /// COUNT: the number of connections to serve.
     pub count: u64,
 }
 
@@ -31,18 +31,17 @@ pub struct ServingArguments {
 pub enum Invocation<'a> {
     /// `mem SIZE BASE LIMIT`: runs a script on a new source in memory.
     Mem(SourceArguments<'a>),
-    /// `format FILE SIZE BASE LIMIT`: makes a source on a new file of this name.
+    /// `format FILE SIZE BASE LIMIT`: makes a source on a new file.
     Format(&'a str, SourceArguments<'a>),
-    /// `run FILE`: runs a script on the source on the file of this name.
+    /// `run FILE`: runs a script on the source on a file.
     Run(&'a str),
-    /// `serve FILE PORT COUNT`: serves connections to the source on the file of this name.
+    /// `serve FILE PORT COUNT`: serves connections to the source on a file.
     Serve(&'a str, ServingArguments),
-    /// `copy OLD NEW SIZE`: copies the source on the file of the first name to a new file of the second one, of
-    /// so many bytes.
+    /// `copy OLD NEW SIZE`: copies the source on the file OLD to a new file NEW of SIZE bytes.
     Copy(&'a str, &'a str, u64),
 }
 
-/// How a source is made by these words, or `None` where SIZE or LIMIT is no number of 1 to 18 digits.
+/// SIZE, BASE and LIMIT, or `None` where SIZE or LIMIT is no number of 1 to 18 digits.
 fn source_arguments<'a>(size: &str, base: &'a str, limit: &str) -> Option<SourceArguments<'a>>
     ensures { option_map made_by result ≡ made_of size.now base.now limit.now }
 {
@@ -55,11 +54,11 @@ fn source_arguments<'a>(size: &str, base: &'a str, limit: &str) -> Option<Source
     })
 }
 
-/// The most connections that are served.
+/// The greatest COUNT.
 const MOST_CONNECTIONS: u64 = 1_000_000_000;
 
-/// Which connections are served by these words, or `None` where PORT is no number of 1 to 18 digits up to
-/// 65,535, or COUNT none from 1 to 1,000,000,000.
+/// PORT and COUNT, or `None` where one of them is no number of 1 to 18 digits, PORT is past 65,535, or COUNT is not
+/// from 1 to 1,000,000,000.
 fn serving_arguments(port: &str, count: &str) -> Option<ServingArguments>
     ensures { option_map served_by result ≡ served_of port.now count.now }
 {
@@ -143,8 +142,7 @@ fn copy_asked(words: &[String]) -> Option<Invocation<'_>>
     Some(Invocation::Copy(old, new, size))
 }
 
-/// What the words ask for that the program is started with, its name first, or `None` where they
-/// are wrong.
+/// What the arguments of the program ask for, its name first, or `None` where they are wrong.
 pub fn asked(words: &[String]) -> Option<Invocation<'_>>
     ensures { option_map asked_by result ≡ asked_of (map string_bytes words.now) }
 {

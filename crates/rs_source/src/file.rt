@@ -1,6 +1,7 @@
 //! Sources on files.
 
 ghost use Rattle.std.specs.Prelude.{◌≡◌, ◌<◌, ◌≤◌, false, Some, None, MatchOption, IfOk, IfErr, OnOk, IsErrAnd, IsTrue};
+ghost use Rattle.rs_file.specs.Replay.{opened};
 ghost use Rattle.rs_model.specs.State.{start_of, Source as State};
 ghost use Rattle.rs_record.specs.Base.{is_base};
 ghost use Rattle.rs_directory.specs.Limit.{IsLimit};
@@ -22,17 +23,17 @@ use std::alloc::Global;
 use std::fs::File;
 use std::rt::Files;
 
-/// Why there is no source on a file.
+/// Why a file gave no source.
 #[derive(Drop)]
 pub struct NoSource<D> {
-    /// The file as a disk, where it was opened or made as one.
+    /// The file as a disk, where it could be opened or made.
     pub disk: Option<D>,
-    /// What the program tells of it.
+    /// The error of the program.
     pub error: ProgramError,
 }
 
 impl<D> NoSource<D> {
-    /// The file is a disk, and there is no source on it.
+    /// The file could be opened or made, and it gave no source.
     fn on(disk: D, error: ProgramError) -> NoSource<D>
         ensures disk { result.disk ≡ Some disk }
         ensures error { result.error ≡ error }
@@ -67,10 +68,10 @@ impl<D: Drop> From<NoSource<D>> for ProgramError {
 ///
 /// # Errors
 ///
-/// [`ProgramError::Exists`] where there is something of that name, and [`ProgramError::Device`] where
-/// the file cannot be made. Then [`ProgramError::BadBase`], [`ProgramError::BadLimit`] and
-/// [`ProgramError::TooSmall`], in this order, after which the file stays, as it does after
-/// [`ProgramError::NoMemory`], and after [`ProgramError::Device`] where a call on it fails.
+/// [`ProgramError::Exists`] where the name is taken, and [`ProgramError::Device`] where the file cannot
+/// be made. Then [`ProgramError::BadBase`], [`ProgramError::BadLimit`] and [`ProgramError::TooSmall`],
+/// in this order; [`ProgramError::Device`] where a call on the file fails; and
+/// [`ProgramError::NoMemory`]. After each of these the file stays.
 pub fn format_file<R: Files<File = File>, S: Start>(
     rt: &R,
     alloc: Global,
@@ -107,8 +108,8 @@ pub fn format_file<R: Files<File = File>, S: Start>(
 /// # Errors
 ///
 /// [`ProgramError::Device`] where the file cannot be opened or a call on it fails,
-/// [`ProgramError::NotASource`] where it holds no source, [`ProgramError::Damaged`] where a rule of the
-/// format is broken in it, and [`ProgramError::NoMemory`].
+/// [`ProgramError::NotASource`] where it holds no source, [`ProgramError::Damaged`] where it breaks a rule of the
+/// format, and [`ProgramError::NoMemory`].
 pub fn open_file<R: Files<File = File>, S: Start>(
     rt: &R,
     alloc: Global,
@@ -117,7 +118,7 @@ pub fn open_file<R: Files<File = File>, S: Start>(
 ) -> Result<Source<FileDisk<S>>, NoSource<FileDisk<S>>>
     ensures is_open { IfOk result (λ source. source.is_closed ≡ false) }
 
-    // What the file held is said of a file that has followed the model.
+    // The file has followed the model.
     ensures holds { IfOk result (λ source. IsTrue (device_of S.Start source.disk).honest
         → Holds (device_of S.Start) source (state_of (device_of S.Start) source)) }
     ensures held { IfOk result (λ source. IsTrue (device_of S.Start source.disk).honest
@@ -133,15 +134,15 @@ pub fn open_file<R: Files<File = File>, S: Start>(
     }
 }
 
-/// Makes a new file of this name and of `size` bytes, and copies a source to it. The source stays as it
-/// is, and its disk is only read.
+/// Makes a new file of this name and of `size` bytes, and copies a source to it. The source stays
+/// unchanged, and its disk is only read.
 ///
 /// # Errors
 ///
-/// [`ProgramError::Exists`] where there is something of that name, and [`ProgramError::Device`] where
-/// the file cannot be made. Then [`ProgramError::TooSmall`] and [`ProgramError::Full`], in this order,
-/// [`ProgramError::Device`] where a call on either disk fails, [`ProgramError::Damaged`] where a body
-/// does not have its recorded SHA-256, and [`ProgramError::NoMemory`]; the file stays after each of them.
+/// [`ProgramError::Exists`] where the name is taken, and [`ProgramError::Device`] where the file cannot
+/// be made. Then [`ProgramError::TooSmall`] and [`ProgramError::Full`], in this order;
+/// [`ProgramError::Device`] where a call on either disk fails; [`ProgramError::Damaged`] where a body
+/// does not have its recorded SHA-256; and [`ProgramError::NoMemory`]. After each of these the file stays.
 pub fn copy_to_file<R: Files<File = File>, D: Disk, S: Start>(
     rt: &R,
     source: &mut Source<D>,
@@ -149,7 +150,7 @@ pub fn copy_to_file<R: Files<File = File>, D: Disk, S: Start>(
     size: u64,
     start: S,
 ) -> Result<Source<FileDisk<S>>, NoSource<FileDisk<S>>>
-    // It is said of a device that has followed the model.
+    // The device has followed the model.
     ensures holds { (s : State) → Holds D.state source.old s
         → IsTrue (D.state source.new.disk).honest
         → IfOk result (λ copy. Holds (device_of S.Start) copy s) }
@@ -158,7 +159,7 @@ pub fn copy_to_file<R: Files<File = File>, D: Disk, S: Start>(
     ensures in_range { OnOk result (8192 ≤ size) }
     ensures err { IfErr result (λ lack. IsOfCopy lack.error) }
     ensures uncopied { IfErr result (IsUncopied D.state (device_of S.Start)
-        source.old source.new S.Start.first size) }
+        source.old source.new (opened S.Start.first size)) }
     ensures reads_only { OnlyReads D.state source.old source.new }
 {
     let disk = FileDisk::create(rt, file, size, start)?;

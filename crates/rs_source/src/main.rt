@@ -1,10 +1,9 @@
 //! The program of a ResourceSync source (ANSI/NISO Z39.99-2017).
 //!
-//! `rs_source mem SIZE BASE LIMIT` runs the script on standard input on a new source, whose disk of
-//! SIZE bytes lies in memory. `rs_source format FILE SIZE BASE LIMIT` makes a source on a new file, and
-//! `rs_source run FILE` runs the script on standard input on the source of a file. `rs_source serve FILE PORT COUNT`
-//! serves so many connections to it on the loopback interface. `rs_source copy OLD NEW SIZE` copies the source of a file
-//! to a new file of SIZE bytes.
+//! `rs_source mem SIZE BASE LIMIT` runs the script on standard input on a new source, whose disk of SIZE bytes is in
+//! memory. `rs_source format FILE SIZE BASE LIMIT` makes a source on a new file. `rs_source run FILE` runs the script
+//! on standard input on the source of a file. `rs_source serve FILE PORT COUNT` serves COUNT connections to it on the
+//! loopback interface. `rs_source copy OLD NEW SIZE` copies the source of a file to a new file of SIZE bytes.
 #![tactic(auto)]
 
 mod command;
@@ -28,7 +27,7 @@ use std::process::ExitCode;
 use std::rt::{Clock, Env, Files};
 use std::{env, io};
 
-/// The script of standard input, run on a source.
+/// Runs the script on standard input on a source.
 fn run_script<R: Input + Print + AllocGlobal, D: Disk>(
     rt: &R,
     source: &mut Source<D>,
@@ -42,7 +41,7 @@ fn run_script<R: Input + Print + AllocGlobal, D: Disk>(
     Ok(())
 }
 
-/// `mem`: a new source on a disk in memory, and the script of standard input on it.
+/// `mem`: runs the script on standard input on a new source in memory.
 fn run_mem<R: Input + Print + AllocGlobal>(
     rt: &R,
     made: &SourceArguments<'_>,
@@ -51,7 +50,7 @@ fn run_mem<R: Input + Print + AllocGlobal>(
     run_script(rt, &mut source)
 }
 
-/// `format`: a new source on a new file.
+/// `format`: makes a new source on a new file.
 fn run_format<R: Files<File = File> + Print + AllocGlobal>(
     rt: &R,
     file: &str,
@@ -64,7 +63,7 @@ fn run_format<R: Files<File = File> + Print + AllocGlobal>(
     }
 }
 
-/// `run`: the script of standard input on the source of a file.
+/// `run`: runs the script on standard input on the source of a file.
 fn run_file<R: Files<File = File> + Input + Print + AllocGlobal>(
     rt: &R,
     file: &str,
@@ -73,7 +72,7 @@ fn run_file<R: Files<File = File> + Input + Print + AllocGlobal>(
     run_script(rt, &mut source)
 }
 
-/// Opens a socket, says where it is, and serves connections to a source on it.
+/// Opens a socket, prints its address, and serves connections to a source on it.
 fn serve<R: Net<Listener = TcpListener, Stream = TcpStream> + Clock + Print + AllocGlobal, D: Disk>(
     rt: &R,
     source: &mut Source<D>,
@@ -92,7 +91,7 @@ fn serve<R: Net<Listener = TcpListener, Stream = TcpStream> + Clock + Print + Al
     Ok(())
 }
 
-/// `serve`: connections to the source of a file.
+/// `serve`: serves connections to the source of a file.
 fn run_serve<
     R: Files<File = File>
         + Net<Listener = TcpListener, Stream = TcpStream>
@@ -104,7 +103,7 @@ fn run_serve<
     serve(rt, &mut source, serving)
 }
 
-/// `copy`: the source of a file on a new file.
+/// `copy`: copies the source of a file to a new file.
 fn run_copy<R: Files<File = File> + Print + AllocGlobal>(
     rt: &R,
     old: &str,

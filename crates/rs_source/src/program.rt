@@ -1,4 +1,4 @@
-//! The program's commands: what their arguments ask for, and how they begin.
+//! How the program begins and ends: its errors, and the source in memory.
 
 ghost use Rattle.std.specs.Prelude.{◌≡◌, ◌<◌, ◌≤◌, false, IfOk, IfErr, OnOk, IsErrOf, IsTrue};
 ghost use Rattle.rs_model.specs.State.{start_of};
@@ -12,19 +12,19 @@ ghost use Rattle.rs_source.specs.Files.{MayBegin};
 use rs_disk::MemoryDisk;
 use rs_file::FileFault;
 use rs_script::ScriptFault;
-use rs_store::{CopyFault, FormatFault, OpenFault, Source};
+use rs_store::{CopyFault, CopyRefusal, FormatFault, OpenFault, Source};
 use rs_time::Moment;
 use std::alloc::Global;
 use std::io::ErrorKind;
 use thiserror::Error;
 
-/// Why the program ends with a status other than 0. Its text is the line on standard error.
+/// Why the program ends with a status other than 0. It prints the text on standard error.
 #[derive(Clone, Copy, Debug, PartialEq, Eq, Error)]
 pub enum ProgramError {
     /// The arguments are wrong: status 2.
     #[error("usage: rs_source mem SIZE BASE LIMIT | format FILE SIZE BASE LIMIT | run FILE | serve FILE PORT COUNT | copy OLD NEW SIZE")]
     Usage,
-    /// There is a file of the name that a new one was to have.
+    /// The name of a new file is taken.
     #[error("rs_source: Exists")]
     Exists,
     /// BASE is no lawful base.
@@ -39,11 +39,10 @@ pub enum ProgramError {
     /// The file holds no source.
     #[error("rs_source: NotASource")]
     NotASource,
-    /// The new disk has no room for what is copied to it.
+    /// The new disk has no room for the copy.
     #[error("rs_source: Full")]
     Full,
-    /// The file holds a source of which a rule of the format is broken, or a body that is to be copied does not
-    /// have its recorded SHA-256.
+    /// The source on the file breaks a rule of the format, or a body to be copied does not have its recorded SHA-256.
     #[error("rs_source: Damaged")]
     Damaged,
     /// The file or the socket cannot be opened or made, or the disk failed before the program began its work.
@@ -61,7 +60,7 @@ pub enum ProgramError {
 }
 
 impl ProgramError {
-    /// The status that the program ends with.
+    /// The exit status.
     pub fn status(self) -> u8
         ensures { result ≡ exit_status self }
     {
@@ -131,23 +130,25 @@ impl From<OpenFault> for ProgramError {
     }
 }
 
-impl From<CopyFault> for ProgramError {
-    ghost from_gives = { λ fault error. error ≡ error_of_copy fault };
+impl From<CopyRefusal> for ProgramError {
+    ghost from_gives = { λ refusal error. error ≡ error_of_copy refusal };
 
-    fn from(fault: CopyFault) -> ProgramError {
-        match fault {
-            CopyFault::TooSmall => ProgramError::TooSmall,
-            CopyFault::Full => ProgramError::Full,
+    fn from(refusal: CopyRefusal) -> ProgramError {
+        match refusal {
             // A source is closed after a fault of its device.
-            CopyFault::Closed | CopyFault::Device => ProgramError::Device,
-            CopyFault::Damaged => ProgramError::Damaged,
-            CopyFault::NoMemory => ProgramError::NoMemory,
+            CopyRefusal::Closed => ProgramError::Device,
+            CopyRefusal::Fault(fault) => match fault {
+                CopyFault::TooSmall => ProgramError::TooSmall,
+                CopyFault::Full => ProgramError::Full,
+                CopyFault::Device => ProgramError::Device,
+                CopyFault::Damaged => ProgramError::Damaged,
+                CopyFault::NoMemory => ProgramError::NoMemory,
+            },
         }
     }
 }
 
-/// Why the program ends where its words cannot be read: for want of memory, or as one of them is no
-/// text.
+/// The error where the arguments cannot be read: there was not enough memory, or one of them is no text.
 pub fn unread(kind: ErrorKind) -> ProgramError
     ensures { result ≡ unread_of kind }
 {
@@ -157,14 +158,14 @@ pub fn unread(kind: ErrorKind) -> ProgramError
     }
 }
 
-/// A source on a disk of `size` bytes in memory, formatted at the moment 0 with this base and item
+/// Makes a source on a disk of `size` bytes in memory, formatted at the moment 0 with this base and item
 /// limit.
 ///
 /// # Errors
 ///
 /// [`ProgramError::BadBase`], then [`ProgramError::BadLimit`], then [`ProgramError::TooSmall`];
-/// [`ProgramError::NoMemory`] where there is no room for the disk or the base, and
-/// [`ProgramError::Device`] where there is none for what the disk notes, which comes after the first three.
+/// [`ProgramError::NoMemory`] where there is no memory for the disk or the base. After the first three,
+/// [`ProgramError::Device`] where there is no memory for the notes of the disk.
 pub fn start(
     alloc: Global,
     size: u64,

@@ -17,17 +17,17 @@ use std::net::{Shutdown, TcpListener, TcpStream};
 use std::rt::Clock;
 use std::time::Duration;
 
-/// How many bytes of a request are taken from its socket at once, at most.
+/// The most bytes that one read of a socket takes.
 const READ_AHEAD: usize = 32_768;
 
-/// For how many seconds, about, the rest of a refused request is read.
+/// How long the rest of a refused request is read, in seconds, about.
 const LONGEST_REST: u64 = 2;
 
-/// How many times the rest of a refused request is read: 64 MiB at most.
+/// How many reads of the rest of a refused request are made: at most 64 MiB.
 const MOST_READS: usize = 8192;
 
-/// The moment that lies so long after the beginning of 1970, cut off to its millisecond, or the last
-/// moment where it lies past that.
+/// The moment this long after the beginning of 1970, cut to its millisecond, but no later than the last
+/// moment.
 fn moment_after(since_1970: Duration) -> Moment
     ensures { result ≡ min (as_nanos since_1970 / 1_000_000) 253_402_300_799_999 }
 {
@@ -38,8 +38,8 @@ fn moment_after(since_1970: Duration) -> Moment
     }
 }
 
-/// The moment of the time that a clock shows: the moment 0 before 1970, or where the clock cannot be read,
-/// and the last moment where it shows a later time.
+/// The moment that a clock shows. It is the moment 0 where the clock shows a time before 1970 or cannot be read, and
+/// the last moment where the clock shows a later time.
 pub fn moment_of(since_1970: io::Result<Duration>) -> Moment
     ensures shown { IfOk since_1970 (λ t.
         result ≡ min (as_nanos t / 1_000_000) 253_402_300_799_999) }
@@ -51,7 +51,7 @@ pub fn moment_of(since_1970: io::Result<Duration>) -> Moment
     }
 }
 
-/// Serves one request, which comes at `now`.
+/// Serves one request at the moment `now`.
 fn serve_request<D: Disk, R: Read, W: Write>(
     alloc: Global,
     source: &mut Source<D>,
@@ -64,12 +64,12 @@ fn serve_request<D: Disk, R: Read, W: Write>(
     serve_one(alloc, source, reader, writer, now)
 }
 
-/// Whether a request was answered, and refused.
+/// Whether a request was answered with a refusal.
 fn is_refused(served: Result<Served, FrontFault>) -> bool {
     matches!(served, Ok(Served::Answered(400..)))
 }
 
-/// Serves one request, which comes at `now`, on a connection, and tells whether it was refused.
+/// Serves one request of a connection at the moment `now`, and answers whether it was refused.
 fn serve_stream<D: Disk>(
     alloc: Global,
     source: &mut Source<D>,
@@ -89,9 +89,9 @@ fn serve_stream<D: Disk>(
     is_refused(serve_request(alloc, source, &mut reader, &mut writer, now))
 }
 
-/// Ends what is sent on a connection, then reads what the client still sends and drops it, until it ends too: a
-/// connection that is closed with bytes unread is reset, and its client may lose the response (RFC 9112, section 9.6).
-/// No more than 64 MiB are read, and about two seconds pass.
+/// Shuts down the sending side of a connection, then reads and drops the bytes that the client still sends. A
+/// connection that is closed with unread bytes is reset, and its client may lose the response (RFC 9112, section 9.6).
+/// It reads at most 64 MiB, for about two seconds.
 fn read_rest<C: Clock>(stream: &TcpStream, clock: &C) {
     let Ok(begun) = clock.monotonic() else {
         return;
@@ -115,7 +115,7 @@ fn read_rest<C: Clock>(stream: &TcpStream, clock: &C) {
     }
 }
 
-/// Whether the time for a rest has passed since `begun`, or the clock cannot be read.
+/// Whether the time for the rest has passed since `begun`, or the clock cannot be read.
 fn has_passed<C: Clock>(begun: Duration, clock: &C) -> bool {
     match clock.monotonic() {
         Ok(now) => now.saturating_sub(begun).as_secs() >= LONGEST_REST,
@@ -123,8 +123,8 @@ fn has_passed<C: Clock>(begun: Duration, clock: &C) -> bool {
     }
 }
 
-/// Takes the next connection and serves it, at the moment that the clock shows then. Nothing is done where it cannot be
-/// taken.
+/// Accepts the next connection and serves it at the moment that the clock shows then. Does nothing where it cannot
+/// accept it.
 fn serve_next<D: Disk, C: Clock>(
     alloc: Global,
     source: &mut Source<D>,
@@ -142,12 +142,12 @@ fn serve_next<D: Disk, C: Clock>(
     }
 }
 
-/// Serves so many connections, one after another: one request each, which comes at the moment that the
-/// clock shows when the connection was taken.
+/// Serves `count` connections, one after another, with one request each. The request comes at the moment that the clock
+/// shows when the connection is accepted.
 ///
-/// A connection's fault ends that connection alone. One that cannot be taken, or for which there is no
-/// memory, is counted too. Commands of the requests, one a connection at most, make the state that the source holds
-/// then, unless the device failed in one and closed it.
+/// A fault of a connection ends only that connection. A connection that cannot be accepted, or for which there is no
+/// memory, counts too. At most one command a connection makes the state that the source holds then, unless the device
+/// failed in a command and closed the source.
 pub fn serve_connections<D: Disk, C: Clock>(
     alloc: Global,
     source: &mut Source<D>,

@@ -1,4 +1,4 @@
--- What a source answers, by how far a command came.
+-- What a source answers, by how far it got with a command.
 use Rattle.std.proofs.Common.{◌≡◌, ◌⊎◌, inl, inr, ℕ, Bool, true, false, List, length, refl, sym, ◌∙◌, ap, ap₂, subst, Option, Some, None, Result, Ok, Err, if◌then◌else◌}
 use Rattle.rs_disk.specs.Medium.{Medium, DiskState, IsImage, IsMedium, resting}
 use Rattle.rs_disk.specs.Leaves.{Leaves}
@@ -22,7 +22,6 @@ use Rattle.rs_plan.specs.declared.planning.PlanFault.{PlanFault}
 use Rattle.rs_plan.specs.declared.planning.PlanFault.TheVariants.{Full as NoRoom, NoMemory as NoPlanMemory}
 use Rattle.rs_store.specs.declared.refusal.Refusal.{Refusal}
 use Rattle.rs_store.specs.declared.refusal.Refusal.TheVariants.{Closed, Exhausted, Full, ReadFault, ShortBody, Device, Damaged, NoMemory}
-use Rattle.rs_image.specs.Rooted.{Rooted}
 use Rattle.rs_store.specs.Source.{Stored, Holds, rooted_in, state_of}
 use Rattle.rs_store.specs.Refusals.{named_as, or_spent, is_spent, decided}
 use Rattle.rs_plan.specs.Room.{bodies_of_command}
@@ -41,8 +40,8 @@ refusing r = Err r
 abbrev accepting : Source → Reply → Result (Source × Reply) model.Refusal
 accepting s r = Ok (s, r)
 
--- a moment or a refusal
-pub unless_err : (o : Option Refusal) (m : ℕ) (r : Refusal) → Err r ≡ moment_unless o m → o ≡ Some r
+-- the moment or the refusal behind `moment_unless`
+unless_err : (o : Option Refusal) (m : ℕ) (r : Refusal) → Err r ≡ moment_unless o m → o ≡ Some r
 unless_err None m r is = absurd cc
 unless_err (Some q) m r is = cc
 
@@ -59,7 +58,7 @@ no_full is = absurd cc
 none_some : (o : Option Refusal) (q : Refusal) → o ≡ None → o ≡ Some q → ⊥
 none_some o q none some = absurd cc
 
--- what is decided at once is none of these
+-- the refusals that are decided at once
 IsEarly : Refusal → Type 0
 IsEarly Full = ⊥
 IsEarly Device = ⊥
@@ -111,7 +110,7 @@ module _ {D : Type 0} (device : D → DiskState) (medium : (disk : D) → IsMedi
   early_cause new refusal is given = given
 
   kept_leads : (new : Stored D) (s : Source) (r : Refusal) → (r ≡ Device → ⊥) → Holds device new s → Leaves (device old.disk) (device new.disk) (λ _ image. StandsFor image s)
-      → Leads device old new s command now (Err r)
+      → Leads device old new s (step s command now) (Err r)
   kept_leads new s Device other holds leaves = absurd (other refl)
   kept_leads new s refusal other holds leaves = (holds, leaves)
 
@@ -119,7 +118,7 @@ module _ {D : Type 0} (device : D → DiskState) (medium : (disk : D) → IsMedi
   tells_state : (s : Source) → Holds device old s → state_of device old ≡ s
   tells_state s holds = (holds.told (device old.disk).now.seen (medium old.disk).image).state
 
-  -- a refusal that leaves what was in memory
+  -- a refusal that leaves the memory as it was
   kept_answers : (new : Stored D) (r : Refusal) → IsCause device old new command now r → (r ≡ Device → ⊥) → (r ≡ Full → new ≡ old)
       → ((q : Refusal) → decided old (state_of device old) command now ≡ Some q → (r ≡ q) × (new ≡ old))
       → new.is_closed ≡ old.is_closed → IsUnchanged device old new
@@ -153,19 +152,38 @@ module _ {D : Type 0} (device : D → DiskState) (medium : (disk : D) → IsMedi
       (holds, started (device old.disk) (λ _ image. StandsFor image s) (stands_now old.slots old.contents s (device old.disk) (medium old.disk) holds.ready holds.told))
 
   -- refused at once
-  pub at_once : (r : Refusal) → decided old (state_of device old) command now ≡ Some r → Answers device old old command now (Err r)
-  at_once r is =
+  pub at_once : (r : Refusal) → Err r ≡ moment_unless (decided old (state_of device old) command now) (moment_at (state_of device old) now) → Answers device old old command now (Err r)
+  at_once r found =
+      let is : decided old (state_of device old) command now ≡ Some r = unless_err (decided old (state_of device old) command now) (moment_at (state_of device old) now) r found in
       let of_early : IsEarly r = early old.is_closed (refusal_of (state_of device old) command now) (is_spent old) r is in
       kept_answers old r (early_cause old r of_early is) (not_device r of_early) (λ _. refl) (λ q other. let same : r ≡ q = cc in (same, refl)) refl nothing_done at_rest no_call
 
   -- without a plan
-  pub unplanned : (fault : PlanFault) → decided old (state_of device old) command now ≡ None
+  unplanned : (fault : PlanFault) → decided old (state_of device old) command now ≡ None
       → (fault ≡ NoRoom → LacksRoom (rooted_in device old) command (moment_at (state_of device old) now))
       → Answers device old old command now (Err (of_plan fault))
   unplanned NoRoom is room =
       kept_answers old Full (is, room refl) (λ (same : Full ≡ Device). absurd cc) (λ _. refl) (λ q other. absurd cc) refl nothing_done at_rest no_call
   unplanned NoPlanMemory is room =
       kept_answers old NoMemory is (λ (same : NoMemory ≡ Device). absurd cc) (λ _. refl) (λ q other. absurd cc) refl nothing_done at_rest no_call
+
+  -- accepted at a moment, and planned by a source that did not change
+  module _ (mid : Stored D) (same : mid ≡ old) (moment : ℕ) (found : Ok moment ≡ moment_unless (decided old (state_of device old) command now) (moment_at (state_of device old) now)) where
+    accepted_at : (decided old (state_of device old) command now ≡ None) × (moment ≡ moment_at (state_of device old) now)
+    accepted_at = unless_ok (decided old (state_of device old) command now) (moment_at (state_of device old) now) moment found
+
+    pub not_planned : (fault : PlanFault) → (fault ≡ NoRoom → LacksRoom (rooted_in device old) command moment) → Answers device old mid command now (Err (of_plan fault))
+    not_planned fault lacks =
+        subst (λ (s : Stored D). Answers device old s command now (Err (of_plan fault))) (sym same)
+        (unplanned fault accepted_at.0 (λ full. subst (λ (m : ℕ). LacksRoom (rooted_in device old) command m) accepted_at.1 (lacks full)))
+
+    pub carried_on : (new : Stored D) (result : Result Reply Refusal) (p : Plan) → IsPlanned (rooted_in device old) command moment p
+        → (decided mid (state_of device mid) command now ≡ None → IsPlanned (rooted_in device mid) command (moment_at (state_of device mid) now) p
+        → Answers device mid new command now result)
+        → Answers device old new command now result
+    carried_on new result p planned answers =
+        subst (λ (s : Stored D). decided s (state_of device s) command now ≡ None → IsPlanned (rooted_in device s) command (moment_at (state_of device s) now) p
+        → Answers device s new command now result) same answers accepted_at.0 (subst (λ (m : ℕ). IsPlanned (rooted_in device old) command m p) accepted_at.1 planned)
 
   -- with a plan
   module _ (p : Plan) (bodies : List (List ℕ)) (whole : IsWhole (device old.disk).size old.slots.root old.contents)
@@ -177,7 +195,7 @@ module _ {D : Type 0} (device : D → DiskState) (medium : (disk : D) → IsMedi
         state_kept (is_kept old.slots.root old.contents) (device old.disk).size old.slots.root old.contents (device old.disk).now.seen (device mid).now.seen whole
         (reach_kept old.slots.root old.contents) run.seen
 
-    -- memory was refused
+    -- memory ran out
     pub stopped : RunsWriting ⊥ (device old.disk) (device mid)
         → Answers device old (record { disk = mid; slots = old.slots; contents = old.contents; is_closed = old.is_closed }) command now (Err NoMemory)
     stopped runs =
@@ -242,7 +260,7 @@ module _ {D : Type 0} (device : D → DiskState) (medium : (disk : D) → IsMedi
         (λ s holds. subst (λ (d : D). Leaves (device old.disk) (device d) (λ _ image. StandsFor image s ⊎ StandsFor image (next s))) (sym disk) (early_leaves next s holds))
         goes
 
-    -- all was written, and the root was to change
+    -- the lists and bodies were written, before the commit
     module _ (there : AreWritten p bodies (device mid).now.seen) (lists : AreLists (once_stored p.contents)) (size : (device mid).size ≡ (device old.disk).size)
         (root : Root) (root_is : root ≡ planned_root old.slots.root p) where
       long : length (device mid).now.seen ≡ (device old.disk).size
@@ -353,8 +371,3 @@ module _ {D : Type 0} (device : D → DiskState) (medium : (disk : D) → IsMedi
             stays_open = λ _. closed;
             unchanged = λ q other. absurd cc;
           }
-
--- what is said of a root with its lists, as they were taken from a source, is said of the source
-pub of_source : {D : Type 0} (P : Rooted → ℕ → Type 0) (device : D → DiskState) (old : Stored D) (r : Rooted) (moment at : ℕ) → r ≡ rooted_in device old → moment ≡ at
-    → P r moment → P (rooted_in device old) at
-of_source {D} P device old r moment at one two given = subst (λ (x : Rooted). P x at) one (subst (λ (m : ℕ). P r m) two given)

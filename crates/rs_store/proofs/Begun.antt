@@ -1,4 +1,4 @@
--- What a source is once it has written the bodies of a plan, or has stopped at them.
+-- A source after it wrote the bodies of a plan, or stopped at them.
 use Rattle.std.proofs.Common.{◌≡◌, ◌<◌, ℕ, true, false, true≢false, List, [], ◌∷◌, length, get_or, refl, sym, ap, subst, arith, None, Result, Ok, Err}
 use Rattle.std.specs.Prelude.{is_err, OnOk, OnErr}
 use Rattle.rs_disk.specs.Medium.{DiskState, IsMedium}
@@ -23,12 +23,12 @@ use Rattle.rs_store.specs.Answered.{Answers}
 use Rattle.rs_store.proofs.Answered.{stopped, broken_off}
 use Rattle.rs_store.proofs.Written.{beside_each, AreSized}
 
--- what is said of an answer that is an error
+-- a clause of errors, of an answer that is one
 pub on_err : {T E P : Type 0} (r : Result T E) → is_err r ≡ true → OnErr r P → P
 on_err (Ok x) bad given = absurd (true≢false (sym bad))
 on_err (Err e) bad given = given
 
--- and of one that is none
+-- a clause of successes, of an answer that is one
 pub on_ok : {T E P : Type 0} (r : Result T E) → is_err r ≡ false → OnOk r P → P
 on_ok (Ok x) fine given = given
 on_ok (Err e) fine given = absurd (true≢false fine)
@@ -48,9 +48,10 @@ pub some_extent : (extents : List Extent) (bytes : List ℕ) → AreSized extent
 some_extent [] bytes sized = absurd sized
 some_extent (x ∷ xs) bytes sized = omega arith
 
--- .. what is written beside it is written beside all, and the bodies stand where this one does.
-pub only_one : {A : Type 0} (extents : List Extent) (e : Extent) (old new : DiskState) → extents ≡ e ∷ [] → WritesOnly (e ∷ []) A old new → WritesOnly extents A old new
-only_one {A} extents e old new alone run = subst (λ (es : List Extent). WritesOnly es A old new) (sym alone) run
+-- .. what is written to it alone is written to these alone, and the bodies stand where this one does.
+pub only_one : {A : Type 0} {old new : DiskState} (extents : List Extent) (bytes : List ℕ) (e : Extent) → AreSized extents (bytes ∷ []) → e ≡ get_or extents 0 e
+    → WritesOnly (e ∷ []) A old new → WritesOnly extents A old new
+only_one {A} {old} {new} extents bytes e sized is run = subst (λ (es : List Extent). WritesOnly es A old new) (sym (one_extent extents bytes e sized is)) run
 
 pub stand_one : (extents : List Extent) (e : Extent) (bytes image : List ℕ) → extents ≡ e ∷ [] → part e (length bytes) image ≡ bytes → AreBodies image extents (bytes ∷ [])
 stand_one extents e bytes image alone stands = subst (λ (es : List Extent). AreBodies image es (bytes ∷ [])) (sym alone) (stands, tt)
@@ -62,7 +63,7 @@ sized_one extents bytes e alone sized = (subst (λ (es : List Extent). AreSized 
 pub on_disk_one : (extents : List Extent) (size : ℕ) (e : Extent) → extents ≡ e ∷ [] → AreOnDisk extents size → IsOnDisk e size
 on_disk_one extents size e alone inside b is = subst (λ (es : List Extent). AreOnDisk es size) alone inside b (some_first e [] b is)
 
--- a command without bodies has written none
+-- a command without bodies wrote none
 pub begun_with_none : {D : Type 0} (device : D → DiskState) (start o : Stored D) (p : Plan) → o ≡ start → AreSized p.bodies.items [] → HasWrittenBodies device start o p []
 begun_with_none {D} device start o p same none =
     subst (λ (s : Stored D). HasWrittenBodies device s o p []) same (record {
@@ -113,7 +114,7 @@ module _ {D : Type 0} (device : D → DiskState) (medium : (disk : D) → IsMedi
         (record { disk = mid; slots = o.slots; contents = o.contents; is_closed = true }) refl refl
         (went.runs.failed failed) (advances (device start.disk) (device mid) went)
 
-    -- it stopped for another cause, as where memory was refused
+    -- it stopped for another cause, as want of memory
     pub stopped_body : ¬ A
         → Answers device start (record { disk = mid; slots = o.slots; contents = o.contents; is_closed = o.is_closed }) command now (Err NoMemory)
     stopped_body well =

@@ -1,4 +1,4 @@
--- What a source answers that is copied, by what the copy of its root leaves.
+-- What a source answers when it is copied, by what copying its root leaves.
 use Rattle.std.proofs.Common.{true≢false, ◌≡◌, ◌⊎◌, inl, inr, ⊎_elim, ℕ, true, false, List, [], ◌∷◌, map, refl, sym, ◌∙◌, ap, Result, Ok, Err}
 use Rattle.std.specs.Prelude.{All}
 use Rattle.std.proofs.lemmas.List.Elements.{All-nil, All-cons, All-head, All-tail}
@@ -11,57 +11,28 @@ use Rattle.rs_model.specs.State.{Source}
 use Rattle.rs_image.specs.StateOfImage.{Tells, held_in}
 use Rattle.rs_copy.specs.Copies.{Copies, HasItsBody}
 use Rattle.rs_copy.specs.declared.copying.Copied.{Copied}
-use Rattle.rs_copy.specs.declared.faults.CopyFault as copies
-use Rattle.rs_copy.specs.declared.faults.CopyFault.TheVariants as copying
-use Rattle.rs_store.specs.declared.copying.CopyFault.TheVariants.{Closed, TooSmall, Full, Device, Damaged}
+use Rattle.rs_copy.specs.declared.faults.CopyFault.{CopyFault}
+use Rattle.rs_copy.specs.declared.faults.CopyFault.TheVariants.{TooSmall, Full, Device, Damaged}
+use Rattle.rs_store.specs.declared.copying.CopyRefusal.TheVariants.{Closed, Fault}
 use Rattle.rs_store.specs.OnlyReads.{OnlyReads}
 use Rattle.rs_store.specs.Shows.{HasItsDigest}
 use Rattle.rs_store.specs.Source.{Stored, Holds, rooted_in}
-use Rattle.rs_store.specs.Copied.{fault_of_copy, AnswersCopy}
+use Rattle.rs_store.specs.Copied.{AnswersCopy}
 
--- a fault has the name of one alone, and none is that the source is closed
-never_closed : (fault : copies.CopyFault) → fault_of_copy fault ≡ Closed → ⊥
-never_closed copying.TooSmall is = absurd cc
-never_closed copying.Full is = absurd cc
-never_closed copying.Device is = absurd cc
-never_closed copying.Damaged is = absurd cc
-never_closed copying.NoMemory is = absurd cc
+-- the fault of a copy is not Closed, and is refused as itself
+never_closed : (fault : CopyFault) → Fault fault ≡ Closed → ⊥
+never_closed fault is = absurd cc
 
-is_small : (fault : copies.CopyFault) → fault_of_copy fault ≡ TooSmall → fault ≡ copying.TooSmall
-is_small copying.TooSmall is = refl
-is_small copying.Full is = absurd cc
-is_small copying.Device is = absurd cc
-is_small copying.Damaged is = absurd cc
-is_small copying.NoMemory is = absurd cc
-
-is_full : (fault : copies.CopyFault) → fault_of_copy fault ≡ Full → fault ≡ copying.Full
-is_full copying.TooSmall is = absurd cc
-is_full copying.Full is = refl
-is_full copying.Device is = absurd cc
-is_full copying.Damaged is = absurd cc
-is_full copying.NoMemory is = absurd cc
-
-is_failed : (fault : copies.CopyFault) → fault_of_copy fault ≡ Device → fault ≡ copying.Device
-is_failed copying.TooSmall is = absurd cc
-is_failed copying.Full is = absurd cc
-is_failed copying.Device is = refl
-is_failed copying.Damaged is = absurd cc
-is_failed copying.NoMemory is = absurd cc
-
-is_damaged : (fault : copies.CopyFault) → fault_of_copy fault ≡ Damaged → fault ≡ copying.Damaged
-is_damaged copying.TooSmall is = absurd cc
-is_damaged copying.Full is = absurd cc
-is_damaged copying.Device is = absurd cc
-is_damaged copying.Damaged is = refl
-is_damaged copying.NoMemory is = absurd cc
-
-abbrev refusing : copies.CopyFault → Result Copied copies.CopyFault
+abbrev refusing : CopyFault → Result Copied CopyFault
 refusing fault = Err fault
 
-same_fault : (one two : copies.CopyFault) → refusing one ≡ refusing two → one ≡ two
-same_fault one two is = cc
+refused : (fault other : CopyFault) → Fault fault ≡ Fault other → refusing fault ≡ refusing other
+refused fault other is = let same : fault ≡ other = cc in ap refusing same
 
-no_fault : (copied : Copied) (fault : copies.CopyFault) → Ok copied ≡ refusing fault → ⊥
+faulted : (fault other : CopyFault) → refusing fault ≡ refusing other → Fault fault ≡ Fault other
+faulted fault other is = let same : fault ≡ other = cc in ap (λ (f : CopyFault). Fault f) same
+
+no_fault : (copied : Copied) (fault : CopyFault) → Ok copied ≡ refusing fault → ⊥
 no_fault copied fault is = absurd cc
 
 -- where all that is held has its digest, each record has its body
@@ -100,8 +71,8 @@ module _ {D E : Type 0} (device : D → DiskState) (other : E → DiskState) (ol
     tells : (s : Source) → Holds device old s → Tells old.slots.root old.contents (device old.disk).now.seen s
     tells s holds = holds.told (device old.disk).now.seen (medium old.disk).image
 
-    abbrev Copied_so : Result Copied copies.CopyFault → Type 0
-    Copied_so result = Copies (rooted_in device old) (device old.disk) (device new.disk) (other to) (other disk) result
+    abbrev Copied_so : Result Copied CopyFault → Type 0
+    Copied_so result = Copies (rooted_in device old) (record { from = device old.disk; to = other to }) (record { from = device new.disk; to = other disk }) result
 
     -- the copy stands
     pub copied_so : (copied : Copied) → Copied_so (Ok copied)
@@ -110,13 +81,13 @@ module _ {D E : Type 0} (device : D → DiskState) (other : E → DiskState) (ol
       reads_only = only;
       advances = made.advances;
       closed = (λ none. absurd none, λ shut. absurd (true≢false (sym shut ∙ open_still)));
-      too_small = (λ none. absurd none, λ is. absurd (no_fault copied copying.TooSmall (made.too_small.1 is.1)));
+      too_small = (λ none. absurd none, λ is. absurd (no_fault copied TooSmall (made.too_small.1 is.1)));
       full = λ none. absurd none;
       untouched = λ none. ⊎_elim (λ one. ⊎_elim (λ a. absurd a) (λ b. absurd b) one) (λ b. absurd b) none;
       unread = λ none. ⊎_elim (λ one. ⊎_elim (λ a. absurd a) (λ b. absurd b) one) (λ b. absurd b) none;
       room = λ none. ⊎_elim (λ a. absurd a) (λ b. absurd b) none;
       failed = λ none. absurd none;
-      sound = λ _. made.sound (no_fault copied copying.Device);
+      sound = λ _. made.sound (no_fault copied Device);
       damaged = λ none. absurd none;
       first = (made.copied.generation, made.copied.version);
       slots = (made.copied.slots, made.copied.ready);
@@ -127,28 +98,28 @@ module _ {D E : Type 0} (device : D → DiskState) (other : E → DiskState) (ol
     }
 
     -- it was refused
-    pub refused_so : (fault : copies.CopyFault) → Copied_so (Err fault) → (refusing fault ≡ refusing copying.TooSmall ⊎ refusing fault ≡ refusing copying.Full → disk ≡ to)
-        → (refusing fault ≡ refusing copying.TooSmall ⊎ refusing fault ≡ refusing copying.Full → new ≡ old)
-        → AnswersCopy device other old new to (Err (disk, fault_of_copy fault))
+    pub refused_so : (fault : CopyFault) → Copied_so (Err fault) → (refusing fault ≡ refusing TooSmall ⊎ refusing fault ≡ refusing Full → disk ≡ to)
+        → (refusing fault ≡ refusing TooSmall ⊎ refusing fault ≡ refusing Full → new ≡ old)
+        → AnswersCopy device other old new to (Err (disk, Fault fault))
     refused_so fault made untouched unread = record {
       reads_only = only;
       advances = made.advances;
       closed = (λ is. absurd (never_closed fault is), λ shut. absurd (true≢false (sym shut ∙ open_still)));
       too_small = (
-        λ is. (open_still, made.too_small.0 (ap refusing (is_small fault is))),
-        λ is. ap fault_of_copy (same_fault fault copying.TooSmall (made.too_small.1 is.1)),
+        λ is. (open_still, made.too_small.0 (refused fault TooSmall is)),
+        λ is. faulted fault TooSmall (made.too_small.1 is.1),
       );
-      full = λ is. made.full (ap refusing (is_full fault is));
+      full = λ is. made.full (refused fault Full is);
       untouched = λ early. ⊎_elim
-          (λ one. ⊎_elim (λ is. absurd (never_closed fault is)) (λ is. untouched (inl (ap refusing (is_small fault is)))) one)
-          (λ is. untouched (inr (ap refusing (is_full fault is)))) early;
+          (λ one. ⊎_elim (λ is. absurd (never_closed fault is)) (λ is. untouched (inl (refused fault TooSmall is))) one)
+          (λ is. untouched (inr (refused fault Full is))) early;
       unread = λ early. ⊎_elim
-          (λ one. ⊎_elim (λ is. absurd (never_closed fault is)) (λ is. unread (inl (ap refusing (is_small fault is)))) one)
-          (λ is. unread (inr (ap refusing (is_full fault is)))) early;
-      room = λ met. made.room (⊎_elim (λ is. inl (ap refusing (is_failed fault is))) (λ is. inr (ap refusing (is_damaged fault is))) met);
-      failed = λ is. made.failed (ap refusing (is_failed fault is));
-      sound = λ not_device. made.sound (λ is. not_device (ap fault_of_copy (same_fault fault copying.Device is)));
-      damaged = λ is honest all. made.damaged (ap refusing (is_damaged fault is)) honest (bodies_intact (device old.disk).now.seen (records_of old.contents.catalogue) all);
+          (λ one. ⊎_elim (λ is. absurd (never_closed fault is)) (λ is. unread (inl (refused fault TooSmall is))) one)
+          (λ is. unread (inr (refused fault Full is))) early;
+      room = λ met. made.room (⊎_elim (λ is. inl (refused fault Device is)) (λ is. inr (refused fault Damaged is)) met);
+      failed = λ is. made.failed (refused fault Device is);
+      sound = λ not_device. made.sound (λ is. not_device (faulted fault Device is));
+      damaged = λ is honest all. made.damaged (refused fault Damaged is) honest (bodies_intact (device old.disk).now.seen (records_of old.contents.catalogue) all);
       first = tt;
       slots = tt;
       intact = tt;

@@ -1,4 +1,4 @@
--- What is decided of a command before anything is asked of memory or the disk.
+-- What a source decides of a command without memory or the disk.
 use Rattle.std.proofs.Common.{true≢false, ◌≡◌, ◌<◌, ◌≤◌, ℕ, Bool, true, false, ◌&&◌, nat_le, nat_lt, List, [], ◌∷◌, ◌++◌, length, refl, arith, Option, Some, None, Result, if◌then◌else◌}
 use Rattle.std.specs.Prelude.{is_none}
 use Rattle.std.proofs.lemmas.Bool.Decides.{nat_tests}
@@ -16,7 +16,7 @@ use Rattle.rs_store.specs.declared.refusal.Refusal.TheVariants.{Closed}
 use Rattle.rs_store.specs.Refusals.{or_spent}
 use Rattle.rs_store.specs.Answered.{moment_unless}
 
--- What is decided of a put that is neither too long nor one resource too many is what is decided of a change.
+-- A put that is neither too long nor one resource too many is decided as a change.
 pub change_is_decided : (closed long full : Bool) (causes : List (Bool × Refusal)) (spent : Bool) (m : ℕ) (answer : Result ℕ Refused) → closed ≡ false → long ≡ false → full ≡ false
     → answer ≡ moment_unless (or_spent (first_cause causes) spent) m
     → answer ≡ moment_unless (if closed then Some Closed else or_spent (first_cause ((long, TooLong) ∷ (full, TooManyResources) ∷ causes)) spent) m
@@ -60,7 +60,7 @@ moment_is_left s (item ∷ items) now is =
     let later = items_causes (after_item s item (moment_at s now)) items now in
     first_is_left s item later (behind_first (is_bad_group (item ∷ items)) BadGroup (item_causes s item ++ later) is)
 
--- What is decided of a group that the model accepts in a state with a moment left is what is decided of the generation.
+-- A group that the model accepts in a state with a moment left is decided by the generation.
 pub left_is_decided : (closed : Bool) (o : Option Refusal) (out spent : Bool) (m : ℕ) (answer : Result ℕ Refused) → closed ≡ false → o ≡ None → out ≡ false
     → answer ≡ moment_unless (or_spent (first_cause ((out, Exhausted) ∷ [])) spent) m → answer ≡ moment_unless (if closed then Some Closed else or_spent o spent) m
 left_is_decided true o out spent m answer still none left given = absurd (true≢false still)

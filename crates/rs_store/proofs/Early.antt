@@ -50,7 +50,7 @@ one_body n came x fewer = record {
   front = take-append_seam came (x ∷ replicate (n - (length came + 1)) 0);
 }
 
--- An image that stands for the old state or for the next one, of each of two puts, stands for the old one.
+-- An image that, for each of two puts, represents the old state or the next one, represents the old one.
 stands_for_old : (s : Source) (name kind a b : List ℕ) (now : ℕ) (image : List ℕ) → (a ≡ b → ⊥)
     → StandsFor image s ⊎ StandsFor image (state_after s (step s (Put name kind a) now))
     → StandsFor image s ⊎ StandsFor image (state_after s (step s (Put name kind b) now)) → StandsFor image s

@@ -1,4 +1,4 @@
--- What a source answers once the bodies of a plan stand, by how far the rest came. It counts from the moment before the bodies were written.
+-- What a source answers once the bodies of a plan stand, by how far it got. The answers cover the time since before the bodies were written.
 use Rattle.std.proofs.Common.{◌≡◌, ℕ, true, List, refl, sym, ◌∙◌, ap, subst, None, Ok, Err, Result}
 use Rattle.rs_disk.specs.Medium.{DiskState, IsMedium, resting}
 use Rattle.rs_disk.specs.Leaves.{Leaves}
@@ -26,7 +26,7 @@ use Rattle.rs_store.specs.Answered.{Answers}
 use Rattle.rs_store.proofs.Opened.{failed_behind}
 use Rattle.rs_store.proofs.Answered.{stopped, broken_off, not_committed, committed}
 
--- what the end of a command promises, whatever command a plan is of, and whenever its bodies were begun
+-- what the end of a command promises, for every command that has the plan and every beginning of its bodies
 abbrev pub Promised : {D : Type 0} → (D → DiskState) → Plan → Stored D → Result Reply Refusal → Stored D → Type 0
 Promised {D} device p new result now =
     (start : Stored D) (command : Command) (moment : ℕ) → HasWrittenBodies device start now p (bodies_of_command command)
@@ -103,7 +103,7 @@ module _ {D : Type 0} (device : D → DiskState) (medium : (disk : D) → IsMedi
           behind rests (replied ∙ planned.reply (device start.disk).now.seen)
           (writing_on (device start.disk) (device mid) (device new.disk) (λ none. none) further_unmet (λ none. absurd none) (all_unmet unmet) further)
 
-  -- memory was refused
+  -- memory ran out
   pub stopped_behind : ¬ A
       → Promised device p (record { disk = mid; slots = now.slots; contents = now.contents; is_closed = now.is_closed }) (Err NoMemory) now
   stopped_behind unmet start command moment begun free planned = stopped_so start command moment begun free planned unmet
@@ -112,7 +112,7 @@ module _ {D : Type 0} (device : D → DiskState) (medium : (disk : D) → IsMedi
   pub broken_behind : (new : Stored D) → new.disk ≡ mid → new.is_closed ≡ true → A → Promised device p new (Err Device) now
   broken_behind new disk closed failed start command moment begun free planned = broken_so start command moment begun free planned new disk closed failed
 
-  -- all was written, and the root was to change
+  -- the lists were written, before the commit
   module _ (p' : Plan) (stored : AreStoredLists p p' (device now.disk).now.seen (device mid).now.seen) (root : Root) (root_is : root ≡ planned_root now.slots.root p)
       (new : Stored D) (any : IsReady now.slots (device mid).now → Leaves (device mid) (device new.disk) (λ _. OldOrNew (device mid).now now.slots.root root))
       (B : Type 0) (further : RunsWriting B (device mid) (device new.disk)) where

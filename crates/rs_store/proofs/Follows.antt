@@ -1,4 +1,4 @@
--- What stands after all of a plan is written: the next root tells the next state.
+-- Once a whole plan is written, the next root tells the next state.
 use Rattle.std.proofs.Common.{true≢false, ◌≡◌, ◌⊎◌, inl, inr, ⊎_elim, ℕ, Bool, true, false, List, [], ◌∷◌, ◌++◌, map, filter, length, refl, sym, ◌∙◌, ap, ap₂, subst, Option, Some, None}
 use Rattle.std.specs.Prelude.{All, IfSome, is_some}
 use Rattle.std.proofs.lemmas.List.Elements.{All-nil, All-cons, All-head, All-tail, All-filter}
@@ -13,12 +13,11 @@ use Rattle.rs_model.specs.declared.command.Command.TheVariants.{Put, Delete, Pub
 use Rattle.rs_page.specs.declared.place.PageRef.{PageRef}
 use Rattle.rs_page.specs.Format.{ItemFormat}
 use Rattle.rs_page.specs.Items.{record_format, change_format}
-use Rattle.rs_page.specs.Pages.{Page, IsStored, stored_ref, stored_refs, stored, items_of}
+use Rattle.rs_page.specs.Pages.{Page, stored_ref, stored_refs, stored, items_of}
 use Rattle.rs_page.specs.DiskPages.{IsPage, Stands}
 use Rattle.rs_page.specs.SharedPages.{IsSublist, stored_pages, KeepsPages}
-use Rattle.rs_store.proofs.FromBelow.{written_stand, standing_are_pages, pages_stand, joined, joined as joined_changes}
-use Rattle.rs_catalogue.specs.Catalogue.{AreHeld, IsCatalogue, HoldsCatalogue}
-use Rattle.rs_changes.specs.History.{AreKept, IsHistory, HoldsHistory}
+use Rattle.rs_store.proofs.FromBelow.{written_stand, pages_stand, held_catalogue, held_history}
+use Rattle.rs_catalogue.specs.Catalogue.{HoldsCatalogue}
 use Rattle.rs_image.specs.declared.contents.Contents.{Contents}
 use Rattle.rs_image.specs.Rooted.{rooted}
 use Rattle.rs_image.specs.Whole.{IsWhole}
@@ -27,7 +26,7 @@ use Rattle.rs_plan.specs.declared.plan.Plan.{Plan}
 use Rattle.rs_plan.specs.Room.{bodies_of_command}
 use Rattle.rs_plan.specs.Plans.{AreBodies, ArePagesAfter, once_stored, planned_root, IsPlanned, AreWritten}
 
--- what holds of a list holds of each part of it, ..
+-- A property of a list is one of each part of it, ..
 all_sub : {A : Type 0} (P : A → Type 0) (xs ys : List A) → All P ys → IsSublist xs ys → All P xs
 all_sub P [] ys all sub = All-nil P
 all_sub P (x ∷ xs) [] all sub = absurd sub
@@ -35,7 +34,7 @@ all_sub P (x ∷ xs) (y ∷ ys) all (inl (same, rest)) =
     All-cons P x xs (subst P (sym same) (All-head P y ys all)) (all_sub P xs ys (All-tail P y ys all) rest)
 all_sub P (x ∷ xs) (y ∷ ys) all (inr rest) = all_sub P (x ∷ xs) ys (All-tail P y ys all) rest
 
--- .. and of all of it where it holds of what a test passes, and of what it does not
+-- .. and a property of what passes a test and of what does not is one of the whole list.
 true_or_false : (b : Bool) → (b ≡ true) ⊎ (b ≡ false)
 true_or_false true = inl refl
 true_or_false false = inr refl
@@ -59,7 +58,7 @@ nothing : {A : Type 0} (P : A → Type 0) (o : Option A) → is_some o ≡ false
 nothing P None is = tt
 nothing P (Some x) is = absurd (true≢false is)
 
--- Pages that were kept stand where the old ones do.
+-- Kept pages stand where the old ones do.
 kept_stand : {T : Type 0} (format : ItemFormat T) (old new : List (Page T)) (image : List ℕ) → KeepsPages old new
     → All (Stands format image) old → All (Stands format image) new
 kept_stand {T} format old new image kept stand =
@@ -78,23 +77,7 @@ once_state image c =
     ap₂ (λ (records : List Record) (changes : List Change). record (state_in image c) { held = map (held_in image) records; changes = changes })
     (items_stored record_format c.catalogue) (items_stored change_format c.history.pages)
 
--- The lists are on the disk as what was kept of the old ones and what was written.
-held_catalogue : (pages : List (Page Record)) (image : List ℕ) → IsCatalogue pages → All IsStored pages
-    → All (Stands record_format image) pages → HoldsCatalogue (stored_refs pages) image (map (λ page. page.items) pages)
-held_catalogue pages image is all stand =
-    record {
-      hold = standing_are_pages record_format pages image all stand;
-      held = subst AreHeld (sym (joined pages)) is.held;
-    }
-
-held_history : (pages : List (Page Change)) (image : List ℕ) → IsHistory pages → All IsStored pages
-    → All (Stands change_format image) pages → HoldsHistory (stored_refs pages) image (map (λ page. page.items) pages)
-held_history pages image is all stand =
-    record {
-      hold = standing_are_pages change_format pages image all stand;
-      kept = subst AreKept (sym (joined_changes pages)) is.kept;
-    }
-
+-- The disk holds the lists: the kept pages and the written ones.
 abbrev HoldsPagesInMemory : List (Page Record) → List ℕ → Type 0
 HoldsPagesInMemory pages image = HoldsCatalogue (stored_refs pages) image (map (λ page. page.items) pages)
 

@@ -1,10 +1,11 @@
--- What a name that is held has on the disk.
-use Rattle.std.proofs.Common.{◌≡◌, ◌≤◌, ◌<◌, ◌+◌, ◌*◌, ℕ, true, List, [], ◌∷◌, ◌++◌, Option, Some, None, option_map, map, sym, ◌∙◌, ap, subst, refl, arith}
+-- What a held name has on the disk.
+use Rattle.std.proofs.Common.{◌≡◌, ◌≤◌, ◌<◌, ◌+◌, ◌*◌, ℕ, true, false, List, [], ◌∷◌, ◌++◌, Option, Some, None, is_some, option_map, map, sym, ◌∙◌, ap, subst, refl, arith}
 use Rattle.std.specs.Prelude.{All}
 use Rattle.std.specs.declared.cmp.Ordering.{Ordering}
 use Rattle.std.specs.declared.cmp.Ordering.TheVariants.{Less, Equal, Greater}
 use Rattle.std.proofs.lemmas.List.Elements.{All-head, All-tail}
 use Rattle.rs_store.proofs.FromBelow.{some_behind, some_first, some_rest, fits_sized}
+use Rattle.rs_disk.specs.Medium.{DiskState}
 use Rattle.rs_extent.specs.declared.Extent.{Extent}
 use Rattle.rs_extent.specs.Extents.{within, in_some, IsOnDisk}
 use Rattle.rs_commit.specs.declared.root.Root.{Root}
@@ -19,11 +20,13 @@ use Rattle.rs_pages.specs.Storing.{unshared}
 use Rattle.rs_image.specs.Reach.{bodies_of, blocks_of_disk}
 use Rattle.rs_image.specs.Whole.{IsWhole, IsSoundRecord}
 use Rattle.rs_model.specs.State.{entries}
+use Rattle.rs_model.specs.Step.{is_held}
 use Rattle.rs_model.specs.Listed.{entry_of}
 use Rattle.rs_body.specs.declared.read.LoadFault.{LoadFault}
 use Rattle.rs_body.specs.declared.read.LoadFault.TheVariants as faults
 use Rattle.rs_store.specs.declared.refusal.Refusal.TheVariants.{NotHeld, Damaged}
 use Rattle.rs_store.specs.Bodies.{refusal_of_body}
+use Rattle.rs_store.specs.Source.{Stored, state_of}
 use Rattle.rs_image.specs.StateOfImage.{held_in}
 
 ordered_map : {A B : Type 0} (f : A → B) (o : Ordering) (x : A) (m : Option A) (n : Option B) → n ≡ option_map f m
@@ -86,18 +89,29 @@ held_found image name rs r found = held_value image name rs ∙ ap (λ (o : Opti
 pub held_missing : (image name : List ℕ) (rs : List Record) → value_of name (named rs) ≡ None → value_of name (map (held_in image) rs) ≡ None
 held_missing image name rs missing = held_value image name rs ∙ ap (λ (o : Option Record). option_map (λ r. (held_in image r).1) o) missing
 
+-- so a source holds a name exactly where its catalogue has a record of it
+pub holds_name : {D : Type 0} (device : D → DiskState) (o source : Stored D) (name : List ℕ) (r : Record) → o ≡ source → value_of name (named (records_of o.contents.catalogue)) ≡ Some r
+    → is_held (state_of device source) name ≡ true
+holds_name {D} device o source name r same found =
+    subst (λ (s : Stored D). is_held (state_of device s) name ≡ true) same (ap is_some (held_found (device o.disk).now.seen name (records_of o.contents.catalogue) r found))
+
+pub lacks_name : {D : Type 0} (device : D → DiskState) (o source : Stored D) (name : List ℕ) → o ≡ source → value_of name (named (records_of o.contents.catalogue)) ≡ None
+    → is_held (state_of device source) name ≡ false
+lacks_name {D} device o source name same missing =
+    subst (λ (s : Stored D). is_held (state_of device s) name ≡ false) same (ap is_some (held_missing (device o.disk).now.seen name (records_of o.contents.catalogue) missing))
+
 -- the entries of what is held are those of the records
 pub entries_held : (image : List ℕ) (rs : List Record) → entries (map (held_in image) rs) ≡ map entry_of rs
 entries_held image [] = refl
 entries_held image (r ∷ rs) = ap (λ (l : List (List ℕ × Entry)). entry_of r ∷ l) (entries_held image rs)
 
--- a fault of a body is never that the name is not held
+-- no fault of a body is NotHeld
 pub never_not_held : (fault : LoadFault) → refusal_of_body fault ≡ NotHeld → ⊥
 never_not_held faults.Device e = cc
 never_not_held faults.Damaged e = cc
 never_not_held faults.NoMemory e = cc
 
--- and is answered as Damaged where it is that alone
+-- only Damaged is answered as Damaged
 pub damaged_body : (fault : LoadFault) → refusal_of_body fault ≡ Damaged → fault ≡ faults.Damaged
 damaged_body faults.Damaged e = refl
 damaged_body faults.Device e = cc

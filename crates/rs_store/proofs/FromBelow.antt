@@ -3,9 +3,9 @@ pub use Rattle.rs_extent.proofs.ForCallers.{apart_behind, apart_front, beside_be
 pub use Rattle.rs_disk.proofs.ForCallers.{advances, advances_on, exit_images, goes_further, goes_on, nothing_read, nothing_synced, nothing_then, over_torn, reading_as, reading_none, reading_on, reading_then, resting_image, resting_off, rests, rests_on, runs_one, started, weaker, writing_as, writing_none, writing_on}
 pub use Rattle.rs_commit.proofs.ForCallers.{opens_stays, ready_opens, ready_stays}
 pub use Rattle.rs_body.proofs.ForCallers.{fits_sized, has_room, keeps_torn, only_as, only_none, only_on, only_then, outside_none, outside_on, part_kept, part_only, piece_follows}
-pub use Rattle.rs_page.proofs.ForCallers.{pages_stand, standing_are_pages, written_stand, written_stay}
+pub use Rattle.rs_page.proofs.ForCallers.{pages_stand, written_stand, written_stay}
 pub use Rattle.rs_model.proofs.ForCallers.{value-bind}
-pub use Rattle.rs_catalogue.proofs.ForCallers.{joined, value-map_values}
-pub use Rattle.rs_changes.proofs.ForCallers.{joined as joined_changes}
+pub use Rattle.rs_catalogue.proofs.ForCallers.{value-map_values}
 pub use Rattle.rs_image.proofs.ForCallers.{held_stays, keeps_behind, reaches_bodies, stands_once, tells_behind, tells_stays}
 pub use Rattle.rs_plan.proofs.ForCallers.{needed, sized_each, taken_each}
+pub use Rattle.rs_copy.proofs.ForCallers.{held_catalogue, held_history}

@@ -38,7 +38,7 @@ zip_long R [] (b ∷ ys) all = absurd all
 zip_long R (a ∷ xs) [] all = absurd all
 zip_long R (a ∷ xs) (b ∷ ys) all = omega (arith, zip_long R xs ys all.1)
 
--- The bodies of a group are written in their order: so many stand, and one more is to be written, of which others are left.
+-- The bodies of a group are written in their order: n of them stand, one is next, and others are left.
 module _ (extents : List Extent) (bodies : List (List ℕ)) (sized : AreSized extents bodies) (n : ℕ) (bytes : List ℕ) (left : List (List ℕ)) (next : drop n bodies ≡ bytes ∷ left) where
   abbrev pub at_hand : Extent → Extent
   at_hand d = get_or extents n d

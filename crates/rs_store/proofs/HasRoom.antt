@@ -149,7 +149,7 @@ lists_had_room used bodies c p placed unplaced none =
     each_had_room placed.after_history directory (p.directory ∷ []) placed.after (placed.after, placed.directory, refl)
     (pages_had_room change_format placed.after_catalogue placed.after_history c.history.pages p.contents.history.pages directory placed.history unplaced.history behind)
 
--- How many blocks pages need is told by the items of each, and whether it is stored.
+-- How many blocks pages need depends on the items of each, and on whether it is stored.
 pushed : Bool → ℕ → List ℕ → List ℕ
 pushed stored n ns = cond (not stored) (n ∷ ns) ns
 
@@ -295,7 +295,7 @@ base_stays used after old command moment extents c takes next =
     let found = taken_stand used after (bodies_of_command command) extents takes in
     ap (λ (s : Source). s.base) (next.turns found.0 found.1) ∙ next_base (state_in found.0 old) command moment
 
--- What a plan has found places for had room.
+-- A plan that found its places had room.
 module _ (old : Rooted) (command : Command) (moment : ℕ) (p : Plan) (planned : IsPlanned old command moment p) where
   abbrev needs : List ℕ
   needs = bodies_needed (bodies_of_command command)

@@ -21,9 +21,9 @@ use Rattle.rs_store.specs.Counted.{is_accepted, is_device, is_in_doubt, answered
 use Rattle.rs_store.specs.Runs.{InTurn, StandsForPrefix}
 use Rattle.rs_store.proofs.Turns.{idle_at, Commands, Acks, IsClosed, one, one_at_most, and_false, not_yet, by_then, none_yet, acknowledged_cons, closed_run, none_counts, none_acknowledged, closed_is_no_ok, closed_is_no_device}
 
--- What a command that was refused by a refusal other than Device leaves.
+-- What a command with any refusal but Device leaves.
 pub not_done : {D : Type 0} (device : D → DiskState) (old new : Stored D) (s : Source) (command : Command) (now : ℕ) (refusal : Refusal)
-    → is_device (Err refusal) ≡ false → Leads device old new s command now (Err refusal)
+    → is_device (Err refusal) ≡ false → Leads device old new s (step s command now) (Err refusal)
     → Holds device new s × Leaves (device old.disk) (device new.disk) (λ _ image. StandsFor image s)
 not_done {D} device old new s command now Device other lead = absurd (true≢false other)
 not_done {D} device old new s command now refusal other lead = lead
@@ -95,7 +95,7 @@ module _ {D : Type 0} (device : D → DiskState) (sound : (disk : D) → IsMediu
         (λ m image lt stands. at_first (Err refusal) m image (unanswered (Err refusal) m (omega (arith, lt, at))) stands)
         (record { later = rest.later; before = rest.before; each = λ m image ge le left. still refusal other m image (omega (arith, ge, at)) (rest.each m image ge le left) })
 
-    -- the device failed, and all that comes after it is answered Closed
+    -- the device failed, and each later answer is Closed
     in_doubt : Rests (device mid.disk) (device new.disk) → AllByRecursion IsClosed acks → Leaves (device old.disk) (device mid.disk) (λ _ image. StandsFor image s ⊎ StandsFor image (state_after s (step s c.0 c.1)))
         → Leaves (device old.disk) (device new.disk) (Before (Err Device))
     in_doubt rest closed within =
@@ -146,7 +146,7 @@ module _ {D : Type 0} (device : D → DiskState) (sound : (disk : D) → IsMediu
       refused s old mid new c cs acks n at turn answers.runs.runs.calls refusal other lead.1 (rest s lead.0))
       (is_device_or_not refusal)
 
-  -- at each moment of a run each image stands for a prefix of the counted commands
+  -- at each moment of a run each image represents a prefix of the counted commands
   pub each_moment : (s : Source) (old : Stored D) (cs : Commands) (acks : Acks) (new : Stored D) → Holds device old s → InTurn device old cs acks new
       → Leaves (device old.disk) (device new.disk) (StandsForPrefix s cs acks)
   each_moment s old [] [] new holds turn =
@@ -162,7 +162,7 @@ module _ {D : Type 0} (device : D → DiskState) (sound : (disk : D) → IsMediu
   each_moment s old [] (a ∷ acks) new holds turn = absurd turn
   each_moment s old (c ∷ cs) [] new holds turn = absurd turn
 
-  -- at the end a source that is open holds what the counted commands make
+  -- a source that is open at the end holds the state after the counted commands
   pub holds_all : (s : Source) (old : Stored D) (cs : Commands) (acks : Acks) (new : Stored D) → Holds device old s → InTurn device old cs acks new → new.is_closed ≡ false
       → Holds device new (fold_of s (counted_commands cs acks))
   holds_all s old [] [] new holds turn open_then = (turn.holds s holds).0

@@ -1,4 +1,4 @@
--- What an opening finds: where no state is stood for, and when a source holds what its lists tell.
+-- What opening finds: when a disk represents no state, and when a source holds the state that its lists tell.
 use Rattle.std.proofs.Common.{◌≡◌, inl, inr, ◌+◌, ◌≤◌, ◌<◌, ◌^◌, ℕ, false, List, ◌∷◌, Some, Result, Err, IsTrue, length, sym, ◌∙◌, ap, subst, refl, arith}
 use Rattle.std.specs.Prelude.{IsSome, IsErrOf}
 use Rattle.std.proofs.lemmas.Bool.{cases_lt}
@@ -40,14 +40,14 @@ has_room size n e es sized some inside =
     let first = inside e.first (some_first e es e.first (within_true e e.first (omega arith) (omega arith))) in
     omega (arith, first.0, first.1)
 
--- a disk of which something is told has room for the slots
+-- a disk that represents a state has room for the slots
 pub told_room : (root : Root) (c : Contents) (image : List ℕ) (s : Source) → Tells root c image s → 1024 ≤ length image
 told_room root c image s told =
     let same : length (part root.directory root.length image) ≡ length (listing root.version c) = ap length told.directory in
     let some : 1 ≤ root.length = omega (arith, same, some_bytes root.version c, length-take {A = ℕ}) in
     has_room (length image) root.length root.directory _ told.whole.directory some told.whole.inside
 
--- so where there is none, no state is stood for
+-- so a disk without that room represents none
 pub small_tells_nothing : (image : List ℕ) → length image < 1024 → (s : Source) → StandsFor image s → ⊥
 small_tells_nothing image small s stands =
     absurd (omega (arith, told_room stands.0 stands.2.0 image s stands.2.1))
@@ -55,7 +55,7 @@ small_tells_nothing image small s stands =
 some_same : (a b : Standing) → Some a ≡ Some b → a ≡ b
 some_same a b e = cc
 
--- where the root of the slots tells nothing, no state is stood for
+-- a disk whose root tells nothing represents no state
 pub untold_stands_for_nothing : (image : List ℕ) (slots : Standing) (root : Root) → current image ≡ Some slots → slots.root ≡ root
     → ((c : Contents) (s : Source) → Tells root c image s → ⊥) → (s : Source) → StandsFor image s → ⊥
 untold_stands_for_nothing image slots root stand is untold s stands =
@@ -64,7 +64,7 @@ untold_stands_for_nothing image slots root stand is untold s stands =
     let root_same : stands.0 ≡ root = sym there.2 ∙ ap (λ (x : Standing). x.root) same ∙ is in
     untold stands.2.0 s (subst (λ (r : Root). Tells r stands.2.0 image s) root_same stands.2.1)
 
--- What a source holds whose disk rests and whose lists are told.
+-- What a source holds whose disk rests and whose root tells its lists.
 pub holds_told : {D : Type 0} (device : D → DiskState) (disk : D) (slots : Standing) (c : Contents) (seen : List ℕ)
     → IsReady slots (device disk).now → (device disk).now ≡ resting seen → Tells slots.root c seen (state_in seen c)
     → Holds device (record { disk = disk; slots = slots; contents = c; is_closed = false }) (state_in (device disk).now.seen c)
@@ -80,7 +80,7 @@ holds_told device disk slots c seen ready rests told =
           (subst (λ (s : Source). Tells slots.root c seen s) state told);
     }
 
--- what stands for the state that is told
+-- the bytes represent the state that their root tells
 pub stands_told : {D : Type 0} (device : D → DiskState) (disk : D) (slots : Standing) (c : Contents) (seen : List ℕ)
     → (device disk).now ≡ resting seen → current seen ≡ Some slots → Tells slots.root c seen (state_in seen c)
     → StandsFor seen (state_in (device disk).now.seen c)
@@ -89,7 +89,7 @@ stands_told device disk slots c seen rests stand told =
     let state : state_in seen c ≡ state_in (device disk).now.seen c = ap (λ (l : List ℕ). state_in l c) (sym same) in
     (slots.root, (slots, stand, refl), (c, subst (λ (s : Source). Tells slots.root c seen s) state told))
 
--- what is said of each fault of the lists is said of the answer by its name
+-- a property of each fault of the lists is one of the answer with its name
 pub lists_not_opened : (old new : DiskState) (fault : LoadFault)
     → (fault ≡ lists.Damaged → IsTrue new.honest → IsSome (current old.now.seen) × ((s : Source) → ¬ StandsFor old.now.seen s))
     → (fault ≡ lists.Device → HasFailed old new)
@@ -98,7 +98,7 @@ lists_not_opened old new lists.Damaged damaged device memory = damaged refl
 lists_not_opened old new lists.Device damaged device memory = device refl
 lists_not_opened old new lists.NoMemory damaged device memory = memory refl
 
--- a refusal by what a disk held is one by what it held before it was settled
+-- a refusal for what a disk holds is one for what it held before it settled
 pub not_opened_before : (old mid new : DiskState) → mid.now.seen ≡ old.now.seen → mid.size ≡ old.size → old.faults ≤ mid.faults → (fault : OpenFault)
     → IsNotOpened mid new fault → IsNotOpened old new fault
 not_opened_before old mid new same size le NotASource refused = λ honest. sym (ap current same) ∙ refused honest
@@ -115,14 +115,14 @@ not_opened_before old mid new same size le NoMemory refused = λ honest.
       directory = subst (λ (n : ℕ). IsDirectoryPlaced n may.standing.root) size may.directory;
     }
 
--- what read the slots and the directory was four calls at least
+-- reading the slots and the directory took at least four calls
 pub one_call_more : {T E : Type 0} (old mid : DiskState) (result : Result T E) → CountsCall old mid result → mid.calls ≤ old.calls + 1
 one_call_more old mid result counts = elim (cases_lt (old.calls + 1) (2 ^ 64)) [
   | inl lt ↦ omega (arith, counts.calls lt)
   | inr most ↦ let same : mid.calls ≡ old.calls = ap (λ (d : DiskState). d.calls) (counts.spent most).0 in omega (arith, same)
 ]
 
--- a refusal of memory is one of the lists'
+-- NoMemory comes from the lists
 pub no_memory_of_lists : {T : Type 0} (fault : LoadFault) (P : Type 0) → (fault ≡ lists.NoMemory → P) → IsErrOf {T = T} (Err (of_lists fault)) NoMemory → P
 no_memory_of_lists lists.Damaged P from is = absurd cc
 no_memory_of_lists lists.Device P from is = absurd cc

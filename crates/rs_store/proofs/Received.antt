@@ -1,4 +1,4 @@
--- What is answered to a put of bytes is answered to the put that a reader brings them to.
+-- The answer to a put of bytes is the answer to the put that gets them from a reader.
 use Rattle.std.proofs.Common.{◌≡◌, inl, inr, ℕ, ◌+◌, ◌<◌, ◌≤◌, arith, List, [], ◌++◌, length, take, Option, Result, Ok, Err, refl, sym, ◌∙◌, ap, subst}
 use Rattle.std.specs.Prelude.{replicate, IfErr, IsErrOf}
 use Rattle.std.proofs.Math.Seq.{take-length}
@@ -11,21 +11,21 @@ use Rattle.rs_store.specs.declared.refusal.Refusal.{Refusal}
 use Rattle.rs_store.specs.declared.refusal.Refusal.TheVariants.{ReadFault, ShortBody, Device, NoMemory}
 use Rattle.rs_store.specs.Source.{Stored}
 use Rattle.rs_store.specs.Answered.{Answers}
-use Rattle.rs_store.specs.Received.{IsBodyOf, IsLeft, IsCutShort, IsCut, IsStopped, IsLate, MayHaveCome, AnswersFrom}
+use Rattle.rs_store.specs.Received.{IsBodyOf, IsLeft, IsCutShort, IsCut, IsStopped, IsLate, MayHaveCome, AnswersFrom, coming_put}
 
--- a body that begins with all of its bytes is these
+-- a body that begins with as many bytes as it has is these bytes
 same_body : (n : ℕ) (came body : List ℕ) → length came ≡ n → IsBodyOf n came body → came ≡ body
 same_body n came body whole h =
     let long : length came ≡ length body = whole ∙ sym h.len in
     sym h.front ∙ (ap (λ k. take k body) long ∙ take-length body)
 
--- nothing may have come with any refusal
+-- at any refusal nothing may have come
 pub nothing_came : (n : ℕ) (r : Refusal) → MayHaveCome n [] r
 nothing_came n Device = omega arith
 nothing_came n NoMemory = inl refl
 nothing_came n refusal = refl
 
--- and all of it with a late one
+-- at a late one everything may have come
 come_late : (n : ℕ) (came : List ℕ) (r : Refusal) → IsLate r → length came ≡ n → MayHaveCome n came r
 come_late n came Device late whole = omega (arith, whole)
 come_late n came NoMemory late whole = inr whole
@@ -34,14 +34,14 @@ come_late n came refusal late whole = absurd late
 module _ {D : Type 0} (device : D → DiskState) (old new : Stored D) (name kind : List ℕ) (n now : ℕ) (came : List ℕ) where
   -- a refusal that no reader gives
   pub refused_from : (r : Refusal) → (r ≡ ReadFault → ⊥) → (r ≡ ShortBody → ⊥) → MayHaveCome n came r → ((body : List ℕ) → IsBodyOf n came body → Answers device old new (Put name kind body) now (Err r))
-      → AnswersFrom device old new name kind n now came (Err r)
+      → AnswersFrom device old new (coming_put name kind n now) came (Err r)
   refused_from ReadFault a b fits all = absurd (a refl)
   refused_from ShortBody a b fits all = absurd (b refl)
   refused_from refusal a b fits all = (fits, all)
 
-  -- the same where one body is answered so
+  -- the same if one body is answered so
   pub refused_as : (r : Refusal) (body : List ℕ) → IsBodyOf n came body → MayHaveCome n came r → ((body : List ℕ) → IsBodyOf n came body → Answers device old new (Put name kind body) now (Err r))
-      → AnswersFrom device old new name kind n now came (Err r)
+      → AnswersFrom device old new (coming_put name kind n now) came (Err r)
   refused_as r body is fits all =
       refused_from r (λ same. (all body is).refused ReadFault (ap refusing same)) (λ same. (all body is).refused ShortBody (ap refusing same)) fits all
     where
@@ -49,7 +49,7 @@ module _ {D : Type 0} (device : D → DiskState) (old new : Stored D) (name kind
       refusing q = Err q
 
   -- all of the body came
-  pub answered_whole : (result : Result Reply Refusal) → IfErr result IsLate → length came ≡ n → Answers device old new (Put name kind came) now result → AnswersFrom device old new name kind n now came result
+  pub answered_whole : (result : Result Reply Refusal) → IfErr result IsLate → length came ≡ n → Answers device old new (Put name kind came) now result → AnswersFrom device old new (coming_put name kind n now) came result
   answered_whole (Ok reply) late whole a = (whole, a)
   answered_whole (Err r) late whole a =
       refused_as r came (record { len = whole; front = take-length came }) (come_late n came r late whole)
@@ -59,7 +59,7 @@ module _ {D : Type 0} (device : D → DiskState) (old new : Stored D) (name kind
 pub zeros : (n : ℕ) → IsBodyOf n [] (replicate n 0)
 zeros n = record { len = length-replicate n 0; front = refl }
 
--- what a refusal that leaves all as it was says of what is left
+-- what NoMemory leaves
 pub left_by : {D : Type 0} (device : D → DiskState) (old new : Stored D) (name kind body : List ℕ) (now : ℕ) → Answers device old new (Put name kind body) now (Err NoMemory) → IsLeft device old new
 left_by device old new name kind body now a = record {
   unchanged = a.unchanged NoMemory refl (λ (is : NoMemory ≡ Device). absurd cc);
@@ -70,8 +70,8 @@ left_by device old new name kind body now a = record {
 
 -- Not all of the body came.
 module _ {D : Type 0} (device : D → DiskState) (old new : Stored D) (name kind : List ℕ) (n now : ℕ) (came : List ℕ) (rest : Option (List ℕ)) where
-  pub cut_from : (r : Refusal) → (r ≡ Device → ⊥) → IsStopped n rest came r → (length came < n → IsCutShort device old new name kind n now came)
-      → AnswersFrom device old new name kind n now came (Err r)
+  pub cut_from : (r : Refusal) → (r ≡ Device → ⊥) → IsStopped n rest came r → (length came < n → IsCutShort device old new (coming_put name kind n now) came)
+      → AnswersFrom device old new (coming_put name kind n now) came (Err r)
   cut_from ReadFault other cut short = short cut
   cut_from ShortBody other cut short = short cut.0
   cut_from Device other cut short = absurd (other refl)
@@ -95,6 +95,6 @@ stops_behind n m rest front came ShortBody fits cut = (omega (arith, length-appe
 stops_behind n m rest front came Device fits cut = omega (arith, length-append front came, cut)
 stops_behind n m rest front came r fits cut = absurd cut
 
--- a refusal is the same one, whatever might have been given in its place
+-- a refusal is the same one in the place of another result
 pub refused_elsewhere : {A B : Type 0} (r s : Refusal) → IsErrOf {T = A} (Err r) s → IsErrOf {T = B} (Err r) s
 refused_elsewhere r s e = let is : r ≡ s = cc in ap Err is

@@ -1,10 +1,11 @@
--- What was just formatted tells the state of a source at its start.
+-- A new source tells the state of a source at its start.
 use Rattle.std.proofs.Common.{◌≡◌, ◌≤◌, ◌<◌, ◌*◌, ◌+◌, ℕ, false, true, List, [], ◌∷◌, ◌++◌, Result, Ok, Err, length, take, drop, sym, ◌∙◌, ap, subst, refl, arith, ⊎_elim}
 use Rattle.std.specs.Prelude.{OnOk}
 use Rattle.std.proofs.lemmas.Bool.{false≢true}
 use Rattle.std.proofs.lemmas.List.{length-append, length-drop}
 use Rattle.std.proofs.lemmas.List.Elements.{All-nil}
 use Rattle.std.proofs.Math.Seq.{take-append_seam}
+use Rattle.rs_fixity.specs.Digests.{digests}
 use Rattle.rs_extent.specs.declared.Extent.{Extent}
 use Rattle.rs_disk.specs.Medium.{Medium, DiskState, IsImage, resting}
 use Rattle.rs_store.proofs.FromBelow.{resting_image, within_is, some_split}
@@ -13,15 +14,14 @@ use Rattle.rs_body.specs.Blocks.{part, blocks_of}
 use Rattle.rs_commit.specs.Commit.{SameBehind, IsReady, behind_slots}
 use Rattle.rs_commit.specs.Format.{formatted, fresh}
 use Rattle.rs_commit.specs.declared.root.Root.{Root}
-use Rattle.rs_commit.specs.Slots.{Standing}
+use Rattle.rs_commit.specs.Slots.{Standing, written_version}
 use Rattle.rs_record.specs.declared.record.Record.{Record}
-use Rattle.rs_page.specs.Pages.{Page}
 use Rattle.rs_changes.specs.History.{Numbered}
 use Rattle.rs_directory.specs.declared.header.Header.{Header}
 use Rattle.rs_image.specs.declared.contents.Contents.{Contents}
 use Rattle.rs_model.specs.State.{start_of}
-use Rattle.rs_page.specs.Pages.{IsStored}
-use Rattle.rs_directory.specs.Directory.{written_format, IsLawfulHeader, IsLawfulRef}
+use Rattle.rs_page.specs.Pages.{Page, IsStored, stored_refs}
+use Rattle.rs_directory.specs.Directory.{directory_bytes, written_format, IsLawfulHeader, IsLawfulRef}
 use Rattle.rs_image.specs.Reach.{blocks_of_disk}
 use Rattle.rs_image.specs.Whole.{IsWhole, IsSoundRecord, IsSoundChange}
 use Rattle.rs_image.specs.Rooted.{rooted, IsRooted}
@@ -31,12 +31,12 @@ use Rattle.rs_store.specs.declared.formatting.Blank.{Blank}
 use Rattle.rs_store.specs.Formatting.{first_header, first_contents, first_root, IsBlank}
 use Rattle.rs_store.proofs.Opened.{some_bytes}
 
--- what a call leaves either way
+-- a fact of both results is one of success
 pub either_way : {T E P : Type 0} (r : Result T E) → P → OnOk r P
 either_way (Ok x) p = p
 either_way (Err e) p = tt
 
--- blocks 0 and 1 are as they were made
+-- blocks 0 and 1 are as formatting made them
 front_of : (front rest seen : List ℕ) → seen ≡ front ++ rest → length front ≡ 1024 → take 1024 seen ≡ front
 front_of front rest seen is long =
     ap (λ (l : List ℕ). take 1024 l) is ∙ ap (λ (n : ℕ). take n (front ++ rest)) (sym long) ∙ take-append_seam front rest
@@ -57,7 +57,7 @@ one_block : (e : Extent) (n size b : ℕ) → e.first ≡ 2 → e.blocks ≡ blo
 one_block e n size b first blocks small room is =
     ⊎_elim (λ there. let at = within_is e b there in (omega (arith, at.0), omega (arith, at.1))) (λ none. absurd (false≢true none)) (some_split e [] b is)
 
--- what the root of a formatting reaches keeps all rules
+-- what the first root reaches keeps all rules
 pub first_whole : (base : List ℕ) (limit moment size : ℕ) → length (listing written_format (first_contents base limit moment)) ≤ 512 → 16 ≤ blocks_of_disk size
     → IsWhole size (first_root (first_contents base limit moment)) (first_contents base limit moment)
 first_whole base limit moment size small room =
@@ -84,7 +84,7 @@ first_whole base limit moment size small room =
       inside = λ b is. one_block (first_root c).directory (length (listing written_format c)) size b refl refl small room is;
     }
 
--- the lists of it can be those of a directory
+-- a directory can name its lists
 first_listable : (base : List ℕ) (limit moment : ℕ) → IsLawfulHeader written_format (first_header base limit moment) → AreListable written_format (first_contents base limit moment)
 first_listable base limit moment lawful = record {
   header = lawful;
@@ -93,7 +93,7 @@ first_listable base limit moment lawful = record {
   published = record { each = All-nil IsLawfulRef; count = omega arith };
 }
 
--- so its root with its lists is one that planners take
+-- so planners take its root with its lists
 pub first_rooted : (base : List ℕ) (limit moment size : ℕ) → 16 ≤ blocks_of_disk size → (c : Contents) → c ≡ first_contents base limit moment
     → (root : Root) → root ≡ first_root c → IsLawfulHeader written_format c.header → length (listing written_format c) ≤ 512 → IsRooted (rooted size root c)
 first_rooted base limit moment size room c e =
@@ -104,7 +104,7 @@ first_rooted base limit moment size room c e =
     subst (λ (r : Root). IsRooted (rooted size r first)) (sym f)
     (record { room = omega (arith, room); whole = first_whole base limit moment size small room; listable = first_listable base limit moment lawful }))
 
--- where its directory stands, its lists are told, and they are those of a source at its start
+-- where its directory stands, its root tells the lists of a source at its start
 pub first_told : (base : List ℕ) (limit moment : ℕ) (image : List ℕ) → IsLawfulHeader written_format (first_header base limit moment)
     → length (listing written_format (first_contents base limit moment)) ≤ 512 → 16 ≤ blocks_of_disk (length image)
     → part (first_root (first_contents base limit moment)).directory (length (listing written_format (first_contents base limit moment))) image ≡ listing written_format (first_contents base limit moment)
@@ -121,13 +121,26 @@ first_told base limit moment image lawful small room reads =
       state = refl;
     }
 
--- the lists of a formatting, from their parts
+-- its lists, from their parts
 pub made_contents : (base : List ℕ) (limit moment : ℕ) (h : Header) (a : List (Page Record)) (b : Numbered) (p : List (Page Record))
     → h ≡ first_header base limit moment → a ≡ [] → b ≡ record { first = 0; pages = [] } → p ≡ []
     → record { header = h; catalogue = a; history = b; published = p } ≡ first_contents base limit moment
 made_contents base limit moment h a b p e f g k = λ i. record { header = e i; catalogue = f i; history = g i; published = k i }
 
--- the same of whatever is what a formatting writes
+-- its directory and its root, from their parts
+pub made_listing : (h : Header) (a : List (Page Record)) (b : Numbered) (p : List (Page Record)) (bytes : List ℕ) → a ≡ [] → b ≡ record { first = 0; pages = [] } → p ≡ []
+    → bytes ≡ directory_bytes written_format h [] [] [] → bytes ≡ listing written_format (record { header = h; catalogue = a; history = b; published = p })
+made_listing h a b p bytes f g k spelled = spelled ∙ (λ i. directory_bytes written_format h (stored_refs (sym f i)) (stored_refs (sym g i).pages) (stored_refs (sym k i)))
+
+pub made_root : (c : Contents) (bytes sha : List ℕ) (blocks len : ℕ) → bytes ≡ listing written_format c → len ≡ length bytes → sha ≡ (digests bytes).sha256 → blocks ≡ blocks_of len
+    → record { version = written_version; generation = 1; directory = record { first = 2; blocks = blocks }; length = len; sha256 = sha } ≡ first_root c
+made_root c bytes sha blocks len spelled long digest needed =
+    let as_long : len ≡ length (listing written_format c) = long ∙ ap length spelled in
+    let same : sha ≡ (digests (listing written_format c)).sha256 = digest ∙ ap (λ (l : List ℕ). (digests l).sha256) spelled in
+    let sized : blocks ≡ blocks_of (length (listing written_format c)) = needed ∙ ap blocks_of as_long in
+    λ i. record { version = written_version; generation = 1; directory = record { first = 2; blocks = sized i }; length = as_long i; sha256 = same i }
+
+-- the same of whatever equals its lists and root
 told_of : (base : List ℕ) (limit moment : ℕ) (image : List ℕ) → 16 ≤ blocks_of_disk (length image) → (c : Contents) → c ≡ first_contents base limit moment
     → (root : Root) → root ≡ first_root c → IsLawfulHeader written_format c.header → length (listing written_format c) ≤ 512 → part root.directory (length (listing written_format c)) image ≡ listing written_format c
     → Tells root c image (start_of base limit moment)
@@ -140,7 +153,7 @@ told_of base limit moment image room c e =
     let Q : Root → Type 0 = λ r. part r.directory (length (listing written_format first)) image ≡ listing written_format first → Tells r first image (start_of base limit moment) in
     subst Q (sym f) (λ reads. first_told base limit moment image lawful small room reads))
 
--- What a source holds that was just formatted.
+-- What a new source holds.
 pub first_holds : {D : Type 0} (device : D → DiskState) (disk : D) (slots : Standing) (base : List ℕ) (limit moment : ℕ) (b : Blank)
     → IsBlank base limit moment b → slots ≡ fresh b.root → IsReady (fresh b.root) (device disk).now → (device disk).now ≡ resting (device disk).now.seen
     → part b.root.directory (length b.directory.items) (device disk).now.seen ≡ b.directory.items → 16 ≤ blocks_of_disk (length (device disk).now.seen)

@@ -1,4 +1,4 @@
--- What writes beside all that a root reaches leave: the slots, what the root tells, and the state of the lists.
+-- Writes beside the blocks that a root reaches keep the slots, what the root tells, and the state of the lists.
 use Rattle.std.proofs.Common.{true≢false, ◌≡◌, ℕ, ◌+◌, ◌*◌, ◌/◌, ◌%◌, ◌<◌, ◌≤◌, Bool, true, false, ◌||◌, nat_lt, nat_le, List, map, take, get_or, refl, sym, ◌∙◌, ap, subst, arith, length-take}
 use Rattle.std.proofs.lemmas.Bool.Decides.{nat_tests}
 use Rattle.std.proofs.lemmas.List.{ext_get_or, get_or-take}

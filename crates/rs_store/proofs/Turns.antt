@@ -1,4 +1,4 @@
--- Commands that were answered in their order.
+-- Commands that a source answers in their order.
 use Rattle.std.proofs.Common.{◌≡◌, ℕ, ◌+◌, ◌<◌, ◌≤◌, Bool, true, false, ◌&&◌, List, [], ◌∷◌, ◌++◌, refl, ◌∙◌, ap, subst, arith, cond, Result, Err}
 use Rattle.std.specs.Prelude.{nat_le, is_ok, Some}
 use Rattle.std.specs.List.{AllByRecursion}
@@ -27,7 +27,7 @@ abbrev pub Acks : Type 0
 Acks = List Ack
 
 module _ {D : Type 0} (device : D → DiskState) (sound : (disk : D) → IsMedium (device disk).size (device disk).now) where
-  -- each image of the disk of a source that holds a state stands for it
+  -- each image of the disk of a source that holds a state represents it
   pub images_stand : (source : Stored D) (s : Source) → Holds device source s → (image : List ℕ) → IsImage (device source.disk).now image → StandsFor image s
   images_stand source s holds image left =
       (source.slots.root, ready_opens source.slots (device source.disk).now (device source.disk).size (sound source.disk) holds.ready image left, (source.contents, holds.told image left))
@@ -115,7 +115,7 @@ none_yet {D} device old (c ∷ cs) [] new m turn lt = absurd turn
 abbrev pub IsClosed : Ack → Type 0
 IsClosed a = a.reply ≡ Err Closed
 
--- A closed source answers Closed to all, stays closed, and nothing changes but what the disk counts.
+-- A closed source answers Closed to all commands and stays closed, and only the counts of the disk change.
 pub closed_run : {D : Type 0} (device : D → DiskState) (old : Stored D) (cs : Commands) (acks : Acks) (new : Stored D)
     → old.is_closed ≡ true → InTurn device old cs acks new → (new.is_closed ≡ true) × Rests (device old.disk) (device new.disk) × AllByRecursion IsClosed acks
 closed_run {D} device old [] [] new shut turn = (turn.is_closed ∙ shut, turn.rests shut, tt)
@@ -131,7 +131,7 @@ closed_run {D} device old (c ∷ cs) (a ∷ acks) new shut turn =
 closed_run {D} device old [] (a ∷ acks) new shut turn = absurd turn
 closed_run {D} device old (c ∷ cs) [] new shut turn = absurd turn
 
--- Of commands that were all answered Closed none counts.
+-- No command counts among those that were all answered Closed.
 pub none_counts : (test : Ack → Bool) → ((a : Ack) → IsClosed a → test a ≡ false) → (cs : Commands) (acks : Acks) → AllByRecursion IsClosed acks → answered test cs acks ≡ []
 none_counts test fails [] acks all = refl
 none_counts test fails (c ∷ cs) [] all = refl

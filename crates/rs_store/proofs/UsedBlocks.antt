@@ -1,4 +1,4 @@
--- The set of the used blocks along a commit: what a plan takes, what it gives back, and what is used then.
+-- The set of used blocks across a commit: what a plan takes, what it gives back, and what is used afterwards.
 use Rattle.std.proofs.Common.{true≢false, ◌≡◌, ◌≤◌, ℕ, Bool, true, false, not, ◌&&◌, ◌||◌, List, refl, sym, ◌∙◌, subst, arith}
 use Rattle.rs_extent.specs.declared.Extent.{Extent}
 use Rattle.rs_extent.specs.Blocks.{is_used}
@@ -57,7 +57,7 @@ module _ (size : ℕ) (root : Root) (old : Contents) (command : Command) (moment
               taken.others b (given_apart b here) ∙ are.each b inside.1 ∙ given_kept b here;
         })
 
-    -- then the blocks are used that the next root reaches, and no others
+    -- then exactly the blocks are used that the next root reaches
     pub used_next : (then : List Bool) → AreGiven mid then p.freed.items → AreUsed (rooted size (planned_root root p) (once_stored p.contents)) then
     used_next then given = record {
       blocks = given.size ∙ taken.size ∙ are.blocks;
@@ -67,7 +67,7 @@ module _ (size : ℕ) (root : Root) (old : Contents) (command : Command) (moment
           ∙ sym (planned.blocks.next b);
     }
 
--- What is in memory after a commit is sound.
+-- The memory after a commit is sound.
 pub sound_next : (size size' : ℕ) (root root' : Root) (old c : Contents) (command : Command) (moment : ℕ) (p : Plan) (then : List Bool)
     → size' ≡ size → root' ≡ planned_root root p → c ≡ once_stored p.contents → 1024 ≤ size → IsPlanned (rooted size root old) command moment p
     → AreUsed (rooted size (planned_root root p) (once_stored p.contents)) then → MemoryIsSound (rooted size' root' c) then

@@ -1,4 +1,4 @@
--- The places of a plan, and what was written into them one after the other.
+-- The places of a plan, and the writes to them one after the other.
 use Rattle.std.proofs.Common.{◌≡◌, ℕ, ◌+◌, ◌*◌, ◌<◌, ◌≤◌, Bool, true, List, [], ◌∷◌, ◌++◌, length, sym, ◌∙◌, subst, arith, Result, Ok, Err, OnOk}
 use Rattle.std.specs.List.{AllZip}
 use Rattle.std.proofs.lemmas.List.{append_assoc}
@@ -114,7 +114,7 @@ bodies_kept_so kept (e ∷ es) (bytes ∷ bodies) sized all old new keeps stand 
   bodies_kept_so kept es bodies sized.1 (λ b is. all b (some_rest e es b is)) old new keeps stand.1,
 )
 
--- what is written to these extents alone, and not to others, by a set that they are beside
+-- a set beside an extent is beside the list of it alone
 beside_alone : (kept : ℕ → Bool) (e : Extent) → IsBeside kept e → AreBeside kept (e ∷ [])
 beside_alone kept e beside b is = beside b (in_one e b is)
 

@@ -1,4 +1,4 @@
--- What commands make of the state that a source holds.
+-- How commands change the state of a source.
 use Rattle.std.specs.Prelude.{◌≡◌, ◌≤◌, ℕ, false, List, [], length, All, None}
 use Rattle.rs_disk.specs.Medium.{DiskState}
 use Rattle.rs_model.specs.State.{Source}
@@ -6,16 +6,15 @@ use Rattle.rs_model.specs.Step.{refusal_of, fold_of}
 use Rattle.rs_model.specs.declared.command.Command.{Command}
 use Rattle.rs_store.specs.Source.{Stored, Holds, state_of}
 
--- A source went on by these commands, in their order, each with the moment at which it comes. One that is open was open
--- before; what its lists tell is then what the commands make of what they told, and a state that it held has become the one
--- that the commands make of it.
+-- A source did these commands in their order, each at its moment. If it is open, it was open before, its lists tell the state that
+-- the commands make of what they told before, and it holds the state that the commands make of the one that it held.
 pub record GoesOnBy {D : Type 0} (device : D → DiskState) (old new : Stored D) (commands : List (Command × ℕ)) : Type 0 where
   pub opened : new.is_closed ≡ false → old.is_closed ≡ false
   pub tells : new.is_closed ≡ false → state_of device new ≡ fold_of (state_of device old) commands
   pub holds : (s : Source) → Holds device old s → new.is_closed ≡ false → Holds device new (fold_of s commands)
 
--- A source went on by one command at most, which came at this moment and which the model accepts. Without one it is as
--- closed or open as it was: it is closed by a command alone.
+-- A source did at most one command, which came at this moment and which the model accepts. Without one it is as open or closed as
+-- it was.
 pub record GoesOnOnce {D : Type 0} (device : D → DiskState) (old : Stored D) (now : ℕ) (new : Stored D) : Type 0 where
   pub commands : List (Command × ℕ)
   pub few : length commands ≤ 1

@@ -20,14 +20,14 @@ abbrev pub moment_unless : Option Refusal → ℕ → Result ℕ Refusal
 moment_unless None moment = Ok moment
 moment_unless (Some refusal) moment = Err refusal
 
--- What is in memory is as it was, and tells the same state.
+-- The memory is as it was, and tells the same state.
 pub record IsUnchanged {D : Type 0} (device : D → DiskState) (old new : Stored D) : Type 0 where
   pub slots : new.slots ≡ old.slots
   pub contents : new.contents ≡ old.contents
   pub state : state_of device new ≡ state_of device old
 
--- A command was carried out by its plan: the lists are those of the plan, stored in the places that it has for them, and the root
--- is the next one. So a page that the plan doesn't touch keeps its items, its extent and its digest.
+-- A command was carried out by its plan: the lists are those of the plan, stored in the places that it gives them, and the root is
+-- the next one. So a page that the plan does not touch keeps its items, its extent and its digest.
 pub record IsCarriedOut {D : Type 0} (device : D → DiskState) (old new : Stored D) (command : Command) (now : ℕ) : Type 0 where
   pub plan : Plan
   pub planned : IsPlanned (rooted_in device old) command (moment_at (state_of device old) now) plan
@@ -35,17 +35,16 @@ pub record IsCarriedOut {D : Type 0} (device : D → DiskState) (old new : Store
   pub root : new.slots.root ≡ planned_root old.slots.root plan
 
 -- What a source answers to a command that comes at `now`, and what it is then.
--- `decides`, `untouched`: what is decided before anything is asked of memory or the disk is answered, and nothing changes.
--- `full`: Full is answered before anything is written or called: the source is as it was.
--- `refused`: the cause of each refusal is there.
--- `accepted`: what is accepted is the step of the state that the lists tell, and its reply.
--- `planned`: what is accepted is carried out by its plan, so that the pages and the places are the ones that the rules give.
--- `generation`, `version`: each accepted command takes one generation of the root, which has the version that is written then.
--- `leads`: of a source that holds a state, what is held then, and what each image of a crash meanwhile stands for.
--- `runs`: it answers Device only where a device call failed, and where it answers anything else none did; whatever the answer, the
--- disk has its size, and its counts do not fall.
+-- `decides`, `untouched`: it answers a refusal that needs neither memory nor the disk, and nothing changes.
+-- `full`: Full leaves the source as it was, and comes before any write or call.
+-- `refused`: each refusal has its cause.
+-- `accepted`: Ok is the model's step of the state that the lists tell, with its reply.
+-- `planned`: an accepted command is carried out by its plan, so the rules determine pages and places.
+-- `generation`, `version`: each accepted command takes one generation of the root, and gives the root the version that is written.
+-- `leads`: if the source holds a state, what it holds then, and what each image of a crash meanwhile represents.
+-- `runs`: it answers Device exactly where a device call failed; the disk keeps its size, and its counts do not fall.
 -- `closes`, `stays_open`: Device closes it, and nothing else does.
--- `unchanged`: any other refusal leaves what was in memory.
+-- `unchanged`: any other refusal leaves the memory as it was.
 pub record Answers {D : Type 0} (device : D → DiskState) (old new : Stored D) (command : Command) (now : ℕ) (result : Result Reply Refusal) : Type 0 where
   pub decides : (r : Refusal) → decided old (state_of device old) command now ≡ Some r → result ≡ Err r
   pub untouched : (r : Refusal) → decided old (state_of device old) command now ≡ Some r → new ≡ old
@@ -55,7 +54,7 @@ pub record Answers {D : Type 0} (device : D → DiskState) (old new : Stored D) 
   pub planned : IfOk result (λ _. IsCarriedOut device old new command now)
   pub generation : IfOk result (λ _. new.slots.root.generation ≡ old.slots.root.generation + 1)
   pub version : IfOk result (λ _. new.slots.root.version ≡ written_version)
-  pub leads : (s : Source) → Holds device old s → Leads device old new s command now result
+  pub leads : (s : Source) → Holds device old s → Leads device old new s (step s command now) result
   pub runs : RunsWriting (IsErrOf result Device) (device old.disk) (device new.disk)
   pub closes : IsErrOf result Device → new.is_closed ≡ true
   pub stays_open : (IsErrOf result Device → ⊥) → new.is_closed ≡ old.is_closed

@@ -1,4 +1,4 @@
--- What a source answers where it is asked for a body.
+-- What a source answers when it is asked for a body.
 use Rattle.std.specs.Prelude.{◌≡◌, ◌↔◌, ℕ, false, List, Some, Result, Vec, IfOk, IfErr, IfSome, IsErrOf, IsTrue}
 use Rattle.std.specs.Global.{Global}
 use Rattle.rs_disk.specs.Medium.{DiskState}
@@ -12,12 +12,12 @@ use Rattle.rs_store.specs.OnlyReads.{OnlyReads}
 use Rattle.rs_store.specs.Shows.{AreAsRecorded, HasItsDigest, IsOfBody}
 use Rattle.rs_store.specs.Source.{Stored, state_of}
 
--- What a source answers to the question for a body, and what it is then.
--- `reads`, `recorded`: bytes are the body, of a device that has followed the model; of every device they are as recorded.
--- `closed`, `not_held`: a refusal that needs no device comes exactly where its cause is there.
--- `damaged`, `others`: the causes of the others, want of memory apart; `runs`: Device comes only where a device call failed, and
--- where another answer comes none did.
--- `reads_only`: nothing changes but what the disk counts, and the source stays open, also after Device.
+-- What a source answers when it is asked for the body of a name, and what it is then.
+-- `reads`, `recorded`: the bytes are the body, if the device has followed the model; from every device they are as recorded.
+-- `closed`, `not_held`: these refusals come exactly where their cause is there.
+-- `damaged`, `others`: the cause of Damaged, and which other refusals there are.
+-- `runs`: Device comes exactly where a device call failed.
+-- `reads_only`: only the counts of the disk change, and the source stays open, also after Device.
 pub record AnswersBody {D : Type 0} (device : D → DiskState) (old new : Stored D) (name : List ℕ) (result : Result (Vec ℕ Global) Refusal) : Type 0 where
   pub reads : IfOk result (λ bytes. IsTrue (device new.disk).honest → body_of name (state_of device old) ≡ Some bytes.items)
   pub recorded : IfOk result (λ bytes. IfSome (value_of name (state_of device old).held) (λ held. AreAsRecorded held.entry.facts bytes.items))

@@ -1,10 +1,10 @@
--- Why no body was read.
+-- Why a body was not read.
 use Rattle.rs_body.specs.declared.read.LoadFault.{LoadFault}
 use Rattle.rs_body.specs.declared.read.LoadFault.TheVariants as faults
 use Rattle.rs_store.specs.declared.refusal.Refusal.{Refusal}
 use Rattle.rs_store.specs.declared.refusal.Refusal.TheVariants.{Device, Damaged, NoMemory}
 
--- a fault of a body, by the same name
+-- the refusal with the name of a fault
 abbrev pub refusal_of_body : LoadFault → Refusal
 refusal_of_body faults.Device = Device
 refusal_of_body faults.Damaged = Damaged

@@ -1,4 +1,4 @@
--- What a source answers where it is copied to another disk.
+-- What a source answers when it is copied to another disk.
 use Rattle.std.specs.Prelude.{◌≡◌, ◌⊎◌, ◌↔◌, ◌<◌, ◌≤◌, ◌+◌, ℕ, Bool, false, List, All, None, Result, IfOk, IsErrAnd, IsTrue}
 use Rattle.rs_disk.specs.Medium.{DiskState}
 use Rattle.rs_disk.specs.Leaves.{Leaves}
@@ -13,54 +13,50 @@ use Rattle.rs_image.specs.StateOfImage.{StandsFor}
 use Rattle.rs_model.specs.State.{Source}
 use Rattle.rs_copy.specs.Laying.{LacksCopyRoom}
 use Rattle.rs_copy.specs.Copies.{HasItsBody, LiesCopied}
-use Rattle.rs_copy.specs.declared.faults.CopyFault as copies
-use Rattle.rs_copy.specs.declared.faults.CopyFault.TheVariants as copying
-use Rattle.rs_store.specs.declared.copying.CopyFault.{CopyFault}
-use Rattle.rs_store.specs.declared.copying.CopyFault.TheVariants.{Closed, TooSmall, Full, Device, Damaged, NoMemory}
+use Rattle.rs_copy.specs.declared.faults.CopyFault.{CopyFault}
+use Rattle.rs_copy.specs.declared.faults.CopyFault.TheVariants.{TooSmall, Full, Device, Damaged}
+use Rattle.rs_store.specs.declared.copying.CopyRefusal.{CopyRefusal}
+use Rattle.rs_store.specs.declared.copying.CopyRefusal.TheVariants.{Closed, Fault}
 use Rattle.rs_store.specs.OnlyReads.{OnlyReads}
 use Rattle.rs_store.specs.Opening.{disk_of}
 use Rattle.rs_store.specs.Shows.{HasItsDigest}
 use Rattle.rs_store.specs.Source.{Stored, Holds, state_of}
 
--- a fault of a copy, by the same name
-abbrev pub fault_of_copy : copies.CopyFault → CopyFault
-fault_of_copy copying.TooSmall = TooSmall
-fault_of_copy copying.Full = Full
-fault_of_copy copying.Device = Device
-fault_of_copy copying.Damaged = Damaged
-fault_of_copy copying.NoMemory = NoMemory
+-- the answer is this refusal
+abbrev pub IsRefusal : {E : Type 0} → Result (Stored E) (E × CopyRefusal) → CopyRefusal → Type 0
+IsRefusal result refusal = IsErrAnd result (λ refused. refused.1 ≡ refusal)
 
--- this fault is answered
-abbrev pub IsFault : {E : Type 0} → Result (Stored E) (E × CopyFault) → CopyFault → Type 0
-IsFault result fault = IsErrAnd result (λ refused. refused.1 ≡ fault)
+-- the answer is this fault of the copy
+abbrev pub IsFault : {E : Type 0} → Result (Stored E) (E × CopyRefusal) → CopyFault → Type 0
+IsFault result fault = IsRefusal result (Fault fault)
 
--- a fault that is found before a call of either disk
-abbrev pub IsEarly : {E : Type 0} → Result (Stored E) (E × CopyFault) → Type 0
-IsEarly result = (IsFault result Closed ⊎ IsFault result TooSmall) ⊎ IsFault result Full
+-- the answer is one that comes before a call of either disk
+abbrev pub IsEarly : {E : Type 0} → Result (Stored E) (E × CopyRefusal) → Type 0
+IsEarly result = (IsRefusal result Closed ⊎ IsFault result TooSmall) ⊎ IsFault result Full
 
 -- A copy of these lists lies on a disk of this many bytes as it was laid out, and all its pages are stored.
 pub record LiesAsLaidOut {E : Type 0} (size : ℕ) (c : Contents) (copy : Stored E) : Type 0 where
   pub used : List Bool
   pub lies : LiesCopied size c (record { slots = copy.slots; contents = copy.contents; used = used })
 
--- What a source answers that is copied to a disk which was `to`, and what both are then.
--- `reads_only`: of the source nothing changes but what its disk counts, and it stays open; `advances`: the new disk has its size.
--- `closed`, `too_small`, `full`: the causes of these; `untouched`, `unread`: after them the new disk is as it was, and so is the
--- source with its own disk.
--- `room`: Device and Damaged come only where the new disk has room for all that is written.
--- `failed`, `sound`: Device comes only where a call of one of the two disks failed, and where anything else is answered none did.
--- `damaged`: a body has not its recorded SHA-256, of an old disk that has followed the model.
--- `first`: the new root is of the first generation, in the version that is written; `slots`: it is in the first slot, the second
--- one is closed, and they can be changed.
+-- What a source answers when it is copied to the disk `to`, and what both disks are then.
+-- `reads_only`: the source stays open, and only the counts of its disk change; `advances`: the new disk keeps its size.
+-- `closed`, `too_small`, `full`: the causes of these; `untouched`, `unread`: they leave the new disk, and the source with its own
+-- disk, as they were.
+-- `room`: Device and Damaged come only where the new disk has room for the whole copy.
+-- `failed`, `sound`: Device comes only where a call of one of the disks failed, and any other answer only where none did.
+-- `damaged`: a body lacks its recorded SHA-256, if the old disk has followed the model.
+-- `first`: the new root has generation 1 and the version that is written; `slots`: it is in the first slot, the second one is
+-- closed, and they can be changed.
 -- `intact`: each body on the new disk has its recorded SHA-256, whatever the old disk gave.
--- `lies`: bodies, pages and the directory each have the lowest run of their size in turn, in pages of 64 that no two lists share.
+-- `lies`: bodies, pages and the directory each took the lowest run of their size in turn; each list has its own pages of 64 items.
 -- `holds`: the new source holds the state that this one held.
--- `any_moment`: from the first sync that succeeded on, which is the third call of the new disk, each image of it tells no root, or
--- stands for that state.
-pub record AnswersCopy {D E : Type 0} (device : D → DiskState) (other : E → DiskState) (old new : Stored D) (to : E) (result : Result (Stored E) (E × CopyFault)) : Type 0 where
+-- `any_moment`: once a first sync of the new disk has succeeded, which is its third call, each of its images tells no root, or
+-- represents that state.
+pub record AnswersCopy {D E : Type 0} (device : D → DiskState) (other : E → DiskState) (old new : Stored D) (to : E) (result : Result (Stored E) (E × CopyRefusal)) : Type 0 where
   pub reads_only : OnlyReads device old new
   pub advances : Advances (other to) (other (disk_of result))
-  pub closed : IsFault result Closed ↔ IsTrue old.is_closed
+  pub closed : IsRefusal result Closed ↔ IsTrue old.is_closed
   pub too_small : IsFault result TooSmall ↔ ((old.is_closed ≡ false) × (blocks_of_disk (other to).size < 16))
   pub full : IsFault result Full → LacksCopyRoom (other to).size old.contents
   pub untouched : IsEarly result → disk_of result ≡ to

@@ -20,29 +20,29 @@ use Rattle.rs_store.specs.declared.formatting.Blank.{Blank}
 use Rattle.rs_store.specs.declared.formatting.FormatFault.{FormatFault}
 use Rattle.rs_store.specs.declared.formatting.FormatFault.TheVariants.{BadBase, BadLimit, TooSmall}
 
--- A source of this base and limit can be made on a disk of so many bytes.
+-- A disk of this many bytes can be formatted with this base and limit.
 pub record MayMake (size : ℕ) (base : List ℕ) (limit : ℕ) : Type 0 where
   pub room : 16 ≤ blocks_of_disk size
   pub limit_is : IsLimit limit
   pub base_is : IsTrue (is_base base)
 
--- The causes of these refusals: each is told exactly where its cause is there, and none before it.
+-- The causes of these faults: each comes exactly where its cause is there, and none of a fault before it.
 pub record HasCauses (size : ℕ) (base : List ℕ) (limit : ℕ) (told : FormatFault → Type 0) : Type 0 where
   pub bad_base : told BadBase ↔ (is_base base ≡ false)
   pub bad_limit : told BadLimit ↔ (IsTrue (is_base base) × (¬ IsLimit limit))
   pub too_small : told TooSmall ↔ (IsTrue (is_base base) × IsLimit limit × (blocks_of_disk size < 16))
 
--- the header of a source that is formatted at this moment
+-- the header of a source that was formatted at this moment
 abbrev pub first_header : List ℕ → ℕ → ℕ → Header
 first_header base limit moment =
     record { base = base; limit = limit; start = moment; last = moment; number = 0; at = moment; first = 0; begin = moment }
 
--- the lists of it, of which none has a page
+-- its lists, which have no pages
 abbrev pub first_contents : List ℕ → ℕ → ℕ → Contents
 first_contents base limit moment =
     record { header = first_header base limit moment; catalogue = []; history = record { first = 0; pages = [] }; published = [] }
 
--- the root of these lists: the directory lies from block 2 on, and the generation is the first one
+-- the root of these lists: the directory begins at block 2, and the generation is 1
 abbrev pub first_root : Contents → Root
 first_root c =
     record {
@@ -53,7 +53,7 @@ first_root c =
       sha256 = (digests (listing written_format c)).sha256;
     }
 
--- What is written of a source that was just formatted: its lists, the bytes of its directory, and its root.
+-- A new source before it is written: its lists, the bytes of its directory, and its root.
 pub record IsBlank (base : List ℕ) (limit moment : ℕ) (b : Blank) : Type 0 where
   pub contents : b.contents ≡ first_contents base limit moment
   pub lawful : IsLawfulHeader written_format b.contents.header
@@ -61,7 +61,7 @@ pub record IsBlank (base : List ℕ) (limit moment : ℕ) (b : Blank) : Type 0 w
   pub directory : b.directory.items ≡ listing written_format b.contents
   pub small : length (listing written_format b.contents) ≤ 512
 
--- What is written of it fits a disk of this many bytes: the slots, and behind them its directory, which its root says where to find.
+-- It fits a disk of this many bytes: the slots, and behind them the directory, where the root says.
 pub record FitsDisk (size : ℕ) (b : Blank) : Type 0 where
   pub slots : 1024 ≤ size
   pub version : b.root.version ≡ written_version
@@ -69,8 +69,8 @@ pub record FitsDisk (size : ℕ) (b : Blank) : Type 0 where
   pub room : IsOnDisk b.root.directory size
   pub fits : length b.directory.items ≤ block_size * b.root.directory.blocks
 
--- It was written to a disk, which is settled: the first slot is open and tells its root, the second is closed, and its directory
--- stands where the root says.
+-- It is written to a disk that has settled: the first slot is open and tells the root, the second one is closed, and the directory
+-- lies where the root says.
 pub record IsMade (b : Blank) (m : Medium) : Type 0 where
   pub front : take 1024 m.seen ≡ formatted b.root
   pub ready : IsReady (fresh b.root) m

@@ -4,7 +4,7 @@ use Rattle.rs_disk.specs.Medium.{DiskState}
 use Rattle.rs_disk.specs.Runs.{Rests}
 use Rattle.rs_store.specs.Source.{Stored}
 
--- What is in memory is as it was, the source is as open or closed as it was, and nothing changes but what the disk counts.
+-- The memory stays as it is, the source as open or closed as it is, and only the counts of the disk change.
 pub record OnlyReads {D : Type 0} (device : D → DiskState) (old new : Stored D) : Type 0 where
   pub slots : new.slots ≡ old.slots
   pub contents : new.contents ≡ old.contents

@@ -1,4 +1,4 @@
--- What a source answers to a put whose body a reader brings.
+-- What a source answers to a put whose body comes from a reader.
 use Rattle.std.specs.Prelude.{◌≡◌, ◌⊎◌, ◌<◌, ◌≤◌, ℕ, List, [], length, take, Option, None, Result, Ok, Err}
 use Rattle.std.specs.Io.KnownBytes.{IsAtEnd}
 use Rattle.rs_disk.specs.Medium.{DiskState}
@@ -22,53 +22,66 @@ pub record IsBodyOf (n : ℕ) (came body : List ℕ) : Type 0 where
   pub len : length body ≡ n
   pub front : take (length came) body ≡ came
 
--- A command was not done: what was in memory is as it was, a state that was held is still held, and each image of a crash
--- meanwhile stands for it. No device call failed.
+-- A command was not done: the memory is as it was, the source still holds the state that it held, and each image of a crash
+-- meanwhile represents it. No device call failed.
 pub record IsLeft {D : Type 0} (device : D → DiskState) (old new : Stored D) : Type 0 where
   pub unchanged : IsUnchanged device old new
   pub is_closed : new.is_closed ≡ old.is_closed
   pub holds : (s : Source) → Holds device old s → Holds device new s × Leaves (device old.disk) (device new.disk) (λ _ image. StandsFor image s)
   pub runs : RunsWriting ⊥ (device old.disk) (device new.disk)
 
--- The body of a put did not come whole: fewer bytes came, and the put is not done. No refusal before this one is met: none is
--- decided of a body of that length, and each has a plan.
-pub record IsCutShort {D : Type 0} (device : D → DiskState) (old new : Stored D) (name kind : List ℕ) (n now : ℕ) (came : List ℕ) : Type 0 where
-  pub fewer : length came < n
-  pub decides : (body : List ℕ) → length body ≡ n → decided old (state_of device old) (Put name kind body) now ≡ None
-  pub plan : (body : List ℕ) → length body ≡ n
-      → (p : Plan) × IsPlanned (rooted_in device old) (Put name kind body) (moment_at (state_of device old) now) p
+-- a put whose body is still to come: its name, its media type, the length of its body in bytes, and the clock's moment
+pub record ComingPut : Type 0 where
+  pub name : List ℕ
+  pub kind : List ℕ
+  pub size : ℕ
+  pub now : ℕ
+
+-- the coming put of a name, a type, a length and a moment
+abbrev pub coming_put : List ℕ → List ℕ → ℕ → ℕ → ComingPut
+coming_put name kind size now = record { name = name; kind = kind; size = size; now = now }
+
+-- The body of a put did not come whole: fewer bytes came, and the put is not done. No refusal before this one has its cause: none is
+-- decided for a body of that length, and each such body has a plan.
+pub record IsCutShort {D : Type 0} (device : D → DiskState) (old new : Stored D) (put : ComingPut) (came : List ℕ) : Type 0 where
+  pub fewer : length came < put.size
+  pub decides : (body : List ℕ) → length body ≡ put.size → decided old (state_of device old) (Put put.name put.kind body) put.now ≡ None
+  pub plan : (body : List ℕ) → length body ≡ put.size
+      → (p : Plan) × IsPlanned (rooted_in device old) (Put put.name put.kind body) (moment_at (state_of device old) put.now) p
   pub left : IsLeft device old new
 
--- the refusals that may come once a body is being read or written
+-- the refusals that may come once the source reads or writes a body
 abbrev pub IsLate : Refusal → Type 0
 IsLate Device = Unit {0}
 IsLate NoMemory = Unit {0}
 IsLate refusal = ⊥
 
--- What may have come of a body of n bytes where it is refused so. The device may fail at any piece of it. Memory is asked for before
--- any of it came, and after all. With any other refusal nothing came.
+-- Which bytes of a body of n bytes may have come at a refusal. The device may fail at any piece. Memory may run out before the first
+-- byte, and after the last. At any other refusal none came.
 abbrev pub MayHaveCome : ℕ → List ℕ → Refusal → Type 0
 MayHaveCome n came Device = length came ≤ n
 MayHaveCome n came NoMemory = (came ≡ []) ⊎ (length came ≡ n)
 MayHaveCome n came refusal = came ≡ []
 
--- What a source answers to a put of the next n bytes of a reader, of which these came. Accepted, they are the body, and the
--- answer is that to the put of it. A fault or an early end of the reader cuts it short. Any other refusal is that of the put of
--- each body of that length that begins so.
-abbrev pub AnswersFrom : {D : Type 0} → (D → DiskState) → Stored D → Stored D → List ℕ → List ℕ → ℕ → ℕ → List ℕ → Result Reply Refusal → Type 0
-AnswersFrom device old new name kind n now came (Ok reply) = (length came ≡ n) × Answers device old new (Put name kind came) now (Ok reply)
-AnswersFrom device old new name kind n now came (Err ReadFault) = IsCutShort device old new name kind n now came
-AnswersFrom device old new name kind n now came (Err ShortBody) = IsCutShort device old new name kind n now came
-AnswersFrom device old new name kind n now came (Err refusal) =
-    MayHaveCome n came refusal × ((body : List ℕ) → IsBodyOf n came body → Answers device old new (Put name kind body) now (Err refusal))
+-- What a source answers to a put of the next bytes of a reader, of which these came. With Ok they are the body, and the answer is that
+-- to the put of it. A fault or an early end of the reader cuts it short. Any other refusal is that of the put of each body of that
+-- length that begins so.
+abbrev pub AnswersFrom : {D : Type 0} → (D → DiskState) → Stored D → Stored D → ComingPut → List ℕ → Result Reply Refusal → Type 0
+AnswersFrom device old new put came (Ok reply) =
+    (length came ≡ put.size) × Answers device old new (Put put.name put.kind came) put.now (Ok reply)
+AnswersFrom device old new put came (Err ReadFault) = IsCutShort device old new put came
+AnswersFrom device old new put came (Err ShortBody) = IsCutShort device old new put came
+AnswersFrom device old new put came (Err refusal) =
+    MayHaveCome put.size came refusal
+    × ((body : List ℕ) → IsBodyOf put.size came body → Answers device old new (Put put.name put.kind body) put.now (Err refusal))
 
--- why not all of n bytes of a reader came, where these did and it has so much left: it failed or ended before
+-- Why only these of n bytes came from a reader that has `rest` left: it failed, or it ended.
 abbrev pub IsCut : ℕ → Option (List ℕ) → List ℕ → Refusal → Type 0
 IsCut n rest came ReadFault = length came < n
 IsCut n rest came ShortBody = (length came < n) × IsAtEnd rest
 IsCut n rest came refusal = ⊥
 
--- why not all of n bytes of a reader were read and written, where these came: not all came, or the device failed
+-- Why n bytes of a reader were not all read and written, of which these came: not all came, or the device failed.
 abbrev pub IsStopped : ℕ → Option (List ℕ) → List ℕ → Refusal → Type 0
 IsStopped n rest came Device = length came ≤ n
 IsStopped n rest came refusal = IsCut n rest came refusal

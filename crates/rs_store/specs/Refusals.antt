@@ -9,7 +9,7 @@ use Rattle.rs_store.specs.declared.refusal.Refusal.{Refusal}
 use Rattle.rs_store.specs.declared.refusal.Refusal.TheVariants.{Closed, BadGroup, TooLong, NotHeld, TooManyResources, TooManyChanges, Exhausted, Full, ReadFault, ShortBody, Device, Damaged, NoMemory}
 use Rattle.rs_store.specs.Source.{Stored}
 
--- a refusal of the model, by the same name
+-- the refusal with the name of one of the model
 abbrev pub named_as : model.Refusal → Refusal
 named_as decides.BadGroup = BadGroup
 named_as decides.TooLong = TooLong
@@ -18,21 +18,21 @@ named_as decides.TooManyResources = TooManyResources
 named_as decides.TooManyChanges = TooManyChanges
 named_as decides.Exhausted = Exhausted
 
--- the generation of the root is at its last value
+-- the root has the last generation
 abbrev pub is_spent : {D : Type 0} → Stored D → Bool
 is_spent source = nat_le (2 ^ 64) (source.slots.root.generation + 1)
 
--- what the model refuses, and then that no generation is left
+-- the refusal of the model, and else that no generation is left
 abbrev pub or_spent : Option model.Refusal → Bool → Option Refusal
 or_spent (Some refusal) spent = Some (named_as refusal)
 or_spent None spent = if spent then Some Exhausted else None
 
--- Why a command that comes at `now` is refused before anything is asked of memory or the disk, if it is: a closed source refuses all, then come
--- the causes of the model in their order, and then the generation.
+-- Why a source refuses a command that comes at `now` before it uses memory or the disk, if it does: it is closed; then the causes of
+-- the model in their order; then no generation is left.
 abbrev pub decided : {D : Type 0} → Stored D → Source → Command → ℕ → Option Refusal
 decided source s command now = if source.is_closed then Some Closed else or_spent (refusal_of s command now) (is_spent source)
 
--- the word by which a refusal is answered, in a script and over HTTP
+-- the word for a refusal in a script and over HTTP
 abbrev pub refusal_word : Refusal → List ℕ
 refusal_word Closed = codes "Closed"
 refusal_word BadGroup = codes "BadGroup"

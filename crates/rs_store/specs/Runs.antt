@@ -1,4 +1,4 @@
--- What a run of commands does to a source, and what a stop within it leaves.
+-- What a run of commands does to a source, and what a stop during it leaves.
 use Rattle.std.specs.Prelude.{◌≡◌, ℕ, ◌≤◌, true, List, [], ◌∷◌, take, Result, Ok, Err, MatchOption, if◌then◌else◌}
 use Rattle.std.specs.Bool.{MatchBool}
 use Rattle.std.specs.List.{AllByRecursion}
@@ -18,17 +18,17 @@ use Rattle.rs_store.specs.Refusals.{named_as}
 use Rattle.rs_store.specs.Answered.{Answers}
 use Rattle.rs_store.specs.Counted.{counted_commands, acknowledged, begun, is_accepted, is_in_doubt}
 
--- No command is done in between: the source may have been asked what it holds, or for a put whose body did not come whole.
--- It is as open or closed as it was; a state that was held is still held, and each image of a crash meanwhile stands for it.
--- While it is closed, nothing changes but what the disk counts.
+-- The source does no command: it may only have been read, or have met a put whose body did not come whole. It is as open or closed
+-- as it was, still holds the state that it held, and each image of a crash meanwhile represents it. While it is closed, only the
+-- counts of the disk change.
 pub record IsIdle {D : Type 0} (device : D → DiskState) (old new : Stored D) : Type 0 where
   pub is_closed : new.is_closed ≡ old.is_closed
   pub holds : (s : Source) → Holds device old s → Holds device new s × Leaves (device old.disk) (device new.disk) (λ _ image. StandsFor image s)
   pub rests : old.is_closed ≡ true → Rests (device old.disk) (device new.disk)
   pub calls : (device old.disk).calls ≤ (device new.disk).calls
 
--- Commands are answered in their order, each as a source answers it, and `at_call` tells the calls that were counted then.
--- Before each, and after the last, the source may have idled.
+-- A source answers commands in their order, and `at_call` is the disk's count of calls at each answer. Before each command, and after
+-- the last, the source may idle.
 abbrev pub InTurn : {D : Type 0} → (D → DiskState) → Stored D → List (Command × ℕ) → List Ack → Stored D → Type 0
 InTurn {D} device old [] [] new = IsIdle device old new
 InTurn {D} device old (c ∷ commands) (a ∷ acks) new =
@@ -37,8 +37,8 @@ InTurn {D} device old (c ∷ commands) (a ∷ acks) new =
 InTurn {D} device old [] (a ∷ acks) new = ⊥
 InTurn {D} device old (c ∷ commands) [] new = ⊥
 
--- An image stands for the state after the first j counted commands, for some j: no command that was acknowledged when m calls
--- were counted is left out, and none is in that had not begun.
+-- An image represents the state after the first j counted commands, for some j: they have each command that was acknowledged at a
+-- count of m calls, and none that had not begun.
 pub record StandsForPrefix (s : Source) (commands : List (Command × ℕ)) (acks : List Ack) (m : ℕ) (image : List ℕ) : Type 0 where
   pub j : ℕ
   pub least : acknowledged m acks ≤ j
@@ -53,17 +53,17 @@ IsBeyondModel Device = Unit {0}
 IsBeyondModel NoMemory = Unit {0}
 IsBeyondModel refusal = ⊥
 
--- What an open source that holds a state may answer: Ok with the model's reply; where the model refuses, its refusal; and else
--- a refusal that the model does not decide.
+-- What an open source that holds a state may answer: Ok with the model's reply; the model's refusal; or, where the model accepts, a
+-- refusal that the model does not decide.
 abbrev pub MayAnswer : Source → Command → ℕ → Result Reply Refusal → Type 0
 MayAnswer s command now (Ok reply) = (t : Source) × (step s command now ≡ Ok (t, reply))
 MayAnswer s command now (Err refusal) = MatchOption (refusal_of s command now) (IsBeyondModel refusal) (λ r. refusal ≡ named_as r)
 
--- the state after a command that was answered so
+-- the state after a command with this answer
 abbrev pub state_then : Source → Command × ℕ → Ack → Source
 state_then s c a = if is_accepted a then state_after s (step s c.0 c.1) else s
 
--- The replies to commands, in their order, of a source that holds a state: those of the model, and after Device only Closed.
+-- The answers to commands of a source that holds a state: those of the model, and after Device only Closed.
 abbrev pub AreReplies : Source → List (Command × ℕ) → List Ack → Type 0
 AreReplies s [] [] = Unit {0}
 AreReplies s (c ∷ commands) (a ∷ acks) =

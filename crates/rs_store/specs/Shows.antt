@@ -9,7 +9,7 @@ use Rattle.rs_store.specs.declared.reading.Status.{Status}
 use Rattle.rs_store.specs.declared.refusal.Refusal.{Refusal}
 use Rattle.rs_store.specs.declared.refusal.Refusal.TheVariants.{Closed, NotHeld, Device, Damaged, NoMemory}
 
--- bytes have the length and the SHA-256 that were recorded of them
+-- bytes have their recorded length and SHA-256
 pub record AreAsRecorded (facts : Facts) (bytes : List ℕ) : Type 0 where
   pub len : length bytes ≡ facts.length
   pub sha256 : (digests bytes).sha256 ≡ facts.digests.sha256
@@ -18,7 +18,7 @@ pub record AreAsRecorded (facts : Facts) (bytes : List ℕ) : Type 0 where
 abbrev pub HasItsDigest : Held → Type 0
 HasItsDigest held = (digests held.bytes).sha256 ≡ held.entry.facts.digests.sha256
 
--- the refusals of a reading of a body
+-- the refusals of the question for a body
 abbrev pub IsOfBody : Refusal → Type 0
 IsOfBody Closed = Unit {0}
 IsOfBody NotHeld = Unit {0}
@@ -27,7 +27,7 @@ IsOfBody Damaged = Unit {0}
 IsOfBody NoMemory = Unit {0}
 IsOfBody refusal = ⊥
 
--- the media type that is recorded of a name
+-- the recorded media type of a name
 abbrev pub kind_of : List ℕ → Source → Option (List ℕ)
 kind_of name s = option_map (λ held. held.entry.facts.kind) (value_of name s.held)
 
@@ -38,6 +38,6 @@ IsOfKind NotHeld = Unit {0}
 IsOfKind NoMemory = Unit {0}
 IsOfKind refusal = ⊥
 
--- how many resources are held and changes kept, the number of the latest publication, the moment of the last command
+-- a source in numbers: held resources, kept changes, the latest publication, the moment of the last command
 abbrev pub status_of : Source → Status
 status_of s = record { resources = length s.held; changes = length s.changes; publication = s.number; last = s.last }

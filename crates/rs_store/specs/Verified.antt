@@ -1,4 +1,4 @@
--- What a source answers where it is asked which bodies are damaged.
+-- What a source answers when it is asked for damaged bodies.
 use Rattle.std.specs.Prelude.{◌≡◌, ◌↔◌, ◌≤◌, ◌*◌, ℕ, Bool, not, nat_eq, List, map, length, Result, Vec, IfOk, IfErr, IsErrOf, IsTrue}
 use Rattle.std.specs.List.{filter}
 use Rattle.std.specs.Cmp.Lexicographic.{pointwise}
@@ -21,35 +21,35 @@ use Rattle.rs_store.specs.Source.{Stored, state_of}
 abbrev pub is_sound : Held → Bool
 is_sound held = pointwise nat_eq (digests held.bytes).sha256 held.entry.facts.digests.sha256
 
--- the names of those whose bytes have not, in their order
+-- the names of those without it, in their order
 abbrev pub damaged_among : Names Held → List (List ℕ)
 damaged_among held = map (λ e. e.0) (filter (λ e. not (is_sound e.1)) held)
 
 abbrev pub damaged_names : Source → List (List ℕ)
 damaged_names s = damaged_among s.held
 
--- a record's extent lies on a disk of this many bytes, and has room for the body
+-- A record's extent lies on a disk of this many bytes, and has room for the body.
 pub record HasItsPlace (size : ℕ) (r : Record) : Type 0 where
   pub room : IsOnDisk r.extent size
   pub fits : r.length ≤ block_size * r.extent.blocks
 
--- the refusals of a look at bodies
+-- the refusals of a search through bodies
 abbrev pub IsOfLook : Refusal → Type 0
 IsOfLook Device = Unit {0}
 IsOfLook NoMemory = Unit {0}
 IsOfLook refusal = ⊥
 
--- those of the question for damaged bodies
+-- the refusals of the question for damaged bodies
 abbrev pub IsOfVerify : Refusal → Type 0
 IsOfVerify Closed = Unit {0}
 IsOfVerify refusal = IsOfLook refusal
 
 -- What a source answers to the question for damaged bodies, and what it is then.
--- `names`: of a device that has followed the model, exactly the held names whose bytes have not their recorded SHA-256, in the
--- order in which they are held, which is the ascending one; `few`: of every device, no more names than are held.
--- `closed`: refused as closed exactly where it is; `runs`: Device comes only where a device call failed, and where another answer
--- comes none did; `others`: no other refusal is answered but for want of memory.
--- `reads_only`: nothing changes but what the disk counts, and the source stays open, also after Device.
+-- `names`: exactly the held names whose bytes lack their recorded SHA-256, in ascending order, if the device has followed the model.
+-- `few`: from every device, at most as many names as are held.
+-- `closed`: Closed comes exactly from a closed source; `runs`: Device comes exactly where a device call failed; `others`: the only
+-- other refusal is NoMemory.
+-- `reads_only`: only the counts of the disk change, and the source stays open, also after Device.
 pub record AnswersVerify {D : Type 0} (device : D → DiskState) (old new : Stored D) (result : Result (Vec (List ℕ) Global) Refusal) : Type 0 where
   pub names : IfOk result (λ names. IsTrue (device new.disk).honest → names.items ≡ damaged_names (state_of device old))
   pub few : IfOk result (λ names. length names.items ≤ length (state_of device old).held)

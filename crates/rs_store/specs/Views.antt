@@ -5,7 +5,7 @@ use Rattle.rs_image.specs.declared.contents.Contents.{Contents}
 use Rattle.rs_lists.specs.Shown.{Shown}
 use Rattle.rs_store.specs.declared.view.SourceView.{SourceView}
 
--- the latest publication as it is stored, and the changes that are kept
+-- the latest publication and the changes that are kept
 abbrev pub shown_in : Contents → Shown
 shown_in c =
     record {

@@ -1,4 +1,4 @@
--- What it is to write a plan.
+-- Writing the lists of a plan.
 use Rattle.std.specs.Prelude.{◌≡◌, ℕ, ◌++◌, List, length, All}
 use Rattle.rs_extent.specs.declared.Extent.{Extent}
 use Rattle.rs_extent.specs.Extents.{AreApart}
@@ -26,38 +26,38 @@ use Rattle.rs_store.specs.Source.{Stored}
 use Rattle.rs_plan.specs.Plans.{IsPlanned, AreBodies, once_stored, places, planned_listing, AreWritten}
 use Rattle.std.specs.List.{AllZip}
 
--- a command that has no plan
+-- the refusal of a command without a plan
 abbrev pub of_plan : PlanFault → Refusal
 of_plan NoRoom = Full
 of_plan NoPlanMemory = OutOfMemory
 
--- the length and the digest of the directory of these lists
+-- The length and the SHA-256 are those of the directory of these lists.
 pub record IsDigestOf (c : Contents) (w : Written) : Type 0 where
   pub len : w.length ≡ length (listing written_format c)
   pub sha256 : w.sha256 ≡ (digests (listing written_format c)).sha256
 
--- A plan is of some command.
+-- This is the plan of some command.
 pub record IsPlanOfSome (old : Rooted) (p : Plan) : Type 0 where
   pub command : Command
   pub moment : ℕ
   pub planned : IsPlanned old command moment p
 
--- the extents of the pages of these lists that were given blocks: those of the catalogue, and those of the history
+-- the extents of the pages that were given blocks: those of the catalogue, and those of the history
 abbrev pub touched_extents : Contents → List Extent
 touched_extents c = placed_extents c.catalogue ++ placed_extents c.history.pages
 
--- each page of these lists has its place
+-- each page of the catalogue and the history has a place
 pub record ArePlaced (c : Contents) : Type 0 where
   pub catalogue : All (λ page. ¬ IsTouched page.place) c.catalogue
   pub history : All (λ page. ¬ IsTouched page.place) c.history.pages
 
--- the pages of these lists that were given blocks stand in them
+-- each page of the catalogue and the history that was given blocks stands in them
 pub record AreWrittenPages (image : List ℕ) (c : Contents) : Type 0 where
   pub catalogue : All (IsWritten record_format image) c.catalogue
   pub history : All (IsWritten change_format image) c.history.pages
 
--- The lists of a plan can be written to a disk of this many bytes: its places lie behind the slots, no two of them have a block
--- in common, each page has its place, the directory has exactly its blocks, and a directory can have the lists.
+-- The lists of a plan can be written to a disk of this many bytes: its places lie behind the slots, no two with a block in common,
+-- each page has a place, the directory has exactly its blocks, and a directory can name the lists.
 pub record IsWritable (size : ℕ) (p : Plan) : Type 0 where
   pub inside : AreInside size (places p)
   pub apart : AreApart (places p)
@@ -65,15 +65,15 @@ pub record IsWritable (size : ℕ) (p : Plan) : Type 0 where
   pub directory : IsSized p.directory (length (planned_listing p))
   pub listable : AreListable written_format (once_stored p.contents)
 
--- The lists of a plan were written, and a read gave `old` before it and gives `new` then: they are stored, and with bodies that
--- stood in their extents all of the plan stands.
+-- The lists of a plan are written; a read gave `old` before and gives `new` now. The plan has the stored lists, and with bodies that
+-- stood in their extents the whole plan stands.
 pub record AreStoredLists (p p' : Plan) (old new : List ℕ) : Type 0 where
   pub contents : p'.contents ≡ once_stored p.contents
   pub lists : AreLists (once_stored p.contents)
   pub reads : (bodies : List (List ℕ)) → AllZip (λ extent bytes. IsSized extent (length bytes)) p.bodies.items bodies
       → AreBodies old p.bodies.items bodies → AreWritten p bodies new
 
--- the parts of a plan beside its lists are as they were
+-- The parts of a plan beside its lists are as they were.
 pub record StaysBesideLists (p p' : Plan) : Type 0 where
   pub bodies : p'.bodies ≡ p.bodies
   pub directory : p'.directory ≡ p.directory
@@ -81,7 +81,7 @@ pub record StaysBesideLists (p p' : Plan) : Type 0 where
   pub taken : p'.taken ≡ p.taken
   pub freed : p'.freed ≡ p.freed
 
--- A source wrote these bodies of a plan, and nothing else: what is in memory is as it was, all writes were outside what its root
+-- A source wrote these bodies of a plan, and nothing else: the memory is as it was, all writes were outside the blocks that its root
 -- reaches, no device call failed, and the bodies stand in their extents.
 pub record HasWrittenBodies {D : Type 0} (device : D → DiskState) (start now : Stored D) (p : Plan) (bodies : List (List ℕ)) : Type 0 where
   pub slots : now.slots ≡ start.slots

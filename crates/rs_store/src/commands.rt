@@ -38,12 +38,8 @@ impl From<PlanFault> for Refusal {
 }
 
 impl<D: Disk> Source<D> {
-    /// Does a command, which comes at this moment, as [`Source::put`], [`Source::delete`],
-    /// [`Source::publish`] or [`Source::group`] does it.
-    ///
-    /// # Errors
-    ///
-    /// As with these.
+    /// Does a command as [`Source::put`], [`Source::delete`], [`Source::publish`] or
+    /// [`Source::group`] does it, with their errors.
     pub fn command(&mut self, command: &Command, now: Moment) -> Result<Reply, Refusal>
         ensures { Answers D.state self.old self.new command.now now result }
     {
@@ -55,24 +51,24 @@ impl<D: Disk> Source<D> {
         }
     }
 
-    /// Binds the name to these bytes, of this media type: the resource is created, or updated where the
-    /// name is held. The command comes at the moment `now`, and is accepted at this one, or at one
-    /// millisecond after the last accepted command where that is later.
+    /// Binds the name to these bytes, with this media type: creates the resource, or updates it if the
+    /// name is held. The source accepts the command at the moment `now`, or one millisecond after the
+    /// last accepted command, whichever is later.
     ///
-    /// The reply tells the moment. It comes after all is settled: from then on the source holds the
-    /// resource whatever happens. A crash before it leaves the resource as it was, or as it will be.
+    /// The reply has that moment. It comes once the disk has settled: from then on the source holds the
+    /// resource whatever happens. A crash before the reply leaves the old resource or the new one.
     ///
     /// # Errors
     ///
     /// - [`Refusal::Closed`] after a fault of the device.
     /// - [`Refusal::TooLong`], [`Refusal::TooManyResources`], [`Refusal::TooManyChanges`] and
-    ///   [`Refusal::Exhausted`], of several the first, before anything is asked of memory or the disk.
-    /// - [`Refusal::Full`] where the body, a page or the directory has no run of free blocks.
-    /// - [`Refusal::NoMemory`] where a growth of memory is refused.
-    /// - [`Refusal::Device`] where a device call failed: the source is closed then, and what the disk
-    ///   holds is the resource as it was, or as it would be.
+    ///   [`Refusal::Exhausted`], the first whose cause is there, before any use of memory or the disk.
+    /// - [`Refusal::Full`] if the body, a page or the directory has no run of free blocks.
+    /// - [`Refusal::NoMemory`] if memory runs out.
+    /// - [`Refusal::Device`] if a device call failed. This closes the source, and the disk holds the old
+    ///   resource or the new one.
     ///
-    /// After each other error nothing has changed.
+    /// Each error but `Device` changes nothing.
     pub fn put(
         &mut self,
         name: &Name,
@@ -87,7 +83,7 @@ impl<D: Disk> Source<D> {
         self.carry_out_put(&mut plan, bytes)
     }
 
-    /// The plan of a put at this moment.
+    /// Plans a put at this moment.
     fn planned_put(
         &mut self,
         name: &Name,
@@ -133,15 +129,12 @@ impl<D: Disk> Source<D> {
         self.finish(plan)
     }
 
-    /// Unbinds the name: the resource is deleted. The command comes at the moment `now`, and is accepted
-    /// at this one, or at one millisecond after the last accepted command where that is later.
-    ///
-    /// The reply tells the moment. It comes after all is settled, as with [`Source::put`].
+    /// Unbinds the name: deletes the resource. Moment and reply are as with [`Source::put`].
     ///
     /// # Errors
     ///
-    /// As with [`Source::put`]; [`Refusal::NotHeld`] is in the place of the first two causes of the
-    /// model, and nothing is too long.
+    /// As with [`Source::put`], but [`Refusal::NotHeld`] replaces [`Refusal::TooLong`] and
+    /// [`Refusal::TooManyResources`].
     pub fn delete(&mut self, name: &Name, now: Moment) -> Result<Reply, Refusal>
         ensures { Answers D.state self.old self.new (Delete name.now) now result }
     {
@@ -151,17 +144,14 @@ impl<D: Disk> Source<D> {
         self.finish(&mut plan)
     }
 
-    /// Lists all resources that are held, as the next publication, and drops the full parts of the
-    /// changes whose last change is not after the publication before it. The command comes at the
-    /// moment `now`, and is accepted at this one, or at one millisecond after the last accepted command
-    /// where that is later.
-    ///
-    /// The reply tells the number of the publication and the moment. It comes after all is settled, as
-    /// with [`Source::put`].
+    /// Publishes all resources that are held, and drops each full part of the changes whose last change
+    /// is not after the publication before this one. Moment and reply are as with [`Source::put`], but
+    /// the reply has the number of the publication too.
     ///
     /// # Errors
     ///
-    /// As with [`Source::put`]; of the causes of the model there is [`Refusal::Exhausted`] alone.
+    /// As with [`Source::put`], without [`Refusal::TooLong`], [`Refusal::TooManyResources`] and
+    /// [`Refusal::TooManyChanges`].
     pub fn publish(&mut self, now: Moment) -> Result<Reply, Refusal>
         ensures { Answers D.state self.old self.new Publish now result }
     {
@@ -171,11 +161,10 @@ impl<D: Disk> Source<D> {
         self.finish(&mut plan)
     }
 
-    /// Writes the lists of a plan whose bodies stand in their extents, and changes the root; then what is
-    /// in memory goes along, with the set of the used blocks, and the plan's reply is answered. The plan
-    /// has the lists that were in memory before, then.
+    /// Writes the lists of a plan whose bodies are written, and commits its root. Then it takes over the
+    /// plan's lists and used blocks, and returns the plan's reply. The plan keeps the old lists.
     ///
-    /// What it promises counts from the moment before the bodies were written.
+    /// Its promise covers the time since before the bodies were written.
     pub(crate) fn finish(&mut self, plan: &mut Plan) -> Result<Reply, Refusal>
         requires is_open { self.old.is_closed ≡ false }
         requires spare { self.old.slots.root.generation + 1 < 2 ^ 64 }

@@ -1,4 +1,4 @@
-//! What is decided of a command before anything is asked of memory or the disk.
+//! Refusals that need neither memory nor the disk.
 
 ghost use Rattle.std.specs.Prelude.{◌≡◌, ◌<◌, ◌+◌, ◌^◌, ℕ, List, [], ◌∷◌, length, false, not, is_some, is_none, IfOk, IsTrue, OnOk};
 ghost use Rattle.rs_model.specs.Names.{is_ordered, value_of};
@@ -19,7 +19,7 @@ use rs_record::{LONGEST_BODY, MOST_ITEMS, Name};
 use rs_time::Moment;
 
 impl<D: Disk> Source<D> {
-    /// The moment of a put of so many bytes that comes at `now`, or why it is refused at once.
+    /// The moment at which the source accepts a put of `body_length` bytes, or why it refuses it at once.
     pub(crate) fn moment_of_put(
         &self,
         name: &Name,
@@ -47,7 +47,7 @@ impl<D: Disk> Source<D> {
         Ok(moment)
     }
 
-    /// The moment of a delete that comes at `now`, or why it is refused at once.
+    /// The moment at which the source accepts a delete, or why it refuses it at once.
     pub(crate) fn moment_of_delete(&self, name: &Name, now: Moment) -> Result<Moment, Refusal>
         ensures decided { result ≡ moment_unless
             (decided self.now (state_of D.state self.now) (Delete name.now) now)
@@ -66,7 +66,7 @@ impl<D: Disk> Source<D> {
         Ok(moment)
     }
 
-    /// The moment of a publish that comes at `now`, or why it is refused at once.
+    /// The moment at which the source accepts a publish, or why it refuses it at once.
     pub(crate) fn moment_of_publish(&self, now: Moment) -> Result<Moment, Refusal>
         ensures decided { result ≡ moment_unless
             (decided self.now (state_of D.state self.now) Publish now)
@@ -87,7 +87,7 @@ impl<D: Disk> Source<D> {
         Ok(moment)
     }
 
-    /// The moment of a put or a delete that the resources allow.
+    /// The moment of a put or a delete for which the held resources leave room.
     fn moment_of_change(&self, now: Moment) -> Result<Moment, Refusal>
         ensures decided { result ≡ moment_unless
             (or_spent (change_refusal (state_of D.state self.now)) (is_spent self.now))
@@ -112,7 +112,7 @@ impl<D: Disk> Source<D> {
         self.contents.catalogue.get(name).is_some()
     }
 
-    /// How many resources are held. Their names are in order.
+    /// How many resources are held.
     pub(crate) fn resources(&self) -> usize
         ensures held { result ≡ length (state_of D.state self.now).held }
         ensures records { result ≡ length (records_of self.now.contents.catalogue) }
@@ -121,7 +121,7 @@ impl<D: Disk> Source<D> {
         self.contents.catalogue.len()
     }
 
-    /// The moment of a command that is allowed otherwise.
+    /// The moment of a command that nothing else forbids.
     pub(crate) fn next_moment(&self, now: Moment) -> Result<Moment, Refusal>
         ensures decided { result ≡ moment_unless
             (or_spent

@@ -1,4 +1,4 @@
-//! How a source is made.
+//! Formatting a disk.
 
 ghost use Rattle.std.specs.Prelude.{◌≡◌, ◌↔◌, ◌*◌, ◌<◌, ◌≤◌, false, length, take, IfOk, OnOk, IfErr, IsErrAnd, IsErrOf, IsTrue, IsErr};
 ghost use Rattle.rs_disk.specs.Runs.{RunsWriting};
@@ -31,11 +31,11 @@ use thiserror::Error;
 // The bytes of 16 blocks.
 const SMALLEST_DISK: u64 = 8192;
 
-/// Why no source was made, in the order in which the causes count: of several the first is answered.
-/// `NoMemory` stands outside this order.
+/// Why a disk was not formatted. Of several causes the first in this order is answered, but `NoMemory`
+/// may come at any point.
 #[derive(Clone, Copy, Debug, PartialEq, Eq, Error)]
 pub enum FormatFault {
-    /// The base is no lawful one.
+    /// The base is not lawful.
     #[error("the base is not lawful")]
     BadBase,
     /// The item limit is less than 2 or more than 4,000.
@@ -62,10 +62,10 @@ impl From<AllocError> for FormatFault {
     }
 }
 
-/// A source that was just formatted: what is written of it, and what it keeps in memory.
+/// A new source, before it is written.
 #[derive(Debug, Drop)]
 struct Blank {
-    /// Its lists, which are empty.
+    /// Its empty lists.
     contents: Contents,
     /// The blocks of the slots and of the directory.
     used: Used,
@@ -76,20 +76,20 @@ struct Blank {
 }
 
 impl<D: Disk> Source<D> {
-    /// Makes a source on a disk, in place of whatever the disk holds: nothing is held, there are no
-    /// changes, and the empty list is published as number 0. `base` is the front of each URI of the
-    /// source; a list of more items than `limit`, which is 2 to 4,000, is cut into parts of that many. The
-    /// disk is of version 2 of the format then, the one that is written.
+    /// Makes an empty source on a disk, in place of whatever the disk holds. It has no resources and no
+    /// changes, and publication 0 lists nothing. Each URI of the source begins with `base`. Documents
+    /// split a list of more than `limit` items into parts of `limit` items; it is from 2 to 4,000. The
+    /// disk gets version 2 of the format.
     ///
     /// # Errors
     ///
-    /// The disk is handed back with each. After [`FormatFault::Device`] nothing is promised of what
-    /// it holds; after every other one it is untouched.
+    /// Each hands the disk back. After [`FormatFault::Device`] it may hold anything; any other error
+    /// leaves it untouched.
     ///
-    /// - [`FormatFault::BadBase`], [`FormatFault::BadLimit`] and [`FormatFault::TooSmall`] exactly
-    ///   where their cause is there and none before it.
-    /// - [`FormatFault::Device`] where a device call failed.
-    /// - [`FormatFault::NoMemory`] where a growth of memory was refused.
+    /// - [`FormatFault::BadBase`], [`FormatFault::BadLimit`] and [`FormatFault::TooSmall`] exactly if
+    ///   their cause is there, and none of an error before it in this order.
+    /// - [`FormatFault::Device`] if a device call failed.
+    /// - [`FormatFault::NoMemory`] if memory ran out.
     pub fn format(
         alloc: Global,
         disk: D,
@@ -97,12 +97,12 @@ impl<D: Disk> Source<D> {
         limit: u16,
         now: Moment,
     ) -> Result<Source<D>, (D, FormatFault)>
-        // Of every device, since nothing is read.
+        // This holds of every device, since nothing is read.
         ensures holds { IfOk result (λ source. Holds D.state source (start_of base.now limit now)) }
         ensures version { IfOk result (λ source. source.slots.root.version ≡ written_version) }
 
-        // Its lists are empty, its root is the first one, in the first slot, and its directory lies
-        // from block 2 on. Blocks 0 and 1 are written whole.
+        // Its lists are empty, its root is in the first slot, and its directory begins at block 2.
+        // Blocks 0 and 1 are written whole.
         ensures contents { IfOk result
             (λ source. source.contents ≡ first_contents base.now limit now) }
         ensures slots { IfOk result
@@ -120,7 +120,7 @@ impl<D: Disk> Source<D> {
             × (blocks_of_disk (D.state disk).size < 16)) }
         ensures untouched { IfErr result (λ e. ¬ (e.1 ≡ FormatFault.Device) → e.0 ≡ disk) }
 
-        // What holds of every device, whatever it answers.
+        // This holds of every device and answer.
         ensures runs { RunsWriting (IsErrAnd result (λ e. e.1 ≡ FormatFault.Device))
             (D.state disk) (D.state (disk_of result)) }
     {
@@ -143,7 +143,7 @@ impl<D: Disk> Source<D> {
     }
 }
 
-/// What is to be written of a source that is formatted now, on a disk of this many bytes.
+/// Lays out a new source for a disk of `size` bytes.
 fn lay_out(
     alloc: Global,
     size: u64,
@@ -187,7 +187,7 @@ fn lay_out(
     })
 }
 
-/// The header of a source that is formatted now, on a disk of this many bytes.
+/// The header of a new source on a disk of `size` bytes.
 fn first_header(
     alloc: Global,
     size: u64,
@@ -225,7 +225,7 @@ fn first_header(
     })
 }
 
-/// Writes the directory, and then the slots, of which the first sync settles both.
+/// Writes the directory, and then the slots. The first sync of the slots settles the directory too.
 fn write_blank<D: Disk>(disk: &mut D, blank: &Blank) -> Result<Slots, Fault>
     requires fits { FitsDisk (D.state disk.old).size blank.now }
     ensures runs { RunsWriting (IsErr result) (D.state disk.old) (D.state disk.new) }

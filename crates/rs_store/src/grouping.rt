@@ -1,4 +1,4 @@
-//! Groups: several puts and deletes by one commit.
+//! Groups: several puts and deletes in one commit.
 
 ghost use Rattle.std.specs.Prelude.{◌≡◌, ◌<◌, ◌≤◌, ◌+◌, ◌^◌, ℕ, Bool, length, take, map, false, None, IfOk, OnOk, IsErrOf, IsErr};
 ghost use Rattle.std.specs.List.{AllZip};
@@ -30,21 +30,18 @@ use rs_plan::{Plan, PlanFault, body_kept, plan_group};
 use rs_time::Moment;
 
 impl<D: Disk> Source<D> {
-    /// Binds and unbinds the names of these items, 1 to 16 of them, in their order and in one step: all
-    /// or none of it stands, whatever moment a crash comes at. The command comes at the moment `now`; the
-    /// first item is accepted at this one, or at one millisecond after the last accepted command where
-    /// that is later, and each other one millisecond after the one before it. A body that a later item
-    /// replaces or deletes is not written. One commit is made for all.
+    /// Puts and deletes these 1 to 16 items in their order, with one commit: a crash leaves all of them
+    /// done or none. The source accepts the first item as it accepts a put, and each other item one
+    /// millisecond after the one before it. It does not write a body that a later item replaces or
+    /// deletes.
     ///
-    /// The reply tells the number of the items and the moment of the first. It comes after all is
-    /// settled, as with [`Source::put`].
+    /// The reply has the number of items and the moment of the first, and comes as with [`Source::put`].
     ///
     /// # Errors
     ///
-    /// As with [`Source::put`] and [`Source::delete`], the first refusal of the first item that is
-    /// refused, each in the state after the ones before it; [`Refusal::BadGroup`], for no items or more
-    /// than 16, comes right after [`Refusal::Closed`]. After each of them nothing of the group has been
-    /// done.
+    /// As with [`Source::put`] and [`Source::delete`]: the first item that is refused, in the state after
+    /// the items before it, decides. [`Refusal::BadGroup`], for no items or more than 16, comes right
+    /// after [`Refusal::Closed`]. No error but [`Refusal::Device`] leaves an item done.
     pub fn group(&mut self, items: &[Item], now: Moment) -> Result<Reply, Refusal>
         ensures { Answers D.state self.old self.new (Group items.now) now result }
     {
@@ -53,7 +50,7 @@ impl<D: Disk> Source<D> {
         self.carry_out_group(&mut plan, items)
     }
 
-    /// The plan of a group whose first item is done at this moment.
+    /// Plans a group whose first item is done at this moment.
     fn planned_group(&mut self, items: &[Item], moment: Moment) -> Result<Plan, PlanFault>
         requires may { MayGroup self.old.contents items.now moment }
         ensures same { self.new ≡ self.old }
@@ -85,7 +82,7 @@ impl<D: Disk> Source<D> {
         self.finish(plan)
     }
 
-    /// The moment of the first item of a group that comes at `now`, or why it is refused at once.
+    /// The moment at which the source accepts the first item, or why it refuses the group at once.
     fn moment_of_group(&self, items: &[Item], now: Moment) -> Result<Moment, Refusal>
         ensures decided { result ≡ moment_unless
             (decided self.now (state_of D.state self.now) (Group items.now) now)
@@ -108,7 +105,7 @@ impl<D: Disk> Source<D> {
         Ok(moment)
     }
 
-    /// Why the model refuses a group of these items that comes at `now`, if it does.
+    /// Why the model refuses this group, if it does.
     fn refused_group(&self, items: &[Item], now: Moment) -> Option<Refused>
         requires { length items.now ≤ most_grouped }
         ensures { result ≡ refusal_of (state_of D.state self.now) (Group items.now) now }
@@ -123,7 +120,7 @@ impl<D: Disk> Source<D> {
         group_refusal(items, &held[..items.len()], counts, now)
     }
 
-    /// Puts down of each item whether its name is held.
+    /// Notes for each item whether its name is held.
     fn note_held(&self, items: &[Item], held: &mut [bool])
         requires { length items.now ≤ length held.old }
         ensures noted { take (length items.now) held.new
@@ -136,8 +133,8 @@ impl<D: Disk> Source<D> {
     }
 }
 
-/// Writes each body of these items that no later one replaces or deletes, each to its extent. Nothing
-/// beside the extents changes, whether it succeeds or not.
+/// Writes each body that no later item replaces or deletes to its extent. Nothing beside the extents
+/// changes, whatever the result.
 fn write_bodies<D: Disk>(disk: &mut D, extents: &[Extent], items: &[Item]) -> Result<(), Fault>
     requires room { AreOnDisk extents.now (D.state disk.old).size }
     requires apart { AreApart extents.now }

@@ -1,4 +1,4 @@
-//! How a source is opened.
+//! Opening the source on a disk.
 
 ghost use Rattle.std.specs.Prelude.{◌≡◌, ◌+◌, ◌<◌, IfOk, IfErr, OnOk, IsErrOf, IsErrAnd, IsTrue};
 ghost use Rattle.rs_disk.specs.Medium.{resting};
@@ -26,7 +26,7 @@ pub enum OpenFault {
     /// open with equal generations.
     #[error("the disk holds no source")]
     NotASource,
-    /// The disk holds a source, of which a rule of the format is broken.
+    /// The disk holds a source that breaks a rule of the format.
     #[error("the source is damaged")]
     Damaged,
     /// A device call failed.
@@ -77,26 +77,25 @@ impl From<LoadFault> for OpenFault {
 impl<D: Disk> Source<D> {
     /// Opens the source on a disk, whatever the disk holds.
     ///
-    /// A disk of version 1 of the format is opened too: none of its changes was dropped, and its first
-    /// accepted command makes it one of version 2.
+    /// It also opens a disk of version 1 of the format. Such a disk has all its changes, and the first
+    /// accepted command turns it into version 2.
     ///
-    /// It begins with one sync, so that nothing is unsettled, and writes nothing. It checks the
-    /// directory, all pages and all extents; the bodies are not read, and whether the changes lead
-    /// to what is held is not looked at.
+    /// It first syncs the disk, so that nothing is unsettled, and writes nothing. It checks the
+    /// directory, all pages and all extents. It reads no bodies, and does not check whether the changes
+    /// lead to the held resources.
     ///
     /// # Errors
     ///
-    /// The disk is handed back with each.
+    /// Each hands the disk back.
     ///
-    /// - [`OpenFault::NotASource`] exactly where the slots tell no root.
-    /// - [`OpenFault::Damaged`] where the root tells no state: a rule of the format is broken.
-    /// - [`OpenFault::Device`] where a device call failed; no other answer comes where one did.
-    /// - [`OpenFault::NoMemory`] where a growth of memory was refused. None is asked for before the
-    ///   root's directory was found to lie behind the slots, in exactly the blocks of its length. Once
-    ///   the directory is read, with the fourth call, none is asked for unless each page that it names
-    ///   lies so.
+    /// - [`OpenFault::NotASource`] exactly if the slots tell no root.
+    /// - [`OpenFault::Damaged`] if the root tells no state: the disk breaks a rule of the format.
+    /// - [`OpenFault::Device`] exactly if a device call failed.
+    /// - [`OpenFault::NoMemory`] if memory ran out. Opening asks for memory only once it has found that
+    ///   the root's directory lies behind the slots, in exactly the blocks of its length. Once the fourth
+    ///   call has read the directory, it asks only if each page that the directory names lies so.
     ///
-    /// One of the first two comes only where the device and the memory allowed to find out.
+    /// The first two come only if neither a call nor memory failed before.
     pub fn open(alloc: Global, disk: D) -> Result<Source<D>, (D, OpenFault)>
         ensures opened { IfOk result (IsOpened D.state (D.state disk)) }
         ensures refused { IfErr result (λ e. IsNotOpened (D.state disk) (D.state e.0) e.1) }
@@ -104,8 +103,8 @@ impl<D: Disk> Source<D> {
             → IsTrue (D.state e.0).honest → (D.state disk).calls + 3 < (D.state e.0).calls
             → ArePagesPlaced (D.state disk).size (D.state disk).now.seen) }
 
-        // Whatever it answers, a crash within it leaves an image of its entry, and a read gives what
-        // it gave.
+        // Whatever the answer, a crash meanwhile leaves an image from before, and a read gives what it
+        // gave before.
         ensures runs { WritesNothing (IsErrAnd result (λ e. e.1 ≡ OpenFault.Device))
             (D.state disk) (D.state (disk_of result)) }
     {
@@ -124,7 +123,7 @@ impl<D: Disk> Source<D> {
     }
 }
 
-/// Settles what a disk holds, and reads the source that it holds.
+/// Syncs a disk, and reads the source that it holds.
 fn recover<D: Disk>(alloc: Global, disk: &mut D) -> Result<(Slots, Loaded), OpenFault>
     ensures sound { IfOk result (λ x.
         MemoryIsSound (rooted (D.state disk.new).size x.0.root x.1.contents) x.1.used) }
@@ -157,7 +156,7 @@ fn read_source<D: Disk>(alloc: Global, disk: &mut D) -> Result<(Slots, Loaded), 
         (D.state disk.old) (D.state disk.new) }
 {
     let (slots, root) = open_slots(disk)?;
-    // Behind the slots of so small a disk no directory has room.
+    // So small a disk has no room for a directory behind the slots.
     if disk.size() < SLOTS_SIZE {
         return Err(OpenFault::Damaged);
     }

@@ -24,14 +24,14 @@ use rs_record::{Change, MediaType, Name, Record};
 use rs_time::Moment;
 use std::alloc::{AllocError, Global};
 
-/// What a source says of itself in numbers.
+/// A source in numbers.
 #[derive(Clone, Copy, Debug, PartialEq, Eq)]
 pub struct Status {
     /// How many resources are held: at most 50,000.
     pub resources: u32,
     /// How many changes are kept: at most 50,000.
     pub changes: u32,
-    /// The number of the latest publication, which is 0 at first.
+    /// The number of the latest publication, 0 for the one of formatting.
     pub publication: u64,
     /// The moment of the last accepted command, or of formatting.
     pub last: Moment,
@@ -52,7 +52,7 @@ impl From<LoadFault> for Refusal {
 }
 
 impl<D: Disk> Source<D> {
-    /// Whether a command met a fault of the device, so that the source has to be opened again.
+    /// Whether a device call of a command failed, so that the source has to be opened again.
     pub fn is_closed(&self) -> bool
         ensures { result ≡ self.now.is_closed }
     {
@@ -66,16 +66,16 @@ impl<D: Disk> Source<D> {
         self.disk
     }
 
-    /// The body of a name, which is read from the disk and has its recorded length and SHA-256.
-    /// Nothing changes but what the disk counts.
+    /// Reads the body of a name from the disk, with its recorded length and SHA-256. Only the counts of
+    /// the disk change.
     ///
     /// # Errors
     ///
-    /// - [`Refusal::Closed`] exactly where the source is closed.
-    /// - [`Refusal::NotHeld`] exactly where it is open and the name is not held.
-    /// - [`Refusal::Device`] where the device failed. The source stays open.
-    /// - [`Refusal::Damaged`] where the bytes do not have the recorded SHA-256.
-    /// - [`Refusal::NoMemory`] where the memory for the bytes is refused.
+    /// - [`Refusal::Closed`] exactly if the source is closed.
+    /// - [`Refusal::NotHeld`] exactly if it is open and does not hold the name.
+    /// - [`Refusal::Device`] if the device failed. The source stays open.
+    /// - [`Refusal::Damaged`] if the bytes do not have the recorded SHA-256.
+    /// - [`Refusal::NoMemory`] if memory for the bytes runs out.
     pub fn body(&mut self, name: &Name) -> Result<Vec<u8>, Refusal>
         ensures { AnswersBody D.state self.old self.new name.now result }
     {
@@ -84,8 +84,8 @@ impl<D: Disk> Source<D> {
 
     /// The body of a name, clause by clause.
     fn read_held(&mut self, name: &Name) -> Result<Vec<u8>, Refusal>
-        // What the disk holds is said of a device that has followed the model; that the bytes are as
-        // recorded, of every device.
+        // The bytes are the body if the device has followed the model. From every device they are as
+        // recorded.
         ensures reads { IfOk result (λ bytes. IsTrue (D.state self.new.disk).honest
             → body_of name.now (state_of D.state self.old) ≡ Some bytes.items) }
         ensures recorded { IfOk result
@@ -119,13 +119,13 @@ impl<D: Disk> Source<D> {
         Ok(bytes)
     }
 
-    /// The media type that is recorded of a name. It is a copy; nothing is read of the disk.
+    /// A copy of the recorded media type of a name. The disk is not read.
     ///
     /// # Errors
     ///
-    /// - [`Refusal::Closed`] exactly where the source is closed.
-    /// - [`Refusal::NotHeld`] exactly where it is open and the name is not held.
-    /// - [`Refusal::NoMemory`] where the memory for the copy is refused.
+    /// - [`Refusal::Closed`] exactly if the source is closed.
+    /// - [`Refusal::NotHeld`] exactly if it is open and does not hold the name.
+    /// - [`Refusal::NoMemory`] if memory for the copy runs out.
     pub fn kind(&self, name: &Name) -> Result<MediaType, Refusal>
         ensures kind { IfOk result (λ kind. kind_of name.now (state_of D.state self.now)
             ≡ Some kind) }
@@ -144,13 +144,11 @@ impl<D: Disk> Source<D> {
         Ok(record.kind.copy(self.alloc)?)
     }
 
-    /// The records of the resources that are held, in the strictly ascending order of the bytes of
-    /// their names.
+    /// The records of the resources that are held, in the strictly ascending order of their names' bytes.
     ///
     /// # Errors
     ///
-    /// [`Refusal::Closed`] exactly where the source is closed; [`Refusal::NoMemory`] where the
-    /// memory is refused.
+    /// [`Refusal::Closed`] exactly if the source is closed, [`Refusal::NoMemory`] if memory runs out.
     pub fn records(&self) -> Result<Vec<Record>, Refusal>
         ensures entries { IfOk result (λ records. map entry_of records.items
             ≡ entries (state_of D.state self.now).held) }
@@ -166,14 +164,12 @@ impl<D: Disk> Source<D> {
         Ok(records_in(self.alloc, &self.contents.catalogue)?)
     }
 
-    /// The records of the latest publication, in the strictly ascending order of the bytes of their
-    /// names. The extent of such a record is the one that its body had then, which may hold another
-    /// body by now.
+    /// The records of the latest publication, in the strictly ascending order of their names' bytes. Each
+    /// has the extent that its body had then. By now that extent may hold another body.
     ///
     /// # Errors
     ///
-    /// [`Refusal::Closed`] exactly where the source is closed; [`Refusal::NoMemory`] where the
-    /// memory is refused.
+    /// [`Refusal::Closed`] exactly if the source is closed, [`Refusal::NoMemory`] if memory runs out.
     pub fn published(&self) -> Result<Vec<Record>, Refusal>
         ensures entries { IfOk result (λ records. map entry_of records.items
             ≡ (state_of D.state self.now).listed) }
@@ -193,8 +189,7 @@ impl<D: Disk> Source<D> {
     ///
     /// # Errors
     ///
-    /// [`Refusal::Closed`] exactly where the source is closed; [`Refusal::NoMemory`] where the
-    /// memory is refused.
+    /// [`Refusal::Closed`] exactly if the source is closed, [`Refusal::NoMemory`] if memory runs out.
     pub fn changes(&self) -> Result<Vec<Change>, Refusal>
         ensures changes { IfOk result
             (λ changes. changes.items ≡ (state_of D.state self.now).changes) }
@@ -207,12 +202,11 @@ impl<D: Disk> Source<D> {
         Ok(changes_in(self.alloc, &self.contents.history)?)
     }
 
-    /// How many resources are held and changes are kept, the number of the latest publication, and
-    /// the moment of the last accepted command. It takes no memory.
+    /// The source in numbers. It allocates nothing.
     ///
     /// # Errors
     ///
-    /// [`Refusal::Closed`] exactly where the source is closed.
+    /// [`Refusal::Closed`] exactly if the source is closed.
     pub fn status(&self) -> Result<Status, Refusal>
         ensures status { IfOk result (λ status. status ≡ status_of (state_of D.state self.now)) }
         ensures closed { IsErrOf result Refusal.Closed ↔ IsTrue self.now.is_closed }
@@ -230,12 +224,12 @@ impl<D: Disk> Source<D> {
         })
     }
 
-    /// A view of the source, from which its lists are written. It borrows the source, and copies
-    /// nothing and takes no memory.
+    /// A view of the source for its documents. It borrows the source, copies nothing and allocates
+    /// nothing.
     ///
     /// # Errors
     ///
-    /// [`Refusal::Closed`] exactly where the source is closed.
+    /// [`Refusal::Closed`] exactly if the source is closed.
     pub fn view(&self) -> Result<SourceView<'_, D>, Refusal>
         ensures shows { IfOk result (λ view. shown_by_source view ≡ shown_in self.now.contents) }
         ensures closed { IsErrOf result Refusal.Closed ↔ IsTrue self.now.is_closed }

@@ -1,4 +1,4 @@
-//! A put whose body a reader brings.
+//! Puts whose body comes from a reader.
 
 ghost use Rattle.std.specs.Prelude.{◌≡◌, ◌<◌, ◌≤◌, ◌+◌, ◌*◌, ◌++◌, ◌^◌, ℕ, Bool, List, false, None, length, take, drop, IfOk, IfErr, OnOk, OnErr, IsErrOf, [], ◌∷◌};
 ghost use Rattle.std.specs.Io.KnownBytes.{Consumes, Keeps, IsAtEnd};
@@ -16,7 +16,7 @@ ghost use Rattle.rs_plan.specs.Drafts.{AwaitsBody, IsDraft, IsDraftOf};
 ghost use Rattle.rs_model.specs.Step.{moment_at};
 ghost use Rattle.rs_store.specs.Source.{rooted_in, state_of};
 ghost use Rattle.rs_store.specs.Refusals.{decided};
-ghost use Rattle.rs_store.specs.Received.{AnswersFrom, IsCut, IsStopped};
+ghost use Rattle.rs_store.specs.Received.{AnswersFrom, IsCut, IsStopped, coming_put};
 
 use crate::source::rooted_by;
 use crate::{Refusal, Source};
@@ -31,25 +31,23 @@ use rs_record::{MediaType, Name};
 use rs_time::Moment;
 use std::io::Read;
 
-// How many bytes of a body are read before they are written, but for the last piece.
+// The bytes of a piece of a body. The last piece may be shorter.
 const PIECE_SIZE: usize = 4096;
 
 impl<D: Disk> Source<D> {
-    /// Binds the name to the next `body_length` bytes of a reader, of this media type, as [`Source::put`]
-    /// does with bytes that are there. All that has to be written is given its blocks before a byte is
-    /// read. Then the body is read in pieces of 4,096 bytes, the last of which may have fewer, and each
-    /// is written before the next is read, so memory does not grow with the body. No byte after the
-    /// body is read.
+    /// Puts the next `body_length` bytes of a reader as [`Source::put`] puts bytes. It first finds the
+    /// blocks for everything that it will write. Then it reads the body in pieces of at most 4,096 bytes,
+    /// and writes each before it reads the next, so memory does not grow with the body. It reads no byte
+    /// behind the body.
     ///
     /// # Errors
     ///
-    /// As with [`Source::put`]; and behind [`Refusal::Full`] in the order
+    /// As with [`Source::put`], and right behind [`Refusal::Full`]:
     ///
-    /// - [`Refusal::ReadFault`] where a read of the body failed,
-    /// - [`Refusal::ShortBody`] where the input ended within it.
+    /// - [`Refusal::ReadFault`] if a read of the body failed,
+    /// - [`Refusal::ShortBody`] if the input ended within it.
     ///
-    /// After each of these two nothing has changed that the source holds. Where a refusal before them is
-    /// met, nothing is read.
+    /// These two change nothing that the source holds. The refusals before them come before any read.
     pub fn put_from<R: Read>(
         &mut self,
         name: &Name,
@@ -60,7 +58,7 @@ impl<D: Disk> Source<D> {
     ) -> Result<Reply, Refusal>
         ensures came { (came : List ℕ)
             × Consumes (R.remaining (watched reader.old)) (R.remaining (watched reader.new)) came
-            × AnswersFrom D.state self.old self.new name.now kind.now body_length now came result }
+            × AnswersFrom D.state self.old self.new (coming_put name.now kind.now body_length now) came result }
         ensures failed { TellsEnd (IsErrOf result Refusal.ReadFault) reader.old reader.new }
         ensures ended { IsErrOf result Refusal.ShortBody
             → IsAtEnd (R.remaining (watched reader.new)) }
@@ -71,7 +69,7 @@ impl<D: Disk> Source<D> {
         self.receive_planned(&mut plan, name, reader, length)
     }
 
-    /// The plan of a put at this moment, of so many bytes that have not come yet.
+    /// Plans a put of `body_length` bytes, at this moment and before they come.
     fn drafted_put(
         &mut self,
         name: &Name,
@@ -99,7 +97,7 @@ impl<D: Disk> Source<D> {
         )
     }
 
-    /// Reads the body of a put that was drafted and writes it to its extent, and then the lists.
+    /// Reads the body of a drafted put, writes it to its extent, and then writes the lists.
     fn receive_planned<R: Read>(
         &mut self,
         plan: &mut Plan,
@@ -119,7 +117,7 @@ impl<D: Disk> Source<D> {
             → decided self.old (state_of D.state self.old) (Put name.now kind bytes) now ≡ None)
             → IsDraftOf (rooted_in D.state self.old) name.now kind body_length
             (moment_at (state_of D.state self.old) now) plan.old
-            → AnswersFrom D.state self.old self.new name.now kind body_length now came result) }
+            → AnswersFrom D.state self.old self.new (coming_put name.now kind body_length now) came result) }
         ensures failed { TellsEnd (IsErrOf result Refusal.ReadFault) reader.old reader.new }
         ensures ended { IsErrOf result Refusal.ShortBody
             → IsAtEnd (R.remaining (watched reader.new)) }
@@ -139,9 +137,8 @@ impl<D: Disk> Source<D> {
     }
 }
 
-/// Reads the next bytes of a reader, exactly this many, and writes them to the front of an extent,
-/// a piece at a time. A piece is written before the next one is read. Nothing beside the extent
-/// changes, whether all came or not.
+/// Reads the next `body_length` bytes of a reader and writes them to the front of an extent, a piece at a
+/// time. Nothing beside the extent changes, whatever the result.
 fn receive<R: Read, D: Disk>(
     disk: &mut D,
     reader: &mut Watched<R>,
@@ -176,7 +173,7 @@ fn receive<R: Read, D: Disk>(
     Ok(hashing.done())
 }
 
-/// Fills a piece of a body with the next bytes of a reader, and writes it to its place in an extent.
+/// Fills a piece with the next bytes of a reader, and writes it to its place in an extent.
 fn receive_piece<R: Read, D: Disk>(
     disk: &mut D,
     reader: &mut Watched<R>,
@@ -227,8 +224,8 @@ fn read_behind<R: Read>(
 ///
 /// # Errors
 ///
-/// - [`Refusal::ReadFault`] where a read failed,
-/// - [`Refusal::ShortBody`] where the input ended before so many bytes came.
+/// - [`Refusal::ReadFault`] if a read failed.
+/// - [`Refusal::ShortBody`] if the input ended before the buffer was full.
 pub fn read_into<R: Read>(reader: &mut Watched<R>, buf: &mut [u8]) -> Result<(), Refusal>
     ensures size { length buf.new ≡ length buf.old }
     ensures ok { OnOk result (Took R.remaining reader.old reader.new buf.new) }

@@ -1,4 +1,4 @@
-//! Why a source does not do what it is asked.
+//! Why a source refuses.
 
 ghost use Rattle.std.specs.Prelude.{◌≡◌};
 
@@ -6,11 +6,11 @@ use rs_model::Refusal as Refused;
 use std::alloc::AllocError;
 use thiserror::Error;
 
-/// Why a source does not do what it is asked, in the order in which the causes count: of several the
-/// first is answered. `NoMemory` stands outside this order.
+/// Why a source refuses. Of several causes it answers the first in this order, but `NoMemory` may come
+/// at any point.
 #[derive(Clone, Copy, Debug, PartialEq, Eq, Error)]
 pub enum Refusal {
-    /// A command met a fault of the device earlier. The source has to be opened again.
+    /// A device call of an earlier command failed. The source has to be opened again.
     #[error("the source is closed")]
     Closed,
     /// A group of no items, or of more than 16.
@@ -22,16 +22,16 @@ pub enum Refusal {
     /// The resource is not held.
     #[error("the resource is not held")]
     NotHeld,
-    /// A put of a name that is not held, where 50,000 are.
+    /// A put of a new name while 50,000 resources are held.
     #[error("50000 resources are held")]
     TooManyResources,
-    /// A put or a delete where 50,000 changes are kept.
+    /// A put or a delete while 50,000 changes are kept.
     #[error("50000 changes are kept")]
     TooManyChanges,
-    /// No moment, no number of a publication or of a part, or no generation is left.
+    /// No moment, publication number, part number or generation is left.
     #[error("no moment, publication number, part number or generation is left")]
     Exhausted,
-    /// The disk has no run of free blocks for something that has to be written.
+    /// The disk has no run of free blocks for a body, a page or the directory.
     #[error("the disk is full")]
     Full,
     /// The reader of a body failed.
@@ -54,7 +54,7 @@ pub enum Refusal {
 impl Refusal {
     ghost use Rattle.rs_store.specs.Refusals.{refusal_word};
 
-    /// The word by which a refusal is answered, in a script and over HTTP: the name of its variant.
+    /// The word for a refusal in a script and over HTTP: the name of its variant.
     pub fn word(self) -> &'static str
         ensures { result.now ≡ refusal_word self }
     {

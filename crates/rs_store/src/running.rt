@@ -13,33 +13,32 @@ use rs_disk::Disk;
 use rs_model::{Command, Reply};
 use rs_time::Moment;
 
-/// How a command of a run was answered.
+/// The answer to a command of a run.
 #[derive(Clone, Copy, Debug, PartialEq, Eq)]
 pub struct Ack {
     /// The answer.
     pub reply: Result<Reply, Refusal>,
-    /// How many calls of the disk were counted when the command had been answered.
+    /// The disk's count of calls at the answer.
     pub at_call: u64,
 }
 
 impl<D: Disk> Source<D> {
-    /// Does these commands in their order, each with the moment at which it comes, and tells how each was
-    /// answered. It goes on after a refusal; after [`Refusal::Device`] each further answer is
-    /// [`Refusal::Closed`].
+    /// Does these commands in their order, each at its moment, and returns their answers. It goes on
+    /// after a refusal. After [`Refusal::Device`] each further answer is [`Refusal::Closed`].
     ///
-    /// The *counted* commands are those answered Ok, followed by the one answered [`Refusal::Device`], if
-    /// there is one. A crash at any moment of the run leaves the state after the first of them: no fewer than
-    /// had been answered Ok by then, and no more than had begun.
+    /// The *counted* commands are those with the answer Ok, and then the one with the answer
+    /// [`Refusal::Device`], if any. A crash at any moment of the run leaves the state after a prefix of
+    /// them, which has each command with the answer Ok by then and none that had not begun.
     ///
     /// # Errors
     ///
-    /// [`Refusal::NoMemory`] where the memory for the answers is refused, before the first command.
+    /// [`Refusal::NoMemory`] if memory for the answers runs out, before the first command.
     pub fn run(&mut self, commands: &[(Command, Moment)]) -> Result<Vec<Ack>, Refusal>
         // Each command is answered as the source answers it.
         ensures in_turn { IfOk result
             (λ acks. InTurn D.state self.old commands.now acks.items self.new) }
 
-        // Of a source that holds a state: a crash at any moment leaves a prefix of the counted commands
+        // If the source holds a state: a crash at any moment leaves a prefix of the counted commands
         // that has each acknowledged one; at the end an open source holds them all; and the replies are
         // those of the model.
         ensures any_moment { IfOk result (λ acks. (s : State) → Holds D.state self.old s
@@ -65,7 +64,7 @@ impl<D: Disk> Source<D> {
         Ok(acks)
     }
 
-    /// How many calls of the disk were counted.
+    /// The disk's count of calls.
     fn calls(&self) -> u64
         ensures { result ≡ (D.state self.now.disk).calls }
     {

@@ -1,4 +1,4 @@
-//! Which bodies are damaged.
+//! The search for damaged bodies.
 
 ghost use Rattle.std.specs.Prelude.{◌≡◌, ◌∷◌, ◌++◌, [], ◌≤◌, ◌+◌, length, map, All, IfErr, IfOk, OnOk, IsErrOf, IsTrue};
 ghost use Rattle.rs_disk.specs.Runs.{RunsReading};
@@ -14,15 +14,15 @@ use rs_record::{Name, Record};
 use std::alloc::{AllocError, Global};
 
 impl<D: Disk> Source<D> {
-    /// The held names whose body does not have its recorded SHA-256, in the strictly ascending order
-    /// of their bytes. Each body is read once, in pieces of 16,384 bytes, and takes no memory; of a
-    /// damaged one its name does. Nothing changes but what the disk counts.
+    /// The held names whose body does not have its recorded SHA-256, in the strictly ascending order of
+    /// their bytes. It reads each body once, in pieces of 16,384 bytes, and allocates for the names alone.
+    /// Only the counts of the disk change.
     ///
     /// # Errors
     ///
-    /// - [`Refusal::Closed`] exactly where the source is closed.
-    /// - [`Refusal::Device`] where the device failed. The source stays open.
-    /// - [`Refusal::NoMemory`] where the memory for the names is refused.
+    /// - [`Refusal::Closed`] exactly if the source is closed.
+    /// - [`Refusal::Device`] if the device failed. The source stays open.
+    /// - [`Refusal::NoMemory`] if memory for the names runs out.
     pub fn verify(&mut self) -> Result<Vec<Name>, Refusal>
         ensures { AnswersVerify D.state self.old self.new result }
     {
@@ -53,7 +53,7 @@ fn damaged_in<D: Disk>(
     Ok(names)
 }
 
-/// Looks at the body of a record, and puts the name behind the others where it is damaged.
+/// Reads the body of a record, and adds the name to the others if it is damaged.
 fn note_damage<D: Disk>(
     alloc: Global,
     disk: &mut D,

@@ -10,8 +10,8 @@ use rs_lists::View;
 use rs_record::{Base, Change, Record};
 use rs_time::Moment;
 
-/// A source as its documents show it: its latest publication and the changes that it keeps, in the
-/// pages in which they are stored. It borrows the source and copies nothing.
+/// A source, as its documents show it: its latest publication and the changes that it keeps. It borrows
+/// the source and copies nothing.
 #[derive(Drop)]
 pub struct SourceView<'a, D: Disk> {
     pub(crate) source: &'a Source<D>,
@@ -39,7 +39,7 @@ impl<D: Disk> View for SourceView<'_, D> {
 
     fn limit(&self) -> u16 {
         let contents = self.contents();
-        // Asking for the lengths shows what the lists keep.
+        // The lengths bring the bounds of the lists into the proof.
         let (_published, _changes) = (contents.published.len(), contents.history.len());
         contents.header.limit.items()
     }

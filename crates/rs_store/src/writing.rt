@@ -1,4 +1,4 @@
-//! Writing what a plan says.
+//! Writing the lists of a plan.
 
 ghost use Rattle.std.specs.Prelude.{◌≡◌, ◌<◌, ◌+◌, ◌++◌, ℕ, Bool, length, All, IfOk, OnOk, IsErrOf, [], ◌∷◌};
 ghost use Rattle.rs_extent.specs.Extents.{IsOnDisk, IsBeside, AreBeside, AreApart, AreOnDisk};
@@ -21,7 +21,7 @@ use rs_page::StoreFault;
 use rs_plan::Plan;
 use std::alloc::Global;
 
-/// A directory that was written, as a root names it.
+/// A written directory, as a root names it.
 #[derive(Clone, Copy, Debug, PartialEq, Eq)]
 pub(crate) struct Written {
     /// Its length in bytes.
@@ -30,17 +30,16 @@ pub(crate) struct Written {
     pub sha256: [u8; 32],
 }
 
-/// Writes the lists of a plan whose body was written: each page that was given blocks, and the
-/// directory. Its lists are stored ones then. No slot is touched, and nothing else on the disk
-/// changes, whether it succeeds or not: each set of blocks beside the plan's places stays as it
-/// is, at every moment of the run.
+/// Writes the lists of a plan: each page that was given blocks, and the directory. The plan gets the
+/// stored lists. At every moment, and whatever the result, the blocks beside the plan's places stay as
+/// they are; so do the slots.
 ///
 /// # Errors
 ///
-/// - [`StoreFault::NoMemory`] where the memory for the bytes of a page or of the directory is refused.
-/// - [`StoreFault::Device`] where the device fails.
+/// - [`StoreFault::NoMemory`] if memory for the bytes of a page or of the directory runs out.
+/// - [`StoreFault::Device`] if the device fails.
 ///
-/// After each of them the places of the lists may hold anything.
+/// After either the places of the lists may hold anything.
 pub(crate) fn write_lists<D: Disk>(
     alloc: Global,
     disk: &mut D,
@@ -51,7 +50,7 @@ pub(crate) fn write_lists<D: Disk>(
     ensures stored { OnOk result (AreStoredLists plan.old plan.new (D.state disk.old).now.seen
         (D.state disk.new).now.seen) }
 
-    // Whatever it answers.
+    // Whatever the result.
     ensures stays { StaysBesideLists plan.old plan.new }
     ensures writes { WritesOnly (places plan.old) (IsErrOf result StoreFault.Device)
         (D.state disk.old) (D.state disk.new) }

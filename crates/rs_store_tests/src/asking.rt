@@ -1,4 +1,4 @@
-//! Commands as rows of a table, and what a source holds, as one line of text.
+//! Commands as rows of a table, and the contents of a source as one line of text.
 
 use rs_disk::MemoryDisk;
 use rs_io::Watched;
@@ -8,7 +8,7 @@ use rs_store::{Refusal, Source};
 use rs_time::Moment;
 use std::process::Abort;
 
-/// What is asked of a source. A body is of `text/plain`.
+/// A command to a source. Bodies have the type `text/plain`.
 #[derive(Clone, Copy, Debug)]
 pub(super) enum Asked {
     /// A put of this name with this body.
@@ -23,17 +23,17 @@ pub(super) enum Asked {
     Group(&'static [Part]),
 }
 
-/// What an item of a group asks of a source. A body is of `text/plain`.
+/// An item of a group. Bodies have the type `text/plain`.
 #[derive(Clone, Copy, Debug)]
 pub(super) enum Part {
-    /// This name is to be held with this body.
+    /// A put of this name with this body.
     Held(&'static [u8], &'static [u8]),
-    /// This name is to be held no more.
+    /// A delete of this name.
     Gone(&'static [u8]),
 }
 
-/// What is answered: a reply with its moment, in milliseconds, or a refusal. It is spelled in plain numbers, so
-/// that rows can be constants.
+/// An answer: a reply with its moment in milliseconds, or a refusal. It has plain numbers, so that rows can be
+/// constants.
 #[derive(Clone, Copy, Debug, PartialEq, Eq)]
 pub(super) enum Answer {
     Created(u64),
@@ -61,7 +61,7 @@ pub(super) fn disk_of(rt: &(impl Abort + AllocGlobal), size: u64) -> MemoryDisk 
     MemoryDisk::new(rt.alloc(), size).expect(rt, "memory for a disk")
 }
 
-/// A new source on a disk, of the item limit 2, made at the moment 0. Where nothing fails it makes six device calls.
+/// A new source on a disk, with item limit 2, made at moment 0. Where nothing fails it makes six device calls.
 pub(super) fn made(rt: &(impl Abort + AllocGlobal), disk: MemoryDisk) -> Source<MemoryDisk> {
     let now = Moment::first();
     match Source::format(rt.alloc(), disk, b"http://127.0.0.1:8080", 2, now) {
@@ -105,7 +105,7 @@ fn items_of(rt: &(impl Abort + AllocGlobal), parts: &[Part]) -> Vec<Item> {
     items
 }
 
-/// What a source answers to a command that comes at the moment 0.
+/// What a source answers to a command at moment 0.
 pub(super) fn ask(
     rt: &(impl Abort + AllocGlobal),
     source: &mut Source<MemoryDisk>,
@@ -146,7 +146,7 @@ pub(super) fn answer_of(done: &Result<Reply, Refusal>) -> Answer {
     }
 }
 
-/// Appends bytes that are text.
+/// Appends text, given as bytes.
 pub(super) fn tell(rt: &impl Abort, text: &mut String, bytes: &[u8]) {
     let more = std::str::from_utf8(bytes).expect(rt, "text");
     text.push_str(more).expect(rt, "memory for text");
@@ -182,7 +182,7 @@ fn tell_published(rt: &impl Abort, source: &Source<MemoryDisk>, text: &mut Strin
     }
 }
 
-/// Looks whether a source tells this of itself.
+/// Checks that a source tells this of itself.
 pub(super) fn tells(rt: &(impl Abort + AllocGlobal), source: &mut Source<MemoryDisk>, want: &str) {
     let text = told(rt, source);
     assert_eq!(rt; text.as_str(), want);

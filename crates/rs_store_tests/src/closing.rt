@@ -1,4 +1,4 @@
-//! What a source answers whose device failed in a command: nothing, until its disk is opened again.
+//! A source whose device failed in a command answers nothing until its disk is opened again.
 
 use super::asking::Answer::Refused;
 use super::asking::Asked::{self, Delete, Publish, Put, Receive};
@@ -8,14 +8,14 @@ use rs_store::Refusal::{self, Closed, Device};
 use rs_store::Source;
 use std::process::Abort;
 
-/// Looks whether this is the answer of a closed source.
+/// Checks that this is the answer of a closed source.
 fn is_closed<T: Drop>(rt: &impl Abort, answer: Result<T, Refusal>) {
     let refusal = answer.err();
     assert_eq!(rt; refusal, Some(Closed));
     assert_eq!(rt; refusal.map(|it| it.word()), Some("Closed"));
 }
 
-// What is asked of a closed source.
+// Commands to a closed source.
 const COMMANDS: [Asked; 5] = [
     Put(b"a", b"one"),
     Receive(b"a", b"one"),
@@ -24,7 +24,7 @@ const COMMANDS: [Asked; 5] = [
     Publish,
 ];
 
-/// Looks whether a source answers nothing.
+/// Checks that a source answers nothing.
 fn answers_nothing(rt: &(impl Abort + AllocGlobal), source: &mut Source<MemoryDisk>) {
     assert!(rt; source.is_closed());
     for asked in &COMMANDS {
@@ -43,7 +43,8 @@ fn answers_nothing(rt: &(impl Abort + AllocGlobal), source: &mut Source<MemoryDi
 #[test]
 fn a_closed_source_answers_nothing(rt: HostRuntime) {
     let mut disk = disk_of(&rt, 65536);
-    // The formatting makes six calls. The device works again after the next one, and the source is closed all the same.
+    // The formatting makes six calls. The next one fails, and the device works again after it, but the source stays
+    // closed.
     disk.fail_once(6);
     let mut source = made(&rt, disk);
     assert!(rt; !source.is_closed());

@@ -5,7 +5,7 @@ use super::asking::Asked::{self, Delete, Publish, Put};
 use super::asking::{ask, disk_of, made, opened, told};
 use rs_disk::{Disk, MemoryDisk};
 use rs_store::CopyFault::{self, Damaged, Device, Full, TooSmall};
-use rs_store::{OpenFault, Source};
+use rs_store::{CopyRefusal, OpenFault, Source};
 use std::process::Abort;
 
 // What leaves one resource held, and another one published that was deleted since.
@@ -40,7 +40,10 @@ fn refused(
 ) -> (MemoryDisk, CopyFault) {
     match source.copy_to(disk) {
         Ok(_) => panic!(rt; "copied"),
-        Err(refused) => refused,
+        Err((disk, refusal)) => match refusal {
+            CopyRefusal::Closed => panic!(rt; "closed"),
+            CopyRefusal::Fault(fault) => (disk, fault),
+        },
     }
 }
 

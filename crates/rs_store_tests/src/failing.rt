@@ -1,4 +1,4 @@
-//! Devices of which one call fails while a source is made or opened.
+//! Devices that fail one call while a source is made or opened.
 
 use super::asking::{ask_for_two_puts, disk_of, made};
 use rs_disk::MemoryDisk;
@@ -6,7 +6,7 @@ use rs_store::{FormatFault, OpenFault, Source};
 use rs_time::Moment;
 use std::process::Abort;
 
-/// What a formatting answers of whose device one call fails, after `k` others.
+/// What a formatting answers whose device fails one call, after `k` others.
 fn fault_of_formatting(rt: &(impl Abort + AllocGlobal), k: u64) -> Option<FormatFault> {
     let mut disk = disk_of(rt, 8192);
     disk.fail_once(k);
@@ -37,7 +37,7 @@ fn image_of_three_pages(rt: &(impl Abort + AllocGlobal)) -> Vec<u8> {
     disk.image(&[]).expect(rt, "memory for an image")
 }
 
-/// What an opening answers of whose device one call fails, after `k` others, and the disk.
+/// What an opening answers whose device fails one call, after `k` others, and the disk.
 fn fault_of_opening(
     rt: &impl AllocGlobal,
     disk: MemoryDisk,
@@ -51,7 +51,7 @@ fn fault_of_opening(
     }
 }
 
-/// Fails one call of an opening, after `k` others, and looks at the answer. The disk has the same bytes then.
+/// Fails one call of an opening, after `k` others. Checks the answer, and that the disk keeps its bytes.
 fn fail(rt: &(impl Abort + AllocGlobal), image: &[u8], k: u64) {
     let disk = MemoryDisk::from_bytes(rt.alloc(), image).expect(rt, "memory for a disk");
     let (fault, disk) = fault_of_opening(rt, disk, k);

@@ -10,8 +10,8 @@ use std::process::Abort;
 
 const BODY: [u8; 4608] = [7; 4608];
 
-/// Fills 14 of a source's 16 blocks: the slots have two, the body of `a` nine, and the page of the catalogue, that
-/// of the changes and the directory one each. Then it deletes that resource.
+/// Fills 14 of a source's 16 blocks: the slots take two, the body of `a` nine, and the catalogue's page, the changes'
+/// page and the directory one each. Then it deletes that resource.
 fn fill_and_delete(rt: &(impl Abort + AllocGlobal), source: &mut Source<MemoryDisk>) {
     assert_eq!(rt; ask(rt, source, Put(b"a", &BODY)), Created(1));
     // Two pages and the directory would take three blocks.

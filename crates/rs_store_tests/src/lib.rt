@@ -1,6 +1,6 @@
-//! Tests of a source on a disk, of what its contracts leave to be seen: devices that stop or fail at each of their
-//! calls, readers of bodies that fail or end early, what a closed source answers, and that calls succeed which
-//! take memory. Commands and disks that can be seen from outside are rows of `tests/rows`.
+//! Tests of a source on a disk, of what its contracts leave open: devices that stop or fail at each of their calls,
+//! readers of bodies that fail or end early, the answers of a closed source, and calls that take memory and succeed.
+//! Commands and disks that can be seen from outside are rows of `tests/rows`.
 #![tactic(auto)]
 
 #[cfg(test)]

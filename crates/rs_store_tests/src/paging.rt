@@ -1,5 +1,5 @@
-//! Sources whose lists have many pages: how these are cut, which of them a command writes anew, and stops while it
-//! does.
+//! Sources whose lists have many pages: how the pages are cut, which of them a command writes anew, and devices that
+//! stop meanwhile.
 
 use super::asking::Answer::{self, Created, Deleted, Published, Refused, Updated};
 use super::asking::Asked::{self, Delete, Publish, Put};
@@ -29,7 +29,7 @@ fn put(rt: &(impl Abort + AllocGlobal), source: &mut Source<MemoryDisk>, number:
     answer_of(&source.put(&name, &plain(rt), b"", Moment::first()))
 }
 
-/// A disk of this size with a new source of so many resources, which were put in the ascending order of their names.
+/// A disk of this size with a new source of `count` resources, put in ascending order of their names.
 fn disk_with(rt: &(impl Abort + AllocGlobal), size: u64, count: u64) -> MemoryDisk {
     let mut source = made(rt, disk_of(rt, size));
     for number in 0..count {
@@ -38,13 +38,13 @@ fn disk_with(rt: &(impl Abort + AllocGlobal), size: u64, count: u64) -> MemoryDi
     source.into_disk()
 }
 
-/// What stands behind the root of a disk.
+/// The contents of a disk's root.
 fn contents_of(rt: &(impl Abort + AllocGlobal), disk: &mut MemoryDisk) -> Contents {
     let (_slots, root) = open_slots(disk).expect(rt, "a root");
     load(rt.alloc(), disk, &root).expect(rt, "lists").contents
 }
 
-/// The references that stand on a disk.
+/// The references to the pages on a disk.
 fn lists_of(rt: &(impl Abort + AllocGlobal), disk: &mut MemoryDisk) -> Lists {
     let contents = contents_of(rt, disk);
     let memory = "memory for references";
@@ -81,7 +81,7 @@ fn kept(rt: &(impl Abort + AllocGlobal), old: &[PageRef], new: &[PageRef]) -> Ve
     kept
 }
 
-/// Looks at how many items each page of a source of 130 resources has, and gives its references.
+/// Checks how many items each page of a source of 130 resources has, and gives its references.
 fn are_cut(rt: &(impl Abort + AllocGlobal), disk: &mut MemoryDisk) -> Lists {
     let lists = lists_of(rt, disk);
     let records = counts::<Record>(rt, disk, &lists.catalogue);
@@ -92,7 +92,7 @@ fn are_cut(rt: &(impl Abort + AllocGlobal), disk: &mut MemoryDisk) -> Lists {
     lists
 }
 
-/// Looks at which pages stay where the last name is put again.
+/// Checks which pages stay where the last name is put again.
 fn are_kept(rt: &(impl Abort + AllocGlobal), old: &Lists, new: &Lists) {
     let catalogue = kept(rt, &old.catalogue, &new.catalogue);
     assert_eq!(rt; catalogue.as_slice(), [true, true, true, false].as_slice());
@@ -121,9 +121,9 @@ fn a_publication_shares_the_pages_that_stay(rt: HostRuntime) {
     assert_eq!(rt; shared.as_slice(), [false, true, true, true].as_slice());
 }
 
-/// A command, which comes at the moment 0.
+/// A command at moment 0.
 struct Step {
-    /// What is asked.
+    /// The command.
     asked: Asked,
     /// The answer where nothing stops it.
     answer: Answer,
@@ -131,7 +131,7 @@ struct Step {
     calls: u64,
 }
 
-// What is asked of a source of 64 resources, in one page.
+// Commands to a source of 64 resources, in one page.
 const STEPS: [Step; 3] = [
     // It writes the body, the two pages that the catalogue's page is cut into, a new page of the changes and the
     // directory. The commit makes six calls.
@@ -160,7 +160,7 @@ fn calls_of_opening(rt: &(impl Abort + AllocGlobal), bytes: &[u8]) -> u64 {
     opened(rt, disk).into_disk().calls()
 }
 
-/// The answer to a command that comes to the source in these bytes, and the disk, which stops after this number of calls.
+/// The answer to a command to the source in these bytes, and the disk, which stops after this many calls.
 fn stopped(
     rt: &(impl Abort + AllocGlobal),
     bytes: &[u8],
@@ -174,7 +174,7 @@ fn stopped(
     (answer, source.into_disk())
 }
 
-/// What the source tells of itself to which these bytes open.
+/// What the source in these bytes tells of itself.
 fn told_by(rt: &(impl Abort + AllocGlobal), bytes: &[u8]) -> String {
     let disk = MemoryDisk::from_bytes(rt.alloc(), bytes).expect(rt, "memory for a disk");
     let mut source = opened(rt, disk);
@@ -184,7 +184,7 @@ fn told_by(rt: &(impl Abort + AllocGlobal), bytes: &[u8]) -> String {
 // The choices that make images.
 const CHOICES: [&[u8]; 3] = [&[0], &[1], &[0, 1]];
 
-/// Looks whether each of these images of a disk tells one of two states.
+/// Checks that each of these images of a disk tells one of two states.
 fn images_tell(rt: &(impl Abort + AllocGlobal), disk: &MemoryDisk, old: &str, new: &str) {
     for choice in &CHOICES {
         let image = disk.image(choice).expect(rt, "memory for an image");
@@ -196,8 +196,8 @@ fn images_tell(rt: &(impl Abort + AllocGlobal), disk: &MemoryDisk, old: &str, ne
     }
 }
 
-/// Stops the device at each call of a command that comes to the source in these bytes, and gives the bytes that the
-/// whole command leaves.
+/// Stops the device at each call of a command to the source in these bytes, and gives the bytes that the whole command
+/// leaves.
 fn stop_everywhere(rt: &(impl Abort + AllocGlobal), bytes: &[u8], step: &Step) -> Vec<u8> {
     let opening = calls_of_opening(rt, bytes);
     let (answer, disk) = stopped(rt, bytes, step.asked, opening.saturating_add(step.calls));

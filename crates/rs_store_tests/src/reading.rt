@@ -1,5 +1,5 @@
-//! What is read of a source: bodies, also while a device call fails, media types, and what its documents are
-//! written from.
+//! Reading a source: bodies, also while a device call fails, media types, and the view that its documents are written
+//! from.
 
 use super::asking::{ask_for_two_puts, disk_of, made, named, opened, tell};
 use rs_disk::{Disk, MemoryDisk};
@@ -7,12 +7,12 @@ use rs_lists::View;
 use rs_store::{Refusal, Source};
 use std::process::Abort;
 
-/// Appends why nothing is answered.
+/// Appends a refusal.
 fn tell_refusal(rt: &impl Abort, text: &mut String, refusal: Refusal) {
     write!(text, "{refusal:?}").expect(rt, "memory for text");
 }
 
-/// Appends the body of a name and its media type, or why there is none.
+/// Appends the body of a name and its media type, or the refusals.
 fn tell_of(
     rt: &(impl Abort + AllocGlobal),
     source: &mut Source<MemoryDisk>,
@@ -32,7 +32,7 @@ fn tell_of(
     tell(rt, text, b";");
 }
 
-/// Looks at what a source tells of two resources and of a name that is not held.
+/// Checks what a source tells of two resources and of a name that it does not hold.
 fn tells(rt: &(impl Abort + AllocGlobal), source: &mut Source<MemoryDisk>) {
     ask_for_two_puts(rt, source);
     let mut text = String::new(rt.alloc());
@@ -50,13 +50,13 @@ fn tells(rt: &(impl Abort + AllocGlobal), source: &mut Source<MemoryDisk>) {
 fn bodies_and_a_device_that_fails(rt: HostRuntime) {
     let mut disk = disk_of(&rt, 65536);
     // The formatting makes six calls, and the commands 24. The next one is the first read of `b`: a name that is not held
-    // and a body of no bytes need none. It fails, and the source is open all the same.
+    // and a body of no bytes need none. It fails, but the source stays open.
     disk.fail_once(30);
     let mut source = made(&rt, disk);
     tells(&rt, &mut source);
 }
 
-/// Appends the names of the damaged bodies, or why none are told.
+/// Appends the names of the damaged bodies, or the refusal.
 fn tell_damaged(
     rt: &(impl Abort + AllocGlobal),
     source: &mut Source<MemoryDisk>,
@@ -74,7 +74,7 @@ fn tell_damaged(
     tell(rt, text, b";");
 }
 
-/// The source with a byte changed of the body of its second resource.
+/// The source with one byte changed in the body of its second resource.
 fn with_a_wrong_byte(
     rt: &(impl Abort + AllocGlobal),
     source: Source<MemoryDisk>,
@@ -103,7 +103,7 @@ fn damaged_bodies_and_a_device_that_fails(rt: HostRuntime) {
     assert_eq!(rt; text.as_str(), "Device;;b ;");
 }
 
-/// Looks at what a view shows.
+/// Checks what a view shows.
 fn views<V: View>(rt: &impl Abort, view: &V) {
     assert_eq!(rt; view.base().bytes(), b"http://127.0.0.1:8080".as_slice());
     assert_eq!(rt; (view.limit(), view.number(), view.first()), (2, 1, 0));

@@ -9,8 +9,8 @@ use rs_store::Source;
 use rs_time::Moment;
 use std::process::Abort;
 
-/// What a reader has, how many bytes it gives in a read, the number of the read from which on it fails, the length of
-/// the body as it is said, and the answer.
+/// The bytes of a reader, how many it gives in a read, the number of its first read that fails, the declared length of
+/// the body, and the answer.
 type Row = (&'static [u8], usize, u64, u64, Answer);
 
 // On a disk of 16 blocks, of which 13 are free.
@@ -45,7 +45,7 @@ fn put_from(
     answer_of(&done)
 }
 
-/// Puts the body of each row, and looks at the answers and at what the source tells at the end.
+/// Puts the body of each row, and checks the answers, and what the source tells at the end.
 fn holds_what_came(rt: &(impl Abort + AllocGlobal), source: &mut Source<MemoryDisk>) {
     for (input, piece, fail_at, length, want) in &ROWS {
         let reader = FaultyReader::new(input, (*piece).max(1), *fail_at);

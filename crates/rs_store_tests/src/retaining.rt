@@ -8,17 +8,17 @@ use rs_lists::{Doc, View, change_parts, list_length};
 use rs_store::Source;
 use std::process::Abort;
 
-/// What is kept of the changes: how many, in how many parts, the number of the first part, and the moment at which they
+/// The changes that are kept: how many, in how many parts, the number of the first part, and the moment at which they
 /// begin.
 type Kept = (usize, u64, u64, u64);
 
-/// What a view shows that is kept of the changes.
+/// The changes that are kept, as a view shows them.
 fn shown<V: View>(view: &V) -> Kept {
     let parts = change_parts(view);
     (view.changes_len(), parts, view.first(), view.begin().ms())
 }
 
-/// What a source keeps of its changes.
+/// The changes that a source keeps.
 fn kept(rt: &impl Abort, source: &Source<MemoryDisk>) -> Kept {
     shown(&source.view().expect(rt, "a view"))
 }
@@ -28,13 +28,13 @@ fn is_there<V: View>(view: &V, part: u64) -> bool {
     list_length(view, Doc::ChangePart { part }).is_some()
 }
 
-/// Of which of the first three parts of the Change List there is a document.
+/// Which of the first three parts of the Change List have a document.
 fn documents(rt: &impl Abort, source: &Source<MemoryDisk>) -> [bool; 3] {
     let view = source.view().expect(rt, "a view");
     [is_there(&view, 0), is_there(&view, 1), is_there(&view, 2)]
 }
 
-/// A command, which comes at the moment 0: its answer, and what is kept and which parts are documents after it.
+/// A command at moment 0, its answer, and after it the changes that are kept and the parts that have a document.
 type Row = (Asked, Answer, Kept, [bool; 3]);
 
 const NONE: [bool; 3] = [false, false, false];

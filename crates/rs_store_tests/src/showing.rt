@@ -1,7 +1,7 @@
 //! Faults and refusals as text.
 
 use rs_plan::PlanFault;
-use rs_store::{CopyFault, FormatFault, OpenFault, Refusal};
+use rs_store::{CopyFault, CopyRefusal, FormatFault, OpenFault, Refusal};
 use std::fmt::Display;
 use std::process::Abort;
 
@@ -36,13 +36,16 @@ const PLAN_FAULTS: [(PlanFault, &str); 2] = [
     (PlanFault::NoMemory, "out of memory"),
 ];
 
-const COPY_FAULTS: [(CopyFault, &str); 6] = [
-    (CopyFault::Closed, "the source is closed"),
-    (CopyFault::TooSmall, "the disk has fewer than 8192 bytes"),
-    (CopyFault::Full, "the disk is full"),
-    (CopyFault::Device, "the device failed"),
-    (CopyFault::Damaged, "a body is damaged"),
-    (CopyFault::NoMemory, "out of memory"),
+const COPY_REFUSALS: [(CopyRefusal, &str); 6] = [
+    (CopyRefusal::Closed, "the source is closed"),
+    (
+        CopyRefusal::Fault(CopyFault::TooSmall),
+        "the disk has fewer than 8192 bytes",
+    ),
+    (CopyRefusal::Fault(CopyFault::Full), "the disk is full"),
+    (CopyRefusal::Fault(CopyFault::Device), "the device failed"),
+    (CopyRefusal::Fault(CopyFault::Damaged), "a body is damaged"),
+    (CopyRefusal::Fault(CopyFault::NoMemory), "out of memory"),
 ];
 
 const REFUSALS: [(Refusal, &str); 13] = [
@@ -69,6 +72,6 @@ fn faults_are_shown(rt: HostRuntime) {
     are_shown(&rt, &FORMAT_FAULTS);
     are_shown(&rt, &OPEN_FAULTS);
     are_shown(&rt, &PLAN_FAULTS);
-    are_shown(&rt, &COPY_FAULTS);
+    are_shown(&rt, &COPY_REFUSALS);
     are_shown(&rt, &REFUSALS);
 }

@@ -1,9 +1,9 @@
-//! Sessions whose device stops, or fails once, at each of their calls, and what the images that a crash may leave
-//! then open to: the source as it was before the command that was cut, or as it is after it.
+//! Sessions whose device stops, or fails once, at each of their calls. Each image that a crash may leave opens to the
+//! source as it was before the command that was cut, or as it is after it.
 //!
 //! A command writes its body, its pages and its directory. Its commit closes the spare's gate if that is open, writes
-//! the bytes behind it and opens it, each by a write and a sync. The spare of a source that was just made is
-//! closed; after each commit it is open.
+//! the bytes behind it and opens it, each by a write and a sync. The spare of a new source is closed; after each commit
+//! it is open.
 
 use super::asking::Answer::{self, Created, Deleted, Grouped, Published, Refused, Updated};
 use super::asking::Asked::{self, Delete, Group, Publish, Put, Receive};
@@ -14,7 +14,7 @@ use rs_store::Refusal::{Closed, Device, NotHeld};
 use rs_store::Source;
 use std::process::Abort;
 
-/// A command of a session, which comes at the moment 0.
+/// A command of a session, at moment 0.
 #[derive(Clone, Copy)]
 struct Step {
     asked: Asked,
@@ -146,9 +146,9 @@ struct Cut {
     done: usize,
     /// What the source tells of itself before the command that is cut.
     old: &'static str,
-    /// What it tells where that command stands.
+    /// What it tells after that command.
     new: &'static str,
-    /// How many calls the command had still to make, with the one that fails.
+    /// How many calls the command still had to make, with the one that fails.
     calls: u64,
 }
 
@@ -175,7 +175,7 @@ fn cut_after(steps: &[Step], k: u64) -> Cut {
 }
 
 impl Cut {
-    /// The answer to the command of this number, which is so where nothing fails.
+    /// The answer to the command of this number. It is `answer` where nothing fails.
     fn answer(self, number: usize, answer: Answer) -> Answer {
         if number < self.done {
             answer
@@ -186,7 +186,7 @@ impl Cut {
         }
     }
 
-    /// What is told where the command stands as soon as it has this many calls to make.
+    /// What the source tells, if a command is whole once it has this many calls or fewer to make.
     fn tells(self, calls: u64) -> &'static str {
         if self.calls <= calls {
             self.new
@@ -196,7 +196,7 @@ impl Cut {
     }
 }
 
-/// Asks a source for each command of a session, and looks at each answer.
+/// Gives a source each command of a session, and checks each answer.
 fn answers(
     rt: &(impl Abort + AllocGlobal),
     source: &mut Source<MemoryDisk>,
@@ -229,20 +229,20 @@ fn stopped(rt: &(impl Abort + AllocGlobal), steps: &[Step], k: u64, cut: Cut) ->
     left_by(rt, disk, steps, cut)
 }
 
-/// The disk of a session of whose device one call fails, after `k` others.
+/// The disk of a session whose device fails one call, after `k` others.
 fn failed(rt: &(impl Abort + AllocGlobal), steps: &[Step], k: u64, cut: Cut) -> MemoryDisk {
     let mut disk = disk_of(rt, 65536);
     disk.fail_once(k.saturating_add(FORMATTING));
     left_by(rt, disk, steps, cut)
 }
 
-/// The image of a disk that a choice makes, as a disk.
+/// The image of a choice, as a disk.
 fn image_of(rt: &(impl Abort + AllocGlobal), disk: &MemoryDisk, choice: &[u8]) -> MemoryDisk {
     let image = disk.image(choice).expect(rt, "memory for an image");
     MemoryDisk::from_bytes(rt.alloc(), &image).expect(rt, "memory for a disk")
 }
 
-/// Looks at what the source on a disk tells of itself, and gives the disk back.
+/// Checks what the source on a disk tells of itself, and gives the disk back.
 fn tells(rt: &(impl Abort + AllocGlobal), disk: MemoryDisk, k: u64, want: &str) -> MemoryDisk {
     let mut source = opened(rt, disk);
     let text = told(rt, &mut source);
@@ -250,15 +250,15 @@ fn tells(rt: &(impl Abort + AllocGlobal), disk: MemoryDisk, k: u64, want: &str) 
     source.into_disk()
 }
 
-// The choices that make images, and how many calls a command that stands in them had still to make at most. The gate is the
-// lowest of the unsettled places, so each image has the first byte of its choice there; with no choice it is what a
-// read gives.
+// The choices that make images. In each image a command is whole once it has this many calls or fewer to make. The gate
+// is the lowest of the unsettled places, so it has the first byte of the choice; the empty choice gives what a read
+// gives.
 const IMAGES: [(&[u8], u64); 5] = [(&[], 1), (&[0], 0), (&[1], 2), (&[0, 1], 0), (&[1, 0], 2)];
 
-// The choices that make images of a disk on which nothing is unsettled, of which each gives the same bytes then.
+// Choices for a disk on which nothing is unsettled, where each of them gives the same bytes.
 const CHOICES: [&[u8]; 5] = [&[0], &[1], &[255], &[0, 1], &[1, 0, 255]];
 
-/// Looks whether a disk is settled: each of its images has the bytes that a read gives.
+/// Checks that a disk is settled: each of its images has the bytes that a read gives.
 fn is_settled(rt: &(impl Abort + AllocGlobal), disk: &MemoryDisk, k: u64) {
     let bytes = disk.image(&[]).expect(rt, "memory for an image");
     for choice in &CHOICES {
@@ -267,7 +267,7 @@ fn is_settled(rt: &(impl Abort + AllocGlobal), disk: &MemoryDisk, k: u64) {
     }
 }
 
-/// Opens each of these images of a disk, and looks at what it tells.
+/// Opens each of these images of a disk, and checks what it tells.
 fn images_tell(rt: &(impl Abort + AllocGlobal), disk: &MemoryDisk, k: u64, cut: Cut) {
     for (choice, calls) in &IMAGES {
         let image = image_of(rt, disk, choice);
@@ -327,8 +327,8 @@ fn gates(image: &[u8]) -> [u8; 2] {
 
 #[test]
 fn a_stop_while_the_gate_of_the_spare_is_closed(rt: HostRuntime) {
-    // After `a` was put the second slot has the root, and the first one is the spare, which is open. The put of
-    // `b` makes four writes before that of the gate.
+    // After the put of `a` the second slot has the root, and the first one is the spare, which is open. The put of `b`
+    // makes four writes before that of the gate.
     let disk = stopped(&rt, &PUTS, 12, cut_after(&PUTS, 12));
     for gate in [0, 1] {
         let image = disk.image(&[gate]).expect(&rt, "memory for an image");

@@ -1,5 +1,5 @@
-//! Puts whose bodies come in pieces: what is read of them, what a fault within them leaves, and which blocks are free
-//! after it. The digests are by Python's `hashlib`.
+//! Puts whose bodies come in pieces: how much is read of them, what a fault within them leaves, and which blocks are
+//! free after it. The digests are from Python's `hashlib`.
 
 use super::asking::Answer::{self, Created, Refused};
 use super::asking::{answer_of, disk_of, made, named, opened, plain};
@@ -35,7 +35,7 @@ fn receive<R: Read + Drop>(
     answer_of(&source.put_from(&named(rt, b"a"), &plain(rt), &mut reader, length, now))
 }
 
-/// The MD5 that is recorded of the first resource, as a number.
+/// The recorded MD5 of the first resource, as a number.
 fn first_md5(rt: &impl Abort, source: &Source<MemoryDisk>) -> u128 {
     let records = source.records().expect(rt, "records");
     match records.first() {
@@ -44,7 +44,7 @@ fn first_md5(rt: &impl Abort, source: &Source<MemoryDisk>) -> u128 {
     }
 }
 
-/// Looks at what a source answers to a put of these bytes, one of which comes with each read, and at the body after it.
+/// Puts these bytes, one with each read, and checks the answer and the body after it.
 fn is_received(rt: &(impl Abort + AllocGlobal), source: &mut Source<MemoryDisk>, bytes: &[u8]) {
     let reader = FaultyReader::new(bytes, 1, u64::MAX);
     assert_eq!(rt; receive(rt, source, reader, bytes.len() as u64), Created(1));
@@ -59,7 +59,7 @@ fn one_byte_a_read(rt: HostRuntime) {
     is_received(&rt, &mut source, &counting(&rt, 10_000));
 }
 
-/// How many bytes come of a body of 10,000, the number of the read that fails, and the answer.
+/// How many bytes of a body of 10,000 come, the number of the read that fails, and the answer.
 const CUT: [(u32, u64, Answer); 2] = [
     (10_000, 1, Refused(ReadFault)),
     (4_096, 9, Refused(ShortBody)),
@@ -81,7 +81,7 @@ fn a_body_that_is_cut_short_takes_no_blocks(rt: HostRuntime) {
     assert_eq!(rt; fits, Created(1));
 }
 
-/// Looks whether a put of 10,000 bytes fails by the device, and reads no more than two pieces.
+/// Checks that a put of 10,000 bytes fails by the device, and reads no more than two pieces.
 fn reads_two_pieces(
     rt: &(impl Abort + AllocGlobal),
     source: &mut Source<MemoryDisk>,
@@ -126,7 +126,7 @@ fn a_streamed_put_is_whole_or_absent(rt: HostRuntime) {
     for k in 0..10 {
         let (answer, disk) = stopped(&rt, &bytes, k);
         assert_eq!(rt; answer, Refused(Device), "after {k} calls");
-        // From the write of the gate on an image may have it open.
+        // From the write of the gate on, an image may have it open.
         let new = if k < 8 { 0 } else { 1 };
         let held = (held_in(&rt, &disk, 0), held_in(&rt, &disk, 1));
         assert_eq!(rt; held, (0, new), "after {k} calls");

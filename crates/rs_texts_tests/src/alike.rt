@@ -1,4 +1,4 @@
-//! A view of as many records and changes as are wanted, which are all alike.
+//! A view with any number of records and changes, all alike.
 
 ghost use Rattle.std.specs.Prelude.{◌≤◌};
 
@@ -7,7 +7,7 @@ use rs_record::{Base, Change, Record};
 use rs_time::Moment;
 use std::test::Fail;
 
-/// A source that shows one record and one change over and over.
+/// A source that shows one record and one change again and again.
 #[derive(Drop)]
 pub struct Alike<'a> {
     pub base: &'a Base,
@@ -19,7 +19,7 @@ pub struct Alike<'a> {
     pub record: &'a Record,
     pub change: &'a Change,
     pub limit: u16,
-    /// How many of each.
+    /// How many records it shows, and how many changes.
     pub items: usize,
     pub ghost low: { 2 ≤ limit },
     pub ghost high: { limit ≤ 4000 },
@@ -89,7 +89,7 @@ impl View for Alike<'_> {
 }
 
 impl Alike<'_> {
-    /// Shows so many items at this limit, in parts that are numbered from `first` on.
+    /// Shows this many items at this limit. Their parts are numbered from `first` on.
     pub fn show(&mut self, limit: u16, items: usize, first: u64) -> Result<(), Fail> {
         if limit < 2 || limit > 4000 || items > 50_000 || first > 253_402_300_799_999 {
             return Err(Fail::new("a view out of bounds"));

@@ -1,7 +1,8 @@
-//! A run of commands, what a destination makes of it, and its documents. The digests are those of "abc" in RFC 1321
-//! (A.5) and FIPS 180-4.
+//! A run of commands, its mirror at a destination, and its documents. The digests are those of "abc" in RFC 1321 (A.5)
+//! and FIPS 180-4.
 
 use crate::narrow::Narrow;
+use crate::texts::{LIST_END, LIST_FRONT, joined};
 use crate::values::at;
 use rs_caps::{StateView, document_length, write_document};
 use rs_fixity::hash_text;
@@ -14,14 +15,15 @@ use std::alloc::{AllocError, Global};
 use std::process::Abort;
 use std::test::Fail;
 
+/// The base of the source.
 const BASE: &[u8] = b"http://127.0.0.1:8080";
 
-// The name `z`.
+/// The name `z`.
 fn z(alloc: Global) -> Result<Name, Fail> {
     Ok(Name::new(alloc, b"z")?)
 }
 
-// The put of "abc" as `z`.
+/// A put of "abc" as `z`.
 fn put(alloc: Global) -> Result<Command, Fail> {
     Ok(Command::Put {
         name: z(alloc)?,
@@ -30,7 +32,7 @@ fn put(alloc: Global) -> Result<Command, Fail> {
     })
 }
 
-// A put of `z`, or its delete.
+/// A put of `z`, or its delete.
 fn command(alloc: Global, is_put: bool) -> Result<Command, Fail> {
     if is_put {
         put(alloc)
@@ -39,7 +41,7 @@ fn command(alloc: Global, is_put: bool) -> Result<Command, Fail> {
     }
 }
 
-// A delete, a put, a delete and a put of `z`, which all come at 1000.
+/// A delete, a put, a delete and a put of `z`, all at the moment 1000.
 fn commands(alloc: Global) -> Result<Vec<(Command, Moment)>, Fail> {
     let now = at(1000)?;
     let mut commands = Vec::new(alloc);
@@ -49,30 +51,31 @@ fn commands(alloc: Global) -> Result<Vec<(Command, Moment)>, Fail> {
     Ok(commands)
 }
 
-// A source of the item limit 2, formatted at 0.
+/// A source with the item limit 2, formatted at the moment 0.
 fn started(alloc: Global) -> Result<State, Fail> {
     let start = at(0)?;
     Ok(State::start(alloc, Base::new(alloc, BASE)?, 2, start))
 }
 
-// The state after these commands. The first is refused.
+/// The state after these commands. The first is refused.
 fn folded(alloc: Global, commands: &[(Command, Moment)]) -> Result<State, Fail> {
     let state = started(alloc)?;
     Ok(state.fold(alloc, commands)?)
 }
 
+/// The state after the four commands.
 fn made(alloc: Global) -> Result<State, Fail> {
     let commands = commands(alloc)?;
     folded(alloc, &commands)
 }
 
-// The bytes of the resource of this name.
+/// The bytes of the resource of this name.
 fn body<'a>(alloc: Global, state: &'a State, name: &[u8]) -> Result<Option<&'a [u8]>, Fail> {
     let name = Name::new(alloc, name)?;
     Ok(state.body(&name))
 }
 
-// Looks at what is held and at the changes.
+/// Checks the resources and the changes.
 fn holds_z(rt: &(impl Abort + AllocGlobal), state: &State) -> Result<(), Fail> {
     assert_eq!(rt; body(rt.alloc(), state, b"z")?, Some(b"abc".as_slice()));
     assert_eq!(rt; body(rt.alloc(), state, b"y")?, None);
@@ -94,7 +97,7 @@ fn holds_z(rt: &(impl Abort + AllocGlobal), state: &State) -> Result<(), Fail> {
     Ok(())
 }
 
-// Looks at a mirror that has `z` alone.
+/// Checks a mirror that has only `z`.
 fn is_z(rt: &impl Abort, mirrored: &[(Name, Entry)]) {
     const HASH: &[u8] = b"md5:900150983cd24fb0d6963f7d28e17f72 sha-256:\
         ba7816bf8f01cfea414140de5dae2223b00361a396177a9cb410ff61f20015ad";
@@ -109,7 +112,7 @@ fn is_z(rt: &impl Abort, mirrored: &[(Name, Entry)]) {
     }
 }
 
-// Looks at the mirror of its changes, after the empty list of 0.
+/// Checks the mirror that the changes make of an empty list of the moment 0.
 fn mirrors_z(rt: &(impl Abort + AllocGlobal), state: &State) -> Result<(), Fail> {
     let start = at(0)?;
     let mirrored = mirror(rt.alloc(), &[], start, state.changes())?;
@@ -117,20 +120,20 @@ fn mirrors_z(rt: &(impl Abort + AllocGlobal), state: &State) -> Result<(), Fail>
     Ok(())
 }
 
-// The reply to one more put, and the moment of the state after it.
+/// The reply to another put, and the last moment of the state after it.
 fn stepped(alloc: Global, state: &State, now: Moment) -> Result<(Reply, Moment), Fail> {
     let put = put(alloc)?;
     let (next, reply) = state.step(alloc, &put, now)?;
     Ok((reply, next.last()))
 }
 
-// How many changes a copy has.
+/// How many changes a copy has.
 fn copied(alloc: Global, state: &State) -> Result<usize, AllocError> {
     let copy = state.copy(alloc)?;
     Ok(copy.changes().len())
 }
 
-// Publishes, and looks at what is listed.
+/// Publishes, and checks the list.
 fn lists_z(rt: &(impl Abort + AllocGlobal), state: &mut State) -> Result<(), Fail> {
     let (now, third, fourth) = (at(1000)?, at(1003)?, at(1004)?);
     let reply = state.apply(rt.alloc(), Command::Publish, now)?;
@@ -152,21 +155,22 @@ fn lists_z(rt: &(impl Abort + AllocGlobal), state: &mut State) -> Result<(), Fai
     Ok(())
 }
 
-const LIST: &[u8] = b"<?xml version=\"1.0\" encoding=\"UTF-8\"?>
-<urlset xmlns=\"http://www.sitemaps.org/schemas/sitemap/0.9\" xmlns:rs=\"http://www.openarchives.org/rs/terms/\">
-<rs:ln rel=\"up\" href=\"http://127.0.0.1:8080/capabilitylist.xml\"/>
-<rs:md capability=\"resourcelist\" at=\"1970-01-01T00:00:01.003Z\"/>
-<url><loc>http://127.0.0.1:8080/resource/z</loc><lastmod>1970-01-01T00:00:01.002Z</lastmod><rs:md hash=\"md5:900150983cd24fb0d6963f7d28e17f72 sha-256:ba7816bf8f01cfea414140de5dae2223b00361a396177a9cb410ff61f20015ad\" length=\"3\" type=\"text/plain\"/></url>
-</urlset>
-";
+/// The Resource List of the publication.
+const LIST: &[&[u8]] = &[
+    LIST_FRONT,
+    b"<rs:md capability=\"resourcelist\" at=\"1970-01-01T00:00:01.003Z\"/>\n",
+    b"<url><loc>http://127.0.0.1:8080/resource/z</loc><lastmod>1970-01-01T00:00:01.002Z</lastmod><rs:md hash=\"md5:900150983cd24fb0d6963f7d28e17f72 sha-256:ba7816bf8f01cfea414140de5dae2223b00361a396177a9cb410ff61f20015ad\" length=\"3\" type=\"text/plain\"/></url>\n",
+    LIST_END,
+];
 
+/// The text of a document.
 fn text(alloc: Global, view: &StateView<'_>, doc: Doc) -> Result<Vec<u8>, ListError> {
     let mut out = Watched::new(Vec::new(alloc));
     write_document(view, doc, &mut out)?;
     Ok(out.into_inner())
 }
 
-// Writes a document to writers that have too little room for it.
+/// Writes a document to writers with too little room for it.
 fn fails_until(rt: &impl Abort, view: &StateView<'_>, doc: Doc, length: usize) {
     for room in 0..length {
         let mut out = Watched::new(Narrow { room });
@@ -180,7 +184,7 @@ fn fails_until(rt: &impl Abort, view: &StateView<'_>, doc: Doc, length: usize) {
     }
 }
 
-// Looks at the documents of what is published now.
+/// Checks the documents after the publication.
 fn shows_z(rt: &(impl Abort + AllocGlobal), view: &StateView<'_>) -> Result<(), Fail> {
     const ROWS: [(Doc, Option<u64>); 8] = [
         (Doc::Description, Some(292)),
@@ -202,11 +206,15 @@ fn shows_z(rt: &(impl Abort + AllocGlobal), view: &StateView<'_>) -> Result<(), 
         assert_eq!(rt; document_length(view, doc), length, "{doc:?}");
         fails_until(rt, view, doc, length.unwrap_or(0) as usize);
     }
-    assert_eq!(rt; text(rt.alloc(), view, Doc::ResourceHead)?.as_slice(), LIST);
+    let wanted = joined(rt.alloc(), LIST)?;
+    assert_eq!(rt;
+        text(rt.alloc(), view, Doc::ResourceHead)?.as_slice(),
+        wanted.as_slice()
+    );
     Ok(())
 }
 
-// Looks at a state, publishes, and looks again.
+/// Checks a state, publishes, and checks the documents.
 fn is_a_source(rt: &(impl Abort + AllocGlobal), state: &mut State) -> Result<(), Fail> {
     holds_z(rt, state)?;
     mirrors_z(rt, state)?;

@@ -1,8 +1,9 @@
-//! Documents of views that no short script makes: parts that are numbered from 7 on and begin after the start, and the
-//! longest values that there are. Their lengths are counted by a program in Python that spells the table of docs/DOCUMENTS.md.
+//! Documents that no short script makes: parts that are numbered from 7 on and begin after the start, and documents of
+//! the longest values. A Python program, which spells the table of docs/DOCUMENTS.md, counted their lengths.
 
 use crate::alike::Alike;
 use crate::narrow::Narrow;
+use crate::texts::{INDEX_END, INDEX_FRONT, INDEX_LINK, LIST_END, LIST_FRONT, NO_BYTES, joined};
 use crate::values::{Put, at, record, updated};
 use rs_io::Watched;
 use rs_lists::{Doc, ListError, change_parts, list_length, resource_parts, write_list};
@@ -12,11 +13,11 @@ use std::alloc::Global;
 use std::process::Abort;
 use std::test::Fail;
 
-// An item limit, a number of items, a part (of the heads where there is none), counted from 0, and its length in
-// the Resource List and in the Change List, where it is there.
+/// An item limit, a number of items, a part counted from 0 (none means the heads), and its length in the Resource List
+/// and in the Change List, where it exists.
 type Row = (u16, usize, Option<u64>, Option<u64>, Option<u64>);
 
-// A view of one resource and its update over and over, and what its documents are.
+/// A view that repeats one resource and its update, and what its documents are.
 #[derive(Drop)]
 struct Case<'a> {
     base: &'a [u8],
@@ -26,14 +27,15 @@ struct Case<'a> {
     first: u64,
     begin: u64,
     rows: &'a [Row],
-    // With the limit and the items of the last row: the number of parts, and what is not there.
+    /// The number of parts, with the limit and the items of the last row.
     parts: u64,
+    /// Documents that do not exist then.
     missing: &'a [Doc],
-    // With the same: what some documents are, byte for byte.
-    texts: &'a [(Doc, &'a [u8])],
+    /// Texts of some documents then, in pieces.
+    texts: &'a [(Doc, &'a [&'a [u8]])],
 }
 
-// Writes a list to writers that have too little room for it, or for its first thousand bytes.
+/// Writes a list to writers with too little room for it, or for its first thousand bytes.
 fn fails_until(rt: &impl Abort, view: &Alike<'_>, doc: Doc, length: usize) {
     for room in 0..length.min(1000) {
         let mut out = Watched::new(Narrow { room });
@@ -47,7 +49,7 @@ fn fails_until(rt: &impl Abort, view: &Alike<'_>, doc: Doc, length: usize) {
     }
 }
 
-// Looks at the length of a list, and at what writers take that have room for so much and for less.
+/// Checks the length of a list. A writer with that much room takes all of it, and one with less room fails.
 fn is_so_long(rt: &impl Abort, view: &Alike<'_>, doc: Doc, length: Option<u64>) {
     let (room, wanted) = match length {
         Some(length) => (length as usize, Ok(())),
@@ -60,7 +62,7 @@ fn is_so_long(rt: &impl Abort, view: &Alike<'_>, doc: Doc, length: Option<u64>) 
     fails_until(rt, view, doc, room);
 }
 
-// The same of a part of both lists, or of their heads.
+/// Checks a part of both lists, or both heads.
 fn are_so_long(rt: &impl Abort, view: &Alike<'_>, row: &Row) {
     let (_, _, part, resources, changes) = row;
     let (resource_doc, change_doc) = match *part {
@@ -79,6 +81,7 @@ fn are_so_long(rt: &impl Abort, view: &Alike<'_>, row: &Row) {
     is_so_long(rt, view, change_doc, *changes);
 }
 
+/// Checks each row.
 fn all_are_so_long(rt: &impl Abort, view: &mut Alike<'_>, case: &Case<'_>) -> Result<(), Fail> {
     for row in case.rows {
         view.show(row.0, row.1, case.first)?;
@@ -87,14 +90,14 @@ fn all_are_so_long(rt: &impl Abort, view: &mut Alike<'_>, case: &Case<'_>) -> Re
     Ok(())
 }
 
-// The text of a list.
+/// The text of a list.
 fn text(alloc: Global, view: &Alike<'_>, doc: Doc) -> Result<Vec<u8>, ListError> {
     let mut out = Watched::new(Vec::new(alloc));
     write_list(view, doc, &mut out)?;
     Ok(out.into_inner())
 }
 
-// Looks at all that is said of a view.
+/// Checks all that a case says of its view.
 fn is_so(
     rt: &(impl Abort + AllocGlobal),
     view: &mut Alike<'_>,
@@ -108,17 +111,18 @@ fn is_so(
     for doc in case.missing {
         is_so_long(rt, view, *doc, None);
     }
-    for (doc, wanted) in case.texts {
+    for (doc, pieces) in case.texts {
+        let wanted = joined(rt.alloc(), pieces)?;
         assert_eq!(rt;
             text(rt.alloc(), view, *doc)?.as_slice(),
-            *wanted,
+            wanted.as_slice(),
             "{doc:?}"
         );
     }
     Ok(())
 }
 
-// Makes the view, and looks at it.
+/// Makes the view of a case, and checks it.
 fn look(rt: &(impl Abort + AllocGlobal), case: &Case<'_>) -> Result<(), Fail> {
     let start = at(case.start)?;
     let published = at(case.put.3)?;
@@ -140,13 +144,15 @@ fn look(rt: &(impl Abort + AllocGlobal), case: &Case<'_>) -> Result<(), Fail> {
     is_so(rt, &mut view, case)
 }
 
-// The longest base, and a name and a media type of which each character that can be is escaped.
+/// The longest base.
 const LONGEST_BASE: &[u8] =
     b"https://bbbbbbbbbbbbbbbbbbbbbbbbbbbbbbbbbbbbbbbbbbbbbbbbbbbbbbbbbbbbbbbbbbbbbbbbbbbbbbbbbbbbbbbbbbbbbbbbbbbbbbbbbbbbbbbbbbbbbbbb";
 
+/// A longest name. Each of its characters is escaped.
 const LONGEST_NAME: &[u8] =
     b"''''''''''''''''''''''''''''''''''''''''''''''''''''''''''''''''''''''''''''''''''''''''''''''''''''''''''''''''''''''''''''''''''''''''''''''''''''''''''''''''''''''''''''''''''''''''''''''''''''''''''''''''''''''''''''''''''''''''''''''''";
 
+/// A longest media type. Each of its characters but `/` is escaped.
 const LONGEST_KIND: &[u8] =
     b"'/''''''''''''''''''''''''''''''''''''''''''''''''''''''''''''''''''''''''''''''''''''''''''''''''''";
 
@@ -186,51 +192,54 @@ fn the_longest_documents(rt: HostRuntime) -> Result<(), Fail> {
     look(&rt, &case)
 }
 
-// The documents of changes of the view below, which begin a millisecond after the start.
-const INDEX: &[u8] = b"<?xml version=\"1.0\" encoding=\"UTF-8\"?>
-<sitemapindex xmlns=\"http://www.sitemaps.org/schemas/sitemap/0.9\" xmlns:rs=\"http://www.openarchives.org/rs/terms/\">
-<rs:ln rel=\"up\" href=\"http://127.0.0.1:8080/capabilitylist.xml\"/>
-<rs:md capability=\"changelist\" from=\"1970-01-01T00:00:00.001Z\"/>
-<sitemap><loc>http://127.0.0.1:8080/changelist/7.xml</loc><rs:md from=\"1970-01-01T00:00:00.001Z\" until=\"1970-01-01T00:00:00.002Z\"/></sitemap>
-<sitemap><loc>http://127.0.0.1:8080/changelist/8.xml</loc><rs:md from=\"1970-01-01T00:00:00.002Z\"/></sitemap>
-</sitemapindex>
-";
+/// The index of the changes that begin a millisecond after the start.
+const INDEX: &[&[u8]] = &[
+    INDEX_FRONT,
+    b"<rs:md capability=\"changelist\" from=\"1970-01-01T00:00:00.001Z\"/>\n",
+    b"<sitemap><loc>http://127.0.0.1:8080/changelist/7.xml</loc><rs:md from=\"1970-01-01T00:00:00.001Z\" until=\"1970-01-01T00:00:00.002Z\"/></sitemap>\n",
+    b"<sitemap><loc>http://127.0.0.1:8080/changelist/8.xml</loc><rs:md from=\"1970-01-01T00:00:00.002Z\"/></sitemap>\n",
+    INDEX_END,
+];
 
-const FIRST_PART: &[u8] = b"<?xml version=\"1.0\" encoding=\"UTF-8\"?>
-<urlset xmlns=\"http://www.sitemaps.org/schemas/sitemap/0.9\" xmlns:rs=\"http://www.openarchives.org/rs/terms/\">
-<rs:ln rel=\"up\" href=\"http://127.0.0.1:8080/capabilitylist.xml\"/>
-<rs:ln rel=\"index\" href=\"http://127.0.0.1:8080/changelist.xml\"/>
-<rs:md capability=\"changelist\" from=\"1970-01-01T00:00:00.001Z\" until=\"1970-01-01T00:00:00.002Z\"/>
-<url><loc>http://127.0.0.1:8080/resource/a</loc><lastmod>1970-01-01T00:00:00.002Z</lastmod><rs:md change=\"updated\" datetime=\"1970-01-01T00:00:00.002Z\" hash=\"md5:d41d8cd98f00b204e9800998ecf8427e sha-256:e3b0c44298fc1c149afbf4c8996fb92427ae41e4649b934ca495991b7852b855\" length=\"0\" type=\"text/plain\"/></url>
-<url><loc>http://127.0.0.1:8080/resource/a</loc><lastmod>1970-01-01T00:00:00.002Z</lastmod><rs:md change=\"updated\" datetime=\"1970-01-01T00:00:00.002Z\" hash=\"md5:d41d8cd98f00b204e9800998ecf8427e sha-256:e3b0c44298fc1c149afbf4c8996fb92427ae41e4649b934ca495991b7852b855\" length=\"0\" type=\"text/plain\"/></url>
-</urlset>
-";
+/// Its first part.
+const FIRST_PART: &[&[u8]] = &[
+    LIST_FRONT,
+    INDEX_LINK,
+    b"<rs:md capability=\"changelist\" from=\"1970-01-01T00:00:00.001Z\" until=\"1970-01-01T00:00:00.002Z\"/>\n",
+    b"<url><loc>http://127.0.0.1:8080/resource/a</loc><lastmod>1970-01-01T00:00:00.002Z</lastmod><rs:md change=\"updated\" datetime=\"1970-01-01T00:00:00.002Z\"",
+    NO_BYTES,
+    b"<url><loc>http://127.0.0.1:8080/resource/a</loc><lastmod>1970-01-01T00:00:00.002Z</lastmod><rs:md change=\"updated\" datetime=\"1970-01-01T00:00:00.002Z\"",
+    NO_BYTES,
+    LIST_END,
+];
 
-const LAST_PART: &[u8] = b"<?xml version=\"1.0\" encoding=\"UTF-8\"?>
-<urlset xmlns=\"http://www.sitemaps.org/schemas/sitemap/0.9\" xmlns:rs=\"http://www.openarchives.org/rs/terms/\">
-<rs:ln rel=\"up\" href=\"http://127.0.0.1:8080/capabilitylist.xml\"/>
-<rs:ln rel=\"index\" href=\"http://127.0.0.1:8080/changelist.xml\"/>
-<rs:md capability=\"changelist\" from=\"1970-01-01T00:00:00.002Z\"/>
-<url><loc>http://127.0.0.1:8080/resource/a</loc><lastmod>1970-01-01T00:00:00.002Z</lastmod><rs:md change=\"updated\" datetime=\"1970-01-01T00:00:00.002Z\" hash=\"md5:d41d8cd98f00b204e9800998ecf8427e sha-256:e3b0c44298fc1c149afbf4c8996fb92427ae41e4649b934ca495991b7852b855\" length=\"0\" type=\"text/plain\"/></url>
-</urlset>
-";
+/// Its last part.
+const LAST_PART: &[&[u8]] = &[
+    LIST_FRONT,
+    INDEX_LINK,
+    b"<rs:md capability=\"changelist\" from=\"1970-01-01T00:00:00.002Z\"/>\n",
+    b"<url><loc>http://127.0.0.1:8080/resource/a</loc><lastmod>1970-01-01T00:00:00.002Z</lastmod><rs:md change=\"updated\" datetime=\"1970-01-01T00:00:00.002Z\"",
+    NO_BYTES,
+    LIST_END,
+];
 
-// The same changes in one list, of which no part is there.
-const ONE_LIST: &[u8] = b"<?xml version=\"1.0\" encoding=\"UTF-8\"?>
-<urlset xmlns=\"http://www.sitemaps.org/schemas/sitemap/0.9\" xmlns:rs=\"http://www.openarchives.org/rs/terms/\">
-<rs:ln rel=\"up\" href=\"http://127.0.0.1:8080/capabilitylist.xml\"/>
-<rs:md capability=\"changelist\" from=\"1970-01-01T00:00:00.001Z\"/>
-<url><loc>http://127.0.0.1:8080/resource/a</loc><lastmod>1970-01-01T00:00:00.002Z</lastmod><rs:md change=\"updated\" datetime=\"1970-01-01T00:00:00.002Z\" hash=\"md5:d41d8cd98f00b204e9800998ecf8427e sha-256:e3b0c44298fc1c149afbf4c8996fb92427ae41e4649b934ca495991b7852b855\" length=\"0\" type=\"text/plain\"/></url>
-<url><loc>http://127.0.0.1:8080/resource/a</loc><lastmod>1970-01-01T00:00:00.002Z</lastmod><rs:md change=\"updated\" datetime=\"1970-01-01T00:00:00.002Z\" hash=\"md5:d41d8cd98f00b204e9800998ecf8427e sha-256:e3b0c44298fc1c149afbf4c8996fb92427ae41e4649b934ca495991b7852b855\" length=\"0\" type=\"text/plain\"/></url>
-</urlset>
-";
+/// The first two changes in one list, which has no parts.
+const ONE_LIST: &[&[u8]] = &[
+    LIST_FRONT,
+    b"<rs:md capability=\"changelist\" from=\"1970-01-01T00:00:00.001Z\"/>\n",
+    b"<url><loc>http://127.0.0.1:8080/resource/a</loc><lastmod>1970-01-01T00:00:00.002Z</lastmod><rs:md change=\"updated\" datetime=\"1970-01-01T00:00:00.002Z\"",
+    NO_BYTES,
+    b"<url><loc>http://127.0.0.1:8080/resource/a</loc><lastmod>1970-01-01T00:00:00.002Z</lastmod><rs:md change=\"updated\" datetime=\"1970-01-01T00:00:00.002Z\"",
+    NO_BYTES,
+    LIST_END,
+];
 
-// A view whose first part has the number 7, and whose changes begin at the moment 1.
+/// A view whose first part has the number 7, and whose changes begin at the moment 1.
 fn from_seven_on<'a>(
     rows: &'a [Row],
     parts: u64,
     missing: &'a [Doc],
-    texts: &'a [(Doc, &'a [u8])],
+    texts: &'a [(Doc, &'a [&'a [u8]])],
 ) -> Case<'a> {
     Case {
         base: b"http://127.0.0.1:8080",
@@ -269,7 +278,7 @@ fn parts_from_seven_on(rt: HostRuntime) -> Result<(), Fail> {
         Doc::ChangePart { part: 0 },
         Doc::ChangePart { part: 6 },
     ];
-    const TEXTS: [(Doc, &[u8]); 3] = [
+    const TEXTS: [(Doc, &[&[u8]]); 3] = [
         (Doc::ChangeHead, INDEX),
         (Doc::ChangePart { part: 7 }, FIRST_PART),
         (Doc::ChangePart { part: 8 }, LAST_PART),
@@ -291,6 +300,6 @@ fn one_list_that_begins_after_the_start(rt: HostRuntime) -> Result<(), Fail> {
         Doc::ChangePart { part: 0 },
         Doc::ChangePart { part: 7 },
     ];
-    const TEXTS: [(Doc, &[u8]); 1] = [(Doc::ChangeHead, ONE_LIST)];
+    const TEXTS: [(Doc, &[&[u8]]); 1] = [(Doc::ChangeHead, ONE_LIST)];
     look(&rt, &from_seven_on(&ROWS, 1, &MISSING, &TEXTS))
 }

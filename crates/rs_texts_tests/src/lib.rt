@@ -1,5 +1,5 @@
-//! Tests of the model of a source and of its documents, by their public items alone. What a script can show of
-//! them is in tests/rows.
+//! Tests of the model of a source and of its documents. They use public items only. tests/rows has what a script can
+//! show.
 #![tactic(auto)]
 
 #[cfg(test)]
@@ -14,6 +14,8 @@ mod narrow;
 mod paths;
 #[cfg(test)]
 mod pieces;
+#[cfg(test)]
+mod texts;
 #[cfg(test)]
 mod values;
 #[cfg(test)]

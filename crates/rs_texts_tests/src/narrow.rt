@@ -3,7 +3,7 @@
 use std::io;
 use std::io::{ErrorKind, Write};
 
-/// A writer that has room for some bytes, and fails at the first write that goes past them.
+/// A writer with room for some bytes. It fails at each write that is longer than the room that is left.
 #[derive(Drop)]
 pub struct Narrow {
     pub room: usize,

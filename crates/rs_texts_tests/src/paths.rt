@@ -1,4 +1,4 @@
-//! Where documents stand.
+//! The paths of documents.
 
 use crate::narrow::Narrow;
 use rs_caps::{doc_of, path_of, write_path};
@@ -8,6 +8,7 @@ use std::alloc::Global;
 use std::process::Abort;
 use std::test::Fail;
 
+/// Paths, and their documents.
 const ROWS: [(&[u8], Doc); 9] = [
     (b"/.well-known/resourcesync", Doc::Description),
     (b"/capabilitylist.xml", Doc::Capabilities),
@@ -35,14 +36,14 @@ const ROWS: [(&[u8], Doc); 9] = [
     ),
 ];
 
-// The path of a document, as it is written.
+/// The path of a document, as it is written.
 fn written(alloc: Global, doc: Doc) -> Result<Vec<u8>, Fail> {
     let mut out = Watched::new(Vec::new(alloc));
     write_path(doc, &mut out)?;
     Ok(out.into_inner())
 }
 
-// Writes a path to writers that have too little room for it.
+/// Writes a path to writers with too little room for it.
 fn needs_its_room(rt: &impl Abort, path: &[u8], doc: Doc) {
     for room in 0..path.len() {
         let mut out = Watched::new(Narrow { room });
@@ -68,7 +69,7 @@ fn each_path_is_its_documents(rt: HostRuntime) -> Result<(), Fail> {
 
 #[test]
 fn other_paths_are_no_documents(rt: HostRuntime) {
-    // Those that no line of a script can have, or that are a resource's.
+    // No line of a script can have the first five. The last is the path of a resource.
     let rows: [&[u8]; 6] = [
         b"/changelist.xml ",
         b" /changelist.xml",

@@ -1,4 +1,4 @@
-//! The pieces that texts are made of. The digests are those of "abc" in RFC 1321 (A.5) and FIPS 180-4.
+//! Texts in pieces. The digests are those of "abc" in RFC 1321 (A.5) and FIPS 180-4.
 
 use crate::narrow::Narrow;
 use crate::values::at;
@@ -8,11 +8,12 @@ use rs_lists::{Piece, pieces_length, put_pieces, write_escaped};
 use std::alloc::Global;
 use std::test::Fail;
 
+/// The text of the pieces below.
 const TEXT: &[u8] = b"<a>x &amp; y010184467440737095516152000-02-29T00:00:00.000Z\
     md5:900150983cd24fb0d6963f7d28e17f72 sha-256:\
     ba7816bf8f01cfea414140de5dae2223b00361a396177a9cb410ff61f20015ad";
 
-// What the pieces are written as.
+/// The text that the pieces are written as.
 fn written(alloc: Global, pieces: &[Piece<'_>]) -> Result<Vec<u8>, WriteFault> {
     let mut out = Watched::new(Vec::new(alloc));
     put_pieces(pieces, &mut out)?;

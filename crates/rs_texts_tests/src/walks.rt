@@ -1,6 +1,6 @@
-//! A destination that fetches while commands and stops go on: the worked walks, by `walk` and `answer`. The texts are
-//! spelled by hand from docs/DOCUMENTS.md; the digests are those of no bytes in RFC 1321 (A.5) and of "" in FIPS 180-4.
+//! A destination that fetches between commands and stops: the worked walks, by `walk` and `answer`.
 
+use crate::texts::{INDEX_END, INDEX_FRONT, INDEX_LINK, LIST_END, LIST_FRONT, NO_BYTES, joined};
 use crate::values::at;
 use rs_caps::answer;
 use rs_model::{Body, Command, Event, State, walk};
@@ -9,7 +9,7 @@ use std::alloc::Global;
 use std::process::Abort;
 use std::test::Fail;
 
-// The put of no bytes under this name.
+/// A put of no bytes under this name.
 fn put(alloc: Global, name: &[u8]) -> Result<Command, Fail> {
     Ok(Command::Put {
         name: Name::new(alloc, name)?,
@@ -18,11 +18,12 @@ fn put(alloc: Global, name: &[u8]) -> Result<Command, Fail> {
     })
 }
 
+/// A command that is tried at the moment 0.
 fn tried(command: Command) -> Result<Event, Fail> {
     Ok(Event::Tried(command, at(0)?))
 }
 
-// What happens to the put of `c`.
+/// What happens to the put of `c`.
 #[derive(Clone, Copy, Debug, PartialEq, Eq)]
 enum Fate {
     Answered,
@@ -31,6 +32,7 @@ enum Fate {
     NotAsked,
 }
 
+/// The event of the put of `c`.
 fn put_of_c(alloc: Global, fate: Fate) -> Result<Event, Fail> {
     match fate {
         Fate::Answered => tried(put(alloc, b"c")?),
@@ -40,8 +42,8 @@ fn put_of_c(alloc: Global, fate: Fate) -> Result<Event, Fail> {
     }
 }
 
-// The events: `a` put and published, the Resource List fetched; `b` put and `a` deleted, the Change List's head
-// fetched; the put of `c`, and `d` put; then both parts of the Change List fetched.
+/// The events: a put of `a` and a publication, then a fetch of the Resource List; a put of `b` and a delete of `a`,
+/// then a fetch of the head of the Change List; the puts of `c` and `d`, then fetches of both parts of the Change List.
 fn events(alloc: Global, fate: Fate) -> Result<Vec<Event>, Fail> {
     let mut events = Vec::new(alloc);
     events.push(tried(put(alloc, b"a")?)?)?;
@@ -58,7 +60,7 @@ fn events(alloc: Global, fate: Fate) -> Result<Vec<Event>, Fail> {
     Ok(events)
 }
 
-// A source of the item limit 2, formatted at 0, after the first of these events.
+/// A source with the item limit 2, formatted at the moment 0, after the first `count` events.
 fn after(alloc: Global, events: &[Event], count: usize) -> Result<State, Fail> {
     let base = Base::new(alloc, b"http://127.0.0.1:8080")?;
     let start = State::start(alloc, base, 2, at(0)?);
@@ -66,49 +68,53 @@ fn after(alloc: Global, events: &[Event], count: usize) -> Result<State, Fail> {
     Ok(walk(alloc, &start, first)?)
 }
 
-// The Resource List after 2 events, the head of the Change List after 5, its first part after 8, and its second after 9
-// up to the change that the put of `c` or of `d` made.
-const RESOURCES: &[u8] = b"<?xml version=\"1.0\" encoding=\"UTF-8\"?>
-<urlset xmlns=\"http://www.sitemaps.org/schemas/sitemap/0.9\" xmlns:rs=\"http://www.openarchives.org/rs/terms/\">
-<rs:ln rel=\"up\" href=\"http://127.0.0.1:8080/capabilitylist.xml\"/>
-<rs:md capability=\"resourcelist\" at=\"1970-01-01T00:00:00.002Z\"/>
-<url><loc>http://127.0.0.1:8080/resource/a</loc><lastmod>1970-01-01T00:00:00.001Z</lastmod><rs:md hash=\"md5:d41d8cd98f00b204e9800998ecf8427e sha-256:e3b0c44298fc1c149afbf4c8996fb92427ae41e4649b934ca495991b7852b855\" length=\"0\" type=\"text/plain\"/></url>
-</urlset>
-";
-
-const INDEX: &[u8] = b"<?xml version=\"1.0\" encoding=\"UTF-8\"?>
-<sitemapindex xmlns=\"http://www.sitemaps.org/schemas/sitemap/0.9\" xmlns:rs=\"http://www.openarchives.org/rs/terms/\">
-<rs:ln rel=\"up\" href=\"http://127.0.0.1:8080/capabilitylist.xml\"/>
-<rs:md capability=\"changelist\" from=\"1970-01-01T00:00:00.000Z\"/>
-<sitemap><loc>http://127.0.0.1:8080/changelist/0.xml</loc><rs:md from=\"1970-01-01T00:00:00.000Z\" until=\"1970-01-01T00:00:00.003Z\"/></sitemap>
-<sitemap><loc>http://127.0.0.1:8080/changelist/1.xml</loc><rs:md from=\"1970-01-01T00:00:00.003Z\"/></sitemap>
-</sitemapindex>
-";
-
-const FIRST: &[u8] = b"<?xml version=\"1.0\" encoding=\"UTF-8\"?>
-<urlset xmlns=\"http://www.sitemaps.org/schemas/sitemap/0.9\" xmlns:rs=\"http://www.openarchives.org/rs/terms/\">
-<rs:ln rel=\"up\" href=\"http://127.0.0.1:8080/capabilitylist.xml\"/>
-<rs:ln rel=\"index\" href=\"http://127.0.0.1:8080/changelist.xml\"/>
-<rs:md capability=\"changelist\" from=\"1970-01-01T00:00:00.000Z\" until=\"1970-01-01T00:00:00.003Z\"/>
-<url><loc>http://127.0.0.1:8080/resource/a</loc><lastmod>1970-01-01T00:00:00.001Z</lastmod><rs:md change=\"created\" datetime=\"1970-01-01T00:00:00.001Z\" hash=\"md5:d41d8cd98f00b204e9800998ecf8427e sha-256:e3b0c44298fc1c149afbf4c8996fb92427ae41e4649b934ca495991b7852b855\" length=\"0\" type=\"text/plain\"/></url>
-<url><loc>http://127.0.0.1:8080/resource/b</loc><lastmod>1970-01-01T00:00:00.003Z</lastmod><rs:md change=\"created\" datetime=\"1970-01-01T00:00:00.003Z\" hash=\"md5:d41d8cd98f00b204e9800998ecf8427e sha-256:e3b0c44298fc1c149afbf4c8996fb92427ae41e4649b934ca495991b7852b855\" length=\"0\" type=\"text/plain\"/></url>
-</urlset>
-";
-
-const SECOND: [&[u8]; 2] = [
-    b"<?xml version=\"1.0\" encoding=\"UTF-8\"?>
-<urlset xmlns=\"http://www.sitemaps.org/schemas/sitemap/0.9\" xmlns:rs=\"http://www.openarchives.org/rs/terms/\">
-<rs:ln rel=\"up\" href=\"http://127.0.0.1:8080/capabilitylist.xml\"/>
-<rs:ln rel=\"index\" href=\"http://127.0.0.1:8080/changelist.xml\"/>
-<rs:md capability=\"changelist\" from=\"1970-01-01T00:00:00.003Z\" until=\"1970-01-01T00:00:00.005Z\"/>
-<url><loc>http://127.0.0.1:8080/resource/a</loc><rs:md change=\"deleted\" datetime=\"1970-01-01T00:00:00.004Z\"/></url>
-<url><loc>http://127.0.0.1:8080/resource/",
-    b"</loc><lastmod>1970-01-01T00:00:00.005Z</lastmod><rs:md change=\"created\" datetime=\"1970-01-01T00:00:00.005Z\" hash=\"md5:d41d8cd98f00b204e9800998ecf8427e sha-256:e3b0c44298fc1c149afbf4c8996fb92427ae41e4649b934ca495991b7852b855\" length=\"0\" type=\"text/plain\"/></url>
-</urlset>
-",
+/// The Resource List after 2 events.
+const RESOURCES: &[&[u8]] = &[
+    LIST_FRONT,
+    b"<rs:md capability=\"resourcelist\" at=\"1970-01-01T00:00:00.002Z\"/>\n",
+    b"<url><loc>http://127.0.0.1:8080/resource/a</loc><lastmod>1970-01-01T00:00:00.001Z</lastmod><rs:md",
+    NO_BYTES,
+    LIST_END,
 ];
 
-// What is answered at a path, where it is fetched after so many of the events.
+/// The head of the Change List after 5 events.
+const INDEX: &[&[u8]] = &[
+    INDEX_FRONT,
+    b"<rs:md capability=\"changelist\" from=\"1970-01-01T00:00:00.000Z\"/>\n",
+    b"<sitemap><loc>http://127.0.0.1:8080/changelist/0.xml</loc><rs:md from=\"1970-01-01T00:00:00.000Z\" until=\"1970-01-01T00:00:00.003Z\"/></sitemap>\n",
+    b"<sitemap><loc>http://127.0.0.1:8080/changelist/1.xml</loc><rs:md from=\"1970-01-01T00:00:00.003Z\"/></sitemap>\n",
+    INDEX_END,
+];
+
+/// The first part of the Change List after 8 events.
+const FIRST: &[&[u8]] = &[
+    LIST_FRONT,
+    INDEX_LINK,
+    b"<rs:md capability=\"changelist\" from=\"1970-01-01T00:00:00.000Z\" until=\"1970-01-01T00:00:00.003Z\"/>\n",
+    b"<url><loc>http://127.0.0.1:8080/resource/a</loc><lastmod>1970-01-01T00:00:00.001Z</lastmod><rs:md change=\"created\" datetime=\"1970-01-01T00:00:00.001Z\"",
+    NO_BYTES,
+    b"<url><loc>http://127.0.0.1:8080/resource/b</loc><lastmod>1970-01-01T00:00:00.003Z</lastmod><rs:md change=\"created\" datetime=\"1970-01-01T00:00:00.003Z\"",
+    NO_BYTES,
+    LIST_END,
+];
+
+/// The second part of the Change List after 9 events: what comes before the name in its last entry, and what follows.
+const SECOND: [&[&[u8]]; 2] = [
+    &[
+        LIST_FRONT,
+        INDEX_LINK,
+        b"<rs:md capability=\"changelist\" from=\"1970-01-01T00:00:00.003Z\" until=\"1970-01-01T00:00:00.005Z\"/>\n",
+        b"<url><loc>http://127.0.0.1:8080/resource/a</loc><rs:md change=\"deleted\" datetime=\"1970-01-01T00:00:00.004Z\"/></url>\n",
+        b"<url><loc>http://127.0.0.1:8080/resource/",
+    ],
+    &[
+        b"</loc><lastmod>1970-01-01T00:00:00.005Z</lastmod><rs:md change=\"created\" datetime=\"1970-01-01T00:00:00.005Z\"",
+        NO_BYTES,
+        LIST_END,
+    ],
+];
+
+/// The answer to a fetch of a path after the first `count` events.
 fn fetched(
     alloc: Global,
     events: &[Event],
@@ -119,7 +125,7 @@ fn fetched(
     Ok(answer(alloc, &state, path)?)
 }
 
-// Looks at what is answered, which is these bytes or nothing.
+/// Checks an answer: these bytes, or nothing.
 fn is_answered(
     rt: &(impl Abort + AllocGlobal),
     events: &[Event],
@@ -131,35 +137,41 @@ fn is_answered(
     Ok(())
 }
 
-// Looks at the fetches that are the same in each walk.
+/// Checks the fetches that are the same in each walk.
 fn answers_what_it_holds(rt: &(impl Abort + AllocGlobal), events: &[Event]) -> Result<(), Fail> {
-    const ROWS: [(usize, &[u8], Option<&[u8]>); 9] = [
+    const ROWS: [(usize, &[u8], Option<&[&[u8]]>); 9] = [
         (2, b"/resourcelist.xml", Some(RESOURCES)),
         (5, b"/changelist.xml", Some(INDEX)),
         (8, b"/changelist/0.xml", Some(FIRST)),
-        (2, b"/resource/a", Some(b"")),
+        (2, b"/resource/a", Some(&[])),
         (5, b"/resource/a", None),
         (5, b"/changelist/2.xml", None),
         (8, b"/resourcelist/1/0.xml", None),
         (8, b"/resource/", None),
         (8, b"/", None),
     ];
-    for row in ROWS {
-        is_answered(rt, events, row)?;
+    for (count, path, pieces) in ROWS {
+        let wanted = match pieces {
+            Some(pieces) => Some(joined(rt.alloc(), pieces)?),
+            None => None,
+        };
+        let bytes = wanted.as_ref().map(|bytes| bytes.as_slice());
+        is_answered(rt, events, (count, path, bytes))?;
     }
     Ok(())
 }
 
-// Looks at the second part, of which the last change made this name, and at what is held: `b` and this name, at .003 and
-// .005, after so many of the events.
+/// Checks the second part of the Change List, whose last change created this name, and the resources after the first
+/// `count` events: `b` of the moment 3 and this name of the moment 5.
 fn gives(
     rt: &(impl Abort + AllocGlobal),
     events: &[Event],
     (name, count, last): (&[u8], usize, u64),
 ) -> Result<(), Fail> {
-    let mut second = Vec::from_slice(rt.alloc(), SECOND[0])?;
+    let mut second = joined(rt.alloc(), SECOND[0])?;
     second.extend_from_slice(name)?;
-    second.extend_from_slice(SECOND[1])?;
+    let end = joined(rt.alloc(), SECOND[1])?;
+    second.extend_from_slice(&end)?;
     is_answered(rt, events, (9, b"/changelist/1.xml", Some(&second)))?;
     match after(rt.alloc(), events, count)?.held() {
         [(b, first), (other, second)] => {

@@ -117,7 +117,7 @@ dated n p q low years_passed months_passed =
       before = omega arith;
     }
 
--- the date found by counting is the one that lies so many days after the first
+-- the date found by counting lies that many days after the first
 pub date_is : (n : ℕ) → n ≤ 2932896 → IsDateOf n (date_of n)
 unfolding date_of
 date_is n low =

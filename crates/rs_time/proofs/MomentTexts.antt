@@ -1,4 +1,4 @@
--- The text of a moment reads as the moment, and has digits and five signs alone.
+-- The text of a moment reads as the moment, and has only digits and five signs.
 use Rattle.std.proofs.Common.{◌≡◌, ℕ, ◌+◌, ◌*◌, ◌/◌, ◌%◌, ◌<◌, ◌≤◌, List, ◌∷◌, ◌++◌, refl, sym, ap, ◌∙◌, arith, Some, None, Bool, true, false, cond, pos, nat_le, nat_lt}
 use Rattle.std.specs.Prelude.{◌&&◌, not, codes}
 use Rattle.std.specs.List.{list_all, Contains}
@@ -68,7 +68,7 @@ moment_digits-text t h =
 within : (t : ℕ) → IsMoment t → nat_le t greatest ≡ true
 within t h = grind (arith, nat_tests)
 
--- what was written is read
+-- the text of a moment reads as the moment
 pub read_moment-text : (t : ℕ) → IsMoment t → read_moment (moment_text t) ≡ Some t
 unfolding read_moment
 read_moment-text t h =
@@ -85,7 +85,7 @@ exact_by true true m t text low same e =
 exact_by true false m t text low same e = cc
 exact_by false c m t text low same e = cc
 
--- and nothing else
+-- and no other text does
 pub read_moment-exact : (text : List ℕ) (t : ℕ) → read_moment text ≡ Some t
     → IsMoment t × (text ≡ moment_text t)
 unfolding read_moment
@@ -138,13 +138,7 @@ moment_text-bytes t =
 passes : (p : ℕ → Bool) (text : List ℕ) (c : ℕ) → list_all p text ≡ true → Contains text c → p c ≡ true
 passes p text c h among = All-contains (λ b. p b ≡ true) text c (AllPass-from_list_all p text h) among
 
--- so a byte of another kind is not among them
-pub moment_text-lacks : (t c : ℕ) → is_moment_byte c ≡ false → ¬ Contains (moment_text t) c
-moment_text-lacks t c other among =
-    let here = passes is_moment_byte (moment_text t) c (moment_text-bytes t) among in
-    cc (sym here ∙ other)
-
--- as the line feed and the five characters that XML has references for
+-- so it has no line feed, and none of the five characters that XML has references for
 pub moment_text-unescaped : (t c : ℕ) → Contains (10 ∷ codes "\"&'<>") c → ¬ Contains (moment_text t) c
 moment_text-unescaped t c mark among =
     let other = passes (λ b. not (is_moment_byte b)) (10 ∷ codes "\"&'<>") c refl mark in

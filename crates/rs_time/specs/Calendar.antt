@@ -2,7 +2,7 @@
 use Rattle.std.specs.Prelude.{◌≡◌, ◌≤◌, ℕ, zero, suc, ◌+◌, ◌-◌, ◌/◌, ◌%◌, Bool, not, ◌&&◌, ◌||◌, ◌==◌, nat_lt, if◌then◌else◌}
 use Rattle.rs_time.specs.declared.calendar.CivilDate.{CivilDate}
 
--- every fourth year is a leap year, but of the centuries only every fourth
+-- every fourth year is a leap year, but only every fourth century year
 abbrev pub is_leap : ℕ → Bool
 is_leap year = (year % 4 == 0) && (not (year % 100 == 0) || (year % 400 == 0))
 
@@ -16,13 +16,13 @@ month_length year month =
     if month == 2 then (if is_leap year then 29 else 28)
     else (if (month == 4) || (month == 6) || (month == 9) || (month == 11) then 30 else 31)
 
--- the days of `n` periods from period i on, whose lengths are given
+-- the days of `n` periods of given lengths, from period i on
 unfoldable pub days_of : (ℕ → ℕ) → ℕ → ℕ → ℕ
 days_of length_of i zero = 0
 days_of length_of i (suc n) = length_of i + days_of length_of (i + 1) n
 
 -- the period in which day n lies, counted from 0 at the start of period i, and its day there,
--- counted from 0 too; at most `turns` periods are passed by
+-- counted from 0 too; it passes `turns` periods at most
 unfoldable pub period_of : (ℕ → ℕ) → ℕ → ℕ → ℕ → ℕ × ℕ
 period_of length_of zero i n = (i, n)
 period_of length_of (suc turns) i n =

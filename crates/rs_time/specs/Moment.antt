@@ -9,7 +9,7 @@ use Rattle.rs_time.specs.Calendar.{date_of}
 abbrev pub greatest : ℕ
 greatest = 253402300799999
 
--- these milliseconds are a moment
+-- a number of milliseconds is a moment
 abbrev pub IsMoment : ℕ → Type 0
 IsMoment ms = ms ≤ greatest
 
@@ -17,11 +17,11 @@ IsMoment ms = ms ≤ greatest
 abbrev pub moment_of : ℕ → Option ℕ
 moment_of ms = if nat_le ms greatest then Some ms else None
 
--- the first moment after `last` that is not before `now`: none is after the greatest
+-- the first moment after `last` that is not before `now`; none is after the greatest
 abbrev pub moment_after : ℕ → ℕ → Option ℕ
 moment_after last now = if nat_lt last greatest then Some (max now (last + 1)) else None
 
--- the last decimal digit of a number, `0` being byte 48
+-- the last decimal digit of a number; `0` is byte 48
 abbrev pub last_digit : ℕ → ℕ
 last_digit n = 48 + n % 10
 

@@ -10,16 +10,16 @@ unfoldable pub use Rattle.rs_time.specs.Calendar.{days_of}
 abbrev pub same_bytes : List ℕ → List ℕ → Bool
 same_bytes a b = pointwise nat_eq a b
 
--- the number that the digits write after those of n
+-- the number of the digits of n and then these
 abbrev pub number_after : ℕ → List ℕ → ℕ
 number_after n [] = n
 number_after n (c ∷ cs) = number_after (10 * n + (c - 48)) cs
 
--- the number that the `count` digits from this place on write
+-- the number of the `count` digits from this place on
 abbrev pub digits_at : ℕ → ℕ → List ℕ → ℕ
 digits_at from count text = number_after 0 (take count (drop from text))
 
--- the milliseconds that the digits at their places say
+-- the milliseconds of the date and time that the digits give
 unfoldable pub moment_digits : List ℕ → ℕ
 moment_digits text =
     let date : CivilDate = record { year = digits_at 0 4 text; month = digits_at 5 2 text; day = digits_at 8 2 text } in

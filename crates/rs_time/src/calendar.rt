@@ -31,7 +31,7 @@ pub fn civil_date(days: u32) -> CivilDate
     }
 }
 
-// 1 January 1970 plus some days.
+/// 1 January 1970 plus some days.
 fn day_after_epoch(days: u32) -> Date
     requires { days ≤ 2932896 }
     ensures { epoch_day result ≡ pos days }

@@ -9,8 +9,8 @@ use std::{fmt, str};
 
 /// A moment of UTC: whole milliseconds since 1970-01-01T00:00:00.000Z, up to 9999-12-31T23:59:59.999Z.
 ///
-/// Moments are ordered as they follow one another in time. There are no leap seconds: each day has
-/// 86,400,000 milliseconds.
+/// Earlier moments are less than later ones. There are no leap seconds: each day has 86,400,000
+/// milliseconds.
 #[derive(Clone, Copy, Debug, PartialEq, Eq, PartialOrd, Ord)]
 pub struct Moment {
     ms: u64,
@@ -60,8 +60,8 @@ impl Moment {
         self.ms
     }
 
-    /// The first moment after `last` that is not before `now`. Only where `last` is the greatest moment
-    /// there is none.
+    /// The first moment after `last` that is not before `now`, or `None` where `last` is the greatest
+    /// moment.
     pub fn after(last: Moment, now: Moment) -> Option<Moment>
         ensures { result ≡ moment_after last now }
     {
@@ -118,7 +118,7 @@ impl Moment {
     }
 }
 
-/// Prints its text. A width or other options of the placeholder change nothing.
+/// Prints the text. A width or other options of the placeholder change nothing.
 impl fmt::Display for Moment {
     ghost use Rattle.std.specs.Prelude.{Some};
     ghost use Rattle.rs_time.specs.Moment.{moment_text};
@@ -134,7 +134,7 @@ impl fmt::Display for Moment {
     }
 }
 
-// The last decimal digit.
+/// The last decimal digit.
 fn last_digit(n: u32) -> u8
     ensures { result ≡ digit_of n }
 {

@@ -22,7 +22,7 @@ fn take(used: &mut Used, run: Run) {
     }
 }
 
-/// Runs on a disk of ten blocks, and whether they are free: blocks 0 and 1 are not, nor is any past the end.
+/// Runs on a disk of ten blocks, and whether they are free. Blocks 0 and 1 are not, nor is any past the end.
 const FREE: [(Run, bool); 10] = [
     ((2, 8), true),
     ((2, 9), false),
@@ -77,7 +77,7 @@ fn found(used: &Used) -> Found {
     (first_of(used.find(1)), longest, first_of(most))
 }
 
-/// What is found while the blocks of a free run are taken. They are given back.
+/// What is found while the blocks of a free run are taken. It gives them back.
 fn found_without(used: &mut Used, run: Run) -> Option<Found> {
     let extent = extent(run);
     if !used.is_free(extent) {
@@ -89,8 +89,8 @@ fn found_without(used: &mut Used, run: Run) -> Option<Found> {
     Some(found)
 }
 
-/// A disk of so many blocks, a run that is used, another one that is taken too, and what is found then. Words have 64 blocks;
-/// tests/rows/full_disks.session has disks that end beside the border of a word.
+/// The size of a disk in blocks, a used run, another one that is taken too, and what is then found. Words have 64
+/// blocks; tests/rows/full_disks.session has disks that end beside the border of a word.
 const RUNS: [(u32, Run, Run, Found); 7] = [
     (200, (65, 3), (63, 2), (Some(2), 132, Some(68))),
     (200, (128, 3), (64, 64), (Some(2), 69, Some(131))),
@@ -106,7 +106,7 @@ const RUNS: [(u32, Run, Run, Found); 7] = [
     ),
 ];
 
-/// What is found on a disk beside two runs, where it is found again once the second was given back.
+/// What is found on a disk beside two runs, if taking the second again after it was given back finds the same.
 fn found_twice(
     alloc: Global,
     blocks: u32,

@@ -1,4 +1,4 @@
-//! Copies: that they are made while there is memory. What they are is said by clauses.
+//! Copies are made while there is memory. Clauses say what they hold.
 
 use rs_fixity::Digests;
 use rs_record::{Base, Duplicate, Facts, MediaType, Name};

@@ -1,16 +1,16 @@
-//! Ends that fail at one of their calls, and what the watched end then says. No clause tells it, since the library's
-//! readers and writers never say that they failed.
+//! Ends that fail at one of their calls, and the answers of the watched end. No clause says this, since the library's
+//! contracts never say that a reader or a writer failed.
 
 use rs_io::{Watched, WriteFault};
 use std::alloc::Global;
 use std::io;
 use std::io::{ErrorKind, Read, Write};
 
-/// A reader or a writer of which each call moves two bytes at most, and one call fails.
+/// A reader or a writer that moves two bytes at most in a call, and fails one call.
 #[derive(Drop)]
 struct FailsOnce<T> {
     inner: T,
-    /// How many calls come before the one that fails. None once it has.
+    /// How many calls come before the one that fails, `None` after it.
     calls_before: Option<u32>,
 }
 
@@ -49,9 +49,9 @@ impl<W: Write> Write for FailsOnce<W> {
     }
 }
 
-/// The call of a reader of `abcde` that fails, the number of bytes that each of five reads gives, none where it fails, how many
-/// failures the reader then tells, how many calls of the reader inside, and how many bytes are left. Behind a failure each read
-/// fails, though the reader inside would give more, and it is not asked.
+/// Which call of a reader of `abcde` fails; how many bytes each of five reads gives, `None` where it fails; the counts
+/// of failures, and of calls of the reader inside; how many bytes are left. After a failure each read fails, and makes
+/// no call of the reader inside, which would give more.
 type Reads = (u32, [Option<usize>; 5], u64, u64, usize);
 
 const READS: [Reads; 6] = [
@@ -63,7 +63,7 @@ const READS: [Reads; 6] = [
     (5, [Some(2), Some(2), Some(1), Some(0), Some(0)], 0, 5, 0),
 ];
 
-/// What the reads give and the reader tells then.
+/// What the reads give, and the reader's counts.
 fn told_by_reads(fails_at: u32) -> Reads {
     let mut reader = Watched::new(FailsOnce {
         inner: b"abcde".as_slice(),
@@ -84,7 +84,7 @@ fn a_read_fails_from_where_the_reader_does(rt: HostRuntime) {
     }
 }
 
-/// A reader of which each read is interrupted.
+/// A reader whose reads are all interrupted.
 #[derive(Drop)]
 struct InterruptedReader;
 
@@ -105,9 +105,9 @@ const WROTE: Result<(), WriteFault> = Ok(());
 
 const FAILED: Result<(), WriteFault> = Err(WriteFault);
 
-/// The call of a writer that fails, what is answered then to the bytes `abcd`, to a text of three pieces and to a flush,
-/// how many failures the writer then tells, how many calls of the writer inside, and all that is written. Behind a failure
-/// each call fails, and the writer inside is not asked.
+/// Which call of a writer fails; the answers to the bytes `abcd`, to a text of three pieces and to a flush; the counts
+/// of failures, and of calls of the writer inside; all that is written. After a failure each call fails, and makes no
+/// call of the writer inside.
 type Writes = (u32, [Result<(), WriteFault>; 3], u64, u64, &'static [u8]);
 
 const WRITES: [Writes; 7] = [
@@ -120,7 +120,7 @@ const WRITES: [Writes; 7] = [
     (6, [WROTE, WROTE, WROTE], 0, 6, b"abcd12:30"),
 ];
 
-/// What is answered and told, and what is written.
+/// The answers, the counts, and what is written.
 fn told_by_writes(
     alloc: Global,
     fails_at: u32,
@@ -150,7 +150,7 @@ fn a_write_fails_from_where_the_writer_does(rt: HostRuntime) {
     }
 }
 
-/// The call of a writer that fails, and what is written of the number 12345.
+/// Which call of a writer fails, the answer to the number 12345, and what is written of it.
 const NUMBERS: [(u32, Result<(), WriteFault>, &[u8]); 4] = [
     (0, FAILED, b""),
     (1, FAILED, b"12"),
@@ -170,11 +170,11 @@ fn a_number_fails_within(rt: HostRuntime) {
     }
 }
 
-/// A writer of which the first calls are interrupted.
+/// A writer whose first calls are interrupted.
 #[derive(Drop)]
 struct Interrupted<W> {
     inner: W,
-    /// How many calls are interrupted still.
+    /// How many further calls are interrupted.
     times: u32,
 }
 
@@ -192,8 +192,8 @@ impl<W: Write> Write for Interrupted<W> {
     }
 }
 
-/// How many calls of a writer are interrupted, what is answered then to the bytes `ab` and to `cd`, how many failures the
-/// writer then tells, and all that is written: 100 are tried again in one put.
+/// How many calls of a writer are interrupted, the answers to the bytes `ab` and `cd`, the count of failures, and all
+/// that is written. One put tries 100 interrupted writes again.
 const INTERRUPTIONS: [(u32, [Result<(), WriteFault>; 2], u64, &[u8]); 4] = [
     (0, [WROTE, WROTE], 0, b"abcd"),
     (1, [WROTE, WROTE], 0, b"abcd"),
@@ -215,7 +215,7 @@ fn an_interrupted_write_is_tried_again(rt: HostRuntime) {
     }
 }
 
-/// A writer that takes no byte, and fails nowhere.
+/// A writer that takes no byte, and never fails.
 #[derive(Drop)]
 struct Full;
 
@@ -238,7 +238,7 @@ fn a_write_of_no_byte_is_a_fault(rt: HostRuntime) {
     assert_eq!(rt; (writer.failures(), writer.calls()), (1, 1));
 }
 
-/// A writer of which each call fails.
+/// A writer whose calls all fail.
 #[derive(Drop)]
 struct Broken;
 

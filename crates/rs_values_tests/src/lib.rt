@@ -1,6 +1,6 @@
-//! Tests of the values that everything above is made of: watched ends, moments, digests, runs of blocks, names, media
-//! types, bases, records and changes. They hold what no clause says, by public items alone. What a script or
-//! a file can show of these values is in tests/rows.
+//! Tests of the values that the crates above use: watched ends, moments, digests, runs of blocks, names, media types,
+//! bases, records and changes. They test what no clause says, through public items. What a script or a file shows of
+//! these values is in tests/rows.
 #![tactic(auto)]
 
 #[cfg(test)]

@@ -1,4 +1,4 @@
-//! Laws of a destination that fetches one document after another, while the source goes on.
+//! Laws of a destination that fetches one document after another while the source goes on.
 
 ghost use Rattle.rs_caps.specs.Destination.{DestinationMirrors, MirrorWasHeld, FetchedListedPartsStay, FetchedClosedPartsStay};
 
@@ -9,14 +9,14 @@ use rs_model::{
 };
 use rs_record::{Change, Record};
 
-/// Whatever happens between its fetches (commands, refusals, crashes within commands and between them), a
-/// destination that fetches the Resource List and then the Change List, each with the parts that its head
-/// names, and mirrors the one with the other, has a catalogue of the source: what its first n changes make,
-/// n of those between its fetches of the Change List. That is what the source held at a point between them; or, where
-/// a group came next there, what it held followed by the first changes of the group.
+/// A destination fetches the Resource List and then the Change List, each with the parts that its head names, and
+/// mirrors the one with the other. Between its fetches there may be commands, refusals, and crashes within commands and
+/// between them. The mirror is a catalogue of the source: what its first n changes make, where change n came between
+/// the fetches of the Change List. The source held that at a point between them. Where a group came next there, the
+/// mirror may be what the source held followed by the group's first changes.
 ///
-/// The premise is that the Change List, as it was fetched, does not begin after the moment of the Resource List. It may
-/// do so where publications come between the two fetches, which drop changes; a destination that sees it begins anew.
+/// The premise is that the fetched Change List does not begin after the moment of the Resource List. It may do so where
+/// publications between the two fetches drop changes. A destination that sees this begins anew.
 pub fn destination_mirrors()
     ensures mirrored { DestinationMirrors }
     ensures held { MirrorWasHeld }
@@ -29,8 +29,8 @@ pub fn destination_mirrors()
     walks_pass_each_count();
 }
 
-/// A part is the same whenever it is fetched and answered: a part of the Resource List, and a part of the Change List
-/// from the time on when it has an `until`.
+/// All answers at the path of a part are the same: of a part of the Resource List always, and of a part of the Change
+/// List once it has an `until`.
 pub fn fetched_parts_stay()
     ensures listed { FetchedListedPartsStay }
     ensures closed { FetchedClosedPartsStay }

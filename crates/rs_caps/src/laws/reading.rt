@@ -1,4 +1,4 @@
-//! Laws of the reading alone: texts, values and paths.
+//! Laws of the reading: texts, values and paths.
 
 ghost use Rattle.std.specs.Prelude.{◌≡◌, ℕ, ◌<◌, ◌^◌, List, Some, IsTrue};
 ghost use Rattle.std.specs.List.{list_all};
@@ -17,23 +17,23 @@ pub fn one_reading()
     ensures { (text : List ℕ) (d e : Document) → reads text ≡ Some d → reads text ≡ Some e → d ≡ e }
 {}
 
-/// A text whose five characters `&`, `'`, `"`, `>` and `<` were written as references (XML 1.0, section
-/// 4.6) reads as it was; and any text that reads is written so: one with another use of the five does not read.
+/// A text whose five characters `&`, `'`, `"`, `>` and `<` are written as references (XML 1.0, section 4.6) reads as
+/// the text itself. No text with another use of the five reads.
 pub fn escaped_reads()
     ensures read { (text : List ℕ) → unescape (escape text) ≡ Some text }
     ensures exact { (text value : List ℕ) → unescape text ≡ Some value → text ≡ escape value }
 {}
 
-/// The decimal digits of each number of 64 bits read as that number, and any text that reads as such a
-/// number is its digits: no leading zero, no sign and no space.
+/// The decimal digits of each number of 64 bits read as that number. No other text does: no leading zero, no sign and
+/// no space.
 pub fn numbers_read()
     ensures read { (n : ℕ) → n < 2 ^ 64 → read_number (decimal n) ≡ Some n }
     ensures exact { (text : List ℕ) (n : ℕ) → n < 2 ^ 64 → read_number text ≡ Some n
         → text ≡ decimal n }
 {}
 
-/// Lines that have no line feed are the lines of the text in which each ends with one; and the lines of a text
-/// that has any, each ended by a line feed, are the text.
+/// Lines without a line feed are the lines of the text in which a line feed ends each. The lines that a text reads as,
+/// each ended by a line feed, are the text.
 pub fn lines_read()
     ensures read { (lines : List (List ℕ)) → IsTrue (list_all (lacks 10) lines)
         → lines_of (joined lines) ≡ Some lines }
@@ -41,8 +41,8 @@ pub fn lines_read()
         → text ≡ joined lines }
 {}
 
-/// The path of each document reads as that document, be it there or not, where its numbers have 64 bits; and
-/// a path that reads as a document is the path of that document, and its numbers have 64 bits.
+/// The path of a document whose numbers have 64 bits reads as that document, whether it exists or not. A path that
+/// reads as a document is the path of that document, and its numbers have 64 bits.
 pub fn paths_read()
     ensures read { (doc : Doc) → HasCounts doc → doc_of (path_of doc) ≡ Some doc }
     ensures exact { (path : List ℕ) (doc : Doc) → doc_of path ≡ Some doc

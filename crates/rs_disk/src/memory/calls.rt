@@ -13,8 +13,8 @@ use crate::{Disk, Fault};
 use std::alloc::AllocError;
 
 impl MemoryDisk {
-    // Counts a call, and gives how many were counted before it. At the last value of the count it
-    // fails, and nothing changes.
+    /// Counts a call, and gives the number of calls before it. At the last value of the count it
+    /// fails, and changes nothing.
     fn begin_call(&mut self) -> Result<u64, Fault>
         ensures spent { OnErr result (2 ^ 64 ≤ self.old.calls + 1) }
         ensures unchanged { OnErr result (self.new ≡ self.old) }
@@ -33,7 +33,7 @@ impl MemoryDisk {
         Ok(call)
     }
 
-    // Counts a fault where the call failed.
+    /// Counts a fault where the call failed.
     fn end_call(&mut self, done: Result<(), Fault>) -> Result<(), Fault>
         requires { self.old.faults < self.old.calls }
         ensures result { result ≡ done }
@@ -48,8 +48,8 @@ impl MemoryDisk {
         done
     }
 
-    // Puts the bytes at an offset and makes this many places from there unsettled; where the
-    // record's growth is refused, nothing changes.
+    /// Puts the bytes at an offset, and makes `places` places from there on unsettled. Where the
+    /// record can't grow, nothing changes.
     fn put(&mut self, call: u64, at: usize, places: usize, bytes: &[u8]) -> Result<(), AllocError>
         requires begun { Begun call (memory_state self.old) }
         requires range { at + places ≤ (memory_state self.old).size }
@@ -68,7 +68,7 @@ impl MemoryDisk {
         Ok(())
     }
 
-    // Settles what a read gives; where the record's growth is refused, nothing changes.
+    /// Settles what a read gives. Where the record can't grow, nothing changes.
     fn settle(&mut self, call: u64) -> Result<(), AllocError>
         requires begun { Begun call (memory_state self.old) }
         ensures ok { OnOk result
@@ -132,8 +132,7 @@ impl Disk for MemoryDisk {
             (Tears at (length bytes.now) (memory_state self.old) (memory_state self.new)) }
 
         ensures works { OnOk result (planned self.old 0 ≡ Works) }
-        // What a failing write leaves is what was planned, or what was there where the record's
-        // growth was refused.
+        // A failing write leaves what was planned, or nothing new where the record can't grow.
         ensures fails { OnErr result (((memory_state self.new).now
             ≡ left_by_write (planned self.old 0) at bytes.now (memory_state self.old).now)
             ⊎ ((memory_state self.new).now ≡ (memory_state self.old).now)) }

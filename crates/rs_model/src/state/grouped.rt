@@ -11,7 +11,7 @@ use rs_time::Moment;
 use std::alloc::{AllocError, Global};
 
 impl State {
-    // The refusal of a group, if there is one.
+    /// Why a group is refused, if it is.
     pub(super) fn group_refusal(&self, group: &Group, now: Moment) -> Option<Refusal>
         ensures { result ≡ refusal_of self.now (commands.Group group.now) now }
     {
@@ -26,8 +26,8 @@ impl State {
         group_refusal(items, &held[..items.len()], self.counts(), now)
     }
 
-    // Does the items of a group that come at `now`, in their order: on a copy, so that an error leaves none
-    // of them done.
+    /// Does the items of a group that comes at `now`, in their order. It works on a copy, so that after an error none
+    /// is done.
     pub(super) fn group(
         &mut self,
         alloc: Global,
@@ -52,7 +52,7 @@ impl State {
         Ok(Reply::Grouped(count, first))
     }
 
-    // Does one item, which comes at `now`.
+    /// Does one item that comes at `now`.
     fn accept(&mut self, alloc: Global, item: Item, now: Moment) -> Result<(), AllocError>
         requires accepted { first_cause (item_causes self.old item) ≡ None }
         ensures { OnOk result (self.new ≡ after_item self.old item (moment_at self.old now)) }

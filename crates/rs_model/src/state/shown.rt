@@ -19,7 +19,7 @@ impl State {
         &self.base
     }
 
-    /// The item limit, from 2 to 4,000. The clause `lawful` says what each state keeps.
+    /// The item limit, from 2 to 4,000.
     pub fn limit(&self) -> u16
         ensures value { result ≡ self.now.limit }
         ensures lawful { IsLawful self.now }
@@ -34,7 +34,7 @@ impl State {
         self.start
     }
 
-    /// The moment of the latest accepted command, or of formatting where there was none.
+    /// The moment of the latest accepted command, or of formatting before the first.
     pub fn last(&self) -> Moment
         ensures { result ≡ self.now.last }
     {
@@ -62,8 +62,8 @@ impl State {
         &self.held
     }
 
-    /// The latest publication: the resources that were held at its moment, in ascending order of the
-    /// bytes of their names. Each is a record whose extent is empty: a list is of no disk.
+    /// The latest publication: the resources held at its moment, in ascending order of the bytes of their names. Each
+    /// is a record of an empty extent, since a list is on no disk.
     pub fn listed(&self) -> &[Record]
         ensures { result.now ≡ map record_of self.now.listed }
     {
@@ -77,16 +77,14 @@ impl State {
         &self.changes
     }
 
-    /// The number of the first part of the changes that is kept: how many were dropped, at most
-    /// 253,402,300,799,999.
+    /// The number of the first kept part of the changes: how many parts were dropped, at most 253,402,300,799,999.
     pub fn first(&self) -> u64
         ensures { result ≡ self.now.first }
     {
         self.first
     }
 
-    /// The moment at which the kept changes begin: of the last change that was dropped, or of
-    /// formatting.
+    /// The moment at which the kept changes begin: that of the last dropped change, or of formatting.
     pub fn begin(&self) -> Moment
         ensures { result ≡ self.now.begin }
     {
@@ -109,4 +107,11 @@ impl State {
             Err(_) => None,
         }
     }
+}
+
+/// The law that each state is lawful. It does nothing.
+pub fn states_are_lawful(state: &State)
+    ensures { IsLawful state.now }
+{
+    let _ = &state.limit;
 }

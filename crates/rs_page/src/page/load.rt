@@ -13,8 +13,8 @@ use rs_disk::Disk;
 use rs_record::FieldFault;
 use std::alloc::Global;
 
-/// The fault of a page or a directory whose fields were not read: where they are malformed, it is
-/// damaged.
+/// The fault of a page or a directory whose fields cannot be read: it is damaged where they are
+/// malformed.
 pub fn fault_of_fields(fault: FieldFault) -> LoadFault
     ensures { result ≡ fault_of_fields fault }
 {
@@ -28,20 +28,20 @@ impl<T: PageItem> Page<T> {
     /// Reads the page that a reference points to, whatever the reference says. The disk stays as
     /// it is.
     ///
-    /// No memory is asked for before the reference's extent was found to lie on the disk and to
-    /// have exactly the blocks of its length, and none on the word of the number of items.
+    /// It asks for no memory before it has checked that the extent lies on the disk and has exactly
+    /// the blocks of the length, and for none because of the number of items alone.
     ///
     /// # Errors
     /// - [`LoadFault::Device`] where the device fails.
-    /// - [`LoadFault::Damaged`] where the disk holds no page there: the extent, the length, the
-    ///   SHA-256 or the bytes are not those of a page of such items.
+    /// - [`LoadFault::Damaged`] where the disk holds no page there: extent, length, SHA-256 or bytes
+    ///   are not those of a page of such items.
     /// - [`LoadFault::NoMemory`] where the memory for the bytes or the items is refused.
     pub fn load<D: Disk>(alloc: Global, disk: &mut D, page: &PageRef) -> Result<Page<T>, LoadFault>
         ensures place { IfOk result (λ loaded. loaded.place ≡ Place.Stored page.now) }
         ensures blocks { IfOk result (λ _. HasItsBlocks (D.state disk.new).size page.now) }
         ensures lawful { IfOk result (λ loaded. ArePageItems T.format loaded.items) }
 
-        // What the disk holds is said of a device that has followed the model.
+        // Where the device has followed the model:
         ensures found { IfOk result (λ loaded. IsTrue (D.state disk.new).honest
             → IsPage T.format page.now (D.state disk.new).now.seen loaded.items) }
         ensures damaged { IsErrOf result LoadFault.Damaged

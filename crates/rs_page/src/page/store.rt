@@ -72,7 +72,7 @@ impl<T: PageItem> Page<T> {
         ensures stored { IsSome (stored_ref self.old.place)
             → (result ≡ Ok tt) × (D.state disk.new ≡ D.state disk.old) }
 
-        // Whatever it answers.
+        // Whatever the answer:
         ensures writes { WritesOnly (placed_extents (self.old ∷ []))
             (IsErrOf result StoreFault.Device) (D.state disk.old) (D.state disk.new) }
         ensures calls { CallsAtMost 1 (D.state disk.old) (D.state disk.new) }

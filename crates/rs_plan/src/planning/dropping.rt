@@ -8,7 +8,7 @@ ghost use Rattle.rs_plan.specs.Allowed.{parts_dropped, changes_dropped};
 use rs_image::Contents;
 use rs_time::Moment;
 
-/// How many parts of the changes the next publication of these lists drops: the full ones whose last
+/// The number of parts of the changes that the next publication drops: the full parts whose last
 /// change is not after the latest publication.
 pub fn dropped_parts(contents: &Contents) -> u64
     ensures value { result ≡ parts_dropped contents.now }
@@ -19,8 +19,8 @@ pub fn dropped_parts(contents: &Contents) -> u64
     passed as u64 / u64::from(contents.header.limit.items())
 }
 
-/// The moment at which the history begins without its first parts, so many of them, all of which it
-/// has: that of their last change, or where it begins, if they are none.
+/// The moment at which the history begins without its first `parts` parts, which are full: the moment
+/// of their last change, or where the history begins now, if `parts` is 0.
 pub(crate) fn begin_without(contents: &Contents, parts: u64) -> Moment
     requires { parts * contents.now.header.limit ≤ length (changes_of contents.now.history.pages) }
     ensures { result ≡ last_moment contents.now.header.begin

@@ -25,7 +25,7 @@ pub(crate) struct Freed {
 }
 
 impl Freed {
-    /// What no item frees.
+    /// Nothing freed yet.
     pub(crate) fn new(alloc: Global) -> Freed
         ensures pages { result.pages.items ≡ [] }
         ensures history { result.history_pages.items ≡ [] }
@@ -38,7 +38,7 @@ impl Freed {
         }
     }
 
-    /// Adds what a change of this name frees, where these are the lists before it.
+    /// Adds what a change of this name frees. `lists` are the lists before the change.
     ///
     /// # Errors
     ///
@@ -56,7 +56,7 @@ impl Freed {
         add_body(&mut self.bodies, lists, name)
     }
 
-    /// All that is freed: this directory, and what is in the lists.
+    /// All that is freed: this directory, and what the lists here have.
     ///
     /// # Errors
     ///
@@ -101,8 +101,8 @@ pub(crate) fn freed_by_change(
     Ok(freed)
 }
 
-/// What a publication frees: the directory, the pages of the history that have a change that it
-/// drops, and the published pages that are no pages of the catalogue.
+/// What a publication frees: the directory, the pages of the history with a change that it drops, and
+/// the published pages that are not catalogue pages.
 ///
 /// # Errors
 ///
@@ -123,7 +123,7 @@ pub(crate) fn freed_by_publication(
     Ok(freed)
 }
 
-/// The pages of the history that have a change that a publication drops.
+/// The pages of the history with a change that a publication drops.
 fn dropped_pages(alloc: Global, contents: &Contents) -> Result<Vec<PageRef>, AllocError>
     ensures { IfOk result (λ pages. pages.items ≡ stored_refs
         (front_pages (changes_dropped contents.now) contents.now.history.pages)) }
@@ -166,7 +166,7 @@ fn add_page(freed: &mut Vec<Extent>, page: Option<PageRef>) -> Result<(), AllocE
     Ok(())
 }
 
-/// Adds the blocks of the body that a name has.
+/// Adds the blocks of the body of a name, if it has one.
 fn add_body(freed: &mut Vec<Extent>, contents: &Contents, name: &Name) -> Result<(), AllocError>
     ensures { OnOk result (freed.new.items ≡ freed.old.items
         ++ extent_of_body contents.now name.now) }

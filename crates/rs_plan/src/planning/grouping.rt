@@ -1,4 +1,4 @@
-//! How a group is planned: its bodies, and the lists after its items in turn.
+//! Planning a group: its bodies, and the lists after its items in turn.
 
 ghost use Rattle.std.specs.Prelude.{◌≡◌, ◌≤◌, ◌+◌, List, Bool, [], ◌∷◌, length, drop, vec_len, vec_capacity, IfOk, IsErrOf, OnOk, OnErr, option_map};
 ghost use Rattle.std.specs.List.{AllByRecursion, cons_option};
@@ -30,14 +30,14 @@ use rs_time::Moment;
 use std::alloc::{AllocError, Global};
 
 /// Plans to bind and unbind the names of these items in their order, in one step: the first at this
-/// moment, each other one millisecond after the one before it. The command is one that a source
-/// accepts. A body that a later item replaces or deletes is given no blocks. The set has the blocks in
-/// use, and is as it was when this returns.
+/// moment, each other one millisecond after the one before it. A source accepts the command. A body
+/// that a later item replaces or deletes gets no blocks. `used` has the blocks in use, and does not
+/// change.
 ///
 /// # Errors
 ///
 /// - [`PlanFault::Full`] where a body, a page or the directory has no run of free blocks.
-/// - [`PlanFault::NoMemory`] where a growth of memory is refused.
+/// - [`PlanFault::NoMemory`] where memory is refused.
 pub fn plan_group(
     alloc: Global,
     used: &mut Used,
@@ -61,8 +61,8 @@ pub fn plan_group(
     place_lists(alloc, used, bodies, lists, reply, freed)
 }
 
-/// Finds blocks for each body that is written: the lowest run of free blocks of its size, with those
-/// taken that are for the bodies before it. The set is as it was when this returns.
+/// Finds blocks for each body that is written: the lowest run of free blocks of its size, after the
+/// bodies before it have theirs. `used` does not change.
 fn find_bodies(alloc: Global, used: &mut Used, items: &[Item]) -> Result<Vec<Extent>, PlanFault>
     requires short { AllByRecursion IsShort items.now }
     ensures same { used.new ≡ used.old }
@@ -102,7 +102,7 @@ fn take_bodies(used: &mut Used, items: &[Item], bodies: &mut Vec<Extent>) -> Res
     Ok(())
 }
 
-/// How many bytes the body of an item has, where it is written: no later item is of its name.
+/// The length of an item's body, where it is written: no later item has its name.
 fn written_length(item: &Item, later: &[Item]) -> Option<u32>
     requires { IsShort item.now }
     ensures { bodies_needed (bodies_kept (item.now ∷ later.now))
@@ -116,7 +116,7 @@ fn written_length(item: &Item, later: &[Item]) -> Option<u32>
     }
 }
 
-/// The body of the first of these items, where it has one that no later item replaces or deletes. A
+/// The body of the first of these items, if it has one and no later item replaces or deletes it. A
 /// group writes no other bodies.
 pub fn body_kept(items: &[Item]) -> Option<&[u8]>
     ensures { bodies_kept items.now
@@ -130,15 +130,15 @@ pub fn body_kept(items: &[Item]) -> Option<&[u8]>
     }
 }
 
-/// Whether one of these items is of this name.
+/// Whether one of these items has this name.
 fn is_named_in(name: &Name, items: &[Item]) -> bool
     ensures { result ≡ is_named_in name.now items.now }
 {
     items.iter().any(|item| name.bytes() == item.name().bytes())
 }
 
-/// The lists after these items in turn, the first of them at this moment, where these are the blocks of
-/// the bodies that are written; and what the items free beside the directory.
+/// The lists after these items in turn, the first of them at this moment, with the written bodies in
+/// these blocks; and what the items free beside the directory.
 fn turn_items(
     alloc: Global,
     old: &Contents,
@@ -172,8 +172,8 @@ fn turn_items(
     Ok((lists, freed))
 }
 
-/// Of the blocks of the bodies that are left to write, those of an item's body, which has none where a
-/// later item is of its name; and those that are left.
+/// The blocks of an item's body, and those that are left for the later items. A body has none where a
+/// later item has its name.
 fn body_for<'a>(item: &Item, later: &[Item], left: &'a [Extent]) -> (Extent, &'a [Extent])
     ensures body { result.0 ≡ extent_for item.now later.now left.now }
     ensures others { result.1.now ≡ extents_left item.now later.now left.now }
@@ -197,7 +197,7 @@ fn is_written(item: &Item, later: &[Item]) -> bool
     }
 }
 
-/// The lists after one item at its moment, whose body stands in an extent.
+/// The lists after one item at its moment, with its body in this extent.
 fn lists_after_item(
     alloc: Global,
     old: &Contents,

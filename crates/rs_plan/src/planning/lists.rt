@@ -22,8 +22,8 @@ use rs_record::{Change, Facts, MediaType, Name, Record, What};
 use rs_time::Moment;
 use std::alloc::{AllocError, Global};
 
-/// The lists where the name is bound to a body of this type, of `body_length` bytes with these
-/// digests, in an extent, at a moment.
+/// The lists with the name bound, at a moment, to a body of this type, of `body_length` bytes, with
+/// these digests, in this extent.
 ///
 /// # Errors
 ///
@@ -77,7 +77,7 @@ pub(crate) fn reply_told(history: &History) -> Reply
     }
 }
 
-/// The lists without a name that is held, at a moment.
+/// The lists without a held name, at a moment.
 ///
 /// # Errors
 ///
@@ -97,7 +97,7 @@ pub(crate) fn lists_after_delete(
     lists_with(alloc, old, old.catalogue.without(alloc, name)?, change)
 }
 
-/// The lists of this catalogue, with a change at their end, at its moment.
+/// The lists with this catalogue, and with a change at the end of the history, at its moment.
 ///
 /// # Errors
 ///
@@ -122,8 +122,8 @@ fn lists_with(
     })
 }
 
-/// The lists where all resources that are held are published, at a moment, and the parts of the
-/// changes are dropped that end no later than the publication before.
+/// The lists after a publication at a moment: all held resources are published, and the parts of the
+/// changes that end no later than the publication before are dropped.
 ///
 /// # Errors
 ///
@@ -147,7 +147,7 @@ pub(crate) fn lists_after_publish(
     })
 }
 
-/// The header after a publication at this moment, which drops so many parts.
+/// The header after a publication at this moment that drops `dropped` parts.
 ///
 /// # Errors
 ///
@@ -172,7 +172,7 @@ fn published_header(
     Ok(header)
 }
 
-/// The same lists once more.
+/// A copy of the lists.
 ///
 /// # Errors
 ///
@@ -188,7 +188,7 @@ pub(crate) fn lists_copied(alloc: Global, old: &Contents) -> Result<Contents, Al
     })
 }
 
-/// The header where the last command came at this moment.
+/// A copy of the header, with the last command at this moment.
 ///
 /// # Errors
 ///

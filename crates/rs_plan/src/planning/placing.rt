@@ -1,4 +1,4 @@
-//! Where the writes of a command go.
+//! Finding blocks for the writes of a command.
 
 ghost use Rattle.std.specs.Prelude.{◌≡◌, ◌≤◌, ◌+◌, List, ◌++◌, length, vec_len, vec_capacity, IfOk, OnErr, IsErrOf, MatchOption};
 ghost use Rattle.rs_body.specs.Blocks.{blocks_of};
@@ -20,8 +20,8 @@ use rs_model::Reply;
 use rs_page::Full;
 use std::alloc::{AllocError, Global};
 
-/// Finds the lowest run of free blocks for so many bytes, and no block for none. `None` where there
-/// is no such run.
+/// The lowest run of free blocks for `length` bytes; no blocks for no bytes. `None` where there is no
+/// such run.
 pub(crate) fn find_lowest(used: &Used, length: u32) -> Option<Extent>
     ensures { MatchOption result (HasNoRun used.now (blocks_of length))
         (IsFoundRun used.now (blocks_of length)) }
@@ -36,10 +36,9 @@ pub(crate) fn find_lowest(used: &Used, length: u32) -> Option<Extent>
     used.find(blocks)
 }
 
-/// Finds blocks for the lists after a command whose bodies have their blocks already: each page that
-/// is touched, and then the directory, the lowest run of free blocks of its size, in the order of the
-/// catalogue, the history and the directory. It makes a plan with this reply, which frees these
-/// extents, and leaves the set as it was.
+/// Plans the lists after a command whose bodies have their blocks already. Each touched page of the
+/// catalogue, then each of the history, and then the directory gets the lowest run of free blocks of
+/// its size. The plan has this reply and frees these extents. `used` does not change.
 ///
 /// # Errors
 ///
@@ -75,7 +74,7 @@ pub(crate) fn place_lists(
     })
 }
 
-/// These extents, in a list with room for so many more.
+/// These extents, in a list with room for `more` others.
 fn with_room(alloc: Global, extents: &[Extent], more: usize) -> Result<Vec<Extent>, AllocError>
     ensures items { IfOk result (λ found. found.items ≡ extents.now) }
     ensures room { IfOk result (λ found. vec_len found + more ≤ vec_capacity found) }
@@ -115,8 +114,8 @@ fn take_places(
     Ok(directory)
 }
 
-/// Takes the lowest run of free blocks for so many bytes, and no block for none. `None` where there
-/// is no such run; nothing has changed then.
+/// Takes the lowest run of free blocks for `length` bytes; no blocks for no bytes. Where there is no
+/// such run, it returns `None` and takes nothing.
 pub(crate) fn take_lowest(used: &mut Used, length: u32) -> Option<Extent>
     ensures found { MatchOption result (HasNoRun used.old (blocks_of length))
         (λ extent. Takes used.old (blocks_of length) extent used.new) }

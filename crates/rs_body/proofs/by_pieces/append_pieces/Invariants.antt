@@ -1,4 +1,4 @@
--- The vector has the front of the extent that was read so far, and each piece but the last one is full.
+-- The vector has the pieces so far, which are the front of the extent, and each but the last is full.
 use Rattle.std.proofs.Common.{◌≡◌, ◌+◌, ◌-◌, ◌/◌, ◌%◌, ◌≤◌, ◌<◌, IsTrue, vec_len, vec_capacity}
 use Rattle.rs_disk.specs.Runs.{RunsReading, CallsAtMost}
 use Rattle.rs_fixity.specs.Hashed.{HasTakenSha256}

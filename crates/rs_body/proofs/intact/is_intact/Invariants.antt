@@ -1,4 +1,4 @@
--- The front of the extent is what was looked at so far, and each piece but the last one is full.
+-- The pieces so far are the front of the extent, and each but the last is full.
 use Rattle.std.proofs.Common.{◌≡◌, ◌+◌, ◌-◌, ◌/◌, ◌%◌, ◌≤◌, ◌<◌, IsTrue}
 use Rattle.rs_disk.specs.Runs.{RunsReading, CallsAtMost}
 use Rattle.rs_fixity.specs.Hashed.{HasTakenSha256}

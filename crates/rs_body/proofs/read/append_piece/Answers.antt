@@ -8,7 +8,7 @@ use Rattle.rs_body.specs.Blocks.{part}
 use Rattle.rs_body.specs.Reading.{HasNextPiece}
 use Rattle.rs_body.proofs.read.append_piece.Goals as goal
 
--- a piece that was read behind what stands before it
+-- a piece read behind the bytes before it
 next : {E : Type 0} (e : Extent) (at n end : ℕ) (old new : DiskState) (before into bytes : List ℕ) (result : Result (Unit {0}) E) → at ≡ length before → at + n ≡ end → length into ≡ n
     → bytes ≡ before ++ into → OnOk result (IsTrue new.honest → part e (at + n) old.now.seen ≡ part e at old.now.seen ++ into) → OnOk result (HasNextPiece e end old new before bytes)
 next e at n end old new before into bytes (Ok x) is order long joined given = record {
@@ -29,7 +29,7 @@ lent at n before whole new after rest order long front size none =
     ∙ take_at (take at whole ++ new) rest n (length-append (take at whole) new ∙ omega (arith, length-take-le at whole (omega (arith, order, long)), size, order))
     ∙ ap (λ (l : List ℕ). l ++ new) front
 
--- what stood before, in a vector that was filled up
+-- the bytes before, in a vector that was filled up
 kept : (at n : ℕ) (before whole rest : List ℕ) → length before ≡ at → at ≤ n → whole ≡ take n before ++ rest → take at whole ≡ before
 kept at n before whole rest long order is =
     ap (take at) is ∙ ap (λ (l : List ℕ). take at (l ++ rest)) (take_all n before (omega (arith, long, order))) ∙ take_at before rest at long

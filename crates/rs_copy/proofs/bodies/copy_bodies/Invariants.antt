@@ -17,5 +17,5 @@ invariant-loop-i g l =
     record {
       copied : IsTrue after.honest → map (held_in new.now.seen) (take l.i (records_of l.new)) ≡ map (held_in before.now.seen) (take l.i (records_of l.old));
       intact : All (HasItsBody new.now.seen) (take l.i (records_of l.new));
-      copies : CopiesOnly (bodies_of (records_of l.new)) ⊥ before after old new;
+      copies : CopiesOnly (bodies_of (records_of l.new)) ⊥ (record { from = before; to = old }) (record { from = after; to = new });
     }

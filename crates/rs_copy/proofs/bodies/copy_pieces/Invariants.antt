@@ -15,7 +15,7 @@ invariant-loop-at g l =
       within : l.at ≤ l.held.length;
       hashed : HasTakenSha256 l.hashing (part l.extent l.at new.now.seen);
       copied : IsTrue after.honest → part l.extent l.at new.now.seen ≡ part l.held.extent l.at before.now.seen;
-      copies : CopiesOnly (l.extent ∷ []) ⊥ before after old new;
+      copies : CopiesOnly (l.extent ∷ []) ⊥ (record { from = before; to = old }) (record { from = after; to = new });
     }
 
 abbrev pub decreases-loop-at : goal.decreases-loop-at

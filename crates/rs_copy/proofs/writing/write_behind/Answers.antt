@@ -1,9 +1,8 @@
 use Rattle.std.proofs.Common.{◌≡◌, List, Result, Ok, Err, [], ◌∷◌, ◌++◌, arith, sym, ◌∙◌, ap, subst, refl}
 use Rattle.std.specs.Prelude.{IfErr, IsErrOf}
 use Rattle.std.specs.Result.{IsErrAnd}
-use Rattle.rs_disk.specs.Medium.{DiskState}
 use Rattle.rs_extent.specs.declared.Extent.{Extent}
-use Rattle.rs_copy.proofs.FromBelow.{apart_front, apart_behind, some_first, some_front, all_stored as pages_stored}
+use Rattle.rs_copy.proofs.FromBelow.{apart_front, apart_behind, some_first, some_front, pages_stored}
 use Rattle.rs_page.specs.Items.{record_format, change_format}
 use Rattle.rs_page.specs.declared.page.store.StoreFault.{StoreFault}
 use Rattle.rs_page.specs.declared.page.store.StoreFault.TheVariants.{Device as NoDevice, NoMemory as NoPageMemory}
@@ -14,6 +13,7 @@ use Rattle.rs_image.specs.Reach.{bodies_of}
 use Rattle.rs_image.specs.StateOfImage.{AreAllStored}
 use Rattle.rs_copy.specs.declared.faults.CopyFault.{CopyFault}
 use Rattle.rs_copy.specs.declared.faults.CopyFault.TheVariants.{TooSmall, Full, Device, Damaged, NoMemory}
+use Rattle.rs_copy.specs.Copies.{Disks}
 use Rattle.rs_copy.specs.Copying.{CopiesOnly, IsListed, IsOfListing, IsOfWriting, copied_root, copy_fault_of, pages_in, written_in}
 use Rattle.rs_copy.proofs.Handed.{both_ok, either_way, err_is, handed_on, no_err}
 use Rattle.rs_copy.proofs.Laid.{bodies_among, pages_among}
@@ -22,9 +22,9 @@ use Rattle.rs_copy.proofs.Runs.{copies_as, copies_handed, copies_within, copies_
 use Rattle.rs_copy.proofs.Told.{bodies_at_end, stands_at_end}
 use Rattle.rs_copy.proofs.writing.write_behind.Goals as goal
 
--- a page that was not stored ends the writing, by a failed device where one failed
-page_handed : {S T : Type 0} {xs : List Extent} {before after old new : DiskState} (r : Result T CopyFault) (e : StoreFault) → IsErrAnd r (λ y. y ≡ copy_fault_of e)
-    → CopiesOnly xs (IsErrOf {T = S} (Err e) NoDevice) before after old new → CopiesOnly xs (IsErrOf r Device) before after old new
+-- the fault of a page ends the writing, with Device exactly if a device failed
+page_handed : {S T : Type 0} {xs : List Extent} {old new : Disks} (r : Result T CopyFault) (e : StoreFault) → IsErrAnd r (λ y. y ≡ copy_fault_of e)
+    → CopiesOnly xs (IsErrOf {T = S} (Err e) NoDevice) old new → CopiesOnly xs (IsErrOf r Device) old new
 page_handed r NoDevice handed run = copies_as (λ is. err_is r Device handed) (λ is. refl) run
 page_handed r NoPageMemory handed run = copies_as (λ is. absurd cc) (λ is. let same : NoMemory ≡ Device = handed_on r NoMemory Device handed is in absurd cc) run
 
@@ -32,7 +32,7 @@ page_whole : {S : Type 0} (e : StoreFault) → ¬ IsErrOf {T = S} (Err (copy_fau
 page_whole NoDevice is = absurd cc
 page_whole NoPageMemory is = absurd cc
 
--- what may end the writing of the directory may end the writing
+-- the faults of the directory are faults of the writing
 of_writing : {T : Type 0} (r : Result T CopyFault) → IfErr r IsOfListing → IfErr r IsOfWriting
 of_writing (Ok x) of = tt
 of_writing (Err TooSmall) of = of

@@ -1,4 +1,4 @@
--- What the source answers to the put, unless the reader failed.
+-- The answer of the source to the put, unless the reader failed.
 use Rattle.std.proofs.Common.{◌≡◌, Ok, Err}
 use Rattle.rs_store.specs.declared.refusal.Refusal.TheVariants.{ReadFault}
 use Rattle.rs_http.proofs.Endings.{put_ends}

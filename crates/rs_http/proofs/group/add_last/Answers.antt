@@ -1,4 +1,4 @@
--- Nothing is no line.
+-- No bytes are no line.
 use Rattle.std.proofs.Common.{◌≡◌, [], length, take, ap, sym, ◌∙◌, append-nil}
 use Rattle.std.proofs.lemmas.Bool.{eqb-true}
 use Rattle.std.proofs.lemmas.List.{take_all}

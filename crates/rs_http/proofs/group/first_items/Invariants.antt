@@ -1,4 +1,4 @@
--- The items of the lines so far, all of them, of which the first ones are kept.
+-- All items of the lines so far. The first ones are kept.
 use Rattle.std.proofs.Common.{◌≡◌, List, length, take}
 use Rattle.rs_model.specs.declared.command.Item.{Item}
 use Rattle.rs_http.specs.Groups.{items_in}

@@ -1,4 +1,4 @@
--- There are 17 of them, or one more is kept.
+-- Either 17 items are kept already, or one more is.
 use Rattle.std.proofs.Common.{◌≡◌, ◌∙◌, [], ◌∷◌, ◌++◌, take, sym, arith}
 use Rattle.std.proofs.lemmas.List.{take_all, take-append-le}
 use Rattle.rs_http.proofs.group.keep.Goals as goal

@@ -1,4 +1,4 @@
--- The line before the first line feed, or what none ends.
+-- The line before the first line feed, or bytes without one.
 use Rattle.std.proofs.Common.{◌≡◌, ◌∙◌, ◌+◌, ◌-◌, ◌∷◌, List, ℕ, length, length-drop, take, drop, ap, sym, arith}
 use Rattle.std.proofs.lemmas.List.{take_all}
 use Rattle.rs_http.specs.Groups.{lines_of}

@@ -1,4 +1,4 @@
--- What a request asks is a run, and runs recover.
+-- A request is a run, and runs recover.
 use Rattle.std.proofs.Common.{[]}
 use Rattle.rs_http.proofs.laws.requests_recover.Goals as goal
 

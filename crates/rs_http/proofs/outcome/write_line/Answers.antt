@@ -1,4 +1,4 @@
--- The length, between what is always there, and the number and the moment.
+-- The length, between constant texts, and the number and the moment.
 use Rattle.std.proofs.Common.{◌≡◌, ◌∙◌, ◌++◌, ◌+◌, [], ◌∷◌, ap, codes, decimal, length, length-append, arith, List, ℕ}
 use Rattle.rs_time.specs.Moment.{moment_text}
 use Rattle.rs_http.proofs.FromBelow.{length-moment_text, writes_same}

@@ -1,4 +1,4 @@
--- What its fields are not refused for, and then what stands there.
+-- The causes in its fields, and then those of its place.
 use Rattle.std.proofs.Common.{ap, sym, ◌∙◌, subst}
 use Rattle.rs_http.specs.declared.target.Place.{Place}
 use Rattle.rs_http.specs.Fields.{head_parts_at}

@@ -1,4 +1,4 @@
--- Memory is refused for a lawful type alone.
+-- There may be no memory only for a lawful type.
 use Rattle.std.proofs.Common.{◌≡◌, false}
 use Rattle.std.specs.Prelude.{IsErrOf}
 use Rattle.rs_record.specs.MediaType.{is_media_type}

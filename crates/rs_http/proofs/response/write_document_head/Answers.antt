@@ -1,4 +1,4 @@
--- The length, between what is always there.
+-- The length, between constant texts.
 use Rattle.std.proofs.Common.{◌≡◌, ◌∙◌, ◌++◌, [], codes, decimal}
 use Rattle.rs_http.proofs.FromBelow.{writes_same}
 use Rattle.rs_http.specs.Responses.{content_lines, framed}

@@ -1,4 +1,4 @@
--- The digits of the status, its reason and the date, between what is always there.
+-- The digits of the status, its reason and the date, between constant texts.
 use Rattle.std.proofs.Common.{◌≡◌, ◌∙◌, ◌++◌, codes, decimal}
 use Rattle.httpdate.specs.Date.{date_text}
 use Rattle.rs_http.proofs.FromBelow.{writes_either, writes_same}

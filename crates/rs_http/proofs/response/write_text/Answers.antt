@@ -1,4 +1,4 @@
--- The type and the length, between what is always there, and the body.
+-- The type and the length, between constant texts, and the body.
 use Rattle.std.proofs.Common.{◌≡◌, ◌∙◌, ◌++◌, codes, decimal, length, append-nil}
 use Rattle.rs_http.proofs.FromBelow.{writes_same}
 use Rattle.rs_http.specs.Responses.{content_lines, framed}

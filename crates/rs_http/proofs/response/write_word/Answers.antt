@@ -1,4 +1,4 @@
--- The length, between what is always there, and the word with its line feed.
+-- The length, between constant texts, and the word with its line feed.
 use Rattle.std.proofs.Common.{◌≡◌, ◌∙◌, ◌++◌, ◌+◌, ap, sym, codes, decimal, length, length-append}
 use Rattle.rs_http.proofs.FromBelow.{writes_same}
 use Rattle.rs_http.specs.Responses.{content_lines, framed, plain, refusal_line}

@@ -1,4 +1,4 @@
--- The head, and then the answer to what it asks for.
+-- The head, and then the answer.
 use Rattle.std.proofs.Common.{◌≡◌, Ok, Err, take}
 use Rattle.rs_io.specs.Watch.{seen_by, ends_of}
 use Rattle.rs_http.specs.declared.fault.FrontFault.TheVariants.{Read, Write}

@@ -1,4 +1,4 @@
--- Memory is refused for a lawful name alone.
+-- There may be no memory only for a lawful name.
 use Rattle.std.proofs.Common.{◌≡◌, arith}
 use Rattle.std.proofs.lemmas.Grind.{common_steps}
 use Rattle.rs_http.specs.declared.target.Place.{Place}

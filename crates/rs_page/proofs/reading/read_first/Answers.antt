@@ -10,7 +10,7 @@ returns-in_err-item-clause-malformed g c =
     let p = err_from_is_err_and c.from_residual.result c.from_residual.ensures.1 in
     rw (p.1, p.2)
     (λ malformed items rest long lawful.
-    no_more g.T.PageItem.format g.met.T.PageItem.apart c.loop.items.items items c.args.bytes.now c.loop.rest.now rest c.loop.invariant.lawful lawful
+    no_more g.T.PageItem.format c.formats_stand_alone.ensures c.loop.items.items items c.args.bytes.now c.loop.rest.now rest c.loop.invariant.lawful lawful
     (omega (arith, c.loop.invariant.count, c.loop-test.true, long)) c.loop.invariant.found (c.in_err-item.ensures.malformed.0 (cc)))
 
 pub loop-preserved : goal.loop-preserved

@@ -18,7 +18,7 @@ returns-in_err-items-clause-malformed g c =
 
 pub returns-then-not-is_empty-clause-malformed : goal.returns-then-not-is_empty-clause-malformed
 returns-then-not-is_empty-clause-malformed g c = λ malformed items of_items same.
-    let none = left_after g.T.PageItem.format g.met.T.PageItem.apart c.in-Some.kind c.in-Some.count c.args.bytes.now c.in-Some.rest.now c.in_ok-items.rest.now
+    let none = left_after g.T.PageItem.format c.formats_stand_alone.ensures c.in-Some.kind c.in-Some.count c.args.bytes.now c.in-Some.rest.now c.in_ok-items.rest.now
     c.in_ok-items.items.items items c.in-Some.ensures.0 c.in-Some.ensures.1 c.in_ok-items.ensures.count c.in_ok-items.ensures.lawful c.in_ok-items.ensures.found of_items same in
     let long : length c.in_ok-items.rest.now ≡ 0 = ap length none in
     grind (arith, nat_tests, c.if-not-is_empty.ensures, c.if-not-is_empty.true, long)

@@ -37,7 +37,7 @@ returns-in_err-page-clause-reads g c =
 
 pub returns-in_default-clause-damaged : goal.returns-in_default-clause-damaged
 returns-in_default-clause-damaged g c damaged honest stand =
-    too_many _ c.loop-page.invariant.so_far (omega arith) (unshared_called (stored_refs c.args.beside.now)) c.in_ok-page.page.items (g.D.Disk.state c.load_one_beside.new.disk) g.met.T.PageItem.apart
+    too_many _ c.loop-page.invariant.so_far (omega arith) (unshared_called (stored_refs c.args.beside.now)) c.in_ok-page.page.items (g.D.Disk.state c.load_one_beside.new.disk) c.pages_hold_once.ensures.page
     (omega (arith, c.in_default.ensures, ap length c.items.ensures.items)) c.in_ok-page.ensures.reads.runs honest stand (c.in_ok-page.ensures.found honest stand)
 
 pub returns-in_default-clause-reads : goal.returns-in_default-clause-reads

@@ -39,7 +39,7 @@ returns-in_err-page-clause-reads g c =
 
 pub returns-in_default-clause-damaged : goal.returns-in_default-clause-damaged
 returns-in_default-clause-damaged g c damaged honest =
-    too_many _ c.loop-page.invariant.so_far (omega arith) all_called c.in_ok-page.page.items (g.D.Disk.state c.load.new.disk) g.met.T.PageItem.apart
+    too_many _ c.loop-page.invariant.so_far (omega arith) all_called c.in_ok-page.page.items (g.D.Disk.state c.load.new.disk) c.pages_hold_once.ensures.page
     (omega (arith, c.in_default.ensures, ap length c.items.ensures.items)) c.in_ok-page.ensures.runs honest (All-nil (Stands g.T.PageItem.format _)) (c.in_ok-page.ensures.found honest)
 
 pub returns-in_default-clause-reads : goal.returns-in_default-clause-reads

@@ -38,18 +38,22 @@ pub returns-in-Err-clause-full : goal.returns-in-Err-clause-full
 returns-in-Err-clause-full g t c = full_behind _ _ _ _ (first g t (goal.at.returns-in-Err-clause-full g t c).In_ok-place_in) c.in-Err.ensures.full
 
 -- all that was placed is given back
-back : (g : Over) (t : ℕ) (c : After-take_back g t) → (c.take_back.new.used ≡ c.args.used.now) × (set c.place_from.new.pages c.next_touched-k.result c.take_back.new.self ≡ c.args.pages.now)
-back g t c =
-    let found : PlacesFirst g.T.PageItem.format c.args.used.now c.place_in.new.used c.next_touched-k.result c.args.pages.now c.index-pages-k.result c.place_in.new.self =
-    record { inside = omega arith; before = c.next_touched-k.ensures.before; touched = c.next_touched-k.ensures.touched; one = c.in_ok-place_in.ensures.ok } in
+back : (g : Over) (t : ℕ) (c : After-take_back g t)
+    → PlacesFirst g.T.PageItem.format c.args.used.now c.place_in.new.used c.next_touched-k.result c.args.pages.now c.index-pages-k.result c.place_in.new.self
+    → (c.take_back.new.used ≡ c.args.used.now) × (set c.place_from.new.pages c.next_touched-k.result c.take_back.new.self ≡ c.args.pages.now)
+back g t c found =
     all_back found c.index-pages-k-in-Err.result c.in-Err.ensures.unchanged c.in-Err.ensures.used c.take_back.new.used c.take_back.new.self
     c.take_back.ensures.items c.take_back.ensures.place c.take_back.ensures.used
 
 pub returns-in-Err-clause-used : goal.returns-in-Err-clause-used
-returns-in-Err-clause-used g t c = (back g t (goal.at.returns-in-Err-clause-used g t c).After-take_back).0
+returns-in-Err-clause-used g t c =
+    let at = goal.at.returns-in-Err-clause-used g t c in
+    (back g t at.After-take_back (first g t at.In_ok-place_in)).0
 
 pub returns-in-Err-clause-unchanged : goal.returns-in-Err-clause-unchanged
-returns-in-Err-clause-unchanged g t c = (back g t (goal.at.returns-in-Err-clause-unchanged g t c).After-take_back).1
+returns-in-Err-clause-unchanged g t c =
+    let at = goal.at.returns-in-Err-clause-unchanged g t c in
+    (back g t at.After-take_back (first g t at.In_ok-place_in)).1
 
 pub returns-clause-places : goal.returns-clause-places
 returns-clause-places g t c = places_behind _ _ _ _ _ _ (first g t (goal.at.returns-clause-places g t c).In_ok-place_in) c.in_default.ensures.places

@@ -36,7 +36,7 @@ use Rattle.rs_plan.proofs.Here.{IsAccepted, accepted}
 use Rattle.rs_plan.proofs.ItemSteps.{unplaced_with}
 use Rattle.rs_plan.proofs.Replies.{put_told, some_change}
 use Rattle.rs_plan.proofs.planning.draft_put.Goals as goal
-use Rattle.rs_plan.proofs.planning.draft_put.Goals.{After-place_lists}
+use Rattle.rs_plan.proofs.planning.draft_put.Goals.{After-types_are_kept, In_ok-lists}
 
 -- what stands in the place of digests that are not known
 abbrev unknown : Digests
@@ -45,58 +45,52 @@ unknown = record { md5 = replicate 16 0; sha256 = replicate 32 0 }
 unknown_long : AreLong unknown
 unknown_long = record { md5 = refl; sha256 = refl }
 
--- the record of a draft, and its lists behind a root
+-- the record of a draft
 abbrev blank : List ℕ → List ℕ → ℕ → Extent → ℕ → Record
 blank name kind n body moment = record_of_body name kind n unknown body moment
 
-abbrev draft : Rooted → List ℕ → List ℕ → ℕ → Extent → ℕ → Contents
-draft r name kind n body moment = lists_after_put r.contents (blank name kind n body moment)
+-- The lists of a draft, behind a root.
+module _ (r : Rooted) (b : Record) (given : IsAccepted r b.moment) where
+  abbrev lists : Contents
+  lists = lists_after_put r.contents b
 
-made : (r : Rooted) (c lists : Contents) (name kind : List ℕ) (n : ℕ) (body : Extent) (moment : ℕ) → c ≡ r.contents → lists ≡ lists_after_put c (blank name kind n body moment)
-    → lists ≡ draft r name kind n body moment
-made r c lists name kind n body moment at is = is ∙ ap (λ (x : Contents). lists_after_put x (blank name kind n body moment)) at
-
-module _ (r : Rooted) (name kind : List ℕ) (n : ℕ) (body : Extent) (moment : ℕ) (given : IsAccepted r moment) where
   abbrev change : Change
-  change = change_of_record r.contents (blank name kind n body moment)
+  change = change_of_record r.contents b
 
-  unplaced : AreUnplaced (draft r name kind n body moment)
+  unplaced : AreUnplaced lists
   unplaced =
-      unplaced_with given.law r.contents (draft r name kind n body moment).catalogue change moment (given.law.touches_bound (blank name kind n body moment) r.contents.catalogue)
+      unplaced_with given.law r.contents lists.catalogue change b.moment (given.law.touches_bound b r.contents.catalogue)
       (all_unplaced r.contents given.sound.whole.catalogue given.sound.whole.history)
 
-  one_more : changes_of (draft r name kind n body moment).history.pages ≡ changes_of r.contents.history.pages ++ change ∷ []
+  one_more : changes_of lists.history.pages ≡ changes_of r.contents.history.pages ++ change ∷ []
   one_more = given.law.appended change r.contents.history.pages
 
   -- Its record and its last change stand in pages that are not stored, also once these have their places.
-  awaits : (used : List Bool) (bodies : List Extent) (told : Reply) (gone : List Extent) (p : Plan) → IsPlacedFrom used bodies (draft r name kind n body moment) told gone p
-      → AwaitsBody name p
+  awaits : (used : List Bool) (bodies : List Extent) (told : Reply) (gone : List Extent) (p : Plan) → IsPlacedFrom used bodies lists told gone p → AwaitsBody b.name p
   awaits used bodies told gone p from =
       let placed = from.placed in
-      let lists = draft r name kind n body moment in
       record {
-        catalogue = placed_stands record_format (λ (r : Record). r.name) name from.after_bodies placed.after_catalogue lists.catalogue p.contents.catalogue placed.catalogue
-            (given.law.stands (blank name kind n body moment) r.contents.catalogue);
+        catalogue = placed_stands record_format (λ (r : Record). r.name) b.name from.after_bodies placed.after_catalogue lists.catalogue p.contents.catalogue placed.catalogue
+            (given.law.stands b r.contents.catalogue);
         history = placed_ends change_format placed.after_catalogue placed.after_history lists.history.pages p.contents.history.pages placed.history
             (given.law.ends change r.contents.history.pages);
       }
 
-  told_of : (told : Reply) → MatchOption (last_of (changes_of (draft r name kind n body moment).history.pages)) ⊥ (λ x. told ≡ reply_of x)
-      → (bytes image : List ℕ) → told ≡ reply_to (state_in image r.contents) (Put name kind bytes) moment
-  told_of told is bytes image =
-      put_told image r.contents (draft r name kind n body moment) name kind bytes moment (facts_of_body kind n unknown) told one_more is
+  told_of : (told : Reply) → MatchOption (last_of (changes_of lists.history.pages)) ⊥ (λ x. told ≡ reply_of x)
+      → (bytes image : List ℕ) → told ≡ reply_to (state_in image r.contents) (Put b.name b.kind bytes) b.moment
+  told_of told is bytes image = put_told image r.contents lists b.name b.kind bytes b.moment (facts_of_body b.kind b.length b.digests) told one_more is
 
 -- Where as many bytes come as were counted, what was found for the draft is found for the put.
 module _ (r : Rooted) (name kind bytes : List ℕ) (body : Extent) (moment : ℕ) (given : IsAccepted r moment) (used : List Bool) (are_used : AreUsed r used)
     (may : MayPut r.contents name (length bytes) moment) (found : IsFoundRun used (blocks_of (length bytes)) body) where
-  lacks : HasNoRoomFrom used (body ∷ []) (draft r name kind (length bytes) body moment) → LacksRoom r (Put name kind bytes) moment
+  lacks : HasNoRoomFrom used (body ∷ []) (lists_after_put r.contents (blank name kind (length bytes) body moment)) → LacksRoom r (Put name kind bytes) moment
   lacks room =
       items_lack r moment given (Put name kind bytes) (single.Put name kind bytes ∷ []) (put_does name kind bytes) (body ∷ [])
       (may_one r moment given (single.Put name kind bytes) may (body ∷ [])) used are_used (λ after taken. takes_one used after (blocks_of (length bytes)) body found taken)
       (filled_lacks given.law r.contents given.lawful.held.ordered unknown unknown_long name kind bytes body moment used (body ∷ []) room)
 
   planned : (told : Reply) (gone : List Extent) (p : Plan) → ((image : List ℕ) → told ≡ reply_to (state_in image r.contents) (Put name kind bytes) moment)
-      → gone ≡ freed_by_change r name → IsPlacedFrom used (body ∷ []) (draft r name kind (length bytes) body moment) told gone p
+      → gone ≡ freed_by_change r name → IsPlacedFrom used (body ∷ []) (lists_after_put r.contents (blank name kind (length bytes) body moment)) told gone p
       → IsPlanned r (Put name kind bytes) moment (plan_filled name (digests bytes) p)
   planned told gone p reply freed from =
       items_planned r moment given (Put name kind bytes) (single.Put name kind bytes ∷ []) (put_does name kind bytes) (body ∷ [])
@@ -104,34 +98,36 @@ module _ (r : Rooted) (name kind bytes : List ℕ) (body : Extent) (moment : ℕ
       told gone (plan_filled name (digests bytes) p) reply (freed ∙ frees_one r (single.Put name kind bytes) moment (body ∷ []))
       (filled_from given.law r.contents given.lawful.held.ordered unknown unknown_long name kind bytes body moment used (body ∷ []) told gone p from)
 
+given : (c : After-types_are_kept) → IsAccepted c.args.old.now c.args.moment
+given c =
+    accepted c.args.old.now _ c.args.moment c.contents-contents.ensures.contents c.page_rule_is_kept.ensures c.contents-contents.ensures.sound c.types_are_kept.ensures.lists
+    c.types_are_kept.ensures.moment c.requires.may.change.later
+
+abbrev drafted : In_ok-lists → Record
+drafted c = blank c.args.name.now c.args.kind.now c.args.body_length c.in-Some.body c.args.moment
+
+-- the lists that were made of those behind the root
+made : (b : Record) (c old lists : Contents) → c ≡ old → lists ≡ lists_after_put c b → lists ≡ lists_after_put old b
+made b c old lists at is = is ∙ ap (λ (x : Contents). lists_after_put x b) at
+
 pub reply_told-reply-requires : goal.reply_told-reply-requires
 reply_told-reply-requires c =
+    let at = goal.at.reply_told-reply-requires c in
     let r = c.args.old.now in
-    let name = c.args.name.now in
-    let kind = c.args.kind.now in
-    let n = c.args.body_length in
-    let body = c.in-Some.body in
-    let moment = c.args.moment in
-    let at = c.contents-contents.ensures.contents in
-    let given = accepted r _ moment at c.page_rule_is_kept.ensures c.contents-contents.ensures.sound c.types_are_kept.ensures.lists c.types_are_kept.ensures.moment
-    c.requires.may.change.later in
-    some_change r.contents c.in_ok-lists.lists (change_of_record r.contents (blank name kind n body moment))
-    (ap (λ (x : Contents). changes_of x.history.pages) (made r _ c.in_ok-lists.lists name kind n body moment at c.in_ok-lists.ensures) ∙ one_more r name kind n body moment given)
+    let b = drafted at.In_ok-lists in
+    let are = made b _ r.contents _ c.contents-contents.ensures.contents c.in_ok-lists.ensures in
+    some_change r.contents c.in_ok-lists.lists (change_of_record r.contents b) (ap (λ (x : Contents). changes_of x.history.pages) are ∙ one_more r b (given at.After-types_are_kept))
 
 pub place_lists-requires : goal.place_lists-requires
 place_lists-requires c =
+    let at = goal.at.place_lists-requires c in
     let r = c.args.old.now in
-    let name = c.args.name.now in
-    let kind = c.args.kind.now in
-    let n = c.args.body_length in
+    let b = drafted at.In_ok-lists in
+    let used = c.args.used.now in
     let body = c.in-Some.body in
-    let moment = c.args.moment in
-    let at = c.contents-contents.ensures.contents in
-    let given = accepted r _ moment at c.page_rule_is_kept.ensures c.contents-contents.ensures.sound c.types_are_kept.ensures.lists c.types_are_kept.ensures.moment
-    c.requires.may.change.later in
     record {
-      unplaced = subst AreUnplaced (sym (made r _ c.in_ok-lists.lists name kind n body moment at c.in_ok-lists.ensures)) (unplaced r name kind n body moment given);
-      are_free = subst (CanTake c.args.used.now) (sym c.in_ok-bodies.ensures.items) (one_can c.args.used.now body (found_free c.args.used.now (blocks_of n) body c.in-Some.ensures));
+      unplaced = subst AreUnplaced (sym (made b _ r.contents _ c.contents-contents.ensures.contents c.in_ok-lists.ensures)) (unplaced r b (given at.After-types_are_kept));
+      are_free = subst (CanTake used) (sym c.in_ok-bodies.ensures.items) (one_can used body (found_free used (blocks_of c.args.body_length) body c.in-Some.ensures));
     }
 
 pub returns-clause-no_body : goal.returns-clause-no_body
@@ -144,18 +140,9 @@ returns-in_default-clause-full c full bytes is = record {
   fails = inl (inl (subst (λ (n : ℕ). HasNoRun c.args.used.now (blocks_of n)) (sym is) c.in_default.ensures));
 }
 
-given : (c : After-place_lists) → IsAccepted c.args.old.now c.args.moment
-given c =
-    accepted c.args.old.now _ c.args.moment c.contents-contents.ensures.contents c.page_rule_is_kept.ensures c.contents-contents.ensures.sound c.types_are_kept.ensures.lists
-    c.types_are_kept.ensures.moment c.requires.may.change.later
-
-lists_are : (c : After-place_lists) → c.in_ok-lists.lists
-    ≡ draft c.args.old.now c.args.name.now c.args.kind.now c.args.body_length c.in-Some.body c.args.moment
-lists_are c =
-    made c.args.old.now _ c.in_ok-lists.lists c.args.name.now c.args.kind.now c.args.body_length c.in-Some.body c.args.moment c.contents-contents.ensures.contents c.in_ok-lists.ensures
-
 pub returns-clause-draft : goal.returns-clause-draft
 returns-clause-draft c =
+    let at = goal.at.returns-clause-draft c in
     let r = c.args.old.now in
     let name = c.args.name.now in
     let kind = c.args.kind.now in
@@ -163,33 +150,39 @@ returns-clause-draft c =
     let body = c.in-Some.body in
     let moment = c.args.moment in
     let used = c.args.used.now in
+    let b = drafted at.In_ok-lists in
+    let accept = given at.After-types_are_kept in
+    let are = made b _ r.contents _ c.contents-contents.ensures.contents c.in_ok-lists.ensures in
     let told = c.reply_told-reply.result in
     let gone = c.in_ok-freed.freed.items in
-    let reply = told_of r name kind n body moment (given c) told
-    (subst (λ (x : Contents). MatchOption (last_of (changes_of x.history.pages)) ⊥ (λ change. told ≡ reply_of change)) (lists_are c) c.reply_told-reply.ensures) in
+    let reply = told_of r b accept told (subst (λ (x : Contents). MatchOption (last_of (changes_of x.history.pages)) ⊥ (λ change. told ≡ reply_of change)) are c.reply_told-reply.ensures) in
     IfOk-weaker c.place_lists.result (IsPlacedFrom used c.in_ok-bodies.bodies.items c.in_ok-lists.lists told gone) (IsDraft r name kind n moment)
     (λ p from.
-    let placed : IsPlacedFrom used (body ∷ []) (draft r name kind n body moment) told gone p =
-    subst (λ (l : List Extent). IsPlacedFrom used l (draft r name kind n body moment) told gone p) c.in_ok-bodies.ensures.items
-    (subst (λ (x : Contents). IsPlacedFrom used c.in_ok-bodies.bodies.items x told gone p) (lists_are c) from) in
+    let placed : IsPlacedFrom used (body ∷ []) (lists r b accept) told gone p =
+    subst (λ (l : List Extent). IsPlacedFrom used l (lists r b accept) told gone p) c.in_ok-bodies.ensures.items
+    (subst (λ (x : Contents). IsPlacedFrom used c.in_ok-bodies.bodies.items x told gone p) are from) in
     record {
-      awaits = awaits r name kind n body moment (given c) used (body ∷ []) told gone p placed;
+      awaits = awaits r b accept used (body ∷ []) told gone p placed;
       planned = λ bytes is.
-          subst (λ (k : ℕ). MayPut r.contents name k moment → IsFoundRun used (blocks_of k) body → IsPlacedFrom used (body ∷ []) (draft r name kind k body moment) told gone p
+          subst (λ (k : ℕ). MayPut r.contents name k moment → IsFoundRun used (blocks_of k) body
+          → IsPlacedFrom used (body ∷ []) (lists_after_put r.contents (blank name kind k body moment)) told gone p
           → IsPlanned r (Put name kind bytes) moment (plan_filled name (digests bytes) p)) is
-          (λ may found from. planned r name kind bytes body moment (given c) used c.requires.used may found told gone p (reply bytes) c.in_ok-freed.ensures from)
+          (λ may found from. planned r name kind bytes body moment accept used c.requires.used may found told gone p (reply bytes) c.in_ok-freed.ensures from)
           c.requires.may c.in-Some.ensures placed;
     }) c.place_lists.ensures.placed
 
 pub returns-clause-full : goal.returns-clause-full
 returns-clause-full c full bytes is =
+    let at = goal.at.returns-clause-full c in
     let r = c.args.old.now in
     let name = c.args.name.now in
     let kind = c.args.kind.now in
     let body = c.in-Some.body in
     let moment = c.args.moment in
     let used = c.args.used.now in
-    subst (λ (k : ℕ). MayPut r.contents name k moment → IsFoundRun used (blocks_of k) body → HasNoRoomFrom used (body ∷ []) (draft r name kind k body moment)
-    → LacksRoom r (Put name kind bytes) moment) is (lacks r name kind bytes body moment (given c) used c.requires.used) c.requires.may c.in-Some.ensures
-    (subst (λ (l : List Extent). HasNoRoomFrom used l (draft r name kind c.args.body_length body moment)) c.in_ok-bodies.ensures.items
-    (subst (HasNoRoomFrom used c.in_ok-bodies.bodies.items) (lists_are c) (c.place_lists.ensures.full full)))
+    let b = drafted at.In_ok-lists in
+    subst (λ (k : ℕ). MayPut r.contents name k moment → IsFoundRun used (blocks_of k) body
+    → HasNoRoomFrom used (body ∷ []) (lists_after_put r.contents (blank name kind k body moment)) → LacksRoom r (Put name kind bytes) moment) is
+    (lacks r name kind bytes body moment (given at.After-types_are_kept) used c.requires.used) c.requires.may c.in-Some.ensures
+    (subst (λ (l : List Extent). HasNoRoomFrom used l (lists_after_put r.contents b)) c.in_ok-bodies.ensures.items
+    (subst (HasNoRoomFrom used c.in_ok-bodies.bodies.items) (made b _ r.contents _ c.contents-contents.ensures.contents c.in_ok-lists.ensures) (c.place_lists.ensures.full full)))

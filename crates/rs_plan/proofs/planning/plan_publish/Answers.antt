@@ -5,7 +5,6 @@ use Rattle.rs_extent.specs.Extents.{CanTake}
 use Rattle.rs_plan.proofs.FromBelow.{taken_none}
 use Rattle.rs_changes.specs.History.{IsHistory}
 use Rattle.rs_image.specs.declared.contents.Contents.{Contents}
-use Rattle.rs_image.specs.Rooted.{Rooted}
 use Rattle.rs_model.specs.declared.command.Command.TheVariants.{Publish}
 use Rattle.rs_model.specs.declared.command.Reply.TheVariants.{Published}
 use Rattle.rs_plan.specs.declared.planning.PlanFault.TheVariants.{Full}
@@ -17,11 +16,14 @@ use Rattle.rs_plan.specs.Published.{lists_after_publish}
 use Rattle.rs_plan.proofs.Extents.{could_take}
 use Rattle.rs_plan.proofs.Publishing.{publish_unplaced, publish_answer}
 use Rattle.rs_plan.proofs.planning.plan_publish.Goals as goal
-use Rattle.rs_plan.proofs.planning.plan_publish.Goals.{After-place_lists}
+use Rattle.rs_plan.proofs.planning.plan_publish.Goals.{After-types_are_kept, After-place_lists}
+
+is_history : (c : After-types_are_kept) → IsHistory c.args.old.now.contents.history.pages
+is_history c = subst (λ (x : Contents). IsHistory x.history.pages) c.contents-contents.ensures.contents c.types_are_kept.ensures.lists.history
 
 -- the lists that were made of those behind the root
-made : (r : Rooted) (c lists : Contents) (moment : ℕ) → c ≡ r.contents → lists ≡ lists_after_publish c moment → lists ≡ lists_after_publish r.contents moment
-made r c lists moment at is = is ∙ ap (λ (x : Contents). lists_after_publish x moment) at
+made : (moment : ℕ) (c old lists : Contents) → c ≡ old → lists ≡ lists_after_publish c moment → lists ≡ lists_after_publish old moment
+made moment c old lists at is = is ∙ ap (λ (x : Contents). lists_after_publish x moment) at
 
 pub lists_after_publish-requires-clause-may : goal.lists_after_publish-requires-clause-may
 lists_after_publish-requires-clause-may c = subst (λ (x : Contents). MayPublish x c.args.moment) (sym c.contents-contents.ensures.contents) c.requires.may
@@ -32,32 +34,30 @@ lists_after_publish-requires-clause-number c =
 
 pub place_lists-requires : goal.place_lists-requires
 place_lists-requires c =
-    let r = c.args.old.now in
-    let moment = c.args.moment in
-    let at = c.contents-contents.ensures.contents in
+    let at = goal.at.place_lists-requires c in
+    let used = c.args.used.now in
     let law = c.first_items_are_dropped_as_one.ensures in
-    let is_history = subst (λ (x : Contents). IsHistory x.history.pages) at c.types_are_kept.ensures.lists.history in
     record {
-      unplaced = subst AreUnplaced (sym (made r _ _ moment at c.in_ok-lists.ensures))
-          (publish_unplaced r moment c.contents-contents.ensures.sound is_history c.types_are_kept.ensures.moment c.requires.may law.dropped law.keeps law.front);
-      are_free = subst (CanTake c.args.used.now) (sym c.new.ensures.items) (could_take c.args.used.now c.args.used.now [] (taken_none c.args.used.now c.args.used.now refl));
+      unplaced = subst AreUnplaced (sym (made c.args.moment _ c.args.old.now.contents _ c.contents-contents.ensures.contents c.in_ok-lists.ensures))
+          (publish_unplaced c.args.old.now c.args.moment c.contents-contents.ensures.sound (is_history at.After-types_are_kept) c.types_are_kept.ensures.moment c.requires.may
+          law.dropped law.keeps law.front);
+      are_free = subst (CanTake used) (sym c.new.ensures.items) (could_take used used [] (taken_none used used refl));
     }
 
 both : (c : After-place_lists) → IfOk c.place_lists.result (IsPlanned c.args.old.now Publish c.args.moment)
     × (IsErrOf c.place_lists.result Full → LacksRoom c.args.old.now Publish c.args.moment)
 both c =
-    let r = c.args.old.now in
+    let at = goal.at.After-place_lists c in
     let moment = c.args.moment in
     let used = c.args.used.now in
-    let at = c.contents-contents.ensures.contents in
     let law = c.first_items_are_dropped_as_one.ensures in
-    let is_history = subst (λ (x : Contents). IsHistory x.history.pages) at c.types_are_kept.ensures.lists.history in
     let lists = c.in_ok-lists.lists in
     let told = Published lists.header.number moment in
     let gone = c.in_ok-freed.freed.items in
-    let lists_are = made r _ lists moment at c.in_ok-lists.ensures in
-    publish_answer r moment c.contents-contents.ensures.sound is_history c.types_are_kept.ensures.moment c.requires.may law.dropped law.keeps law.front used c.requires.used
-    c.place_lists.result told gone lists lists_are (λ image. ap (λ (x : Contents). Published x.header.number moment) lists_are) c.in_ok-freed.ensures
+    let are = made moment _ c.args.old.now.contents lists c.contents-contents.ensures.contents c.in_ok-lists.ensures in
+    publish_answer c.args.old.now moment c.contents-contents.ensures.sound (is_history at.After-types_are_kept) c.types_are_kept.ensures.moment c.requires.may
+    law.dropped law.keeps law.front used c.requires.used
+    c.place_lists.result told gone lists are (λ image. ap (λ (x : Contents). Published x.header.number moment) are) c.in_ok-freed.ensures
     (subst (λ (l : List Extent). IfOk c.place_lists.result (IsPlacedFrom used l lists told gone)) c.new.ensures.items c.place_lists.ensures.placed)
     (λ full. subst (λ (l : List Extent). HasNoRoomFrom used l lists) c.new.ensures.items (c.place_lists.ensures.full full))
 

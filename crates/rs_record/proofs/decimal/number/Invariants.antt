@@ -1,4 +1,4 @@
--- The digits so far are digits, the rest of the text goes on from their value, and so many digits bound it.
+-- The bytes so far are digits, the rest of the text goes on from their value, and their number bounds it.
 use Rattle.std.proofs.Common.{◌≡◌, ◌<◌, ◌^◌, drop, take, true}
 use Rattle.std.specs.List.{list_all}
 use Rattle.std.specs.Char.{is_ascii_digit}

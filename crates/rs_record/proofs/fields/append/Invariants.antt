@@ -1,4 +1,4 @@
--- What is appended so far and what is still to come are all of it, and there is room for the rest.
+-- What was appended and what follows make the whole, and the rest has room.
 use Rattle.std.proofs.Common.{◌+◌, ◌++◌, length, map, drop}
 use Rattle.std.specs.List.{concat}
 use Rattle.std.specs.Vec.{vec_len, vec_capacity}

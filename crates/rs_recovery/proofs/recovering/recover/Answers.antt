@@ -56,7 +56,7 @@ returns-clause-headline g c = λ base limit moment before x past are bytes hones
     let found = are_left c.laws_of_any.ensures.none_counts c.stands_once.ensures start (x ∷ past) are in
     let commands = commands_left (x ∷ past) found.0 in
     let s : Source = after_all start commands in
-    let here : StandsFor (g.D.Disk.state c.args.disk).now.seen s = subst (λ (l : List ℕ). StandsFor l s) (sym bytes) (image_left c.laws_of_any.ensures.none_counts start x past found.0 found.1) in
+    let here : StandsFor (g.D.Disk.state c.args.disk).now.seen s = subst (λ (l : List ℕ). StandsFor l s) (sym bytes) (image_left after_all start x past found.0 found.1) in
     let regular = after_all_regular start commands (after_all_regular formatted before (c.start_is_regular.ensures.regular base limit moment)) in
     record {
       standing = found.0;

@@ -1,4 +1,4 @@
--- A group that is asked of the source, and one that is refused for a fault of a line.
+-- A group that the source gets, and one that is refused for a fault of a line.
 use Rattle.std.proofs.Common.{◌≡◌, ◌⊎◌, ◌∙◌, ℕ, List, Result, Ok, Err, Vec, Global, ap, sym, inl, inr, subst}
 use Rattle.rs_model.specs.declared.command.Command.TheVariants.{Group}
 use Rattle.rs_model.specs.declared.command.Item.{Item}

@@ -1,4 +1,4 @@
--- What the source answers to the command.
+-- The answer of the source to the command.
 use Rattle.std.proofs.Common.{Ok, Err}
 use Rattle.rs_script.proofs.AnswerLemmas.{ran}
 use Rattle.rs_script.proofs.execute.run_command.Goals as goal

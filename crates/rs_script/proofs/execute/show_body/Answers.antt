@@ -1,4 +1,4 @@
--- What the source answers to the question for a body.
+-- The answer of the source to the read of a body.
 use Rattle.std.proofs.Common.{Err}
 use Rattle.rs_script.proofs.AnswerLemmas.{was_read, body_shown}
 use Rattle.rs_script.proofs.execute.show_body.Goals as goal

@@ -1,4 +1,4 @@
--- A document is shown where it is there, unless the source is closed.
+-- A document is shown where it exists, unless the source is closed.
 use Rattle.std.proofs.Common.{ap, sym, ◌∙◌}
 use Rattle.rs_caps.specs.DocumentTexts.{document_text}
 use Rattle.rs_store.specs.Views.{shown_by_source}

@@ -1,4 +1,4 @@
--- What is held is counted, unless the source is closed.
+-- The source is counted, unless it is closed.
 use Rattle.rs_script.proofs.AnswerLemmas.{counted_answered, counted_closed, is_open, is_closed}
 use Rattle.rs_script.proofs.execute.show_status.Goals as goal
 

@@ -1,4 +1,4 @@
--- A number of lines that stands after the word.
+-- The number of lines after the word.
 use Rattle.std.proofs.Common.{◌≡◌, ◌⊎◌, inl, inr, ◌∙◌, ◌-◌, ◌≤◌, ◌<◌, ℕ, List, Option, ap, sym, refl, true, false, Some, None, take, drop, length, codes, nat_eq, nat_le, arith}
 use Rattle.std.proofs.lemmas.Bool.Decides.{nat_tests}
 use Rattle.std.proofs.lemmas.Grind.{common_steps}

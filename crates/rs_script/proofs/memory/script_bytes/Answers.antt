@@ -4,7 +4,7 @@ use Rattle.rs_script.specs.Progress.{stand}
 use Rattle.rs_script.proofs.Steps.{Progress-none, on_err, ran_of}
 use Rattle.rs_script.proofs.memory.script_bytes.Goals as goal
 
--- what a vector holds as a writer
+-- the bytes of a vector as a writer
 abbrev held : Vec ℕ Global → Option (List ℕ)
 held bytes = Some bytes.items
 

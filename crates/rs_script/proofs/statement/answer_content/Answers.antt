@@ -1,4 +1,4 @@
--- A line that is handed on, and the three kinds that are not.
+-- A line that is parsed, and the three kinds that are refused at once.
 use Rattle.rs_script.specs.declared.line.Content.TheVariants.{Foreign, Refused, TooLong}
 use Rattle.rs_script.specs.PartialLine.{IsContent}
 use Rattle.rs_script.specs.Session.{script_state}

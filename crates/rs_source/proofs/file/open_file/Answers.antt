@@ -1,4 +1,4 @@
--- What the file held stands for the state that is opened.
+-- The bytes of the file represent the state that is opened.
 use Rattle.std.proofs.Common.{subst}
 use Rattle.rs_disk.specs.Medium.{Medium}
 use Rattle.rs_file.specs.File.{state_of as device_of}

@@ -1,4 +1,4 @@
--- Device comes where no refusal before it does.
+-- Device comes only where no earlier refusal applies.
 use Rattle.std.proofs.Common.{◌≡◌, ◌<◌, ℕ, sym, subst, IsTrue}
 use Rattle.rs_record.specs.Base.{is_base}
 use Rattle.rs_directory.specs.Limit.{IsLimit}

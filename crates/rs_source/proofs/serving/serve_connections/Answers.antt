@@ -1,4 +1,4 @@
--- One connection more, and what all of them make of the state.
+-- One more connection, and the state after all of them.
 use Rattle.std.proofs.Common.{◌≡◌, add-one, arith, subst}
 use Rattle.rs_source.specs.Serving.{Connections}
 use Rattle.rs_source.proofs.Connecting.{connections_go}

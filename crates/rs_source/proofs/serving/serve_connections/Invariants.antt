@@ -1,4 +1,4 @@
--- The connections that were counted so far are done.
+-- The connections that are counted so far are done.
 use Rattle.rs_source.specs.Serving.{Connections}
 use Rattle.rs_source.proofs.serving.serve_connections.Given as goal
 

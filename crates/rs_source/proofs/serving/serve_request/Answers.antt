@@ -1,4 +1,4 @@
--- Whatever came of the request.
+-- Each outcome of the request.
 use Rattle.rs_source.proofs.Connecting.{request_connects}
 use Rattle.rs_source.proofs.serving.serve_request.Goals as goal
 

@@ -34,7 +34,7 @@ returns-clause-writes g c =
     only_then (pages_of p) (p.directory ∷ []) (places p) (g.D.Disk.state c.args.disk.now) (g.D.Disk.state c.write_pages.new.disk) (g.D.Disk.state c.write_directory.new.disk)
     (pages_among p) (directory_among p) (λ is. absurd cc) c.in_ok-write_pages.ensures.writes c.write_directory.ensures.writes
 
--- where both are said of what comes well, so is what follows from both
+-- two facts of success give a third
 both_ok : {T E P Q R : Type 0} (r : Result T E) → (P → Q → R) → OnOk r P → OnOk r Q → OnOk r R
 both_ok (Ok x) f p q = f p q
 both_ok (Err e) f p q = tt

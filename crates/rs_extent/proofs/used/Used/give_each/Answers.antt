@@ -1,5 +1,5 @@
-use Rattle.std.proofs.Common.{◌<◌, ◌≤◌, ℕ, length, arith}
-use Rattle.rs_extent.proofs.InTurn.{given_none, next_is_used, one_more_given}
+use Rattle.std.proofs.Common.{arith}
+use Rattle.rs_extent.proofs.InTurn.{next_is_used, one_more_given}
 use Rattle.rs_extent.proofs.used.Used.give_each.Goals as goal
 
 pub give-requires : goal.give-requires

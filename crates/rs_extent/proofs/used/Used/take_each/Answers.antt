@@ -1,4 +1,4 @@
-use Rattle.std.proofs.Common.{◌<◌, ◌≤◌, ℕ, length, arith}
+use Rattle.std.proofs.Common.{arith}
 use Rattle.rs_extent.proofs.InTurn.{next_is_free, one_more_taken}
 use Rattle.rs_extent.proofs.used.Used.take_each.Goals as goal
 

@@ -1,14 +1,14 @@
-use Rattle.std.proofs.Common.{◌≤◌, ◌+◌, ℕ, false, length, subst}
+use Rattle.std.proofs.Common.{◌≤◌, ◌+◌, ℕ, length, subst, is_ok}
 use Rattle.rs_file.proofs.Replaying.{write_sound, write_tears}
 use Rattle.rs_file.proofs.disk.FileDiskDisk.write.Goals as goal
 
-pub invariant_of-self-in-Err-clause-sound : goal.invariant_of-self-in-Err-clause-sound
-invariant_of-self-in-Err-clause-sound g c =
+pub invariant_of-self-clause-sound : goal.invariant_of-self-clause-sound
+invariant_of-self-clause-sound g c =
     let d = c.args.self.now in
     let fits : c.args.at + length c.args.bytes.now ≤ d.size = subst (λ (k : ℕ). c.args.at + length c.args.bytes.now ≤ k) d.long c.requires in
-    write_sound g.S.Start.first g.S.Start.torn d.size d.file.log.events c.write.new.self.log.events c.args.at c.args.bytes.now false c.in-Err.ensures.noted fits d.sound
+    write_sound g.S.Start.first g.S.Start.torn d.size d.file.log.events c.write-done.new.self.log.events c.args.at c.args.bytes.now (is_ok c.write-done.result) c.write-done.ensures.noted fits d.sound
 
-pub returns-in-Err-clause-tears : goal.returns-in-Err-clause-tears
-returns-in-Err-clause-tears g c =
+pub returns-clause-tears : goal.returns-clause-tears
+returns-clause-tears g c =
     let d = c.args.self.now in
-    write_tears g.S.Start.first g.S.Start.torn d.size d.file.log.events c.write.new.self.log.events c.args.at c.args.bytes.now c.in-Err.ensures.noted
+    write_tears g.S.Start.first g.S.Start.torn d.size d.file.log.events c.write-done.new.self.log.events c.args.at c.args.bytes.now c.write-done.result c.write-done.ensures.noted

@@ -1,4 +1,5 @@
--- The first pieces have been taken whole, and one of them is held back. Before the first nothing has changed, and none is taken of a writer that had failed.
+-- The writer has taken the first pieces whole, and is unflushed after the first. Before it nothing has changed, and a
+-- failed writer takes none.
 use Rattle.std.proofs.Common.{◌≡◌, ◌<◌, ◌≤◌, take, false}
 use Rattle.std.specs.Prelude.{IsTrue}
 use Rattle.std.specs.List.{flat_map}

@@ -1,4 +1,4 @@
-use Rattle.std.proofs.Common.{◌≡◌, ◌<◌, length, refl, sym, subst}
+use Rattle.std.proofs.Common.{◌<◌, length, sym, subst}
 use Rattle.rs_page.specs.Pages.{Page}
 use Rattle.rs_page.proofs.Replaced.{filled_kept}
 use Rattle.rs_page.proofs.page.Page.fill.Goals as goal

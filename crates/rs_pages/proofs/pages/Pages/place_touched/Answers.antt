@@ -1,4 +1,4 @@
-use Rattle.std.proofs.Common.{◌≡◌, ℕ, map, ap, ◌∙◌, Result, Ok, Err, take, drop, length, ◌++◌}
+use Rattle.std.proofs.Common.{◌≡◌, map, ap, ◌∙◌, Result, Ok, Err, take, drop, length, ◌++◌}
 use Rattle.std.specs.Prelude.{OnOk}
 use Rattle.rs_page.specs.Pages.{stored_ref}
 use Rattle.rs_pages.specs.Storing.{items_by_page}

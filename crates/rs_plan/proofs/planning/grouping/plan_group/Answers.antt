@@ -16,9 +16,9 @@ use Rattle.rs_plan.specs.Turned.{lists_after_items, of_each_item, MayDoEach}
 use Rattle.rs_plan.proofs.Extents.{could_take, same_taken, taken_each}
 use Rattle.rs_plan.proofs.GroupRules.{items_short}
 use Rattle.rs_plan.proofs.Grouped.{group_does, may_each, items_unplaced, items_answer}
-use Rattle.rs_plan.proofs.Here.{accepted}
+use Rattle.rs_plan.proofs.Here.{IsAccepted, accepted}
 use Rattle.rs_plan.proofs.planning.grouping.plan_group.Goals as goal
-use Rattle.rs_plan.proofs.planning.grouping.plan_group.Goals.{After-drop-freed-4}
+use Rattle.rs_plan.proofs.planning.grouping.plan_group.Goals.{After-types_are_kept, After-drop-freed-4}
 
 -- the lists behind the root and the bodies that were found
 same : {A : Type 0} (f : Contents → List Extent → A) (c old : Contents) (l bodies : List Extent) (x : A) → c ≡ old → l ≡ bodies → x ≡ f c l → x ≡ f old bodies
@@ -35,36 +35,34 @@ takes_placed : (used found after : List Bool) (ns : List ℕ) (bodies : List Ext
 takes_placed used found after ns bodies takes taken =
     subst (λ (l : List Bool). TakesEach used ns bodies l) (same_taken used found after bodies (taken_each used found ns bodies takes) taken) takes
 
+given : (c : After-types_are_kept) → IsAccepted c.args.old.now c.args.moment
+given c =
+    accepted c.args.old.now _ c.args.moment c.contents-contents.ensures.contents c.page_rule_is_kept.ensures c.contents-contents.ensures.sound c.types_are_kept.ensures.lists
+    c.types_are_kept.ensures.moment c.requires.may.later
+
+may : (c : After-types_are_kept) (bodies : List Extent) → MayDoEach c.args.old.now.contents c.args.items.now c.args.moment bodies
+may c bodies = may_each c.args.old.now c.args.moment (given c) c.args.items.now c.requires.may bodies
+
 pub find_bodies-requires : goal.find_bodies-requires
 find_bodies-requires c =
-    let r = c.args.old.now in
-    let items = c.args.items.now in
-    let moment = c.args.moment in
-    let given = accepted r _ moment c.contents-contents.ensures.contents c.page_rule_is_kept.ensures c.contents-contents.ensures.sound c.types_are_kept.ensures.lists
-    c.types_are_kept.ensures.moment c.requires.may.later in
-    record { short = items_short items r.contents moment [] (may_each r moment given items c.requires.may []) }
+    let kept = (goal.at.find_bodies-requires c).After-types_are_kept in
+    record { short = items_short c.args.items.now c.args.old.now.contents c.args.moment [] (may kept []) }
 
 pub turn_items-requires : goal.turn_items-requires
 turn_items-requires c =
-    let r = c.args.old.now in
-    let items = c.args.items.now in
-    let moment = c.args.moment in
-    let at = c.contents-contents.ensures.contents in
-    let given = accepted r _ moment at c.page_rule_is_kept.ensures c.contents-contents.ensures.sound c.types_are_kept.ensures.lists
-    c.types_are_kept.ensures.moment c.requires.may.later in
-    record { may = subst (λ (x : Contents). MayDoEach x items moment c.deref.result.now) (sym at) (may_each r moment given items c.requires.may c.deref.result.now) }
+    let kept = (goal.at.turn_items-requires c).After-types_are_kept in
+    let bodies = c.deref.result.now in
+    record { may = subst (λ (x : Contents). MayDoEach x c.args.items.now c.args.moment bodies) (sym c.contents-contents.ensures.contents) (may kept bodies) }
 
 pub place_lists-requires-clause-unplaced : goal.place_lists-requires-clause-unplaced
 place_lists-requires-clause-unplaced c =
+    let kept = (goal.at.place_lists-requires-clause-unplaced c).After-types_are_kept in
     let r = c.args.old.now in
     let items = c.args.items.now in
     let moment = c.args.moment in
     let bodies = c.deref.result.now in
-    let at = c.contents-contents.ensures.contents in
-    let given = accepted r _ moment at c.page_rule_is_kept.ensures c.contents-contents.ensures.sound c.types_are_kept.ensures.lists
-    c.types_are_kept.ensures.moment c.requires.may.later in
-    subst AreUnplaced (sym (same (λ x l. lists_after_items x items moment l) _ r.contents _ bodies _ at refl c.in_ok-lists.ensures.lists))
-    (items_unplaced r moment given (Group items) items (group_does items) bodies (may_each r moment given items c.requires.may bodies))
+    subst AreUnplaced (sym (same (λ x l. lists_after_items x items moment l) _ r.contents _ bodies _ c.contents-contents.ensures.contents refl c.in_ok-lists.ensures.lists))
+    (items_unplaced r moment (given kept) (Group items) items (group_does items) bodies (may kept bodies))
 
 pub place_lists-requires-clause-are_free : goal.place_lists-requires-clause-are_free
 place_lists-requires-clause-are_free c =
@@ -76,6 +74,7 @@ place_lists-requires-clause-are_free c =
 both : (c : After-drop-freed-4) → IfOk c.place_lists.result (IsPlanned c.args.old.now (Group c.args.items.now) c.args.moment)
     × (IsErrOf c.place_lists.result Full → LacksRoom c.args.old.now (Group c.args.items.now) c.args.moment)
 both c =
+    let kept = (goal.at.After-drop-freed-4 c).After-types_are_kept in
     let r = c.args.old.now in
     let items = c.args.items.now in
     let moment = c.args.moment in
@@ -87,15 +86,13 @@ both c =
     let turned = c.in_ok-lists.ensures in
     let lists = c.in_ok-lists.lists in
     let gone = c.in_ok-freed.freed.items in
-    let given = accepted r _ moment at c.page_rule_is_kept.ensures c.contents-contents.ensures.sound c.types_are_kept.ensures.lists
-    c.types_are_kept.ensures.moment c.requires.may.later in
     let each : (f : Contents → List ℕ → List Extent) (l : List Extent) → l ≡ of_each_item f c.contents-contents.result.now items moment c.deref.result.now
     → l ≡ of_each_item f r.contents items moment bodies =
     λ f l is. same (λ x k. of_each_item f x items moment k) _ r.contents _ bodies l at c.deref.ensures.value is in
     let freed : gone ≡ freed_by_group r items moment bodies =
     c.in_ok-freed.ensures
     ∙ all_freed c.root.result.now r.root c.root.ensures _ _ _ _ _ _ (each freed_page _ turned.pages) (each freed_history_page _ turned.history) (each extent_of_body _ turned.bodies) in
-    items_answer r moment given (Group items) items (group_does items) bodies (may_each r moment given items c.requires.may bodies) used c.requires.used
+    items_answer r moment (given kept) (Group items) items (group_does items) bodies (may kept bodies) used c.requires.used
     (λ after taken. takes_placed used found.0 after (bodies_needed (bodies_kept items)) bodies found.1 taken) c.place_lists.result (Grouped (length items) moment) gone lists
     (same (λ x l. lists_after_items x items moment l) _ r.contents _ bodies lists at c.deref.ensures.value turned.lists) (λ image. refl) freed
     (subst (λ (u : List Bool). IfOk c.place_lists.result (IsPlacedFrom u bodies lists (Grouped (length items) moment) gone)) start c.place_lists.ensures.placed)

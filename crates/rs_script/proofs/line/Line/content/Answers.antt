@@ -1,4 +1,4 @@
--- A line of which only its length is kept.
+-- A line with only its length kept.
 use Rattle.std.proofs.Common.{arith}
 use Rattle.rs_script.specs.declared.line.Kept.TheVariants.{Foreign, Refused}
 use Rattle.rs_script.specs.PartialLine.{KeepsLineAs}

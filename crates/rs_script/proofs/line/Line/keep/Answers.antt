@@ -1,4 +1,4 @@
--- A line that begins no request, of which more bytes have come than a line of one field has.
+-- A line that begins no request, and is longer than any line of one field.
 use Rattle.std.proofs.Common.{◌≡◌, ◌++◌, ◌∙◌, ◌+◌, ◌-◌, ◌<◌, ℕ, List, false, length, length-append, slice_index, ap, sym, arith, rules}
 use Rattle.std.proofs.lemmas.Grind.{common_steps}
 use Rattle.rs_script.specs.Requests.{begins_request}

@@ -1,4 +1,4 @@
--- What stands before the rest has been taken.
+-- The bytes before the rest have been taken.
 use Rattle.std.proofs.Common.{◌≡◌, ℕ, List, length, ◌++◌}
 use Rattle.rs_io.specs.Watch.{failures}
 use Rattle.rs_script.specs.Progress.{ComesTo, stand}

@@ -35,7 +35,7 @@ returns-then-is_err g c = λ now free planned.
     broken_body device g.met.D.Disk.holds c.args.self.now o c.self.view_is p mid _ writes c.self.invariant.rooted.whole (Group c.args.items.now) now free planned
     (sym c.is_err.ensures.value ∙ c.if-is_err.true)
 
--- the plan is one of what is in memory
+-- the plan is one for the lists in memory
 pub finish-requires-clause-planned : goal.finish-requires-clause-planned
 finish-requires-clause-planned g c =
     let device = g.D.Disk.state in

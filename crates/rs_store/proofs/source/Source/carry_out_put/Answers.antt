@@ -8,7 +8,7 @@ use Rattle.rs_store.specs.Source.{Stored, rooted_in}
 use Rattle.rs_store.proofs.Begun.{begun, only_one, broken_body, on_ok, one_extent, stand_one}
 use Rattle.rs_store.proofs.source.Source.carry_out_put.Goals as goal
 
--- the plan is one of what is in memory
+-- the plan is one for the lists in memory
 pub finish-requires-clause-planned : goal.finish-requires-clause-planned
 finish-requires-clause-planned g c =
     let device = g.D.Disk.state in
@@ -30,9 +30,8 @@ returns-then-is_err g c = λ name kind now free planned.
     let p = c.args.plan.now in
     let e = c.index.result.now in
     let mid = c.write_body.new.disk in
-    let alone : p.bodies.items ≡ e ∷ [] = one_extent p.bodies.items c.args.bytes.now e planned.bodies c.index.ensures in
     broken_body device g.met.D.Disk.holds c.args.self.now o c.self.view_is p mid _
-    (only_one p.bodies.items e (device o.disk) (device mid) alone (part_only e 0 (length c.args.bytes.now) (device o.disk) (device mid) c.write_body.ensures.writes))
+    (only_one p.bodies.items c.args.bytes.now e planned.bodies c.index.ensures (part_only e 0 (length c.args.bytes.now) (device o.disk) (device mid) c.write_body.ensures.writes))
     c.self.invariant.rooted.whole (Put name kind c.args.bytes.now) now free planned (sym c.is_err.ensures.value ∙ c.if-is_err.true)
 
 pub returns : goal.returns
@@ -48,5 +47,5 @@ returns g c = λ name kind now free planned.
     let stand = stand_one p.bodies.items e c.args.bytes.now (device mid).now.seen alone (on_ok c.write_body.result fine c.write_body.ensures.reads) in
     c.finish.ensures.answers old (Put name kind c.args.bytes.now) now
     (begun device g.met.D.Disk.holds old o c.self.view_is p mid _
-    (only_one p.bodies.items e (device o.disk) (device mid) alone (part_only e 0 (length c.args.bytes.now) (device o.disk) (device mid) c.write_body.ensures.writes))
+    (only_one p.bodies.items c.args.bytes.now e planned.bodies c.index.ensures (part_only e 0 (length c.args.bytes.now) (device o.disk) (device mid) c.write_body.ensures.writes))
     (λ is. true≢false (sym is ∙ fine)) (c.args.bytes.now ∷ []) planned.free stand) free planned

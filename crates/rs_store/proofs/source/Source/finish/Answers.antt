@@ -35,7 +35,7 @@ commit_failed (Err Failed) fault is spare = refl
 not_both : {T : Type 0} (result : Result T StoreFault) → result ≡ Err NotGiven → IsErrOf result NotWritten → ⊥
 not_both result refused failed = absurd cc
 
--- the plan is one of what is in memory
+-- the plan is one for the lists in memory
 planned_of : {D : Type 0} (device : D → DiskState) (o now : Stored D) (p : Plan) → o ≡ now → (given : IsPlanOfSome (rooted_in device now) p)
     → IsPlanned (rooted_in device o) given.command given.moment p
 planned_of {D} device o now p same given = subst (λ (s : Stored D). IsPlanned (rooted_in device s) given.command given.moment p) (sym same) given.planned
@@ -76,7 +76,7 @@ give_each-requires g c =
     planned c.take_each.new.self took
     c.deref-2.result.now (c.deref-2.ensures.value ∙ ap (λ (v : Vec Extent Global). v.items) c.write_lists.ensures.stays.freed)
 
--- what is in memory goes along with the root
+-- the memory follows the root
 pub invariant_of-self-2 : goal.invariant_of-self-2
 invariant_of-self-2 g c =
     let device = g.D.Disk.state in

@@ -1,13 +1,12 @@
-use Rattle.std.proofs.Common.{◌≡◌, false, true, Option, Some, is_some, option_map, sym, ap, subst, refl, ◌∙◌, rules}
+use Rattle.std.proofs.Common.{◌≡◌, false, Option, Some, option_map, sym, ap, subst, refl, ◌∙◌, rules}
 use Rattle.std.proofs.lemmas.Bool.{false≢true}
 use Rattle.std.proofs.lemmas.Result.{err_from_is_err_and}
 use Rattle.rs_model.specs.declared.value.Held.{Held}
-use Rattle.rs_model.specs.Step.{is_held}
 use Rattle.rs_catalogue.specs.Catalogue.{records_of}
 use Rattle.rs_store.specs.declared.refusal.Refusal.TheVariants.{NotHeld, NoMemory}
 use Rattle.rs_store.specs.Source.{Stored, state_of}
 use Rattle.rs_store.specs.Shows.{kind_of}
-use Rattle.rs_store.proofs.Found.{held_found, held_missing}
+use Rattle.rs_store.proofs.Found.{held_found, holds_name, lacks_name}
 use Rattle.rs_store.proofs.source.Source.kind.Goals as goal
 
 other : NoMemory ≡ NotHeld → ⊥
@@ -15,19 +14,12 @@ other e = cc
 
 pub returns-in_default-clause-not_held : goal.returns-in_default-clause-not_held
 returns-in_default-clause-not_held g c =
-    let P : Stored g.row.D.Denot → Type 0 = λ s. is_held (state_of g.D.Disk.state s) c.args.name.now ≡ false in
-    let missing : P c.args.self.now =
-    subst P c.self.view_is
-    (ap is_some (held_missing (g.D.Disk.state c.self.inside.disk).now.seen c.args.name.now (records_of c.self.inside.contents.catalogue) (sym c.in_default.ensures))) in
     let is_open : c.args.self.now.is_closed ≡ false = search rules in
-    (λ _. (is_open, missing), λ _. refl)
+    (λ _. (is_open, lacks_name g.D.Disk.state _ c.args.self.now c.args.name.now c.self.view_is (sym c.in_default.ensures)), λ _. refl)
 
 pub returns-in_err-copy-clause-not_held : goal.returns-in_err-copy-clause-not_held
 returns-in_err-copy-clause-not_held g c =
-    let P : Stored g.row.D.Denot → Type 0 = λ s. is_held (state_of g.D.Disk.state s) c.args.name.now ≡ true in
-    let held : P c.args.self.now =
-    subst P c.self.view_is
-    (ap is_some (held_found (g.D.Disk.state c.self.inside.disk).now.seen c.args.name.now (records_of c.self.inside.contents.catalogue) c.in-Some.record.now (sym c.in-Some.ensures))) in
+    let held = holds_name g.D.Disk.state _ c.args.self.now c.args.name.now c.in-Some.record.now c.self.view_is (sym c.in-Some.ensures) in
     let p = err_from_is_err_and c.from_residual.result c.from_residual.ensures.1 in (
       λ is. let named : NoMemory ≡ NotHeld = cc in absurd (other named),
       λ none. absurd (false≢true (sym none.1 ∙ held)),
@@ -45,8 +37,5 @@ returns-clause-kind g c =
 
 pub returns-clause-not_held : goal.returns-clause-not_held
 returns-clause-not_held g c =
-    let P : Stored g.row.D.Denot → Type 0 = λ s. is_held (state_of g.D.Disk.state s) c.args.name.now ≡ true in
-    let held : P c.args.self.now =
-    subst P c.self.view_is
-    (ap is_some (held_found (g.D.Disk.state c.self.inside.disk).now.seen c.args.name.now (records_of c.self.inside.contents.catalogue) c.in-Some.record.now (sym c.in-Some.ensures))) in
+    let held = holds_name g.D.Disk.state _ c.args.self.now c.args.name.now c.in-Some.record.now c.self.view_is (sym c.in-Some.ensures) in
     (λ is. cc, λ none. absurd (false≢true (sym none.1 ∙ held)))

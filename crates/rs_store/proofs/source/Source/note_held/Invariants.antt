@@ -1,4 +1,4 @@
--- What is put down so far.
+-- The first items are noted so far.
 use Rattle.std.proofs.Common.{◌≡◌, length, map, take}
 use Rattle.rs_model.specs.Grouping.{name_of}
 use Rattle.rs_model.specs.Step.{is_held}

@@ -1,4 +1,4 @@
-use Rattle.std.proofs.Common.{◌≡◌, false, true, Option, Some, is_some, option_map, length, sym, ap, subst, refl, ◌∙◌, rules}
+use Rattle.std.proofs.Common.{◌≡◌, false, Option, Some, option_map, length, sym, ap, subst, refl, ◌∙◌, rules}
 use Rattle.std.specs.Prelude.{IfSome}
 use Rattle.std.proofs.lemmas.Bool.{false≢true}
 use Rattle.std.proofs.lemmas.Result.{err_from_is_err_and}
@@ -6,13 +6,12 @@ use Rattle.rs_body.specs.declared.read.LoadFault.TheVariants as faults
 use Rattle.rs_model.specs.declared.value.Held.{Held}
 use Rattle.rs_model.specs.Names.{value_of}
 use Rattle.rs_model.specs.State.{body_of}
-use Rattle.rs_model.specs.Step.{is_held}
 use Rattle.rs_catalogue.specs.Catalogue.{records_of}
 use Rattle.rs_store.specs.declared.refusal.Refusal.TheVariants.{NotHeld, Damaged}
 use Rattle.rs_store.specs.Source.{Stored, state_of}
 use Rattle.rs_store.specs.Bodies.{refusal_of_body}
 use Rattle.rs_store.specs.Shows.{AreAsRecorded, HasItsDigest}
-use Rattle.rs_store.proofs.Found.{found_room, found_fits, held_found, held_missing, never_not_held, damaged_body}
+use Rattle.rs_store.proofs.Found.{found_room, found_fits, held_found, holds_name, lacks_name, never_not_held, damaged_body}
 use Rattle.rs_store.proofs.source.Source.read_held.Goals as goal
 
 pub read_in_pieces-requires-clause-room : goal.read_in_pieces-requires-clause-room
@@ -25,19 +24,12 @@ read_in_pieces-requires-clause-fits g c =
 
 pub returns-in_default-clause-not_held : goal.returns-in_default-clause-not_held
 returns-in_default-clause-not_held g c =
-    let P : Stored g.row.D.Denot → Type 0 = λ s. is_held (state_of g.D.Disk.state s) c.args.name.now ≡ false in
-    let missing : P c.args.self.now =
-    subst P c.self.view_is
-    (ap is_some (held_missing (g.D.Disk.state c.self.inside.disk).now.seen c.args.name.now (records_of c.self.inside.contents.catalogue) (sym c.in_default.ensures))) in
     let is_open : c.args.self.now.is_closed ≡ false = search rules in
-    (λ _. (is_open, missing), λ _. refl)
+    (λ _. (is_open, lacks_name g.D.Disk.state _ c.args.self.now c.args.name.now c.self.view_is (sym c.in_default.ensures)), λ _. refl)
 
 pub returns-in_err-read_in_pieces-clause-not_held : goal.returns-in_err-read_in_pieces-clause-not_held
 returns-in_err-read_in_pieces-clause-not_held g c =
-    let P : Stored g.row.D.Denot → Type 0 = λ s. is_held (state_of g.D.Disk.state s) c.args.name.now ≡ true in
-    let held : P c.args.self.now =
-    subst P c.self.view_is
-    (ap is_some (held_found (g.D.Disk.state c.self.inside.disk).now.seen c.args.name.now (records_of c.self.inside.contents.catalogue) c.in-Some.record.now (sym c.in-Some.ensures))) in
+    let held = holds_name g.D.Disk.state _ c.args.self.now c.args.name.now c.in-Some.record.now c.self.view_is (sym c.in-Some.ensures) in
     let p = err_from_is_err_and c.from_residual.result c.from_residual.ensures.1 in
     let fault = c.in_err-read_in_pieces.field-0.0 in (
       λ is. let named : refusal_of_body fault ≡ NotHeld = cc in absurd (never_not_held fault named),
@@ -81,8 +73,5 @@ returns-clause-recorded g c =
 
 pub returns-clause-not_held : goal.returns-clause-not_held
 returns-clause-not_held g c =
-    let P : Stored g.row.D.Denot → Type 0 = λ s. is_held (state_of g.D.Disk.state s) c.args.name.now ≡ true in
-    let held : P c.args.self.now =
-    subst P c.self.view_is
-    (ap is_some (held_found (g.D.Disk.state c.self.inside.disk).now.seen c.args.name.now (records_of c.self.inside.contents.catalogue) c.in-Some.record.now (sym c.in-Some.ensures))) in
+    let held = holds_name g.D.Disk.state _ c.args.self.now c.args.name.now c.in-Some.record.now c.self.view_is (sym c.in-Some.ensures) in
     (λ is. cc, λ none. absurd (false≢true (sym none.1 ∙ held)))

@@ -60,25 +60,18 @@ receive-requires-clause-fits g c =
 -- the device failed
 pub returns-in-Device-clause-came : goal.returns-in-Device-clause-came
 returns-in-Device-clause-came g c =
-    let device = g.D.Disk.state in
-    let old : Stored g.row.D.Denot = c.args.self.now in
-    let o : Stored g.row.D.Denot = record { disk = c.self.inside.disk; slots = c.self.inside.slots; contents = c.self.inside.contents; is_closed = c.self.inside.is_closed } in
     let name = c.args.name.now in
-    let n = c.args.body_length in
     let plan = c.args.plan.now in
-    let mid = c.receive.new.disk in
-    let e = c.index.result.now in
-    let alone : plan.bodies.items ≡ e ∷ [] = one_extent plan.bodies.items (replicate n 0) e (c.requires.planned.2 (replicate n 0) (zeros n).len).bodies c.index.ensures in
-    let writes = only_one plan.bodies.items e (device o.disk) (device mid) alone c.in-Err.ensures.writes in
+    let none = zeros c.args.body_length in
+    let writes = only_one plan.bodies.items _ c.index.result.now (c.requires.planned.2 _ none.len).bodies c.index.ensures c.in-Err.ensures.writes in
     let stop = c.in-Err.ensures.stopped in
-    let rest = g.R.Read.remaining (watched c.receive.new.reader) in
-    let failed = ap (λ (x : Refusal). Err x) c.in-Device.is in (
+    let rest = g.R.Read.remaining (watched c.receive.new.reader) in (
       stop.0,
       stop.1,
       λ kind now free planned. (
-        subst (λ (r : Refusal). IsStopped n rest stop.0 r) c.in-Device.is stop.2,
-        λ body is. broken_body device g.met.D.Disk.holds old o c.self.view_is (plan_filled name (digests body) plan) mid _ writes
-            c.self.invariant.rooted.whole (Put name kind body) now (free body is.len) (planned body is.len) failed,
+        subst (λ (r : Refusal). IsStopped c.args.body_length rest stop.0 r) c.in-Device.is stop.2,
+        λ body is. broken_body g.D.Disk.state g.met.D.Disk.holds c.args.self.now _ c.self.view_is (plan_filled name (digests body) plan) c.receive.new.disk _ writes
+            c.self.invariant.rooted.whole (Put name kind body) now (free body is.len) (planned body is.len) (ap (λ (x : Refusal). Err x) c.in-Device.is),
       ),
     )
 
@@ -87,30 +80,23 @@ pub returns-in_default-clause-came : goal.returns-in_default-clause-came
 returns-in_default-clause-came g c =
     let device = g.D.Disk.state in
     let old : Stored g.row.D.Denot = c.args.self.now in
-    let o : Stored g.row.D.Denot = record { disk = c.self.inside.disk; slots = c.self.inside.slots; contents = c.self.inside.contents; is_closed = c.self.inside.is_closed } in
     let name = c.args.name.now in
     let n = c.args.body_length in
     let plan = c.args.plan.now in
-    let mid = c.receive.new.disk in
-    let e = c.index.result.now in
-    let alone : plan.bodies.items ≡ e ∷ [] = one_extent plan.bodies.items (replicate n 0) e (c.requires.planned.2 (replicate n 0) (zeros n).len).bodies c.index.ensures in
-    let writes = only_one plan.bodies.items e (device o.disk) (device mid) alone c.in-Err.ensures.writes in
-    let stop = c.in-Err.ensures.stopped in
-    let rest = g.R.Read.remaining (watched c.receive.new.reader) in
-    let new : Stored g.row.D.Denot = record { disk = mid; slots = o.slots; contents = o.contents; is_closed = o.is_closed } in
-    let body = replicate n 0 in
-    let is = (zeros n).len in (
+    let none = zeros n in
+    let writes = only_one plan.bodies.items _ c.index.result.now (c.requires.planned.2 _ none.len).bodies c.index.ensures c.in-Err.ensures.writes in
+    let stop = c.in-Err.ensures.stopped in (
       stop.0,
       stop.1,
       λ kind now free planned.
-          cut_from device old new name kind n now stop.0 rest c.in-Err.refusal c.in_default.not-Device stop.2
+          cut_from device old _ name kind n now stop.0 (g.R.Read.remaining (watched c.receive.new.reader)) c.in-Err.refusal c.in_default.not-Device stop.2
           (λ fewer. record {
             fewer = fewer;
             decides = free;
             plan = λ body is. (plan_filled name (digests body) plan, planned body is);
-            left = left_by device old new name kind body now
-                (stopped_body device g.met.D.Disk.holds old o c.self.view_is (plan_filled name (digests body) plan) mid _ writes
-                c.self.invariant.rooted.whole (Put name kind body) now (free body is) (planned body is)
+            left = left_by device old _ name kind (replicate n 0) now
+                (stopped_body device g.met.D.Disk.holds old _ c.self.view_is (plan_filled name (digests (replicate n 0)) plan) c.receive.new.disk _ writes
+                c.self.invariant.rooted.whole (Put name kind (replicate n 0)) now (free _ none.len) (planned _ none.len)
                 (λ is. absurd (c.in_default.not-Device cc)));
           }),
     )
@@ -163,7 +149,7 @@ returns-clause-came g c =
     let mid = c.receive.new.disk in
     let e = c.index.result.now in
     let alone : plan.bodies.items ≡ e ∷ [] = one_extent plan.bodies.items (replicate n 0) e (c.requires.planned.2 (replicate n 0) (zeros n).len).bodies c.index.ensures in
-    let writes = only_one plan.bodies.items e (device o.disk) (device mid) alone c.in-Ok.ensures.writes in
+    let writes = only_one plan.bodies.items (replicate n 0) e (c.requires.planned.2 (replicate n 0) (zeros n).len).bodies c.index.ensures c.in-Ok.ensures.writes in
     let bytes = part e n (device mid).now.seen in
     let whole : length bytes ≡ n = c.in-Ok.ensures.whole in
     let filled : c.fill.new.self ≡ plan_filled name (digests bytes) plan =
