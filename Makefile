@@ -14,6 +14,7 @@
 #   make memory   refuses each growth of memory of the program in turn, in scripts and in requests
 #   make mirror   mirrors sources that change and are killed meanwhile, ROUNDS=200 of them ('make test' has three)
 #   make system   looks at the calls, the edges, the sizes and the like of the program; 'make tests.system.calls' at the calls alone
+#   make tools    fills, mirrors and looks by the command `ropepeach`, also sources that lie, and through the site of nginx
 #   make operate  looks at what is installed beside the program: the page, the units, the site (mandoc, systemd-analyze, strace, nginx, openssl)
 #   make snapshots  opens snapshots that are taken while a source is put to (as root, with loop devices; 'make test' has it not)
 #   make pictures draws the pictures of docs/pictures anew, from runs of the proved program
@@ -39,12 +40,14 @@ PROGRAM ?= crates/rs_source/out/rs_source
 AT = $(DESTDIR)$(PREFIX)
 # The checks of tests/system that have no target of their own.
 SYSTEM = calls edges growths large documents pages kept tour folder sizes
-# The commands of the package in tools/ropepeach.
-TOOLS = destination publish_folder
+# The command of the package in tools/ropepeach, and two names that it had before.
+TOOLS = ropepeach destination publish_folder
+# The checks of tests/tools.
+TOOL_CHECKS = fill mirror hostile served look size why health
 # How many checks of edits go side by side, if not as many as there are processors and memory for.
 LANES ?=
 
-.PHONY: demo test edits build rows statement bench bench-more proof-times memory ends crash hostile mirror system operate snapshots pictures install uninstall
+.PHONY: demo test edits build rows statement bench bench-more proof-times memory ends crash hostile mirror system tools operate snapshots pictures install uninstall
 
 # Quick, and no more than an unproved build.
 demo:
@@ -110,6 +113,9 @@ mirror: build
 system: build
 	@for it in $(SYSTEM); do python3 -m tests.system.$$it || exit 1; done
 
+tools: build
+	@for it in $(TOOL_CHECKS); do python3 -m tests.tools.$$it || exit 1; done
+
 operate: build
 	@python3 -m tests.system.install
 
@@ -128,17 +134,19 @@ install:
 	@test -x $(PROGRAM) || { echo "there is no program yet: make build" >&2; exit 1; }
 	install -D -m 755 $(PROGRAM) $(AT)/bin/rs_source
 	install -D -m 644 install/rs_source.8 $(AT)/share/man/man8/rs_source.8
+	install -D -m 644 -t $(AT)/share/man/man1 install/*.1
 	install -D -m 644 install/ropepeach.nginx $(AT)/share/doc/ropepeach/ropepeach.nginx
 	install -D -m 644 docs/OPERATING.md $(AT)/share/doc/ropepeach/OPERATING.md
 	install -D -m 644 install/ropepeach.sysusers $(AT)/lib/sysusers.d/ropepeach.conf
 	install -D -m 644 -t $(AT)/lib/systemd/system install/ropepeach.service install/ropepeach-verify.service install/ropepeach-verify.timer
 	sed -i 's|/usr/local/bin/|$(PREFIX)/bin/|' $(AT)/lib/systemd/system/ropepeach.service $(AT)/lib/systemd/system/ropepeach-verify.service
 	install -D -m 644 -t $(AT)/lib/ropepeach/ropepeach tools/ropepeach/*.py
-	install -D -m 755 -t $(AT)/lib/ropepeach $(TOOLS:%=tools/%)
-	ln -sf $(TOOLS:%=../lib/ropepeach/%) $(AT)/bin
+	install -D -m 755 -t $(AT)/lib/ropepeach tools/ropepeach-command
+	for it in $(TOOLS); do ln -sf ../lib/ropepeach/ropepeach-command $(AT)/bin/$$it; done
 
 uninstall:
 	rm -f $(AT)/bin/rs_source $(TOOLS:%=$(AT)/bin/%) $(AT)/share/man/man8/rs_source.8
+	rm -f $(AT)/share/man/man1/ropepeach.1 $(AT)/share/man/man1/ropepeach-*.1
 	rm -f $(AT)/lib/sysusers.d/ropepeach.conf
 	rm -f $(AT)/lib/systemd/system/ropepeach.service $(AT)/lib/systemd/system/ropepeach-verify.service $(AT)/lib/systemd/system/ropepeach-verify.timer
 	rm -rf $(AT)/lib/ropepeach $(AT)/share/doc/ropepeach

@@ -27,7 +27,8 @@ import runs
 LOG = ROOT / "out" / "test.log"
 # What is looked at on the proved program: the module tests.NAME of each; those of SHORT have a short form.
 CHECKS = ["rows", "system.calls", "system.edges", "system.growths", "system.large", "system.documents", "system.pages", "system.kept", "system.tour",
-          "mirror", "system.folder", "system.sizes", "pictures", "system.install"]
+          "mirror", "system.folder", "system.sizes", "pictures", "system.install",
+          "tools.fill", "tools.mirror", "tools.hostile", "tools.served", "tools.look", "tools.size", "tools.why", "tools.health"]
 SHORT = ["crash", "hostile.disks", "hostile.lines", "hostile.requests", "ends"]
 
 

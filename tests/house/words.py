@@ -1,11 +1,11 @@
 """Whether the pages say what is there. A line for each place where one does not; the status is 1 where there is any.
 
   - A clause or signature in a block of Rust stands so in the code of the page's crate (for docs/: of any), within the function quoted before
-    it. White space and comments do not count. `..` stands for what is cut, with the brackets that it leaves open; so does `(.. words ..)`.
+    it. White space and comments do not count. `..` marks what is cut, with the brackets that it leaves open; so does `(.. words ..)`.
   - A word in backticks is a word of the sources: code, definitions and proofs without their comments, Python, Makefile, install/, names of
     files, crates.txt, packages.txt, statement/kit_words.txt (the kit's), tests/house/words.txt (the world's). Of a text of letters, digits and
     `_ : . < > ( )` alone, each name counts, but for digests and what begins with a digit; of any other text, each name with `_` or a capital
-    within, but for paths and options. A word in capitals alone stands for something else. A word at the front of a line of a crate's "Its
+    within, but for paths and options. A word in capitals alone is a placeholder. A word at the front of a line of a crate's "Its
     words" is defined in that crate, or the line names another crate.
   - A path exists: what begins with a folder of ours, or ends as our files do. `NAME` and `*` stand for anything, and what is below out/ is
     passed over. So does the target of a link, that of a `make`, the module of a `python3 -m`, and a flag beside a command of ours.
@@ -23,7 +23,7 @@ PAGES = ["README.md", "CONTRIBUTING.md", "docs/**/*.md", "crates/*/README.md", "
 CLAUSE, CUT = r"^ *(?:pub |fn |requires\b|ensures\b)", r"(?:(?!\b(?:ensures|requires|fn)\b)[\s\S])*?"
 FILE = re.compile(r"(?<![\w/.:~%-])(?:(?:crates|docs|tests|tools|gate|statement|bench|examples|install|specs|src|proofs|must-fail)/[\w./*-]*"
                   r"|[\w*-]+(?:/[\w*-]+)*\.(?:md|py|rt|antt|sh|svg|session|disks|edit|txt|http))(?![\w/])")
-OURS = re.compile(r"\brs_source\b|\bmake\b|\b(?:tools|gate|statement)/|\b(?:tests|bench)\.\w|\bdestination\b|\bpublish_folder\b|^--")
+OURS = re.compile(r"\brs_source\b|\bmake\b|\b(?:tools|gate|statement)/|\b(?:tests|bench)\.\w|\bropepeach (?:fill|mirror|look|size|why|health)\b|^--")
 
 
 def crate_of(page):

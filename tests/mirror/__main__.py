@@ -1,7 +1,7 @@
 """Mirrors sources that change, are killed and start again meanwhile, and looks at the mirrors.
 
 Each round has a new source on a file, under `rs_source serve`, with an item limit of 2 or 3. Puts, deletes and
-publications go to it over HTTP at random, before, between and while tools/destination runs, again and
+publications go to it over HTTP at random, before, between and while `ropepeach mirror` runs, again and
 again, on one folder. The server is killed at random within commands, and started again; so is the destination.
 Of a command that a kill left without an answer the source tells afterwards (`status`) whether it stands.
 
@@ -37,16 +37,18 @@ import tempfile
 import time
 import xml.etree.ElementTree as ElementTree
 
-from ropepeach import destination
+from ropepeach import command
+from ropepeach.faults import Fault
 from tests.mirror import mirror_drops, mirror_stops
 from tests.mirror.mirrors import DIRECT, SECONDS, files_of, laid_out
-from tests.program import PROGRAM, TOOLS, Differs, room_in_memory
+from tests.program import PROGRAM, Differs, room_in_memory
 from tests.served_source import free_port
+from tests.tools import COMMAND
 
 SITEMAP = "{http://www.sitemaps.org/schemas/sitemap/0.9}"
 RS = "{http://www.openarchives.org/rs/terms/}"
 SEED, ROUNDS, RUNS = 20261125, 3, 5
-# So many commands at most meet one run.
+# This many commands at most meet one run.
 COMMANDS = 30
 NAMES = ["a", "a/b", "a/b/c", "a/d", "b", "b/b", "%2E", "a%2Fb", "x&y", "o'k", "e!$*+", "~u", "m@h:1", "q;r,t"]
 NAMES += [f"n/{it}" for it in range(8)]
@@ -138,7 +140,7 @@ class Round:
         self.usual = 0.3
 
     def held(self, count):
-        """What is held after so many changes."""
+        """What is held after this many changes."""
         return {name: body for name, body in dict(self.changes[:count]).items() if body is not None}
 
     def command(self):
@@ -216,13 +218,14 @@ class Round:
 
     def mirror_at_last(self):
         """A run of the destination as a command, without commands to the source."""
-        words, environment = [sys.executable, TOOLS / "destination", self.server.base, self.folder], os.environ | DIRECT
+        words, environment = [*COMMAND, "mirror", self.server.base, self.folder], os.environ | DIRECT
         ran = subprocess.run(words, env=environment, capture_output=True, text=True, timeout=SECONDS)
         self.counts["runs"] += 1
         self.end(ran.returncode, ran.stdout + ran.stderr, len(self.changes))
 
     def end(self, status, told, least):
         """Notes what a run told that ended by itself, and its folder."""
+        told = "".join(it for it in told.splitlines(True) if "; asking again for " not in it)
         if status or told.count("\n") != 1:
             raise Differs(f"the destination ended with status {status}: {told}")
         self.counts["baselines"] += told.startswith("baseline")
@@ -234,7 +237,7 @@ class Round:
         known = set(self.changes)
         for path, body in files_of(self.folder).items():
             is_known = body is None or (path.removesuffix("#"), body) in known
-            if path != "#incoming" and not is_known:
+            if not path.startswith("#incoming") and not is_known:
                 raise Differs(f"a killed run left a file that no put made: {path}, {len(body)} bytes")
 
     def fault(self, ended, moments):
@@ -296,11 +299,11 @@ def destined(words, told):
     os.environ.update(DIRECT)
     with open(told, "w", encoding="utf-8") as file:
         with contextlib.redirect_stdout(file), contextlib.redirect_stderr(file):
-            status = destination.main(words)
+            status = command.main(["mirror", *words])
     sys.exit(status)
 
 
-# What is told at the end. A run ended within if it met commands before its point, and commands after it.
+# What the end prints. A run ended within if it met commands before its point, and commands after it.
 TOLD = """mirror: seed {seed}, {rounds} rounds, {seconds:.1f} seconds
 mirror: {commands} commands, {kills} kills of the server; {unanswered} unanswered, of which {standing} stand; {dropped} changes dropped
 mirror: {runs} runs, {killed} killed, {baselines} baselines ended, {within} ended within, {anew} fetches anew
@@ -321,7 +324,7 @@ def look(program, rounds, rng, counts):
     with room_in_memory("mirror-") as memory:
         try:
             counts["moves"], counts["begun"] = mirror_drops.look(pathlib.Path(memory), files_of, laid_out)
-        except (Differs, destination.Fault) as fault:
+        except (Differs, Fault) as fault:
             return f"a source that drops what is read: {type(fault).__name__} {fault}"
     return ""
 

@@ -3,15 +3,13 @@
 What tests/mirror leaves to chance is here at each place: between any two requests of a run, and before the first
 one, a source (crash_model.py) does some commands, whose publications drop the parts of the Change List that the run
 knows of, and take the parts of the Resource List away. The run has to end all the same, with what the source held at
-the moment that is told.
+the moment that it prints.
 """
-import io
-import os
 import shutil
-import urllib.error
 
-from ropepeach import destination, destination_source
-from ropepeach.destination_folder import Folder
+from ropepeach import lists, mirror
+from ropepeach.connections import LONGEST_DOCUMENT, Answer
+from ropepeach.mirror_folder import Folder
 from tests.program import Differs
 from tests.reading import crash_model
 
@@ -21,7 +19,7 @@ BEFORE = [f"put {name} {name.encode().hex()} text/plain" for name in "abcde"] + 
 ONE = ["put b 6262 text/plain", "publish", "put g 67 text/plain"]
 TWO = [*ONE, "delete c", "publish", "put h - text/plain"]
 ALL = [*TWO, "put i 69 text/plain", "publish", "publish", "publish"]
-# So many runs of a folder, the first of which is a baseline; before each some changes come.
+# This many runs of a folder, the first of which is a baseline; before each some changes come.
 LATER = ["put k 6b text/plain", "delete g", "put l - text/plain"]
 
 
@@ -30,7 +28,7 @@ class Moving:
 
     def __init__(self, lines, at):
         self.state, self.held, self.requests = crash_model.State(BASE, LIMIT), {}, 0
-        self.lines, self.at, self.begun = lines, at, 0
+        self.lines, self.at, self.begun, self.address, self.longest = lines, at, 0, BASE, LONGEST_DOCUMENT
         self.does(BEFORE)
 
     def does(self, lines):
@@ -38,27 +36,27 @@ class Moving:
             self.state = self.state.after(line, 0)[1] or self.state
             self.held[crash_model.moment_text(self.state.last)] = {name: body for name, (body, _) in self.state.held.items()}
 
-    def asked(self, address, most):
-        """What an address answers."""
+    def ask(self, method, path, most):
+        """What a path answers, as connections give it."""
         if self.requests == self.at:
             self.does(self.lines)
         self.requests += 1
-        path = address.removeprefix(BASE)
         self.begun += path == "/resourcelist.xml"
         body = crash_model.all_served(self.state).get(path)
         if body is None:
-            raise urllib.error.HTTPError(address, 404, "Not Found", {}, io.BytesIO(b"NoSuchDocument\n"))
-        return body[: most + 1]
+            return Answer(404, "Not Found", {}, b"NoSuchDocument\n")
+        return Answer(200, "OK", {}, body)
 
 
 def run(source, path):
     """A run of the destination on a folder. Gives the moment that it told, and how often it asked for the Resource List."""
     folder, begun = Folder(path, BASE), source.begun
+    folder.begin()
     try:
-        destination.Run(destination.Source(BASE, 1), folder).go(folder.until is None)
+        mirror.Run(lists.Source(source, is_at_base=True), folder).go(folder.until is None)
         return folder.until, source.begun - begun
     finally:
-        os.close(folder.lock)
+        folder.close()
 
 
 def runs(source, path, files_of, laid_out):
@@ -73,18 +71,13 @@ def runs(source, path, files_of, laid_out):
 
 def look(room, files_of, laid_out):
     """Moves a source on before each request of two runs, and gives how often, and how many increments began anew."""
-    asking, moves, anew, path = destination_source.asked, 0, 0, room / "moved"
-    try:
-        for lines in (ONE, TWO, ALL):
-            at, requests = 0, 1
-            while at < requests:
-                source = Moving(lines, at)
-                destination_source.asked = source.asked
-                requests, begun = runs(source, path, files_of, laid_out)
-                moves, anew, at = moves + 1, anew + begun, at + 1
-                shutil.rmtree(path)
-    finally:
-        destination_source.asked = asking
+    moves, anew, path = 0, 0, room / "moved"
+    for lines in (ONE, TWO, ALL):
+        at, requests = 0, 1
+        while at < requests:
+            requests, begun = runs(Moving(lines, at), path, files_of, laid_out)
+            moves, anew, at = moves + 1, anew + begun, at + 1
+            shutil.rmtree(path)
     if not anew:
         raise Differs("no increment began anew, and this test shows too little")
     return moves, anew

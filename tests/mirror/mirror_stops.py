@@ -1,7 +1,7 @@
 """Folders of mirrors that are stopped at each of their calls, and opened again.
 
 A stop by `kill -9` seldom meets the calls that move files and folders. So here the calls of
-destination_folder.py that change a folder are counted, and each in turn is the one at which a run ends.
+mirror_folder.py that change a folder are counted, and each in turn is the one at which a run ends.
 """
 import contextlib
 import hashlib
@@ -10,7 +10,8 @@ import math
 import os
 import shutil
 
-from ropepeach import destination_folder
+from ropepeach import mirror_folder
+from ropepeach.facts import packed
 from tests.program import Differs
 
 CALLS = {"replace", "mkdir", "rmdir", "remove"}
@@ -42,14 +43,15 @@ class Stopping:
 
 @contextlib.contextmanager
 def opened(path, calls):
-    """A folder that is opened as it is, and then may make so many calls."""
-    folder = destination_folder.Folder(path, "source")
-    destination_folder.os = Stopping(calls)
+    """A folder that is opened as it is, and then may make this many calls."""
+    folder = mirror_folder.Folder(path, "source")
+    folder.begin()
+    mirror_folder.os = Stopping(calls)
     try:
         yield folder
     finally:
-        destination_folder.os = os
-        os.close(folder.lock)
+        mirror_folder.os = os
+        folder.close()
 
 
 def bring(folder, wanted):
@@ -58,8 +60,9 @@ def bring(folder, wanted):
         folder.remove(name)
     for name, body in wanted.items():
         if body is not None:
-            if not folder.has(name, len(body), f"sha-256:{hashlib.sha256(body).hexdigest()}"):
+            if not folder.has(name, packed({"length": str(len(body)), "hash": f"sha-256:{hashlib.sha256(body).hexdigest()}"})):
                 folder.write(name, body)
+    folder.settle()
     folder.remember("", "")
 
 
@@ -70,7 +73,7 @@ def at_random(rng, number):
 
 
 def is_stopped(path, calls, wanted):
-    """Whether a run that may make so many calls is stopped."""
+    """Whether a run that may make this many calls is stopped."""
     with contextlib.suppress(Stop), opened(path, calls) as folder:
         bring(folder, wanted)
         return False

@@ -13,7 +13,7 @@ import sys
 import tempfile
 import xml.etree.ElementTree as ElementTree
 
-from ropepeach.destination_folder import Fault
+from ropepeach.faults import Fault
 from tests.crash import crash_wrong
 from tests.crash.recorded_calls import WRITE, Call, Unrecorded
 from tests.pictures import picture_blocks, picture_images, picture_mirror

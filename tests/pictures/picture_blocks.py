@@ -27,7 +27,7 @@ LINES += [("publish", "publish"), put("d", 2000), put("a", 0), ("publish", "publ
 # What lies in some blocks in a row: its kind, the word that is drawn in it, and whether it is a published page beside
 # that.
 Part = collections.namedtuple("Part", "kind word first blocks is_published", defaults=[False])
-# What a strip shows: what is told of it, its parts, the blocks that were written, those that were used before it and
+# What a strip shows: its label, its parts, the blocks that were written, those that were used before it and
 # no more, and the block of the slot with the root.
 Strip = collections.namedtuple("Strip", "told parts written left root")
 
@@ -129,7 +129,7 @@ def draw_cross(picture, x, y):
 
 
 def draw_strip(picture, strip, number, y):
-    """One strip, with what is told of it on its left, and how many blocks are free on its right."""
+    """One strip, with its label on its left, and the number of free blocks on its right."""
     picture.text(30, y + 18, str(number), 12, "end", fill=SOFT)
     picture.text(40, y + 18, strip.told, 13)
     used = blocks_of(strip.parts)
@@ -145,7 +145,7 @@ def draw_strip(picture, strip, number, y):
     picture.text(LEFT + BLOCKS * CELL + 10, y + 18, f"{BLOCKS - len(used)} free", 12, fill=SOFT)
 
 
-# What the colours and the marks mean: a column and a row, what is drawn, and what is said.
+# What the colours and the marks mean: a column and a row, what is drawn, and its words.
 LEGEND = [(0, 0, Part("slot", "3*", 0, 1), "a slot: generation, * root, - closed")]
 LEGEND += [(0, 1, Part("dir", "dir", 0, 1), "directory"), (0, 2, Part("body", "a", 0, 1), "a body, by its name")]
 LEGEND += [(1, 0, Part("rec", "rec", 0, 1), "page of records"), (1, 1, Part("chg", "chg", 0, 1), "page of changes")]

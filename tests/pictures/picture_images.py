@@ -20,7 +20,7 @@ BASE, BLOCKS, LIMIT = "http://127.0.0.1:8080", 16, 2
 LINES = ["at 951782400000", "put a 68656c6c6f text/plain", "put b " + "77" * 600 + " text/plain"]
 # Bytes that nobody wrote, and a generation above each other one.
 FILLER, GREATEST = b"\xa5", b"\x01" + b"\xff" * 8
-# What a row shows: what is told of the call, the blocks that it writes, the places that are in question, the
+# What a row shows: the label of the call, the blocks that it writes, the places that are in question, the
 # generations that are settled in the slots, and how many images tell the old state and the new one.
 Row = collections.namedtuple("Row", "told written places generations old new")
 
@@ -66,7 +66,7 @@ def told_by(image):
 
 
 def told_of(call, state):
-    """What is told of a call. The parts are written in the order of docs/DISK.md."""
+    """The label of a call. The parts are written in the order of docs/DISK.md."""
     if call.kind == SYNC:
         return "sync"
     first, size = call.at // BLOCK, len(call.data)

@@ -2,7 +2,7 @@
 then.
 
 A source on a file is served by the built program while the clock stands still, so each moment is one millisecond
-after the one before. tools/destination runs on a folder; before some of its requests commands are put to the
+after the one before. `ropepeach mirror` runs on a folder; before some of its requests commands are put to the
 source. After each of two runs the folder has to be, byte for byte, what the source held after the changes up to the
 moment that the run told: else there is no picture.
 """
@@ -13,9 +13,10 @@ import os
 import pathlib
 import subprocess
 
-from ropepeach import destination, destination_source
-from ropepeach.destination_folder import Folder
-from tests.mirror.mirrors import DIRECT, SECONDS, files_of
+from ropepeach import lists, mirror
+from ropepeach.connections import Connections
+from ropepeach.mirror_folder import Folder
+from tests.mirror.mirrors import SECONDS, files_of
 from tests.pictures.svg import FILLS, INK, SOFT, Picture
 from tests.program import STILL_CLOCK, Differs, interposed
 from tests.served_source import free_port
@@ -57,31 +58,27 @@ class Story:
         self.states[moment] = self.held
         self.columns.append(Command(told, moment, self.held))
 
-    def asked(self, asking):
+    def ask(self, asking, path, most):
         """The request of a destination, noted, with the commands before it."""
-        def noted(address, most):
-            for it in COMMANDS.get(self.requests, []):
-                self.command(*it)
-            self.requests += 1
-            path = address.partition(f":{self.port}")[2]
-            try:
-                body = asking(address, most)
-            except OSError as refusal:
-                self.columns.append(Fetch(path, str(getattr(refusal, "code", refusal))))
-                raise
-            self.columns.append(Fetch(path, body.decode() if path.startswith("/resource/") else ""))
-            return body
-
-        return noted
+        for it in COMMANDS.get(self.requests, []):
+            self.command(*it)
+        self.requests += 1
+        answer = asking("GET", path, most=most)
+        came = answer.body.decode() if path.startswith("/resource/") else ""
+        self.columns.append(Fetch(path, came if answer.status == 200 else str(answer.status)))
+        return answer
 
     def run(self, base, folder):
         """A run of the destination. The folder is compared with the state at the moment that it told."""
-        opened = Folder(folder, base)
+        opened, connections = Folder(folder, base), Connections(base)
+        asking = connections.ask
+        connections.ask = lambda method, path, most: self.ask(asking, path, most)
+        opened.begin()
         try:
-            destination.Run(destination.Source(base, SECONDS), opened).go(opened.until is None)
+            mirror.Run(lists.Source(connections, is_at_base=True), opened).go(opened.until is None)
             until = opened.until
         finally:
-            os.close(opened.lock)
+            opened.close()
         self.changed(pathlib.Path(folder))
         found = files_of(pathlib.Path(folder))
         if found != {name: value.encode() for name, value in self.states[until].items()}:
@@ -107,18 +104,12 @@ def served(program, room):
 
 def story(program, room, changed):
     """All columns, of real runs."""
-    asking = destination_source.asked
-    os.environ.update(DIRECT)
     with served(program, room) as port:
         told = Story(port, changed)
-        destination_source.asked = told.asked(asking)
-        try:
-            for it in BEFORE:
-                told.command(*it)
-            for _ in range(2):
-                told.run(f"http://127.0.0.1:{port}", os.path.join(room, "mirror"))
-        finally:
-            destination_source.asked = asking
+        for it in BEFORE:
+            told.command(*it)
+        for _ in range(2):
+            told.run(f"http://127.0.0.1:{port}", os.path.join(room, "mirror"))
     return told.columns
 
 

@@ -1,11 +1,12 @@
-"""Fills sources on the proved program from folders, by publish_folder, and looks at what they hold then.
+"""Fills sources on the proved program from folders, by `ropepeach fill`, and looks at what they hold then.
 
 Each function below is one thing that has to hold, and its first line says what. Names are percent-encoded here byte by byte, apart from
-publish_folder; what a source holds is asked of the program itself, by scripts, once the server was killed.
+the command; what a source holds is asked of the program itself, by scripts, once the server was killed.
 
 usage: python3 -m tests.system.folder [PROGRAM] [NAME..]     names of functions (all, where none is given)
 Exit status 1 where one does not hold.
 """
+import fcntl
 import hashlib
 import http.client
 import os
@@ -15,17 +16,20 @@ import random
 import re
 import shutil
 import signal
+import struct
 import subprocess
 import sys
 import tempfile
+import termios
 import threading
 import time
 
-from tests.program import PROGRAM, TOOLS, Differs, compare, interposed
+from tests.program import PROGRAM, Differs, compare, interposed
 from tests.served_source import free_port, serving
 from tests.system.edge_runs import SYSTEM
+from tests.tools import COMMAND
 
-PUBLISH, DESTINATION = TOOLS / "publish_folder", TOOLS / "destination"
+FILL = [*COMMAND, "fill", "folder"]
 BASE = "https://source.example/collection"
 SECONDS = 60
 PLAIN = b"ABCDEFGHIJKLMNOPQRSTUVWXYZabcdefghijklmnopqrstuvwxyz0123456789-._~!$&'()*+,;=:@/"
@@ -41,8 +45,8 @@ def format_source(program, room, size=4 << 20, limit=1000):
 
 
 def publish(room, url, *words):
-    """The exit status of a run of publish_folder, what it wrote, and its complaints."""
-    ran = subprocess.run([sys.executable, PUBLISH, "folder", url, *words], cwd=room, capture_output=True, text=True, timeout=SECONDS)
+    """The exit status of a run of `ropepeach fill`, what it wrote, and its complaints."""
+    ran = subprocess.run([*FILL, url, "--patience", "0", *words], cwd=room, capture_output=True, text=True, timeout=SECONDS)
     return ran.returncode, ran.stdout, ran.stderr
 
 
@@ -120,7 +124,7 @@ def a_folder_is_published_again_and_again(program, room):
 
 
 def odd_names_are_encoded_or_told(program, room):
-    """Each name of bytes is encoded; what cannot be a resource is told and left out, and what is held by its name stays."""
+    """Each name of bytes is encoded; what cannot be a resource is named and left out, and what is held by its name stays."""
     format_source(program, room)
     wanted = {path: (b"%d" % number, "application/octet-stream") for number, path in enumerate(ODD)}
     kept = {b"held/a.txt": (b"kept", "text/plain"), b"vast": (b"kept", "application/octet-stream"), b"pipe": (b"kept", "application/octet-stream")}
@@ -139,7 +143,7 @@ def odd_names_are_encoded_or_told(program, room):
         status, told, complaints = publish(room, url)
     compare_runs("the second run", (3, f"0 put (0 bytes), 0 deleted, {len(ODD)} the same, 5 left out; published before\n"), (status, told))
     left_out = [it.split(": ")[0].removeprefix("left out ") for it in complaints.splitlines()]
-    compare_runs("left out", sorted(["n" * 241, "%FF" * 81, "held", "vast", "pipe"]), sorted(left_out))
+    compare_runs("left out", sorted(["n" * 241, r"\xff" * 81, "held", "vast", "pipe"]), sorted(left_out))
     holds(program, room, wanted | kept, 1)
 
 
@@ -152,7 +156,7 @@ def a_dry_run_changes_nothing(program, room):
         before = pathlib.Path(room, "a.disk").read_bytes()
         pathlib.Path(room, "folder/a b.txt").rename(pathlib.Path(room, "folder/c.txt"))
         told = "delete a%20b.txt\nput c.txt\n0 put (0 bytes), 0 deleted, 0 the same, 0 left out; 1 to put, 1 to delete\n"
-        compare_runs("a dry run", (0, told, ""), publish(room, url, "--dry-run"))
+        compare_runs("a dry run", (0, told, ""), publish(room, url, "--dry-run", "--yes"))
         if pathlib.Path(room, "a.disk").read_bytes() != before:
             raise Differs("a dry run changed the source")
 
@@ -160,15 +164,16 @@ def a_dry_run_changes_nothing(program, room):
 def a_stopped_run_is_begun_again(program, room):
     """A server that ends amid a run ends the run by a clear word; the next runs go on, and all is held at the end."""
     format_source(program, room, limit=4)
-    wanted = {b"%d.txt" % number: (b"%d" % number, "text/plain") for number in range(20)}
+    # (each is longer than what a group takes)
+    wanted = {b"%02d.txt" % number: (b"%02d" % number * 40_000, "text/plain") for number in range(20)}
     for path, (body, _) in wanted.items():
         write(room, path, body)
     # Each run reads more parts of the Change List than the one before it.
-    for count, put in [(9, 7), (12, 8)]:
+    for count, put in [(11, 7), (14, 8)]:
         with serving(program, room, count) as (url, _):
             status, told, complaint = publish(room, url)
         compare_runs("a stopped run", (1, f"{put} put", "ended early\n"), (status, told.split(" (")[0], told.split("; ")[1]))
-        compare("its word", b"publish_folder: no answer to PUT /resource/", complaint[:43].encode())
+        compare("its word", f"ropepeach fill: PUT {url}/resource/".encode(), complaint[:len(url) + 30].encode())
     with serving(program, room) as (url, _):
         compare_runs("the last run", (0, "5 put"), (lambda it: (it[0], it[1].split(" (")[0]))(publish(room, url)))
         # (both lists have many parts now)
@@ -189,7 +194,7 @@ def refusals_end_a_run_with_their_word(program, room):
     write(room, b"b", bytes(16_000))
     with serving(program, room) as (url, _):
         status, told, complaint = publish(room, url)
-    compare_runs("full", (1, "1 put (1 bytes), 0 deleted, 0 the same, 0 left out; ended early\n", "publish_folder: PUT /resource/b was refused: 507 Full\n"),
+    compare_runs("full", (1, "1 put (1 bytes), 0 deleted, 0 the same, 0 left out; ended early\n", "ropepeach fill: PUT /resource/b was refused: 507 Full\n"),
                  (status, told, complaint))
     os.truncate(pathlib.Path(room, "a.disk"), 65_536)
     with serving(program, room) as (url, _):
@@ -198,9 +203,9 @@ def refusals_end_a_run_with_their_word(program, room):
     system = interposed(room, "system", SYSTEM)
     first = next(it for it in range(1, 1000) if not failing(program, room, system, it))
     with serving(program, room, env=system | {"FILE_FAILS_AT": str(first)}) as (url, _):
-        compare_runs("device", (1, "publish_folder: PUT /resource/b was refused: 500 Device\n"), publish(room, url)[::2])
-        compare_runs("closed", (1, "publish_folder: GET /resourcelist.xml was refused: 503 Closed\n"), publish(room, url)[::2])
-    compare_runs("no server", (1, "publish_folder: no answer to GET /resourcelist.xml: ConnectionRefusedError [Errno 111] Connection refused\n"), publish(room, url)[::2])
+        compare_runs("device", (1, "ropepeach fill: PUT /resource/b was refused: 500 Device\n"), publish(room, url)[::2])
+        compare_runs("closed", (1, f"ropepeach fill: GET {url}/.well-known/resourcesync: no answer for 0 seconds: 503 Closed\n"), publish(room, url)[::2])
+    compare_runs("no server", (1, f"ropepeach fill: GET {url}/.well-known/resourcesync: no answer for 0 seconds: Connection refused\n"), publish(room, url)[::2])
 
 
 def failing(program, room, system, number):
@@ -217,9 +222,9 @@ def nothing_is_deleted_unasked(program, room):
         compare_runs("the first run", 0, publish(room, url)[0])
         shutil.rmtree(pathlib.Path(room, "folder"))
         status, told, complaint = publish(room, url)
-        compare_runs("missing", (1, "", "publish_folder: a folder cannot be listed"), (status, told, complaint[:41]))
+        compare_runs("missing", (1, "", "ropepeach fill: a folder cannot be listed"), (status, told, complaint[:41]))
         pathlib.Path(room, "folder/empty").mkdir(parents=True)
-        compare_runs("empty", (1, "", "publish_folder: FOLDER holds no file: everything would be deleted (--allow-empty does it)\n"), publish(room, url))
+        compare_runs("empty", (1, "", "ropepeach fill: 1 of 1 resources would be deleted, more than half: is FOLDER the right one? (--yes deletes them)\n"), publish(room, url))
         status, told, _ = publish(room, url, "--allow-empty")
         compare_runs("allowed", (0, "0 put (0 bytes), 1 deleted, 0 the same, 0 left out"), (status, told.split("; ")[0]))
 
@@ -231,11 +236,12 @@ def a_bar_is_shown_on_a_terminal_alone(program, room):
         write(room, b"%d" % number, bytes(2_000))
     with serving(program, room) as (url, _):
         ours, its = pty.openpty()
-        ran = subprocess.run([sys.executable, PUBLISH, "folder", url], cwd=room, stdout=subprocess.PIPE, stderr=its, timeout=SECONDS)
+        fcntl.ioctl(its, termios.TIOCSWINSZ, struct.pack("HHHH", 24, 100, 0, 0))
+        ran = subprocess.run([*FILL, url], cwd=room, stdout=subprocess.PIPE, stderr=its, timeout=SECONDS)
         shown = os.read(ours, 65536)
         compare_runs("on a terminal", 0, ran.returncode)
         compare("elsewhere", b"", publish(room, url)[2].encode())
-    for what in (rb"comparing \[#*\] 100% 5/5, ", rb"changing \[#*\] 100% 5/5, [\d.]+ (KiB|MiB)/s, \d+:\d\d left"):
+    for what in (rb"comparing +0% \|", rb"changing 100% \|.*\| \d\d:\d\d left, 5 of 5, [\d.]+[kM]?B/s"):
         if not re.search(what, shown):
             raise Differs(f"{what} was not shown: {shown[-300:]}")
 
@@ -288,7 +294,7 @@ def a_new_source_is_filled_from_a_mirror(program, room):
     with subprocess.Popen([program, "serve", "old.disk", str(port), "1000"], cwd=room, stdout=subprocess.PIPE) as old:
         try:
             old.stdout.readline()
-            words = [sys.executable, DESTINATION, f"http://127.0.0.1:{port}", mirror]
+            words = [*COMMAND, "mirror", f"http://127.0.0.1:{port}", mirror]
             subprocess.run(words, env=os.environ | {"no_proxy": "127.0.0.1"}, check=True, capture_output=True, timeout=SECONDS)
         finally:
             old.kill()

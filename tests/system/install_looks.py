@@ -13,13 +13,14 @@ import re
 import shlex
 import socket
 import subprocess
-import sys
 import tempfile
 import time
 
-from tests.program import ROOT, TOOLS, Differs, compare
+from tests.program import ROOT, Differs, compare
 from tests.reading import disk_reader
+from tests.served_source import free_port
 from tests.system.edge_runs import connected, read_to_end
+from tests.tools import COMMAND
 
 INSTALL = ROOT / "install"
 SECONDS = 30
@@ -53,9 +54,10 @@ def the_page_has_every_word(program, room):
 
 
 def the_page_is_clean(program, room):
-    """mandoc has nothing to say of the page. Which other pages this machine has is no matter."""
-    told = told_by("mandoc", "-T", "lint", INSTALL / "rs_source.8")[0].splitlines()
-    compare("mandoc", b"", "\n".join(it for it in told if "outdated mandoc.db" not in it and "referenced manual not found" not in it).encode())
+    """mandoc has nothing to say of the pages. Which other pages this machine has is no matter."""
+    for page in sorted(INSTALL.glob("*.[18]")):
+        told = told_by("mandoc", "-T", "lint", page)[0].splitlines()
+        compare(f"mandoc, {page.name}", b"", "\n".join(it for it in told if "outdated mandoc.db" not in it and "referenced manual not found" not in it).encode())
 
 
 def the_units_are_whole_and_closed(program, room):
@@ -168,12 +170,11 @@ def far(site):
 
 
 @contextlib.contextmanager
-def proxied(program, room, change=without_tls):
+def proxied(program, room, change=without_tls, port=None):
     """The port of nginx with the site, and the source behind it with its port: 16 MiB of bodies fit, and lists have two items."""
+    port = port or free_port()
     if not pathlib.Path(room, "a.disk").exists():
         subprocess.run([program, "format", "a.disk", str(64 << 20), "http://a.example", "2"], cwd=room, check=True, capture_output=True)
-    with socket.create_server(("127.0.0.1", 0)) as free:
-        port = free.getsockname()[1]
     with subprocess.Popen([program, "serve", "a.disk", "0", "1000000"], cwd=room, stdout=subprocess.PIPE) as source:
         try:
             behind = int(source.stdout.readline().rpartition(b":")[2])
@@ -311,7 +312,7 @@ def certified(room, name):
 
 
 def certificates_let_change(program, room):
-    """Over TLS, from an address that is not near, publish_folder fills a source with a known certificate, and without it or with another it cannot."""
+    """Over TLS, from an address that is not near, `ropepeach fill` fills a source with a known certificate, and without it or with another it cannot."""
     server, known, unknown = (certified(room, it) for it in ("server", "known", "unknown"))
 
     def change(site):
@@ -321,22 +322,22 @@ def certificates_let_change(program, room):
     pathlib.Path(room, "folder").mkdir()
     pathlib.Path(room, "folder/a").write_bytes(b"a")
     with proxied(program, room, change) as (port, _, behind):
-        words = [sys.executable, TOOLS / "publish_folder", f"{room}/folder", f"https://127.0.0.1:{port}"]
+        words = [*COMMAND, "fill", f"{room}/folder", f"https://127.0.0.1:{port}"]
         trusting = os.environ | {"SSL_CERT_FILE": f"{room}/server.crt"}
         for certificate, wanted in [([], "403 Forbidden"), (["--certificate", unknown], "400 Bad Request"), (["--certificate", known], "published 1 ")]:
             told, _ = told_by(*words, *certificate, env=trusting)
             compare(f"with {certificate}: {told.strip()}", b"True", str(wanted in told).encode())
         compare_answers("the resource", (200, b"a"), asked(behind, "GET", "/resource/a"))
-        compare("a server that is not known", b"True", str("SSLCertVerificationError" in told_by(*words)[0]).encode())
+        compare("a server that is not known", b"True", str("certificate verify failed" in told_by(*words)[0]).encode())
 
 
 def the_tools_run_where_they_are_installed(program, room):
     """`make install` puts each command in its place, and it runs there, far from the repository; `make uninstall` leaves nothing."""
     words = ["make", "-s", "-C", ROOT, f"DESTDIR={room}/at", "PREFIX=/usr", f"PROGRAM={program}"]
     compare_answers("make install", 0, told_by(*words, "install")[1])
-    for name in ("destination", "publish_folder"):
+    for name, called in {"ropepeach": "ropepeach", "destination": "ropepeach mirror", "publish_folder": "ropepeach fill"}.items():
         told, status = told_by(f"{room}/at/usr/bin/{name}", "--help", cwd=room)
-        compare_answers(name, ("usage: " + name, 0), (told[: 7 + len(name)], status))
+        compare_answers(name, (f"usage: {called} [-h]", 0), (told[: 12 + len(called)], status))
     compare_answers("make uninstall", 0, told_by(*words, "uninstall")[1])
     compare("what is left", b"", " ".join(str(it) for it in pathlib.Path(room, "at").rglob("*") if not it.is_dir()).encode())
 

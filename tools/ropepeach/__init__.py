@@ -1,1 +1,1 @@
-"""What users run beside the program: a destination, and what fills a source from a folder."""
+"""What people run around the program: the command `ropepeach`, which fills, mirrors and looks after a source."""

@@ -1,0 +1,32 @@
+"""How large a source's disk has to be, by the formula of docs/OPERATING.md."""
+from collections import namedtuple
+
+BLOCK = 512
+MOST_RESOURCES = MOST_CHANGES = 50_000
+MOST_BYTES = 4 << 30
+LONGEST_BODY, LONGEST_NAME = 16_777_216, 240
+# What a collection is for the formula: the number of its bodies, their blocks, the longest one's bytes, and the mean bytes of a name and a type.
+Collection = namedtuple("Collection", "count blocks longest name kind")
+
+
+def blocks(size):
+    """The blocks that this many bytes take."""
+    return -(-size // BLOCK)
+
+
+def pages(count, on_one):
+    """The pages that this many items take."""
+    return -(-count // on_one)
+
+
+def used(it, base, changes=MOST_CHANGES):
+    """The blocks of a source that holds a collection, has a base of this many bytes, and keeps this many changes."""
+    records, kept = 2 * pages(it.count, 32), pages(changes, 64)
+    directories = 2 * blocks(63 + base + 44 * (records + kept))
+    listed = records * blocks(5 + 32 * (70 + it.name + it.kind)) + kept * blocks(5 + 64 * (63 + it.name + it.kind))
+    return it.blocks + listed + directories + blocks(it.longest) + 64
+
+
+def needed(it, base, changes=MOST_CHANGES):
+    """The bytes of the disk, with a third of it free."""
+    return -(-used(it, base, changes) * BLOCK * 3 // 2)
