@@ -91,7 +91,7 @@ def fill(folder, count):
 
 
 def killed(words, given, span, rng):
-    """Starts a program, and kills it within so many seconds."""
+    """Starts a program, and kills it within this many seconds."""
     with subprocess.Popen(words, stdin=subprocess.PIPE, stdout=subprocess.DEVNULL, stderr=subprocess.DEVNULL) as ran:
         ran.stdin.write(given)
         ran.stdin.flush()

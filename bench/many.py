@@ -39,7 +39,7 @@ CHANGE = len(parts_of.change(2, name(0), 1, BODY))
 
 
 def sizes(source, name, before):
-    """The lengths of the page of records, the page of changes and the directory that a put of this name writes after so many."""
+    """The lengths of the page of records, the page of changes and the directory that a put of this name writes after this many."""
     firsts = [page.items[0].name for page in source.catalogue]
     records = source.catalogue[bisect.bisect_right(firsts, name) - 1].entry.length
     pages, inside = divmod(sum(len(it.items) for it in source.changes) + before, page_rule.MOST)

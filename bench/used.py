@@ -1,7 +1,7 @@
 """What the set of used blocks costs a command, on a disk of 8,388,608 blocks.
 
 A small program in a folder of its own, which `rt run` proves and builds, fills the front of the set with bodies of 4 KiB and
-the pages and directories beside them, for so many resources held, changed and published, and then does with it what a put
+the pages and directories beside them, for this many resources held, changed and published, and then does with it what a put
 does: it finds and takes the lowest runs for the body, a page of records, a page of changes and the directory, and gives them
 back; and, as after the commit, takes them again and gives others back. It tells the time of one such command.
 """

@@ -15,7 +15,7 @@ from tests.program import PROGRAM
 
 
 def filled(file, size, count, length):
-    """A source on a new file with so many bodies of this length."""
+    """A source on a new file with this many bodies of this length."""
     subprocess.run([str(PROGRAM), "format", file, str(size), "http://127.0.0.1:8080", "1000"], stdout=subprocess.DEVNULL, check=True)
     server, port = serve(file, count)
     for i in range(count):

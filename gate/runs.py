@@ -24,7 +24,7 @@ def table():
 
 
 def proving(uses, names, processors, with_tests=False):
-    """About how many seconds it takes to prove these crates from nothing: those of the longest chain of them, or those of all on so many processors."""
+    """About how many seconds it takes to prove these crates from nothing: those of the longest chain of them, or those of all on this many processors."""
     known, chain, ends, total = table(), {}, [0], 0
     for name in uses:
         own, tests = known.get(name, (60, 0)) if name in names else (0, 0)

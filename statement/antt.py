@@ -91,7 +91,7 @@ class Reading:
         self.comment, self.current, self.section = [], None, ""
 
     def take(self, number, line):
-        """Takes a line, whose number in the file is told."""
+        """Takes a line, with its number in the file."""
         section = SECTION.match(line)
         if section:
             self.section, self.current = section[1], None

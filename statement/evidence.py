@@ -109,7 +109,7 @@ def said_by(world, piece):
 
 
 def silent(world, found, pieces):
-    """The laws and the examples that do not speak of a definition which is said to be held against them."""
+    """The laws and the examples that do not speak of a definition, though evidence.txt holds it against them."""
     wrong = []
     for piece in pieces:
         if piece.kind in ("law", "example"):

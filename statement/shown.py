@@ -9,7 +9,7 @@ WIDTH = 110
 
 
 def folded(text, width=WIDTH):
-    """A text in lines of at most so many letters."""
+    """A text in lines of at most this many letters."""
     lines = [""]
     for word in text.split():
         if lines[-1] and len(lines[-1]) + len(word) >= width:
@@ -37,7 +37,7 @@ def meaning(kind):
 
 
 def declared(kind):
-    """The text of a type without its comments; or the value that stands for it in contracts."""
+    """The text of a type without its comments; or the value by which contracts speak of it."""
     if kind.value:
         return [f"in contracts it is: {' '.join(kind.value.split())}"]
     return [it for it in kind.text.splitlines() if it.strip() and not it.lstrip().startswith(("///", "//"))]

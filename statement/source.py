@@ -69,7 +69,7 @@ class Type:
     line: int
     comment: list
     text: str
-    # The ghost members, and the value that stands for it in contracts, if it has one of its own.
+    # The ghost members, and the value by which contracts speak of it, if it has one of its own.
     ghosts: list = field(default_factory=list)
     value: str = ""
     brought: dict = field(default_factory=dict)

@@ -1,4 +1,4 @@
-"""What every test needs: the built program and its settings, a clock that stands still, and how a difference is told."""
+"""What every test needs: the built program and its settings, a clock that stands still, and how a difference is shown."""
 import os
 import pathlib
 import shutil
@@ -21,7 +21,7 @@ STILL_CLOCK = f"""
 #include <time.h>
 int clock_gettime(clockid_t id, struct timespec *t) {{ t->tv_sec = {CLOCK // 1000}; t->tv_nsec = {CLOCK % 1000} * 1000000L; return 0; }}
 """
-# Where files lie in memory, if so many bytes are free there.
+# Where files lie in memory, if this many bytes are free there.
 IN_MEMORY, ROOM = "/dev/shm", 100_000_000
 
 

@@ -51,7 +51,7 @@ class Ended(Exception):
 
 @contextlib.contextmanager
 def served(program, file, count, environment=None):
-    """The port of a server of so many connections, which has to end by itself, and well, when all were served."""
+    """The port of a server of this many connections, which has to end by itself, and well, when all were served."""
     words = [program, "serve", file, "0", str(count)]
     with subprocess.Popen(words, stdout=subprocess.PIPE, stderr=subprocess.PIPE, env=environment) as server:
         try:

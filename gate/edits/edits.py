@@ -116,7 +116,7 @@ class Trial:
 
 
 def try_crates(root, names, jobs, when_done=lambda name, edits: None):
-    """Tries the edits of these crates, so many checks side by side, prints what came of each, and returns the edits by crate. Each crate is told of when it is done."""
+    """Tries the edits of these crates, `jobs` checks side by side, prints what came of each, and returns the edits by crate. Calls `when_done` as each crate is done."""
     built, known = Libraries(root, jobs), goals.known(root)
     trials = [Trial(name, found, built) for name in names if (found := edit.of_crate(root, name, known))]
     # A crate's own checks go side by side too, so that the last one leaves no processor idle. Those with the most edits begin.

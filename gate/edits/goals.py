@@ -49,7 +49,7 @@ def beside(edit, folder):
         return [NO_GOAL]
     answers = Path(folder, copies.proof_folder(next(iter(edit.symbols))), "Answers.antt")
     by_hand = ANSWERED.findall(answers.read_text()) if answers.is_file() else []
-    # A goal stands for its clauses, and one of them for it.
+    # A goal covers its clauses, and one of them covers it.
     is_part = lambda it: it.startswith(f"{edit.goal}-clause-") or edit.goal.startswith(f"{it}-clause-")
     stays = lambda it: it in [*by_hand, edit.goal] or is_part(it)
     return [*(by_hand if edit.goal not in by_hand else []), *(it for it in edit.others if not stays(it)), NO_GOAL]

@@ -59,7 +59,7 @@ def outdated(root):
 
 
 def picked(root, commit, number=2):
-    """So many crates with edits that a commit's own hash picks."""
+    """This many crates with edits that a commit's own hash picks."""
     with_edits = [name for name in kit.crates_of(root) if edits_of(root, name)]
     return sorted(with_edits, key=lambda it: hashlib.sha256(f"{commit} {it}".encode()).digest())[:number]
 

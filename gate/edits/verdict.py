@@ -8,7 +8,7 @@ ERROR = re.compile(r"(?:\./)?((?:src|specs|proofs)/\S+?):\d+:\d+: error:? ?(.*)"
 OPEN = re.compile(r"note: src/\S+:\d+:\d+: (it is not proved that .*|`search` found no proof .*)")
 NAME = re.compile(r"\(`([^`\s]+)`\)")
 ANSWERED = re.compile(r"\A`([^`\s]+)`")
-# What is told of a goal that fails at values that the prover found.
+# What the prover prints of a goal that fails at values that it found.
 IS_FALSE = "allow values at which this goal is false"
 ITEM = re.compile(r"(?:fn|impl|struct|enum|trait) (\S+): (?:(proved)|not proved|no proof)")
 # The last line of a check that is not proved, of a whole crate or of some functions alone.

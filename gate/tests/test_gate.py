@@ -47,7 +47,7 @@ class Parts(unittest.TestCase):
             self.assertRegex(page, rf"(?m)^\| \w[\w ]* \(`tests\.{name}{' --short' * (name in gate.SHORT)}`\) \|")
 
     def test_what_has_no_tool_is_told_by_name(self):
-        """The look at install/ with no tool but the shell: what needs one is told, and fails nothing."""
+        """The look at install/ with no tool but the shell: what needs one says so, and fails nothing."""
         with tempfile.TemporaryDirectory() as room:
             words = [sys.executable, "-m", "tests.system.install", "/bin/true", "the_page_is_clean", "the_page_has_every_word"]
             ran = subprocess.run(words, cwd=gate.ROOT, env={"PATH": room}, capture_output=True, text=True)
@@ -73,7 +73,7 @@ class Telling(unittest.TestCase):
             self.assertEqual(out.getvalue(), f"{lines}{shown}")
 
     def test_how_long_it_takes(self):
-        """As long as the longest chain of crates, or as all of them on so many processors; each crate has its line of the table."""
+        """As long as the longest chain of crates, or as all of them on this many processors; each crate has its line of the table."""
         uses = {"a": [], "b": ["a"], "c": ["a", "std"], "d": []}
         with mock.patch.object(runs, "table", lambda: {"a": [100, 0], "b": [50, 300], "c": [70, 0], "d": [20, 0]}):
             for names, processors, with_tests, wanted in (("abcd", 1, False, 240), ("abcd", 4, False, 170), ("bc", 4, False, 70), ("abcd", 4, True, 450)):

@@ -111,8 +111,8 @@ RANDOM = [the_last_torn, some_writes, some_blocks, some_bytes, any_bytes]
 def images(moment, rng, rounds, picks):
     """Images of a crash at this moment, each with the name of what was chosen, and none twice.
 
-    These are all fixed ones and so many rounds of the random ones, or, without a round, what is
-    lost, what is kept, and so many picks of the others.
+    These are all fixed ones and this many rounds of the random ones, or, without a round, what is
+    lost, what is kept, and this many picks of the others.
     """
     choices = FIXED + RANDOM * rounds
     if not rounds:

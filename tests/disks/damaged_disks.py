@@ -4,7 +4,7 @@ A disk is spelled from the bottom up: its pages, the directory that names them, 
 A change is made before what points to it is spelled, so lengths and SHA-256 agree with it, and one rule is broken alone:
   PART.FIELD=VALUE    a field of a page (`held`, `changes`, `listed`), of `directory`, of `slot` (block 0) or of `spare` (block 1)
   PART.block=N        the part lies in this block, and what points to it says so
-  PART.front=N        the part ends after so many bytes
+  PART.front=N        the part ends after this many bytes
 A VALUE is a number of the field's width, bytes in hexadecimal behind an `x`, or a text. The field `end` is what follows a part.
 """
 from tests.reading.disk_formats import CHANGES, CREATED, DELETED, OLD_VERSION, RECORDS, VERSION, change_fields
@@ -94,20 +94,20 @@ def source(pages, bodies=(), blocks=16, **header):
 
 
 def many_records(first, count):
-    """The fields of a page of so many records of no bytes, put at 1001."""
+    """The fields of a page of this many records of no bytes, put at 1001."""
     nameless = spelled(record_fields(b"", b"", 1001, 0))[1:]
     items = b"".join(b"\x05%05d" % i + nameless for i in range(first, first + count))
     return {**page_fields(RECORDS, {}), "count": number(count), "items": items}
 
 
 def many_changes(first, count):
-    """The fields of a page of so many deletions, a millisecond apart."""
+    """The fields of a page of this many deletions, a millisecond apart."""
     items = b"".join(b"\x03\x01z" + number(1001 + i, 8) for i in range(first, first + count))
     return {**page_fields(CHANGES, {}), "count": number(count), "items": items}
 
 
 def crowded(name, count, more=0):
-    """A function that spells a disk with a page of so many items of a list, and one of more items behind it, where there are any."""
+    """A function that spells a disk with a page of this many items of a list, and one of more items behind it, where there are any."""
 
     def disk(*changes):
         page = many_changes if name == "changes" else many_records

@@ -23,12 +23,12 @@ def source(parts, header, generation, blocks, version=VERSION):
 
 
 def empty(size):
-    """A source that was just made, on a disk of so many bytes, of which it needs 1,536."""
+    """A source that was just made, on a disk of this many bytes, of which it needs 1,536."""
     return source([], parts_of.directory(0), 1, 128)[:size]
 
 
 def two_puts(size):
-    """A put of `a`, a publication and a put of `b`, as far as a disk of so many bytes has room. They need 3,584."""
+    """A put of `a`, a publication and a put of `b`, as far as a disk of this many bytes has room. They need 3,584."""
     a = parts_of.record(b"a", b"", LEAP_DAY, 0)
     b = parts_of.record(b"b", b"abc", LEAP_DAY + 2, 6)
     created = [parts_of.change(1, b"a", LEAP_DAY, b""), parts_of.change(1, b"b", LEAP_DAY + 2, b"abc")]
@@ -39,7 +39,7 @@ def two_puts(size):
 
 
 def filled(names, changes, number=0, generation=1, blocks=128):
-    """Resources of no bytes, all put at the moment 1, and so many deletions of `z`, at the moments 1, 2 and so on."""
+    """Resources of no bytes, all put at the moment 1, and this many deletions of `z`, at the moments 1, 2 and so on."""
     records = parts_of.page(1, [parts_of.record(name, b"", 1, 0) for name in names])
     deletions = parts_of.page(2, [parts_of.change(3, b"z", moment) for moment in range(1, changes + 1)])
     behind = 3 + (len(records) + BLOCK - 1) // BLOCK

@@ -24,9 +24,9 @@ def name(i):
 
 
 def spelled(held, changes, shared=True):
-    """The bytes of a disk after so many resources of three bytes were put in the order of their names, and published.
+    """The bytes of a disk after this many resources of three bytes were put in the order of their names, and published.
 
-    So many of the last changes are kept, as if none was dropped. The published pages are those of the catalogue, or the same again in
+    This many of the last changes are kept, as if none was dropped. The published pages are those of the catalogue, or the same again in
     other blocks.
     """
     records = [parts_of.record(name(i), BODY, i + 1, 2 + i) for i in range(held)]

@@ -26,9 +26,9 @@ from tests.ends.ends_of_scripts import ROWS_OF_SCRIPTS, Runs, Script
 from tests.ends.failing_ends import with_failing
 from tests.program import PROGRAM, room_in_memory
 
-# The cases of a script are done in so many parts in the whole form.
+# The parts in which the whole form does the cases of a script.
 PARTS = 12
-# So many faults are told of.
+# This many faults are told of.
 TOLD = 20
 
 

@@ -25,8 +25,8 @@ from tests.served_source import connected, exchanged, read_to_end, reset, served
 
 COUNT = 10
 LOOK = b"GET /changelist.xml HTTP/1.1\r\nHost: a\r\n\r\n"
-# The client resets its connection behind so many bytes: while the server reads them, or before it takes the
-# connection, as it has to do with another client. Or the server's own call fails behind so many bytes; where a send
+# The client resets its connection behind this many bytes: while the server reads them, or before it takes the
+# connection, as it has to do with another client. Or the server's own call fails behind that many bytes; where a send
 # fails once, what is held back is sent as the connection goes.
 RESET, RESET_BEFORE, READ_FAILS = "reset", "reset before it is taken", "a read fails"
 SEND_FAILS, SEND_FAILS_ONCE = "a send fails", "a send fails once"
@@ -141,7 +141,7 @@ class Server:
             return read_to_end(other)[0]
 
     def send(self, it, way, sent, at):
-        """Sends so many bytes; the client that resets behind a body has taken the word to go on before it."""
+        """Sends this many bytes; the client that resets behind a body has taken the word to go on before it."""
         head = END.search(sent).end()
         if way == RESET and b"\r\nExpect:" in sent and at >= head:
             it.sendall(sent[:head])

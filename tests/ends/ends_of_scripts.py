@@ -29,12 +29,12 @@ READ, WRITE = b"rs_source: Read\n", b"rs_source: Write\n"
 # How input fails behind a byte: all before it is sent at once; is taken by the program before it fails; or each line is
 # sent when the one before is answered.
 READS = ["reset at once", "reset when taken", "reset, line by line"]
-# How output fails: the client has taken so many bytes and closes its pipe, or resets its connection, and then sends the
+# How output fails: the client has taken some bytes and closes its pipe, or resets its connection, and then sends the
 # next line; or the program's own write fails there and from there on, which has read a line, or all of them; or that
 # write fails alone, and what is still held back is written as the program ends.
 WRITES = ["closed", "reset by its reader", "cut, a line read", "cut, all read", "cut once, a line read"]
 BY_ITS_READER, ALL_READ, ONCE = WRITES[1], WRITES[3], WRITES[4]
-# A write fails alone behind each byte of so many.
+# A write fails alone behind each byte, up to this one.
 EACH = 5
 # Output that fails behind the byte `at` of it, or input that does.
 Case = collections.namedtuple("Case", "script way at")
@@ -66,7 +66,7 @@ class Script:
 
     @functools.cache
     def later(self, done):
-        """A script that goes on behind so many lines, and what it has to be answered."""
+        """A script that goes on behind this many lines, and the answers that it has to get."""
         judge = line_judge.Judge(Source(self.states[done], SIZE))
         lines = [*ASKED, *self.lines[done:], *ASKED]
         return b"".join(it + b"\n" for it in lines), b"".join(judge.answer(it) for it in lines)

@@ -1,6 +1,6 @@
 """Wrong programs at failing ends. The check (tests/ends) has to notice each, or it is blind.
 
-A script's are made out of what a right program comes to, by a change of what is seen; a request's are a model that does
+A script's are made out of what a right program answers, by a change of what is seen; a request's are a model that does
 otherwise. The right ones must have no fault.
 """
 import dataclasses
@@ -16,7 +16,7 @@ from tests.reading.front_model import Source
 from tests.reading.request_judge import CONTINUE, END
 
 SCRIPTS = ["one_resource", "three_changes", "put_again_after_delete"]
-# Of the cases of a script, and of the cuts of a request, each of so many.
+# One case of a script, and one cut of a request, out of this many.
 EACH, CUT = 13, 3
 
 
@@ -36,7 +36,7 @@ def after_part(case, done):
     return line_judge.Judge(source).answer(part) if part else b"", source.state
 
 
-# Each takes a case of a kind, what a right program comes to, and how many lines that has done.
+# Each takes a case of a kind, what a right program answers, and how many lines it has done.
 def an_answer_is_left_out(case, seen, done):
     return seen._replace(output=b"".join(case.script.answers[: max(done - 1, 0)]))
 
@@ -116,7 +116,7 @@ UNTOLD = {lines_go_on_behind_a_failed_write: ALL_READ}
 
 
 def is_noticed(wrong, cases):
-    """Whether a wrong program is told from a right one in each way that can show it."""
+    """Whether the checks tell a wrong program from a right one in each way that can show it."""
     ways = {case.way for case in cases} - {UNTOLD.get(wrong)}
     noticed = set()
     for case in cases:
@@ -222,7 +222,7 @@ class NextIsNotAnswered(Model):
 
 
 class NextGetsTheRest(Model):
-    """What was held back of a response comes to the next client."""
+    """What was held back of a response reaches the next client."""
 
     rest = b""
 

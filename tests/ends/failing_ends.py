@@ -125,7 +125,7 @@ def wait_taken(end):
 
 
 def received(end, count):
-    """So many bytes from an end; fewer where it comes to its end before."""
+    """This many bytes from an end; fewer where it ends before."""
     found = b""
     while len(found) < count:
         if not select.select([end], [], [], SECONDS)[0]:

@@ -37,7 +37,7 @@ TEXTS = {"name": NAMES + BAD_NAMES, "type": TYPES + BAD_TYPES, "base": BASES + B
 
 
 def numbers(width, value, more=()):
-    """The edges of a number of so many bytes that has this value."""
+    """The edges of a number of this many bytes that has this value."""
     every = {0, *more, *MARKS[width], value - 1, value + 1, 2 ** (8 * width) - 1}
     return [number(it, width) for it in sorted(every - {value}) if 0 <= it < 2 ** (8 * width)]
 
@@ -112,7 +112,7 @@ BITS = [("sound", it) for it in all_bits(SPELLED["sound"].fields())]
 
 
 def spread(index, size):
-    """A place below the size, each once in so many indices."""
+    """A place below the size, each once in this many indices."""
     return index * next(it for it in STEPS if math.gcd(it, size) == 1) % size
 
 
@@ -283,7 +283,7 @@ def scribbled(index, rng):
     return "a source that was scribbled on", bytes(disk)
 
 
-# So many of a hundred disks are of each kind.
+# This many of a hundred disks are of each kind.
 SHARES = {
     a_bit_turned: 29,
     an_edge: 33,

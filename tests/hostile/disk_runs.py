@@ -7,8 +7,8 @@ import xml.etree.ElementTree as ElementTree
 
 from tests.reading import crash_model, disk_judge
 
-# Memory is counted in bytes of an address space. A disk may take so many for each of its bytes, and these beside them, since a heap
-# grows in steps; the program itself may take so many, and takes what an empty source needs.
+# Memory is counted in bytes of an address space. A disk may take the first number for each of its bytes, and the second beside them, since a heap
+# grows in steps; the program itself may take the third, and takes what an empty source needs.
 OF_A_BYTE, STEPS, OF_ITSELF = 16, 1_048_576, 16_777_216
 PAGE = 4_096
 # A second of a processor, so that other programs beside it do not count; on the clock it may take this much, for the same reason.
@@ -79,7 +79,7 @@ class Room:
         self.paths = [os.path.join(folder, f"{os.getpid()}.{it}") for it in ("disk", "script", "output", "messages")]
 
     def begin(self, limit):
-        """Begins the program in a process of its own, with so many bytes of an address space, or any number of them."""
+        """Begins the program in a process of its own, with this many bytes of an address space, or any number of them."""
         disk, script, output, messages = self.paths
         words = ["sh", "-c", LIMITED, self.program, disk, "unlimited" if limit is None else str(limit // 1_024)]
         opened = [(os.POSIX_SPAWN_OPEN, 0, script, os.O_RDONLY, 0)]

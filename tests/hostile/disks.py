@@ -34,11 +34,11 @@ from tests.reading.disk_judge import OPENS, told
 
 SEED = 20261125
 DISKS, SHORT = 100_000, 3_000
-# So many disks are one piece of work, of which each process takes the next.
+# This many disks are one piece of work, of which each process takes the next.
 PIECE = 50
-# So many wrong disks are told of, and after so many disks how far it is.
+# How many wrong disks it prints, and after how many disks it says how far it is.
 TOLD, TELLING = 20, 10_000
-# Of so many disks the memory is measured.
+# The disks of which it measures the memory.
 MEASURED = 100
 
 
@@ -105,7 +105,7 @@ def of_itself(asked, folder):
 
 
 def measure(asked, folder):
-    """Tells the most memory that some disks take, beside what the program takes for itself and so many times their file."""
+    """Prints the most memory that some disks take, beside what the program takes for itself and a multiple of their file."""
     disks = [any_disks.disk_of(asked.seed, it)[1] for it in range(MEASURED)]
     room = Room(asked.program, folder)
     took = [least(room, it, wanted_of(it, asked.verify)) for it in disks]

@@ -28,7 +28,7 @@ from tests.program import PROGRAM, room_in_memory
 
 SEED = 20261125
 LINES, SHORT = 100_000, 2_000
-# So many wrong scripts are told of, and after so many scripts how far it is.
+# How many wrong scripts it prints, and after how many scripts it says how far it is.
 TOLD, TELLING = 20, 100
 
 

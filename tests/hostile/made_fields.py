@@ -63,7 +63,7 @@ def changed(data, at, way):
 
 
 def all_changes(count, lengths):
-    """Each change of each of so many texts of these lengths, as the text's number, the place and the way."""
+    """Each change of each of this many texts of these lengths, as the text's number, the place and the way."""
     return [(it, at, way) for it in range(count) for at in range(lengths[it]) for way in WAYS]
 
 

@@ -98,7 +98,7 @@ def with_line(line, method=b"GET"):
 
 
 def of_length(length, method, end, ends):
-    """A head of so many bytes, or its front, which has no end, of so many."""
+    """A head of this many bytes, or its front, which has no end."""
     front = b"%s /resource/a HTTP/1.0%sX: " % (method, end)
     filling = b"y" * (length - len(front) - (2 * len(end) if ends else 0))
     return front + filling + (2 * end if ends else b"")

@@ -18,7 +18,7 @@ Made = collections.namedtuple("Made", "what size base limit data way pieces")
 SIZE, LARGE = 524_288, 17_825_792
 BASES = ["http://127.0.0.1:8080", "http://a", "https://a.b/c", "https://" + "a" * 120]
 LIMITS = [2, 2, 2, 3, 4, 5, 7, 4_000]
-# So many lines of a script are edges, and so many have one byte changed; so many more are at random.
+# How many lines of a script are edges, how many have one byte changed, and how many more are at random.
 EDGES_IN, CHANGES_IN, MORE = 22, 28, range(20, 150)
 LINES_IN = 120
 LONGEST = 33_600_000
@@ -132,7 +132,7 @@ class Maker:
 
 
 def in_turn(every, number, count):
-    """So many of these, for the script of this number."""
+    """This many of these, for the script of this number."""
     return [every[at % len(every)] for at in range(number * count, (number + 1) * count)]
 
 
@@ -187,7 +187,7 @@ def large_bodies(rng, number, limit):
     return mixed(rng, usual(rng, number, limit), over)
 
 
-# The kinds of some of so many numbers; all others are usual.
+# The kinds of some of these numbers; all others are usual.
 TURNS = 120
 KINDS = {11: long_lines, 5: at_the_end, 45: at_the_end, 85: at_the_end, 3: large_bodies, 83: large_bodies}
 

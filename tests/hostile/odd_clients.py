@@ -139,7 +139,7 @@ class Plain:
 
 
 def shuffled(times):
-    """Each client so many times, in a random order."""
+    """Each client this many times, in a random order."""
     every = CLIENTS * times
     random.Random(5).shuffle(every)
     return every
@@ -163,7 +163,7 @@ def visit(port, plain, body, times):
 
 
 def look(program, folder, times):
-    """Tells what is wrong where each client comes so many times. Gives 1 where anything is, and else 0."""
+    """Prints what is wrong where each client comes this many times. Gives 1 where anything is, and else 0."""
     file, clients = os.path.join(folder, "clients.disk"), len(CLIENTS) * times
     body, started = b"small", time.time()
     pathlib.Path(file).unlink(missing_ok=True)

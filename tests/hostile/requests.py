@@ -34,7 +34,7 @@ from tests.served_source import Ended, with_clock
 
 SEED = 20261125
 REQUESTS, SHORT = 100_000, 1_600
-# So many wrong rounds are told of, and after so many rounds how far it is.
+# How many wrong rounds it prints, and after how many rounds it says how far it is.
 TOLD, TELLING = 20, 25
 
 

@@ -20,7 +20,7 @@ SPOILT = SOUND("held.a.sha256=0", "held.b.sha256=0")
 REFUSED = SOUND("held.kind=3")
 # What a program of Python may take for itself.
 OF_PYTHON = 268_435_456
-# A program that answers what lies beside it, after what it is told to do.
+# A program that does what its words say, and then answers what lies beside it.
 PROGRAM = """#!{python} -SE
 import os, sys, time
 {does}

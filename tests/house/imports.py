@@ -1,7 +1,7 @@
 """Looks at the files of tests/, bench/, tools/ and examples/. It needs no program.
 
   - No file but its own test imports from one that is run as a check or as a measure: what two need stands in a file of its own.
-  - Each check is told of in tests/README.md, and each measure in the Makefile.
+  - Each check is named in tests/README.md, and each measure in the Makefile.
   - examples/ has no Python.
 
 usage: python3 -m tests.house.imports     exit status 1 where one does not hold

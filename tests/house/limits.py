@@ -5,7 +5,7 @@ import re
 NUMBER, LARGE = r"(\d[\d,]*\d(?: [MG]iB)?)", r"(\d+,[\d,]*\d)"
 ITEMS = "rs_record/src/limits.rt", r"MOST_ITEMS: usize = (\S+);"
 BLOCKS = "rs_image/src/used.rt", r"MOST_BLOCKS: u64 = (\S+);"
-# What a limit is, how pages tell its figures (a space stands for any white space), in which file of crates/ and how the code has them, and
+# What a limit is, how pages tell its figures (a space matches any white space), in which file of crates/ and how the code has them, and
 # by what the code's are multiplied.
 LIMITS = [
     ("most resources", rf"TooManyResources`(?:\*\*:| \|) (?:[a-z ]+ )?{NUMBER}|{NUMBER} are held"

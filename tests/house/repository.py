@@ -52,6 +52,6 @@ class Repository:
         return [text for it, text in self.sources.items() if own & set(it.parents) and "proofs" not in it.parts]
 
     def has(self, path):
-        """Whether a file or folder ends in this path, where a part in capitals stands for any."""
+        """Whether a file or folder ends in this path, where a part in capitals matches any."""
         wanted = re.sub(r"(?<![\w.])[A-Z][A-Z_]+(?!\w|\.md)", "*", path)
         return path in self.ends or "*" in wanted and bool(fnmatch.filter(self.ends, wanted))

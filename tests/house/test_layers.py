@@ -1,4 +1,7 @@
-"""Tests that the picture of docs/ARCHITECTURE.md has each crate of crates.txt, in its layer, with the crates that it stands on."""
+"""Tests that the picture of docs/ARCHITECTURE.md has each crate of crates.txt, in its layer, with the crates that it stands on.
+
+It also tests what a crate says of another one's proofs: only its `proofs/FromBelow.antt` cites them, and only their `proofs/ForCallers.antt`.
+"""
 
 import re
 import sys
@@ -12,6 +15,16 @@ import kit
 
 # A line of the picture: the layer, the crate, what it is, and the crates that it stands on.
 LINE = re.compile(r"(?m)^ *(\d+)  (rs_\w+) +\S.*?(?:  +(rs_\w+(?: rs_\w+)*))?$")
+
+# What names the proofs of a crate, and the file of them: `Rattle.rs_disk.proofs.Images`.
+CITATION = re.compile(r"\bRattle\.(rs_\w+)\.proofs\.(\w+)")
+
+
+def strays(crate, place, text):
+    """What a file of a crate cites of proofs and should not: in src/ and specs/ any, in proofs/ another crate's."""
+    found = [it for it in CITATION.finditer(text) if it[1] != crate or not place.startswith("proofs/")]
+    is_taken = place == "proofs/FromBelow.antt"
+    return [it[0] for it in found if not (is_taken and it[2] == "ForCallers")]
 
 
 def layers(uses):
@@ -37,6 +50,24 @@ class Layers(unittest.TestCase):
     def test_what_stands_below_another_one_is_left_out(self):
         uses = {"rs_a": ["std"], "rs_b": ["rs_a"], "rs_c": ["rs_a", "rs_b"]}
         self.assertEqual(layers(uses), {"rs_a": (1, set()), "rs_b": (2, {"rs_a"}), "rs_c": (3, {"rs_b"})})
+
+    def test_proofs_are_cited_by_their_interface(self):
+        crates = Path(gate.ROOT, "crates")
+        files = [it for kind in ("*.rt", "*.antt") for it in sorted(crates.rglob(kind)) if "out" not in it.parts]
+        found = {}
+        for file in files:
+            crate, _, place = file.relative_to(crates).as_posix().partition("/")
+            found[f"{crate}/{place}"] = strays(crate, place, file.read_text())
+        self.assertEqual({place: named for place, named in found.items() if named}, {})
+
+    def test_a_stray_citation_is_found(self):
+        lemma, offered = "use Rattle.rs_a.proofs.Images.{settled}", "pub use Rattle.rs_a.proofs.ForCallers.{settled}"
+        self.assertEqual(strays("rs_b", "proofs/Pages.antt", lemma), ["Rattle.rs_a.proofs.Images"])
+        self.assertEqual(strays("rs_b", "proofs/FromBelow.antt", lemma), ["Rattle.rs_a.proofs.Images"])
+        self.assertEqual(strays("rs_b", "proofs/Pages.antt", offered), ["Rattle.rs_a.proofs.ForCallers"])
+        self.assertEqual(strays("rs_b", "proofs/FromBelow.antt", offered), [])
+        self.assertEqual(strays("rs_a", "proofs/Pages.antt", lemma), [])
+        self.assertEqual(strays("rs_a", "specs/Pages.antt", lemma), ["Rattle.rs_a.proofs.Images"])
 
     def test_a_line_is_read(self):
         self.assertEqual(drawn("  2  rs_b  what it is, and more   rs_a\n  1  rs_a  the lowest\n"), [("rs_b", (2, {"rs_a"})), ("rs_a", (1, set()))])

@@ -1,4 +1,4 @@
-"""Tests of the set-up: what is missed by whom, and what is said where nothing may be installed."""
+"""Tests of the set-up: who misses what, and what it prints where it may install nothing."""
 
 import contextlib
 import io
@@ -24,7 +24,7 @@ class SetUp(unittest.TestCase):
         self.assertEqual([it.name for it in setup.missing(TABLE)], ["none", "file"])
 
     def said(self, user, **environment):
-        """What is told for a user, and what was installed."""
+        """What it prints for a user, and what it installed."""
         installed = []
         with contextlib.ExitStack() as patched, contextlib.redirect_stdout(io.StringIO()) as out:
             patched.enter_context(unittest.mock.patch.dict(os.environ, environment))

@@ -1,4 +1,4 @@
-"""Tests of what the pages are held to: a page that is true passes, and each thing that it may say wrongly is told."""
+"""Tests of what the pages are held to: a page that is true passes, and each wrong thing that it may say is found."""
 
 import re
 import tempfile
@@ -46,7 +46,7 @@ class Pages(unittest.TestCase):
         self.repo = Repository(self.root)
 
     def told(self, old="", new=""):
-        """What is told of the page with a text in the place of another."""
+        """What is found on the page with a text in the place of another."""
         self.assertIn(old, PAGE)
         page = self.root / "crates/rs_a/README.md"
         return [what for look in words.LOOKS for _, what in look(self.repo, page, PAGE.replace(old, new, 1))]

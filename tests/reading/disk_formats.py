@@ -22,7 +22,7 @@ def spelled(fields):
 
 
 def extent_fields(first, length):
-    """The blocks of so many bytes. No bytes have no block."""
+    """The number of blocks for this many bytes: none for none."""
     blocks = (length + BLOCK - 1) // BLOCK
     return {"first": number(first if blocks else 0), "blocks": number(blocks)}
 
@@ -67,7 +67,7 @@ def entry_fields(first, data):
 
 
 def header_fields(last, publication=0, at=0, limit=2, base=BASE, start=0, first=0, begin=None, version=VERSION):
-    """The kept changes begin at the start where nothing else is said."""
+    """The kept changes begin at the start, unless the caller gives another moment."""
     head = {"limit": number(limit, 2), **short_fields("base", base), "start": number(start, 8)}
     head |= {"last": number(last, 8), "publication": number(publication, 8), "at": number(at, 8)}
     kept = {"first": number(first, 8), "begin": number(start if begin is None else begin, 8)}
@@ -90,5 +90,5 @@ def over(disk, parts):
 
 
 def laid_out(blocks, parts):
-    """A disk of so many blocks with these bytes, and zeros."""
+    """A disk of this many blocks with these bytes, and zeros."""
     return over(bytes(blocks * BLOCK), parts)

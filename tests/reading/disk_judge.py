@@ -29,7 +29,7 @@ class Broken(Exception):
 
 
 def hold(rule, holds):
-    """Every rule is said with the words that name it."""
+    """Every rule, with the words that name it."""
     if not holds:
         raise Broken(rule)
 
@@ -141,7 +141,7 @@ def change_of(item):
 
 
 def state_of(disk, source):
-    """The state that a source which opens stands for. A damaged body is None."""
+    """The state that a source has, if it opens. A damaged body is None."""
     return crash_model.State(
         base=source.base.decode(),
         limit=source.limit,

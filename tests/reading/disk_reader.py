@@ -7,7 +7,7 @@ import collections
 
 from tests.reading.disk_formats import BLOCK, CHANGES, DELETED, RECORDS, sha256
 
-# What is said of a page, or of the directory: where it lies, its length, and the SHA-256 of its bytes.
+# How the source refers to a page, or to the directory: where it lies, its length, and the SHA-256 of its bytes.
 Entry = collections.namedtuple("Entry", "first blocks length sha256")
 Record = collections.namedtuple("Record", "name kind length md5 sha256 moment first blocks")
 # Of a deletion nothing is known of a body.

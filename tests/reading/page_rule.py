@@ -4,7 +4,7 @@ A command touches one page of a list at most and makes new lists of its items. A
 they were, so whoever keeps pages can tell by `is` which ones no command has touched.
 """
 
-# A touched page of records is cut above so many items, into pages of so many. A page of changes has as many at most.
+# The most items of a page: above it a touched page of records is cut, into pages of the second number. A page of changes is never longer.
 MOST, CUT = 64, 32
 
 

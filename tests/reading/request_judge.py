@@ -1,6 +1,6 @@
 """What a request is answered, byte for byte, by the tables of docs/HTTP.md, written apart from the program.
 
-Whether a head parses is told by request_heads.py, and what a source answers by front_model.py.
+request_heads.py says whether a head parses, and front_model.py what a source answers.
 """
 import datetime
 import email.utils

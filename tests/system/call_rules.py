@@ -8,7 +8,7 @@ import os
 from tests.reading import disk_reader
 from tests.reading.disk_formats import BLOCK
 
-# A body is read in pieces of so many bytes by `verify` and by a copy, and where it is asked for; it comes over HTTP in pieces.
+# The bytes of the pieces in which `verify`, a copy and a request read a body; over HTTP it comes in pieces.
 LOOKED, SHOWN, CAME = 16_384, 262_144, 4_096
 # The bytes of a slot that are read, and those that a new root has in it.
 SLOT, GATE, PAYLOAD = 54, 1, 53
@@ -25,7 +25,7 @@ class Blocks:
             self.used[first : first + blocks] = b"\1" * blocks
 
     def place(self, length):
-        """The byte at which so many bytes go, whose blocks are used from then on."""
+        """The byte at which this many bytes go, whose blocks are used from then on."""
         blocks = -(-length // BLOCK)
         first = self.used.index(bytes(blocks))
         self.used[first : first + blocks] = b"\1" * blocks

@@ -32,7 +32,7 @@ COPY = ["copy", DISK, NEW, "65536"]
 SCRIPT = b"at 951782400000\nput a 616263 text/plain\nput a - text/plain\npublish\ndelete a\nstatus\nshow /changelist.xml\n"
 # What is copied: bodies in one piece and in two, published pages of their own, and changes.
 HELD = f"put a 616263 text/plain\nput b {'62' * 20_000} a/b\npublish\nput a - text/plain\nput c 63 a/b\n".encode()
-# What is told of a source.
+# What a source prints.
 TELL = b"status\nshow /changelist.xml\nshow /resource/b\n"
 FAULTS = []
 
@@ -64,7 +64,7 @@ def made(room):
 
 
 def failed(what, room, words, calls, after):
-    """Each of these calls fails in turn: it is told, and behind it the files are closed, and then this is so."""
+    """Each of these calls fails in turn: the program says so, and behind it the files are closed, and then this is so."""
     wanted = texts(calls)
     for at in numbered(calls):
         clear_new(room, words)

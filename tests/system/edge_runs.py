@@ -29,7 +29,7 @@ static int fails(void) { if (++calls != number("FILE_FAILS_AT", 0)) return 0; er
 #define NEXT(f) ((__typeof__(&f))dlsym(RTLD_NEXT, #f))
 /* A read of what a client sends, or of standard input, is interrupted. */
 static int interrupted(void) { if (++reads != number("INTERRUPTED_AT", 0)) return 0; errno = EINTR; return 1; }
-/* A write of so many bytes or more takes none of them; each is counted. */
+/* A write of this many bytes or more takes none of them; each is counted. */
 static int takes_none(size_t n) { long from = number("NONE_TAKEN_FROM", 0); if (!from || n < (size_t)from) return 0; nones += number("TRIES", 1); return 1; }
 
 /* The time of day is SECONDS and NANOSECONDS, and DAYS later with each connection that was taken. No time passes. */
@@ -67,7 +67,7 @@ int fdatasync(int fd) { return fails() ? -1 : NEXT(fdatasync)(fd); }
 extern void *__libc_malloc(size_t), *__libc_realloc(void *, size_t);
 static long growths = 0;
 static int refused(void) { return accepts && ++growths == number("GROWTH_REFUSED_AT", 0); }
-/* How many there were is told at the end, and how many writes took no byte. */
+/* At the end it prints how many there were, and how many writes took no byte. */
 __attribute__((destructor)) static void told(void) {
     if (getenv("GROWTHS_TOLD")) dprintf(2, "%ld growths\n", growths);
     if (getenv("NONES_TOLD")) dprintf(2, "%ld took none\n", nones);
@@ -95,7 +95,7 @@ def ran(program, room, *words, given=b"", env=None, **ends):
 
 @contextlib.contextmanager
 def served(program, room, count, port="0", stderr=None, **settings):
-    """The port of a server, and the server, of so many connections to a.disk, with these settings of the system."""
+    """The port of a server, and the server, of this many connections to a.disk, with these settings of the system."""
     env = interposed(room, "system", SYSTEM) | settings
     words = [program, "serve", "a.disk", port, str(count)]
     with subprocess.Popen(words, cwd=room, stdout=subprocess.PIPE, stderr=stderr, env=env) as server:

@@ -14,7 +14,7 @@ from tests.program import Differs, compare, interposed
 from tests.system.edge_runs import HOST, PUT, SECONDS, SYSTEM, TOO_LONG, asked, connected, ends_with
 from tests.system.edge_runs import formatted, is_read_from, ran, read_to_end, served
 
-# For so many seconds the rest of a refused request is read, and then the next client is served within so many more.
+# The seconds for which the rest of a refused request is read, and those within which the next client is then served.
 LONGEST_REST, MARGIN = 2, 4
 # A body that goes on past what a writer holds back, and a line that puts it.
 LARGE = b"x" * 100_000
@@ -99,7 +99,7 @@ def commands_come_when_their_connection_is_taken(program, room):
 
 @contextlib.contextmanager
 def served_in_time(program, room, count):
-    """The port of a server, and the server, of so many connections, whose clocks are the system's."""
+    """The port of a server, and the server, of this many connections, whose clocks are the system's."""
     with subprocess.Popen([program, "serve", "a.disk", "0", str(count)], cwd=room, stdout=subprocess.PIPE) as server:
         try:
             yield int(server.stdout.readline().removeprefix(b"listening 127.0.0.1:")), server
@@ -172,7 +172,7 @@ def a_write_that_takes_no_byte_is_tried_once(program, room, **settings):
     ran(program, room, "run", "a.disk", given=PUT_LARGE)
     environment = interposed(room, "system", SYSTEM) | {"NONES_TOLD": "1"} | settings
     show, put = b"show /resource/b\n", b"put c 61 a/b\n"
-    # From so many bytes on a write takes none: that of the body alone, that of what is held back too, and the one of a file.
+    # From this many bytes on a write takes none: that of the body alone, that of what is held back too, and the one of a file.
     for size, script, wanted in [(10_000, show, (1, b"rs_source: Write\n1 took none\n")), (1, b"status\n", (1, b"rs_source: Write\n2 took none\n")),
                                  (172, put, (0, b"1 took none\n"))]:
         found = ran(program, room, "run", "a.disk", given=script, env=environment | {"NONE_TAKEN_FROM": str(size)})

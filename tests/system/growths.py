@@ -37,15 +37,15 @@ void *malloc(size_t n) { return __libc_malloc(counted(n)); }
 void *realloc(void *p, size_t n) { return __libc_realloc(p, counted(n)); }
 __attribute__((destructor)) static void told(void) { dprintf(2, "\ngrowths %lu %lu %lu\n", growths, largest, all); }
 """
-# A disk of so many pages.
+# The pages of a disk.
 PAGES = 5_000
 # How many growths there were, the bytes of the largest one, and those of all.
 Asked = collections.namedtuple("Asked", "growths largest all")
-# A growth for so many bytes of a refused file.
+# The bytes of a refused file for which memory grows once.
 OF_A_GROWTH = 16
 # The bytes of an item in memory, and of what the directory says of a page there; the bytes of an entry on the disk.
 ITEM, REFERENCE, ENTRY = 152, 48, 44
-# What a wrong program asks for beside, on a disk of so many pages: four million bytes for any directory, room for 50,000 items for a list,
+# What a wrong program asks for beside, on a disk of this many pages: four million bytes for any directory, room for 50,000 items for a list,
 # or for as many entries of pages as they have bytes.
 WRONG = {
     "a directory of any length": lambda pages: 4_000_000,
@@ -86,12 +86,12 @@ def made(program, room):
 
 
 def held(count):
-    """A disk with so many resources, changes and published ones."""
+    """A disk with this many resources, changes and published ones."""
     return paged_disk.spelled(count, count)
 
 
 def small_pages(count):
-    """A disk with so many resources of no bytes, each in a page of its own, and as many changes in one page."""
+    """A disk with this many resources of no bytes, each in a page of its own, and as many changes in one page."""
     names = [b"n%06d" % number for number in range(count)]
     records = [parts_of.page(1, [parts_of.record(name, b"", moment, 0)]) for moment, name in enumerate(names, 1)]
     changes = parts_of.page(2, [parts_of.change(1, name, moment, b"") for moment, name in enumerate(names, 1)])

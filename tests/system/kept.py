@@ -27,7 +27,7 @@ SECONDS = 600
 SIZES = (16_384, 65_536, 262_144)
 # The lengths of bodies, round the ends of blocks and pieces, and one that never fits into the smallest disk.
 LENGTHS = (0, 1, 511, 512, 513, 1_024, 2_000, 4_095, 4_096, 4_097, 8_193, 12_289)
-# So many commands are done before the files are compared.
+# This many commands are done before the files are compared.
 PIECE = 20
 REQUESTS = 12
 

@@ -60,7 +60,7 @@ def state_on(what, disk):
 
 
 def group_lines(name, size):
-    """The lines of a group: some puts, the first of which has so many bytes, a put again and a deletion."""
+    """The lines of a group: some puts, the first of which has this many bytes, a put again and a deletion."""
     puts = [f"put {name}{number} {'61' * (1 if number else size)} text/plain" for number in range(GROUPED - 2)]
     return [*puts, f"put {name}1 - a/b", f"delete {name}2"]
 

@@ -43,7 +43,7 @@ FAILED = b"refused Device\n"
 CLOSED = b"refused Closed\n"
 # What lines are answered for which the source is not asked.
 UNASKED = {b"ok\n"} | {b"refused " + name + b"\n" for name in [b"BadLine", b"BadMoment", b"BadName", b"BadHex", b"BadType", b"LongLine"]}
-# A line is kept in memory from so many bytes on, and so are the parts of an item. These lines ask the source for memory.
+# From this many bytes on a line is kept in memory, and so are the parts of an item. These lines ask the source for memory.
 KEPT, ITEMS, ASKING = 9, (b"put ", b"delete "), (b"publish", b"verify")
 # The ends of responses to requests whose head is refused.
 OF_HEADS = (b"\nTooLong\n", b"\nNoLength\n", b"\nTransferEncoding\n", b"\nBadMethod\n")

@@ -30,7 +30,7 @@ __attribute__((constructor)) static void begin(void) {
     if (getenv("AT_ONCE")) at_once = atol(getenv("AT_ONCE"));
 }
 static int ours(long fd) { return fd >= 0 && fd < MOST && is_ours[fd]; }
-/* A line of the list: the call, its number, its result, and what is said of it. */
+/* A line of the list: the call, its number, its result, and a remark. */
 static long noted(const char *call, long fd, long result, long at, long length, const char *more) {
     int error = errno, n;
     char line[5000];

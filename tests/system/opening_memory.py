@@ -8,7 +8,7 @@ from tests.reading.disk_formats import BLOCK, sha256
 
 # The program begins with these bytes, in so few growths, of which the largest is what holds the lines of a script.
 BEGUN, GROWTHS, LINES = 12_288, 16, 8_192
-# Which blocks are used takes some bits for each: so many bytes of a file take one of memory.
+# Each block has some bits that say whether it is used: this many bytes of a file take one of memory.
 OF_FILE = 1_024
 # An item, and what is kept of a page beside it: what the directory says of it, its place, and its part in three lists.
 ITEM, PAGE = 160, 208
@@ -19,7 +19,7 @@ SHORTEST, HEAD = 11, 5
 
 
 def grown(count):
-    """For how many items a list of so many asks in all, as it grows."""
+    """For how many items a list of this many asks in all, as it grows."""
     room, asked = 0, 0
     while room < count:
         room = 2 * room or 4

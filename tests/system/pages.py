@@ -35,11 +35,11 @@ NAMES_OF = ("catalogue", "changes", "published")
 WHAT = {CREATED: "created", UPDATED: "updated", DELETED: "deleted"}
 # The names of the random commands, in the order of their bytes.
 POOL = sorted(f"{front}{i:03d}" for front in ("%41", "A", "a", "a/", "b/c", "~") for i in range(100))
-# So many commands are drawn in one way: of all names, or of so many beside each other, with one of these shares of puts; or
+# How many commands are drawn in one way: of all names, or of some names beside each other, with one of these shares of puts; or
 # each of these names is put, or deleted, one after the other, and that is published.
 STRETCH, BESIDE, SHARES = 60, 200, (0.05, 0.4, 0.7, 0.95)
 PUBLICATIONS = 0.03
-# So many commands are done before the file is looked at.
+# This many commands are done before the file is looked at.
 PIECE = 100
 BODIES = ("-", "-", "61", "62" * 513)
 

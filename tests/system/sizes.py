@@ -28,7 +28,7 @@ KIB, MIB, MOST = 1024, 1_048_576, 8_388_608 * BLOCK
 # How many resources, of how many bytes, are put on a disk; and how often each is put again.
 Filling = collections.namedtuple("Filling", "resources size again")
 FILLINGS = [Filling(100, 4096, 1), Filling(300, 600, 1), Filling(40, 0, 9)]
-# So many blocks the formula may have beside a tenth more than are taken.
+# This many blocks the formula may have beside a tenth more than are taken.
 SPARE, SECONDS = 100, 120
 
 

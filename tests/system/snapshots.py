@@ -2,7 +2,7 @@
 
 Each function below is one kind of snapshot, and its first line says which. One client puts to a served source, one resource after another;
 amid that each snapshot is taken, with what was answered before it and what had begun by its end. Each has to open afterwards, with a number of
-changes within these bounds, and with the bodies that so many puts leave. A device at one moment, mounted anew, is what a machine
+changes within these bounds, and with the bodies that this many puts leave. A device at one moment, mounted anew, is what a machine
 finds that takes over from another one: what the lost machine had in memory only is not there.
 
 It needs root, loop devices, mkfs.xfs (whose files can be copied at one moment), mkfs.ext4 and mkfs.btrfs. All is mounted in a name space of its
