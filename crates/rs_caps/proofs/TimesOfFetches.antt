@@ -116,7 +116,7 @@ same_part false k limit c n parts head items e below tight a b is =
     let full : (k + 1) * limit ≤ head = omega arith in
     part_whole k limit c items (omega arith) ∙ sym (part_whole k limit n items (omega arith))
 
--- so many items have so many parts as cover them tightly
+-- parts that cover items tightly are as many as the items need
 not_more : (b : Bool) (p q n limit : ℕ) → nat_le q p ≡ b → n ≤ p * limit → q * limit < n + limit → q ≤ p
 not_more true p q n limit e covers tight = grind (arith, nat_tests)
 not_more false p q n limit e covers tight =

@@ -4,8 +4,7 @@ use Rattle.std.specs.Io.KnownBytes.{Consumes, Appends, IsAtEnd}
 use Rattle.httpdate.specs.Date.{unix_secs}
 use Rattle.httpdate.specs.declared.date.HttpDate.{HttpDate}
 use Rattle.rs_disk.specs.Medium.{DiskState}
-use Rattle.rs_io.specs.declared.watch.Watched.{Watched}
-use Rattle.rs_io.specs.Watch.{watched, seen_by, failures, EndFailed, PutFailed, FlushFailed, TellsEnd, End, Ends}
+use Rattle.rs_io.specs.Watch.{watched, failures, EndFailed, PutFailed, FlushFailed, TellsEnd, End, Ends}
 use Rattle.rs_store.specs.Received.{IsCutShort, coming_put}
 use Rattle.rs_recovery.specs.Prefixes.{Recovers}
 use Rattle.rs_http.specs.declared.fault.FrontFault.{FrontFault}

@@ -6,11 +6,11 @@ use crate::laws::sessions_stand;
 use rs_caps::laws::destination::destination_mirrors;
 use rs_model::walks_are_catalogued;
 
-/// Whatever the stops between sessions, commands of each stand so that this holds of a destination that asks for the
-/// Resource List and then for the Change List, each with the parts that its head names, and each document in whatever
-/// session: what it gathers and mirrors is what was held after the first of the commands that stand. These are at least
-/// those behind the source when the destination asked for the Change List's head, and at most those behind it at the
-/// last request. Where a group comes next there, the mirror may be what was held followed by the group's first changes.
+/// Whatever the stops between sessions, commands of each session stand. A destination asks for the Resource List, then
+/// for the Change List, and for each part that their heads name; each request may come in another session. What it
+/// gathers and mirrors is what the source held after the first of the commands that stand. These are at least those
+/// behind the source when the destination asked for the Change List's head, and at most those behind it at the last
+/// request. Where a group comes next there, the mirror may hold the group's first changes too.
 ///
 /// The source was formatted, or is a copy of one that was. Its sessions may be on disks of several types.
 pub fn sessions_are_mirrored()

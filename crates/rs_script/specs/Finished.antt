@@ -2,8 +2,7 @@
 use Rattle.std.specs.Prelude.{◌≡◌, ◌⊎◌, ◌≤◌, ◌+◌, ◌*◌, ℕ, true, List, [], ◌∷◌, ◌++◌, length, Option}
 use Rattle.std.specs.Io.KnownBytes.{Consumes}
 use Rattle.rs_disk.specs.Medium.{DiskState}
-use Rattle.rs_io.specs.declared.watch.Watched.{Watched}
-use Rattle.rs_io.specs.Watch.{watched, calls, failures, is_flushed, seen_by, End, Ends, Wrote}
+use Rattle.rs_io.specs.Watch.{watched, calls, failures, is_flushed, End, Ends, Wrote}
 use Rattle.rs_store.specs.Source.{Stored}
 use Rattle.rs_script.specs.Answers.{output_of}
 use Rattle.rs_script.specs.Broken.{BreaksOff}

@@ -1,5 +1,5 @@
 -- What a request on a connection does, and the held state after connections.
-use Rattle.std.proofs.Common.{◌≡◌, ◌≤◌, ◌+◌, ℕ, zero, suc, List, [], ◌∷◌, ◌++◌, length, length-append, Result, Ok, Err, false, refl, ap, sym, ◌∙◌, subst, inl, inr, arith}
+use Rattle.std.proofs.Common.{◌≡◌, ◌≤◌, ◌+◌, ℕ, zero, suc, List, [], ◌∷◌, ◌++◌, length, length-append, Result, Ok, Err, refl, ap, sym, ◌∙◌, subst, inl, inr, arith}
 use Rattle.std.specs.Prelude.{IfOk, IsErrOf}
 use Rattle.rs_disk.specs.Medium.{DiskState}
 use Rattle.rs_io.specs.Watch.{Ends}

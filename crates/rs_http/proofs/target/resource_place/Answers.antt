@@ -1,7 +1,6 @@
 -- There may be no memory only for a lawful name.
 use Rattle.std.proofs.Common.{◌≡◌, arith}
 use Rattle.std.proofs.lemmas.Grind.{common_steps}
-use Rattle.rs_http.specs.declared.target.Place.{Place}
 use Rattle.rs_http.specs.declared.target.Place.TheVariants.{Resource}
 use Rattle.rs_http.specs.Targets.{resource_place}
 use Rattle.rs_http.proofs.target.resource_place.Goals as goal
