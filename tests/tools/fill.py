@@ -22,9 +22,8 @@ from tests.program import TOOLS, Differs
 from tests.reading import disk_parts as parts_of
 from tests.tools.hostile_source import answered, entry, lying
 from tests.tools.running import SECONDS, Server, begun, ended, has, ropepeach, rows, same, wait_until, written
+from tests.tools.taken import COUNTS, little, most_memory, small_files
 
-# The most bytes of memory for a file of a folder, by folders of this many files.
-MEMORY, COUNTS = 300, (10_000, 40_000)
 # A run reads four lists first.
 LISTS = 4
 
@@ -241,37 +240,16 @@ def a_key_stops_a_run_in_one_line(program, room):
         server.holds(folder)
 
 
-# Runs the command, and prints the most memory that it took, in KiB.
-MEASURED = """import re, sys
-sys.path.insert(0, sys.argv.pop(1))
-from ropepeach.command import main
-status = main()
-print(re.search(r"VmHWM:\\s*(\\d+)", open("/proc/self/status").read())[1])
-sys.exit(status)
-"""
-
-
-def most_memory(*words):
-    """The most memory that a run of the command takes, in bytes."""
-    ran = subprocess.run([PYTHON, "-c", MEASURED, TOOLS, *words], stdout=subprocess.PIPE, text=True, env=os.environ | DIRECT, timeout=SECONDS)
-    same("its status", 0, ran.returncode)
-    return int(ran.stdout.split()[-1]) * 1024
-
-
 def a_file_takes_little_memory(program, room):
     """Each file of a folder takes 300 bytes of memory at most, where all are held already and where none is."""
     used = {}
     for count in COUNTS:
-        folder = written(f"{count}", {"name00000": b"abc"})
-        for it in range(1, count):
-            (folder / f"name{it:05}").write_bytes(b"abc")
+        folder = small_files(f"{count}", count)
         for what, disk in ("none is held", None), ("all are held", paged_disk.spelled(count, 0)):
             with Server(program, f"{count} {what}", given=disk) as server:
                 used.setdefault(what, []).append(most_memory("fill", folder, server.url, "--dry-run"))
-    for what, (less, more) in used.items():
-        each = (more - less) / (COUNTS[1] - COUNTS[0])
-        print(f"fill: {each:.0f} bytes of memory a file, where {what}")
-        same("little memory", True, each <= MEMORY)
+    for what, figures in used.items():
+        little(f"fill, where {what}", figures)
 
 
 CHECKS = [

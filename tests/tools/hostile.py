@@ -9,6 +9,7 @@ usage: python3 -m tests.tools.hostile [PROGRAM] [NAME..]     names of rows (all,
 Exit status 1 if one does not hold.
 """
 import gzip
+import hashlib
 import os
 import pathlib
 import re
@@ -21,7 +22,7 @@ import time
 from tests.mirror.mirrors import DIRECT
 from tests.program import Differs
 from tests.tools import COMMAND
-from tests.tools.hostile_source import HEAD, MOMENT, answered, dripping, entry, flooding, listed, lying
+from tests.tools.hostile_source import HEAD, MOMENT, answered, dripping, entry, flooding, in_parts, lying
 from tests.tools.running import has, same
 
 # What a run may take at most: bytes that the source could send, seconds of a processor and on the clock, bytes of memory (its address space).
@@ -62,11 +63,7 @@ def short_entry(base, number):
 
 def parts(liar):
     """An index of two parts of 30,000 entries each."""
-    names = [f"{liar.base}/resourcelist/1/{it}.xml" for it in (0, 1)]
-    liar.resources([f'<sitemap><loc>{it}</loc><rs:md at="{MOMENT}"/></sitemap>\n' for it in names], "sitemapindex")
-    for number, name in enumerate(names):
-        entries = [entry(f"{liar.base}/resource/{number}/{it}", hashes="md5:" + "0" * 32) for it in range(30_000)]
-        liar.documents({name.removeprefix(liar.base): listed("resourcelist", entries, said=f' at="{MOMENT}"')})
+    in_parts(liar, [entry(f"{liar.base}/resource/{it}", hashes="md5:" + "0" * 32) for it in range(60_000)], 30_000)
 
 
 def redirected(liar):
@@ -74,6 +71,12 @@ def redirected(liar):
     elsewhere = liar.base.replace("127.0.0.1", "localhost") + "/elsewhere"
     liar.answers["/resource/a"] = answered(b"", "302 Found", f"Location: {elsewhere}\r\n")
     liar.documents({"/elsewhere": b"body"})
+
+
+def digests(right):
+    """The digests of `body`, of which this one alone is right."""
+    both = {"md5": hashlib.md5(b"body").hexdigest(), "sha-256": hashlib.sha256(b"body").hexdigest()}
+    return " ".join(f"{kind}:{it if kind == right else '0' * len(it)}" for kind, it in both.items())
 
 
 def escaping(name):
@@ -114,6 +117,8 @@ ROWS = {
     "a body of chunks without end": (at("/resource/a", flooding(answered(b"", fields="Transfer-Encoding: chunked\r\n", length=""), b"10000\r\n" + bytes(65_536) + b"\r\n")), "more than 4 bytes"),
     "a shorter body": (at("/resource/a", answered(b"bod")), "/resource/a: has other bytes than listed"),
     "other bytes": (at("/resource/a", answered(b"doby")), "/resource/a: has other bytes than listed"),
+    "another SHA-256": (resource_list(lambda base: [entry(f"{base}/resource/a", hashes=digests("md5"))]), "/resource/a: has other bytes than listed"),
+    "another MD5": (resource_list(lambda base: [entry(f"{base}/resource/a", hashes=digests("sha-256"))]), "/resource/a: has other bytes than listed"),
     "a packed body": (at("/resource/a", answered(gzip.compress(bytes(100_000_000), 1)[:4], fields="Content-Encoding: gzip\r\n")), "has other bytes than listed"),
     "a body that is cut": (at("/resource/a", answered(b"bo", length=4)), "no answer for 0.5 seconds"),
     "a redirect of a resource": (redirected, "302 Found: redirects are not followed"),

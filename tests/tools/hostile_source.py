@@ -74,6 +74,14 @@ class Liar:
             pass
 
 
+def in_parts(liar, entries, most=5_000):
+    """Gives the Resource List of a source these entries, in parts of this many."""
+    parts = [entries[at : at + most] for at in range(0, len(entries), most)]
+    names = [f"/resourcelist/1/{number}.xml" for number in range(len(parts))]
+    liar.resources([f'<sitemap><loc>{liar.base}{it}</loc><rs:md at="{MOMENT}"/></sitemap>\n' for it in names], "sitemapindex")
+    liar.documents({name: listed("resourcelist", it, said=f' at="{MOMENT}"') for name, it in zip(names, parts)})
+
+
 @contextlib.contextmanager
 def lying():
     """A liar that serves."""

@@ -17,6 +17,9 @@ class Server(http.server.ThreadingHTTPServer):
         self.answer, self.asked = answer, []
         self.url = f"http://127.0.0.1:{self.server_address[1]}"
 
+    def handle_error(self, request, client_address):
+        """Says nothing of a client that leaves early."""
+
 
 class Handler(http.server.BaseHTTPRequestHandler):
     def do_GET(self):

@@ -6,6 +6,7 @@ tests/tools/hostile.py those of sources that lie, tests/tools/served.py those th
 usage: python3 -m tests.tools.mirror [PROGRAM] [NAME..]     names of functions (all, if none is given)
 Exit status 1 if one does not hold.
 """
+import contextlib
 import fcntl
 import itertools
 import json
@@ -19,12 +20,15 @@ import struct
 import subprocess
 import sys
 import termios
+from unittest import mock
 
+from ropepeach.connections import Connections
 from tests.mirror.mirrors import DIRECT
 from tests.program import TOOLS, Differs
-from tests.tools import COMMAND
-from tests.tools.hostile_source import answered, lying
+from tests.tools import COMMAND, lists_server
+from tests.tools.hostile_source import answered, entry, in_parts, lying
 from tests.tools.running import SECONDS, Server, begun, ended, files_of, has, ropepeach, rows, same, wait_until, written
+from tests.tools.taken import COUNTS, little, most_memory, small_files
 
 FILES = {f"d{number % 7}/{number}.txt": b"%d" % number * 50 for number in range(150)}
 
@@ -159,9 +163,12 @@ def a_bar_is_shown_on_a_terminal_alone(program, room):
     with filled(program) as server:
         ours, its = pty.openpty()
         fcntl.ioctl(its, termios.TIOCSWINSZ, struct.pack("HHHH", 24, 100, 0, 0))
-        ran = subprocess.run([*COMMAND, "mirror", server.url, "m"], stdout=subprocess.PIPE, stderr=its, timeout=SECONDS, env=os.environ | DIRECT)
-        shown = os.read(ours, 65_536)
-        same("on a terminal", 0, ran.returncode)
+        run, shown = begun("mirror", server.url, "m", stderr=its), b""
+        os.close(its)
+        with contextlib.suppress(OSError):
+            while piece := os.read(ours, 65_536):
+                shown += piece
+        same("on a terminal", 0, run.wait(SECONDS))
         same("elsewhere", "", ropepeach("mirror", server.url, "n")[2])
     if not re.search(rb"fetching 100% \|.*\| \d\d:\d\d left, 150 of 150, [\d.]+[kM]?B/s", shown):
         raise Differs(f"no bar: {shown[-300:]}")
@@ -177,9 +184,38 @@ def the_old_names_still_work(program, room):
     same("the folder", files_of(folder), files_of("m"))
 
 
+def a_connection_that_stays_open_is_used_again(program, room):
+    """A source that keeps its connection open is asked on it again, but not behind an answer of which something is left."""
+    answers = {"/a": (200, "text/plain", b"a" * 100_000), "/empty": (200, "text/plain", b""), "/gone": (404, "text/plain", b"x" * 200_000)}
+    with mock.patch.object(lists_server.Handler, "protocol_version", "HTTP/1.1"), lists_server.serving(answers.get) as server:
+        connections, found, ports = Connections(server.url), [], []
+        for path in ("/a", "/empty", "/a", "/gone", "/a"):
+            answer = connections.ask("GET", path)
+            found.append((answer.status, answer.body == answers[path][2]))
+            ports.append(connections.plain.sock and connections.plain.sock.getsockname())
+        same("answers", [(200, True), (200, True), (200, True), (404, False), (200, True)], found)
+        same("one connection at first, none behind the long refusal, another one then", (True, None, True), (len({*ports[:3]}) == 1, ports[3], ports[4] not in ports[:4]))
+        connections.plain.close()
+
+
+def a_file_takes_little_memory(program, room):
+    """Each file of a mirror takes 300 bytes of memory at most, in a baseline of all of them."""
+    used = []
+    for count in COUNTS:
+        folder = small_files(f"{count}", count)
+        with lying() as liar:
+            entries = [entry(f"{liar.base}/resource/{it.name}", it.read_bytes()) for it in sorted(folder.iterdir())]
+            in_parts(liar, entries)
+            (folder / "#state").write_text(json.dumps({"source": liar.base, "until": None, "newest": None}))
+            used.append(most_memory("mirror", liar.base, folder))
+            same("resources that were asked for", [], [it for it in liar.asked if it.startswith("/resource/")])
+    little("mirror", used)
+
+
 CHECKS = [
     a_source_that_is_away_is_waited_for, the_address_of_a_description_is_taken, a_wrong_address_leaves_nothing, a_mirror_follows_its_source,
     a_key_stops_a_run_in_one_line, a_killed_run_leaves_whole_files, a_bar_is_shown_on_a_terminal_alone, the_old_names_still_work,
+    a_connection_that_stays_open_is_used_again, a_file_takes_little_memory,
 ]
 
 if __name__ == "__main__":

@@ -132,6 +132,8 @@ def wait_until(is_so, what):
 
 def rows(name, checks):
     """Runs functions, each with the program and a folder, and prints a line for each; gives the exit status."""
+    # (what a shell begins behind its back ignores this signal, and so would the command)
+    signal.signal(signal.SIGINT, signal.default_int_handler)
     given = sys.argv[1:]
     program = os.path.abspath(given.pop(0) if given and os.path.isfile(given[0]) else PROGRAM)
     checks, failed = [it for it in checks if not given or it.__name__ in given], 0

@@ -128,6 +128,26 @@ def what_is_not_allowed(room, program):
     return "a file, a folder and a port, each with its owner and its mode"
 
 
+def what_a_user_without_rights_sees(room, program):
+    """Nobody asks, to whom the system shows less: a file and a folder of root, and a lock and a port of processes of root."""
+    behind = ["setpriv", f"--reuid={NOBODY}", "--clear-groups", "--"]
+    if not IS_ROOT or not shutil.which("setpriv") or ran("why", "--help", behind=behind).returncode:
+        return f"NOT TRIED, as the user {NOBODY} can't run the command here"
+    room.chmod(0o755)
+    path, port = file_in(room), free_port()
+    as_nobody = lambda status, *phrases, words: says(status, *phrases, words=words, behind=behind)
+    as_nobody(1, f"the user {NOBODY} may not read and write {path}", f"if {NOBODY} runs the program, else ask as root", words=[path])
+    os.chmod(path, 0o666)
+    as_nobody(0, f"the user {NOBODY} can open {path} and listen on port {port}", words=[path, port])
+    with child(*locking(path)) as holder:
+        as_nobody(1, f"{path} is locked by process {holder.pid} (", words=[path])
+    with child(*listening(port)):
+        as_nobody(1, f"port {port} is taken by a process that can't be seen from here (root sees more", words=[path, port])
+    room.chmod(0o700)
+    as_nobody(1, f"the user {NOBODY} may not pass the folder {room}", "else ask as root", words=[path])
+    return "both are told, the lock with its process, the port without"
+
+
 def what_is_locked(room, program):
     """The process that has the file locked is named: its owner, one that inherited the lock, one that shares it; not one that waits."""
     path = file_in(room)
@@ -321,7 +341,8 @@ def the_page_of_the_manual(room, program):
     return page_of("why")
 
 
-ROWS = [the_page_of_the_manual, nothing_is_in_the_way, what_is_not_there, what_is_not_allowed, what_is_locked, the_program_itself, a_port_that_is_taken,
+ROWS = [the_page_of_the_manual, nothing_is_in_the_way, what_is_not_there, what_is_not_allowed, what_a_user_without_rights_sees,
+        what_is_locked, the_program_itself, a_port_that_is_taken,
         a_file_system_that_is_read_only, a_file_system_that_is_full, how_much_room_is_enough, lines_of_locks, wrong_arguments]
 
 

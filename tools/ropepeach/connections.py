@@ -1,5 +1,7 @@
 """How the commands ask a source over HTTP: urllib3, with one connection, patience, and limits on what comes back.
 
+A source over plain HTTP is asked on urllib3's connection itself, which costs half of what its pool does; the pool knows TLS and proxies.
+
 An answer is taken whole, or the asking ends by a Fault. A source that does not answer, or whose proxy says that it is away (502, 503,
 504), is asked again for some seconds. Redirects are not followed.
 """
@@ -15,7 +17,9 @@ from collections import namedtuple
 from urllib.parse import urlsplit
 
 import urllib3
+from urllib3.connection import HTTPConnection
 from urllib3.exceptions import ConnectTimeoutError, HTTPError, MaxRetryError, NewConnectionError, ProxyError, SSLError
+from urllib3.util.connection import is_connection_dropped
 from urllib3.util.retry import Retry
 
 from ropepeach.faults import Fault, Long, Misused, Silent, Slow
@@ -28,6 +32,11 @@ LONGEST_DOCUMENT = 10_485_760
 PIECE = 65_536
 AWAY = {502, 503, 504}
 Answer = namedtuple("Answer", "status reason fields body")
+# How urllib3 asks once: the caller has the patience, and takes the bytes as they are sent.
+AS_SENT = {"preload_content": False, "enforce_content_length": True, "decode_content": False}
+ONCE = AS_SENT | {"retries": Retry(False, redirect=False), "redirect": False}
+# (a connection of urllib3 1 gives Python's own response, one of urllib3 2 its own)
+PLAINLY = {} if urllib3.__version__.startswith("1.") else AS_SENT
 
 
 class Patience(Retry):
@@ -76,12 +85,20 @@ def within(seconds, what):
         signal.signal(signal.SIGALRM, before)
 
 
+class Plain(HTTPConnection):
+    """A connection over plain HTTP to the source itself."""
+
+    def connect(self):
+        super().connect()
+        self.sock.settimeout(STILL)
+
+
 class Connections:
-    """One connection to the source at an address, opened anew where the source closes it."""
+    """One connection to the source at an address, opened anew where the source closes it: `plain`, or the one of a pool."""
 
     def __init__(self, address, patience=PATIENCE, certificate=None, whole=WHOLE):
         self.address, self.patience, self.whole, self.target = address.rstrip("/"), patience, whole, ""
-        self.longest = LONGEST_DOCUMENT
+        self.longest, self.plain = LONGEST_DOCUMENT, None
         try:
             self.pool, self.front = self.pool_to(urlsplit(self.address), certificate)
         except (ValueError, HTTPError):
@@ -100,6 +117,8 @@ class Connections:
         if proxy and not is_near(parts.hostname) and not urllib.request.proxy_bypass(parts.hostname):
             front = parts.path if parts.scheme == "https" else self.address
             return urllib3.proxy_from_url(proxy, **words).connection_from_url(self.address), front
+        if parts.scheme == "http":
+            self.plain = Plain(parts.hostname, parts.port or 80, timeout=CONNECT)
         return urllib3.connection_from_url(self.address, **words), parts.path
 
     def exact(self, kind):
@@ -117,7 +136,7 @@ class Connections:
 
         A request that is not safe to repeat is sent again only where the source cannot have seen it.
         """
-        what, waiting, is_told = f"{method} {self.address}{path}", self.retries(), False
+        what, waiting, is_told = f"{method} {self.address}{path}", None, False
         fields = {"User-Agent": "ropepeach"} | ({"Content-Type": kind} if kind else {})
         while True:
             fault, answer = None, None
@@ -132,7 +151,7 @@ class Connections:
                     raise Fault(f"{what}: {why}") from None
             if is_seen and not is_safe:
                 raise Silent(f"{what}: no answer: {why}")
-            waiting = self.longer(waiting, method, path, what, why, fault)
+            waiting = self.longer(waiting or self.retries(), method, path, what, why, fault)
             if not is_told and waiting.get_backoff_time():
                 tell(f"{what}: {why}; asking again for {self.patience:g} seconds")
                 is_told = True
@@ -152,36 +171,62 @@ class Connections:
 
     def asked(self, what, method, path, body, fields, most):
         """One answer to one request that is sent once."""
-        self.target = self.front + path
+        ask = self.asked_plainly if self.plain else self.asked_of_pool
         with within(self.whole, what):
-            how = {"retries": False, "redirect": False, "preload_content": False, "enforce_content_length": True, "decode_content": False}
-            response = self.pool.urlopen(method, "/", body=body, headers=fields, **how)
-            try:
-                text = taken(response, what, most)
-            except BaseException:
-                response.close()
-                raise
-            finally:
-                response.release_conn()
-            return Answer(response.status, response.reason or "", response.headers, text)
+            return ask(what, method, self.front + path, body, fields, most)
+
+    def asked_of_pool(self, what, method, target, body, fields, most):
+        self.target = target
+        response = self.pool.urlopen(method, "/", body=body, headers=fields, **ONCE)
+        try:
+            return Answer(response.status, response.reason or "", response.headers, taken(response, what, most))
+        except BaseException:
+            response.close()
+            raise
+        finally:
+            response.release_conn()
+
+    def asked_plainly(self, what, method, target, body, fields, most):
+        is_whole = False
+        if is_connection_dropped(self.plain):
+            self.plain.close()
+        try:
+            self.plain.request(method, target, body=body, headers=fields, **PLAINLY)
+            response = self.plain.getresponse()
+            answer = Answer(response.status, response.reason or "", response.headers, taken(response, what, most))
+            is_whole = left_of(response) == 0
+            return answer
+        finally:
+            # What is left of an answer must not be taken for the next one.
+            if not is_whole:
+                self.plain.close()
+
+
+def left_of(response):
+    """How many bytes of a body are left, if that is known."""
+    return response.length if isinstance(response, http.client.HTTPResponse) else response.length_remaining
 
 
 def taken(response, what, most):
     """The body of a response, with `most` bytes at most; a refusal is cut to what a person reads."""
     is_success = response.status < 300
     most = most if is_success else PIECE
-    told = response.headers.get("Content-Length", "")
-    if is_success and told.isdecimal() and int(told) > most:
-        raise Long(f"{what}: the answer has {int(told):,} bytes, more than {most:,}")
-    pieces, size = [], 0
-    while size <= most and (piece := response.read(most + 1 - size, decode_content=False)):
+    if is_success and (left_of(response) or 0) > most:
+        raise Long(f"{what}: the answer has {left_of(response):,} bytes, more than {most:,}")
+    pieces, size, is_whole = [], 0, False
+    while size <= most and not is_whole:
+        piece = response.read(most + 1 - size)
         pieces.append(piece)
         size += len(piece)
+        is_whole = not piece or left_of(response) == 0
     if size > most:
         response.close()
         if is_success:
             raise Long(f"{what}: the answer has more than {most:,} bytes")
-    return b"".join(pieces)
+    text = b"".join(pieces)
+    if is_whole and left_of(response):
+        raise http.client.IncompleteRead(text, left_of(response))
+    return text
 
 
 def add_options(parser):

@@ -8,7 +8,7 @@ INK, PAPER, EDGE = "#1d1d1f", "#fdfcf8", "#b9b7b0"
 # What lies in a block, how it is called in the legend, and what it is drawn in. Free blocks stay white.
 FILLS = {"slots": "#86868c", "directory": "#f2cc6b", "records": "#93bfe0", "changes": "#c2aee0", "published": "#a3d6a9", "bodies": "#f2ad96"}
 NAMES = {"slots": "the two slots", "directory": "directory", "records": "records of what is held", "changes": "changes",
-         "published": "published records", "bodies": "bodies", "free": "free"}
+         "published": "published records that are not held so", "bodies": "bodies", "free": "free"}
 # A map has at most this many rows; up to a number of blocks a row has this many cells.
 ROWS, COLUMNS = 64, ((256, 16), (1_024, 32), (4_096, 64), (None, 128))
 LEFT, TOP, WIDTH, HEIGHT, LINE = 48, 92, 1_024, 14, 22
@@ -61,7 +61,8 @@ def legend(counts, most, y):
     for number, (kind, count) in enumerate(counts.items()):
         at = y + number * LINE
         yield element("rect", x=LEFT, y=at - 12, width=16, height=HEIGHT, fill=FILLS.get(kind, "#ffffff"), stroke=EDGE)
-        yield text(LEFT + 26, at, f"{NAMES[kind]}: {count:,} of {most:,} blocks, {count / most:.1%}")
+        share = f"{count / most:.1%}" if count == 0 or count * 1_000 >= most else "under 0.1%"
+        yield text(LEFT + 26, at, f"{NAMES[kind]}: {count:,} of {most:,} blocks, {share}")
 
 
 def drawn(title, extents, most, longest):

@@ -5,12 +5,13 @@ written, `%` too. A name that is held while another one lies below it (`a` and `
 `#` behind it (`a#` beside `a/b`), which stands in no name. Where a resource lies follows from the names held alone. What begins with `#`
 at the top is the mirror's own: the state, and what is being written.
 
-Each change is a rename of a synced file, so a stop at any moment leaves every file whole. What a stop can leave is a folder with nothing
-in it, and a name with a `#` that needs none: opening a folder puts both right. Nothing is remembered of a run before its files are in
-their places, and their folders synced.
+Each change is a rename of a synced file, so a stop at any moment, a power cut too, leaves every file whole. What a stop can leave is a
+folder with nothing in it, and a name with a `#` that needs none: opening a folder puts both right. Nothing is remembered of a run before
+its files are in their places, and synced there.
 """
 import concurrent.futures
 import contextlib
+import ctypes
 import fcntl
 import json
 import os
@@ -21,8 +22,9 @@ from ropepeach.faults import Unusable
 
 STATE, INCOMING = "#state", "#incoming"
 ASIDE = "#"
-# This many files, or bytes, are written before they are synced together by this many threads: their syncs share the disk's work.
-BATCH, BATCH_BYTES, SYNCS = 256, 32 << 20, 8
+# This many files, or bytes, are synced together.
+BATCH, BATCH_BYTES = 256, 16 << 20
+LIBRARY = ctypes.CDLL(None, use_errno=True)
 
 
 def above_it(name):
@@ -30,14 +32,10 @@ def above_it(name):
     return [name[: it.start()] for it in re.finditer("/", name)]
 
 
-def synced(path):
-    """Syncs a file or a folder, if it is still there."""
-    with contextlib.suppress(FileNotFoundError, NotADirectoryError):
-        opened = os.open(path, os.O_RDONLY)
-        try:
-            os.fsync(opened)
-        finally:
-            os.close(opened)
+def sync_all(opened):
+    """Syncs the whole file system of an open folder: on Linux this waits for the disk, as fsync of each of its files would."""
+    if LIBRARY.syncfs(opened):
+        raise OSError(ctypes.get_errno(), os.strerror(ctypes.get_errno()))
 
 
 class Folder:
@@ -46,7 +44,9 @@ class Folder:
     def __init__(self, path, source):
         """Looks at a folder, and changes nothing: `begin` does."""
         self.path, self.source, self.lock = os.path.abspath(path), source, None
-        self.until, self.newest, self.met, self.waiting, self.size = None, None, set(), [], 0
+        self.until, self.newest, self.worker = None, None, concurrent.futures.ThreadPoolExecutor(1)
+        # What was written since the last sync began, and its bytes; how many files were written; what is being synced, and that sync.
+        self.written, self.size, self.count, self.syncing, self.synced = [], 0, 0, [], None
         if os.path.lexists(self.path):
             self.open()
 
@@ -77,6 +77,7 @@ class Folder:
 
     def close(self):
         """Lets another run have the folder."""
+        self.worker.shutdown()
         os.close(self.lock)
 
     def state(self):
@@ -98,7 +99,6 @@ class Folder:
 
     def has(self, name, facts):
         """Whether the file of a name has what a list says."""
-        self.met.update(above_it(name))
         try:
             with open(self.place(name), "rb") as file:
                 return os.fstat(file.fileno()).st_size == length_of(facts) and fit(facts, file.read())
@@ -107,28 +107,32 @@ class Folder:
 
     def write(self, name, body):
         """Gives a name these bytes, once `settle` has put them in their place."""
-        self.met.update(above_it(name))
-        if not self.waiting:
+        path = self.at(f"{INCOMING}/{self.count}")
+        if not self.written:
             os.makedirs(self.at(INCOMING), exist_ok=True)
-        with open(self.incoming(len(self.waiting)), "wb") as file:
+        with open(path, "wb") as file:
             file.write(body)
-        self.waiting.append(name)
-        self.size += len(body)
-        if len(self.waiting) == BATCH or self.size >= BATCH_BYTES:
-            self.settle()
+        self.written.append((path, name))
+        self.count, self.size = self.count + 1, self.size + len(body)
+        if len(self.written) == BATCH or self.size >= BATCH_BYTES:
+            self.turn()
 
-    def incoming(self, number):
-        return self.at(f"{INCOMING}/{number}")
-
-    def settle(self):
-        """Syncs what was written, and puts it in its place."""
-        paths = [self.incoming(it) for it in range(len(self.waiting))]
-        with concurrent.futures.ThreadPoolExecutor(SYNCS) as pool:
-            list(pool.map(synced, paths))
-        for name, path in zip(self.waiting, paths):
+    def turn(self):
+        """Puts in its place what a thread has synced, and lets it sync what was written since."""
+        if self.syncing:
+            self.synced.result()
+        synced, self.syncing = self.syncing, self.written
+        self.written, self.size = [], 0
+        if self.syncing:
+            self.synced = self.worker.submit(sync_all, self.lock)
+        for path, name in synced:
             self.make_way(name)
             os.replace(path, self.place(name))
-        self.waiting, self.size = [], 0
+
+    def settle(self):
+        """Waits until all that was written is in its place."""
+        while self.written or self.syncing:
+            self.turn()
 
     def make_way(self, name):
         """Makes the folders that a name lies in; a name above it that is a file steps aside."""
@@ -140,7 +144,6 @@ class Folder:
 
     def remove(self, name):
         """Removes the file of a name and the folders that it leaves empty. Whether it was there."""
-        self.met.update(above_it(name))
         is_there = os.path.lexists(self.place(name))
         if is_there:
             os.remove(self.place(name))
@@ -176,24 +179,21 @@ class Folder:
 
     def names(self):
         """The names of all files but the mirror's own."""
-        found = set()
         for above, _, files in os.walk(self.path):
             own = {STATE, INCOMING} if above == self.path else set()
-            paths = [os.path.relpath(os.path.join(above, it), self.path) for it in set(files) - own]
-            found |= {it.removesuffix(ASIDE) for it in paths}
-        return found
+            for it in files:
+                if it not in own:
+                    yield os.path.join(above, it)[len(self.path) + 1 :].removesuffix(ASIDE)
 
     def remember(self, until, newest):
-        """Writes the state, once the folders of all names that were met are synced."""
+        """Writes the state, once all else is synced. What was written has to be in its place."""
         self.drop_incoming()
-        for it in self.met:
-            synced(self.at(it))
-        synced(self.path)
+        sync_all(self.lock)
         state, path = {"source": self.source, "until": until, "newest": newest}, self.at(INCOMING)
         with open(path, "w", encoding="utf-8") as file:
             json.dump(state, file)
             file.flush()
             os.fsync(file.fileno())
         os.replace(path, self.at(STATE))
-        synced(self.path)
-        self.until, self.newest, self.met = until, newest, set()
+        os.fsync(self.lock)
+        self.until, self.newest = until, newest

@@ -158,10 +158,13 @@ def look_at_rights(path, user):
         raise Cause(f"nobody may change {path}, by an attribute of the file: take that away (lsattr, chattr -i)")
     if number != errno.EACCES:
         raise Cause(f"{path} can't be opened, {os.strerror(number)}: look at the disk and the kernel's log")
+    # The one who asks need not be the one who runs the program.
+    if_so = "" if user or not os.geteuid() else f" if {who} runs the program, else ask as root"
     for folder in reversed(pathlib.Path(path).absolute().parents):
         if tried(user, os.stat, f"{folder}/."):
-            raise Cause(f"the user {who} may not pass the folder {folder} ({rights(folder)}): give it the right (chown {who}: {folder}, or chmod)")
-    raise Cause(f"the user {who} may not read and write {path} ({rights(path)}): chown {who}: {path}")
+            raise Cause(f"the user {who} may not pass the folder {folder} ({rights(folder)}): "
+                        f"give it the right (chown {who}: {folder}, or chmod){if_so}")
+    raise Cause(f"the user {who} may not read and write {path} ({rights(path)}): chown {who}: {path}{if_so}")
 
 
 def is_locked(path):
