@@ -1,0 +1,80 @@
+// Whether a body is the one that is listed: its length and its SHA-256, by the browser's own WebCrypto.
+
+import { Trouble, asked } from "./documents.js";
+
+// How many bodies are asked for side by side.
+const LANES = 3;
+
+/** Whether this browser can check at all: WebCrypto is there over HTTPS and on this machine alone. */
+export const canCheck = Boolean(globalThis.crypto?.subtle);
+
+/** What came of a check: `agrees`, `differs`, `unasked` (no body came), and why. */
+const result = (kind, why) => ({ kind, why, when: Date.now() });
+
+/** Fetches a body and compares it with what the list says. */
+export async function check(resource) {
+  if (!isAskable(resource.loc)) return result("unasked", "A browser asks for another address than this name has: use a mirror.");
+  if (!/^[0-9a-f]{64}$/.test(resource.sha256)) return result("unasked", "The list has no SHA-256 of it.");
+  let body;
+  try {
+    body = await bodyOf(resource);
+  } catch (fault) {
+    if (!(fault instanceof Trouble)) return result("unasked", "Its answer ended early.");
+    return fault.kind === "dropped" ? result("differs", "It is listed, and the source answers 404.") : result("unasked", fault.message);
+  }
+  if (body.length !== resource.length) return result("differs", `${told(body.length)} came, ${resource.length} are listed.`);
+  const digest = new Uint8Array(await crypto.subtle.digest("SHA-256", body));
+  const found = Array.from(digest, (it) => it.toString(16).padStart(2, "0")).join("");
+  return found === resource.sha256 ? result("agrees", "Length and SHA-256 are the listed ones.") : result("differs", `Its SHA-256 is ${found}.`);
+}
+
+const told = (length) => (length === null ? "More bytes" : `${length} bytes`);
+
+/** The bytes that come, up to one more than are listed. */
+async function bodyOf(resource) {
+  const reader = (await asked(resource.loc, "no-store")).body.getReader();
+  const body = new Uint8Array(resource.length);
+  let length = 0;
+  for (;;) {
+    const { done, value } = await reader.read();
+    if (done) return body.subarray(0, length);
+    if (length + value.length > resource.length) {
+      await reader.cancel();
+      return { length: null };
+    }
+    body.set(value, length);
+    length += value.length;
+  }
+}
+
+/** Whether a browser asks for exactly this address: it takes `%2E` for a dot. */
+export function isAskable(address) {
+  try {
+    return new URL(address).pathname === address.replace(/^https?:\/\/[^/]*/, "");
+  } catch {
+    return false;
+  }
+}
+
+/** Some resources, each as likely as any other. */
+export function someOf(resources, most) {
+  const left = [...resources];
+  const number = Math.min(most, left.length);
+  for (let at = 0; at < number; at += 1) {
+    const other = at + Math.floor(Math.random() * (left.length - at));
+    [left[at], left[other]] = [left[other], left[at]];
+  }
+  return left.slice(0, number);
+}
+
+/** Checks some resources; `tell` gets each with its result. It ends early where `signal` says so. */
+export async function checkAll(resources, tell, signal) {
+  let next = 0;
+  const lane = async () => {
+    while (next < resources.length && !signal.aborted) {
+      const it = resources[next++];
+      tell(it, await check(it));
+    }
+  };
+  await Promise.all(Array.from({ length: LANES }, lane));
+}

@@ -1,0 +1,108 @@
+// The checks of one source's bodies: what came of each, one by one or many at random, with a bar.
+
+import { canCheck, check, checkAll, someOf } from "./checking.js";
+import { given, made, tell } from "./elements.js";
+import { count, counted, size } from "./formats.js";
+
+const SOME = 100;
+// This many of the resources that differ are named.
+const NAMED = 20;
+// The site serves lists that are up to two seconds old (install/ropepeach.nginx).
+const OLDEST = 2_500;
+
+export class Checks {
+  /** `checked` is called with each resource that was checked; `ended` after the last, and reads the lists anew where one differs. */
+  constructor(parts, say, checked, ended) {
+    Object.assign(this, { parts, say, checked, ended, outcomes: new Map() });
+    parts.stop.addEventListener("click", () => this.stopping?.abort());
+    if (!canCheck) {
+      parts["check-some"].disabled = true;
+      tell(parts.checked, "A browser checks over HTTPS alone.");
+    }
+  }
+
+  /** What came of the check of this very body. */
+  of(resource) {
+    const found = this.outcomes.get(resource.name);
+    return found?.moment === resource.moment ? found.outcome : undefined;
+  }
+
+  /** Forgets what came of bodies that are no longer held. */
+  keep(holding) {
+    for (const [name, { moment }] of this.outcomes) {
+      if (holding.byName.get(name)?.moment !== moment) this.outcomes.delete(name);
+    }
+    this.showDiffering();
+  }
+
+  /** The names whose bodies differ from the list. */
+  differing() {
+    return [...this.outcomes].filter(([, { outcome }]) => outcome.kind === "differs");
+  }
+
+  note(resource, outcome) {
+    this.outcomes.set(resource.name, { moment: resource.moment, outcome });
+    this.checked(resource);
+  }
+
+  /** Whether a body differs is known once the lists were read anew: a later change may explain it. */
+  async settle(isDifferent) {
+    if (isDifferent) await new Promise((go) => setTimeout(go, OLDEST));
+    await this.ended(isDifferent);
+    this.showDiffering();
+  }
+
+  async one(resource) {
+    const outcome = await check(resource);
+    this.note(resource, outcome);
+    await this.settle(outcome.kind === "differs");
+    const { kind, why } = this.of(resource) ?? { kind: "changed meanwhile", why: "Check it again." };
+    this.say(`${resource.name}: ${kind}. ${why}`);
+  }
+
+  /** Checks some at random. */
+  async some(resources) {
+    const { stop, bar } = this.parts;
+    if (this.stopping || !resources.length) return;
+    const chosen = someOf(resources, SOME);
+    const found = { agrees: 0, differs: 0, unasked: 0, changed: 0, bytes: 0 };
+    const begun = performance.now();
+    this.stopping = new AbortController();
+    this.parts["check-some"].setAttribute("aria-disabled", "true");
+    stop.hidden = bar.hidden = false;
+    Object.assign(bar, { max: chosen.length, value: 0 });
+    await checkAll(chosen, (it, outcome) => {
+      found[outcome.kind] += 1;
+      found.bytes += it.length;
+      bar.value += 1;
+      tell(this.parts.checked, `${summary(found)} …`);
+      this.note(it, outcome);
+    }, this.stopping.signal);
+    const seconds = (performance.now() - begun) / 1_000;
+    this.stopping = null;
+    await this.settle(found.differs > 0);
+    this.parts["check-some"].removeAttribute("aria-disabled");
+    stop.hidden = bar.hidden = true;
+    const differing = new Set(this.differing().map(([name]) => name));
+    const left = chosen.filter((it) => differing.has(it.name)).length;
+    const all = summary({ ...found, differs: left, changed: found.differs - left });
+    tell(this.parts.checked, `${all}; ${size(found.bytes)} in ${seconds.toFixed(1)} s.`);
+    this.say(this.parts.checked.textContent);
+  }
+
+  /** Names what differs. */
+  showDiffering() {
+    const all = this.differing();
+    const rows = all.slice(0, NAMED).map(([name, { outcome }]) => made("li", "", given(name, "name"), ` ${outcome.why}`));
+    if (all.length > NAMED) rows.push(made("li", "", `And ${count(all.length - NAMED)} more.`));
+    this.parts.differing.hidden = !rows.length;
+    this.parts.differing.replaceChildren(...rows);
+  }
+}
+
+/** What came of many checks. */
+function summary({ agrees, differs, unasked, changed }) {
+  const more = [[unasked, "not checked"], [changed, "changed meanwhile"]].filter(([number]) => number);
+  const rest = more.map(([number, what]) => `${count(number)} ${what}`);
+  return [counted(agrees, "agrees", "agree"), ...(differs ? [counted(differs, "differs", "differ")] : []), ...rest].join(", ");
+}

@@ -1,0 +1,146 @@
+// A list of any length, of which only the rows in view are drawn. One row is in the order of the tab key, and the arrows move from it.
+
+// Rows beyond the edges of the view that are drawn too, and rows that are printed.
+const BESIDE = 6;
+const PRINTED = 100;
+
+export class Rows {
+  /** `make` gives an empty row, `fill` puts an item into one, `open` is what a click or Enter does. */
+  constructor(grid, { make, fill, open }) {
+    Object.assign(this, { grid, make, fill, open, items: [], drawn: new Map(), free: [], active: 0, height: 0, isPrinting: false });
+    this.view = grid.querySelector(".view");
+    this.room = grid.querySelector(".room");
+    this.view.addEventListener("scroll", () => this.drawSoon(), { passive: true });
+    this.view.addEventListener("keydown", (it) => this.move(it));
+    this.view.addEventListener("click", (it) => this.clicked(it));
+    new ResizeObserver(() => this.measure()).observe(this.view);
+    addEventListener("beforeprint", () => this.print(true));
+    addEventListener("afterprint", () => this.print(false));
+  }
+
+  /** Takes other items; the view stays where it is, or goes to the top. */
+  show(items, isSame = false) {
+    this.items = items;
+    this.active = isSame ? Math.min(this.active, Math.max(0, items.length - 1)) : 0;
+    if (!isSame) this.view.scrollTop = 0;
+    this.grid.setAttribute("aria-rowcount", items.length + 1);
+    this.redraw();
+  }
+
+  /** Draws all rows anew. */
+  redraw() {
+    for (const [index, row] of this.drawn) {
+      if (index < this.items.length) this.put(row, index);
+    }
+    this.measure();
+  }
+
+  /** Takes the height of a row from its style, as a reader's zoom and the width of the window change it. */
+  measure() {
+    const rems = Number.parseFloat(getComputedStyle(this.grid).getPropertyValue("--row"));
+    const height = rems * Number.parseFloat(getComputedStyle(document.documentElement).fontSize);
+    if (height !== this.height) {
+      this.height = height;
+      for (const [index, row] of this.drawn) this.place(row, index);
+    }
+    this.room.style.height = `${this.items.length * this.height}px`;
+    this.draw();
+  }
+
+  drawSoon() {
+    this.coming ??= requestAnimationFrame(() => {
+      this.coming = null;
+      this.draw();
+    });
+  }
+
+  /** Which rows are to be there. */
+  wanted() {
+    if (this.isPrinting) return Array.from({ length: Math.min(PRINTED, this.items.length) }, (_, it) => it);
+    const first = Math.max(0, Math.floor(this.view.scrollTop / this.height) - BESIDE);
+    const last = Math.min(this.items.length, Math.ceil((this.view.scrollTop + this.view.clientHeight) / this.height) + BESIDE);
+    const found = Array.from({ length: Math.max(0, last - first) }, (_, it) => first + it);
+    // The row that the tab key leads to is always there.
+    if (this.active < this.items.length && this.active < first) found.unshift(this.active);
+    if (this.active < this.items.length && this.active >= last) found.push(this.active);
+    return found;
+  }
+
+  draw() {
+    const wanted = this.wanted();
+    const staying = new Set(wanted);
+    for (const [index, row] of this.drawn) {
+      if (staying.has(index)) continue;
+      row.remove();
+      this.drawn.delete(index);
+      this.free.push(row);
+    }
+    let next = null;
+    for (const index of wanted.reverse()) {
+      const row = this.drawn.get(index) ?? this.taken(index);
+      if (row.nextElementSibling !== next || !row.parentNode) this.room.insertBefore(row, next);
+      next = row;
+    }
+  }
+
+  /** A row that was free or is new, for an item. */
+  taken(index) {
+    const row = this.free.pop() ?? this.make();
+    this.drawn.set(index, row);
+    this.put(row, index);
+    return row;
+  }
+
+  put(row, index) {
+    row.index = index;
+    row.setAttribute("aria-rowindex", index + 2);
+    row.tabIndex = index === this.active ? 0 : -1;
+    this.place(row, index);
+    this.fill(row, this.items[index]);
+  }
+
+  place(row, index) {
+    row.style.transform = `translateY(${index * this.height}px)`;
+  }
+
+  /** Makes another row the one of the tab key, and shows it. */
+  goTo(index) {
+    if (!this.items.length) return;
+    const to = Math.max(0, Math.min(this.items.length - 1, index));
+    const before = this.drawn.get(this.active);
+    if (before) before.tabIndex = -1;
+    this.active = to;
+    const top = to * this.height;
+    if (top < this.view.scrollTop) this.view.scrollTop = top;
+    if (top + this.height > this.view.scrollTop + this.view.clientHeight) this.view.scrollTop = top + this.height - this.view.clientHeight;
+    this.draw();
+    const row = this.drawn.get(to);
+    row.tabIndex = 0;
+    row.focus({ preventScroll: true });
+  }
+
+  /** What a key does in the list. */
+  move(event) {
+    if (!this.items.length || event.altKey || event.ctrlKey || event.metaKey) return;
+    const page = Math.max(1, Math.floor(this.view.clientHeight / this.height) - 1);
+    const by = { ArrowDown: 1, ArrowUp: -1, PageDown: page, PageUp: -page, Home: -Infinity, End: Infinity }[event.key];
+    if (by) this.goTo(this.active + by);
+    else if (event.key === "Enter" || event.key === " ") this.open(this.items[this.active]);
+    else return;
+    event.preventDefault();
+  }
+
+  clicked(event) {
+    const row = event.target.closest("[role=row]");
+    if (!row) return;
+    this.goTo(row.index);
+    this.open(this.items[row.index]);
+  }
+
+  /** On paper the first rows stand one below another. */
+  print(isPrinting) {
+    this.isPrinting = isPrinting;
+    this.grid.dataset.isCut = this.items.length > PRINTED;
+    this.draw();
+  }
+}

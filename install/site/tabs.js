@@ -1,0 +1,45 @@
+// Tabs, of which one is shown: the arrows, Home and End move along them.
+
+import { given, made } from "./elements.js";
+
+export class Tabs {
+  constructor(bar) {
+    Object.assign(this, { bar, tabs: [] });
+    bar.addEventListener("keydown", (it) => this.move(it));
+  }
+
+  /** A tab with a label, and what it shows. */
+  add(label, content) {
+    const number = this.tabs.length;
+    const tab = made("button", "tab", given(label));
+    Object.assign(tab, { type: "button", id: `tab-${number}` });
+    tab.setAttribute("role", "tab");
+    tab.setAttribute("aria-controls", `panel-${number}`);
+    const panel = made("div", "", content);
+    panel.id = `panel-${number}`;
+    panel.setAttribute("role", "tabpanel");
+    panel.setAttribute("aria-labelledby", tab.id);
+    tab.addEventListener("click", () => this.show(number));
+    this.bar.append(tab);
+    this.tabs.push({ tab, panel });
+    return panel;
+  }
+
+  show(number) {
+    this.shown = number;
+    this.tabs.forEach(({ tab, panel }, at) => {
+      tab.setAttribute("aria-selected", at === number);
+      tab.tabIndex = at === number ? 0 : -1;
+      panel.hidden = at !== number;
+    });
+  }
+
+  move(event) {
+    const last = this.tabs.length - 1;
+    const to = { ArrowRight: this.shown < last ? this.shown + 1 : 0, ArrowLeft: this.shown ? this.shown - 1 : last, Home: 0, End: last }[event.key];
+    if (to === undefined) return;
+    event.preventDefault();
+    this.show(to);
+    this.tabs[to].tab.focus();
+  }
+}

@@ -1,0 +1,219 @@
+// A time line of changes, which can be zoomed by buttons, keys, a drag and Ctrl with the wheel. What is drawn also stands in a table.
+
+import { Counted, KINDS, binsOf, marks, spanText } from "./bins.js";
+import { made, part, tell } from "./elements.js";
+import { NEVER, count, counted as told } from "./formats.js";
+
+const SVG = "http://www.w3.org/2000/svg";
+// The drawing in its own units; a span is never shorter than this.
+const HIGH = 150;
+const AXIS = 22;
+const BAR = 9;
+const SHORTEST = 20;
+// Rows of the table beside the drawing.
+const ROWS = 24;
+
+function drawn(name, attributes, ...inside) {
+  const it = document.createElementNS(SVG, name);
+  for (const [key, value] of Object.entries(attributes)) it.setAttribute(key, value);
+  it.append(...inside);
+  return it;
+}
+
+export class Timeline {
+  /** `chosen` gets the span in view as it changes. */
+  constructor(root, chosen) {
+    Object.assign(this, { root, chosen, counted: new Counted([]), at: null, wide: 0, bins: [] });
+    this.field = part(root, "field");
+    for (const button of root.querySelectorAll("[data-zoom]")) button.addEventListener("click", () => this.act(button.dataset.zoom));
+    this.field.addEventListener("keydown", (it) => this.pressed(it));
+    this.field.addEventListener("wheel", (it) => this.wheeled(it), { passive: false });
+    this.field.addEventListener("pointerdown", (it) => this.begin(it));
+    this.field.addEventListener("pointermove", (it) => this.point(it));
+    this.field.addEventListener("pointerup", (it) => this.end(it));
+    this.field.addEventListener("pointercancel", () => this.mark(null));
+    part(root, "table").addEventListener("toggle", () => this.list());
+    new ResizeObserver(() => this.resized()).observe(this.field);
+  }
+
+  /** Takes changes, in their order, and the moment of the latest publication. */
+  show(changes, at) {
+    const wasWhole = !this.span || this.isWhole();
+    this.counted = new Counted(changes);
+    this.at = at === NEVER ? null : Date.parse(at);
+    this.whole = this.counted.span();
+    if (wasWhole) this.span = this.whole;
+    this.changed();
+  }
+
+  isWhole() {
+    return this.span[0] === this.whole[0] && this.span[1] === this.whole[1];
+  }
+
+  resized() {
+    if (!this.span || this.field.clientWidth === this.wide) return;
+    this.draw();
+  }
+
+  changed() {
+    this.draw();
+    this.list();
+    const [first, last] = this.span.map((it) => this.counted.before(it));
+    this.chosen(first, last, this.isWhole());
+  }
+
+  /** Goes to another span, within the whole one. */
+  go(from, until) {
+    const length = Math.min(Math.max(until - from, SHORTEST), this.whole[1] - this.whole[0]);
+    const start = Math.min(Math.max((from + until - length) / 2, this.whole[0]), this.whole[1] - length);
+    this.span = [Math.round(start), Math.round(start + length)];
+    this.changed();
+  }
+
+  /** Makes the span longer or shorter around a place of it, from 0 to 1. */
+  zoom(by, place = 0.5) {
+    const [from, until] = this.span;
+    const centre = from + place * (until - from);
+    this.go(centre - (centre - from) * by, centre + (until - centre) * by);
+  }
+
+  move(by) {
+    const [from, until] = this.span;
+    const way = Math.min(Math.max(by * (until - from), this.whole[0] - from), this.whole[1] - until);
+    this.go(from + way, until + way);
+  }
+
+  act(what) {
+    if (!this.counted.times.length) return;
+    if (what === "whole") this.go(...this.whole);
+    else if (what === "in" || what === "out") this.zoom(what === "in" ? 0.5 : 2);
+    else this.move(what === "earlier" ? -0.4 : 0.4);
+  }
+
+  pressed(event) {
+    const what = { "+": "in", "=": "in", "-": "out", ArrowLeft: "earlier", ArrowRight: "later", Home: "whole", 0: "whole" }[event.key];
+    if (!what || event.ctrlKey || event.metaKey || event.altKey) return;
+    event.preventDefault();
+    this.act(what);
+  }
+
+  wheeled(event) {
+    if (!event.ctrlKey || !this.counted.times.length) return;
+    event.preventDefault();
+    this.zoom(event.deltaY > 0 ? 1.25 : 0.8, this.placeOf(event));
+  }
+
+  placeOf(event) {
+    const box = this.field.getBoundingClientRect();
+    return Math.min(Math.max((event.clientX - box.left) / box.width, 0), 1);
+  }
+
+  begin(event) {
+    if (event.button !== 0 || !this.counted.times.length) return;
+    this.start = this.placeOf(event);
+    this.field.setPointerCapture(event.pointerId);
+  }
+
+  point(event) {
+    if (!this.span) return;
+    const place = this.placeOf(event);
+    if (this.start !== undefined) this.mark([Math.min(this.start, place), Math.max(this.start, place)]);
+    const time = this.span[0] + place * (this.span[1] - this.span[0]);
+    const bin = this.bins.find((it) => it.from <= time && time < it.until);
+    tell(part(this.root, "readout"), bin ? `${spanText(bin.from, bin.until)} UTC: ${words(bin.counts)}` : "");
+  }
+
+  end(event) {
+    const [start, place] = [this.start, this.placeOf(event)];
+    this.mark(null);
+    if (start === undefined || Math.abs(place - start) < 0.01) return;
+    const [from, until] = this.span;
+    this.go(from + Math.min(start, place) * (until - from), from + Math.max(start, place) * (until - from));
+  }
+
+  /** Marks what a drag has chosen so far. */
+  mark(range) {
+    if (!range) this.start = undefined;
+    this.brush?.setAttribute("x", range ? range[0] * this.wide : 0);
+    this.brush?.setAttribute("width", range ? (range[1] - range[0]) * this.wide : 0);
+  }
+
+  draw() {
+    this.wide = this.field.clientWidth;
+    const most = Math.max(8, Math.floor(this.wide / BAR));
+    this.bins = binsOf(this.counted, this.span, most);
+    const ups = Math.max(1, ...this.bins.map((it) => it.counts[0] + it.counts[1]));
+    const downs = Math.max(0, ...this.bins.map((it) => it.counts[2]));
+    const scale = (HIGH - 8) / (ups + downs);
+    const base = 4 + ups * scale;
+    const svg = drawn("svg", { viewBox: `0 0 ${this.wide} ${HIGH + AXIS}`, width: this.wide, height: HIGH + AXIS, "aria-hidden": "true" });
+    svg.append(...this.axis(), ...this.bins.flatMap((it) => this.bars(it, base, scale)), ...this.published());
+    svg.append(drawn("line", { class: "zero", x1: 0, x2: this.wide, y1: base, y2: base }));
+    this.brush = drawn("rect", { class: "brush", x: 0, y: 0, width: 0, height: HIGH });
+    svg.append(this.brush);
+    this.field.replaceChildren(svg);
+    this.describe();
+  }
+
+  x(time) {
+    return ((time - this.span[0]) / (this.span[1] - this.span[0])) * this.wide;
+  }
+
+  /** What one bin has: created and updated above the line, deleted below it. */
+  bars(bin, base, scale) {
+    const left = this.x(bin.from) + 0.5;
+    const wide = Math.max(1, this.x(bin.until) - left - 0.5);
+    let top = base;
+    return bin.counts.flatMap((number, kind) => {
+      if (!number) return [];
+      const high = Math.max(1.5, number * scale);
+      if (KINDS[kind] === "deleted") return [drawn("rect", { class: "deleted", x: left, y: base, width: wide, height: high })];
+      top -= high;
+      return [drawn("rect", { class: KINDS[kind], x: left, y: top, width: wide, height: high })];
+    });
+  }
+
+  axis() {
+    if (!this.counted.times.length) return [];
+    return marks(this.span, Math.max(2, Math.floor(this.wide / 90))).flatMap(({ at, text }) => {
+      const x = this.x(at);
+      if (x < 24 || x > this.wide - 24) return [];
+      return [drawn("line", { class: "tick", x1: x, x2: x, y1: 0, y2: HIGH }), drawn("text", { x, y: HIGH + 15 }, text)];
+    });
+  }
+
+  published() {
+    const x = this.at === null ? -1 : this.x(this.at);
+    return x < 0 || x > this.wide ? [] : [drawn("line", { class: "published", x1: x, x2: x, y1: 0, y2: HIGH })];
+  }
+
+  /** The drawing in words. */
+  describe() {
+    const counts = this.counted.between(...this.span);
+    const all = counts.reduce((sum, it) => sum + it, 0);
+    const text = this.counted.times.length ? `${spanText(...this.span)} UTC: ${told(all, "change")}, ${words(counts)}` : "No changes are kept.";
+    tell(part(this.root, "summary"), text);
+    this.field.setAttribute("aria-label", `Time line. ${text}`);
+    for (const button of this.root.querySelectorAll("[data-zoom=out], [data-zoom=whole], [data-zoom=earlier], [data-zoom=later]")) {
+      button.setAttribute("aria-disabled", this.isWhole());
+    }
+  }
+
+  /** The table of the same figures, in fewer and longer bins. */
+  list() {
+    const table = part(this.root, "table");
+    if (!table.open || !this.span) return;
+    const rows = binsOf(this.counted, this.span, ROWS).filter((it) => it.counts.some(Boolean)).map((it) => {
+      const cells = it.counts.map((number) => made("td", "", count(number)));
+      const head = made("th", "", spanText(it.from, it.until));
+      head.scope = "row";
+      return made("tr", "", head, ...cells);
+    });
+    table.querySelector("tbody").replaceChildren(...rows);
+  }
+}
+
+/** Counts of each kind in words. */
+function words(counts) {
+  return counts.map((it, kind) => `${count(it)} ${KINDS[kind]}`).join(", ");
+}

@@ -1,0 +1,4 @@
+"""The page for people who would rather look (install/site), in headless Chromium, through the site of nginx (tests/README.md)."""
+
+# No run of all looks takes longer than this many seconds.
+LIMIT = 420

@@ -1,0 +1,62 @@
+"""Looks at the page of install/site in headless Chromium, through the site of nginx, before the program and before sources that are made up.
+
+The looks are functions of looks_program.py, looks_states.py and looks_reader.py; the first line of each says what has to hold. At the end
+pages and settings that are wrong are made up (wrong.py), and each has to be noticed. All runs in a process of its own, which is ended
+after LIMIT seconds. Selenium is Debian's, so that process is Debian's Python where this one has it not.
+
+usage: python3 -m tests.page [PROGRAM] [NAME..]     names of looks (all, where none is given)
+       python3 -m tests.page --pictures             draws the pictures of docs/pictures anew
+Exit status 1 where one does not hold.
+"""
+import os
+import shutil
+import signal
+import subprocess
+import sys
+
+from tests.page import LIMIT
+from tests.program import PROGRAM, ROOT, SECONDS
+
+PYTHONS = [sys.executable, "/usr/bin/python3"]
+INSIDE = "--inside"
+
+
+def python_with_selenium():
+    """A Python that has Selenium, or nothing."""
+    for it in filter(os.path.exists, PYTHONS):
+        if not subprocess.run([it, "-c", "import tests, selenium.webdriver, urllib3"], cwd=ROOT, capture_output=True, timeout=SECONDS).returncode:
+            return it
+    return ""
+
+
+def outside(given):
+    """Runs the looks in a process of its own, with a limit."""
+    os.environ["PATH"] += ":/usr/sbin:/sbin"
+    python = python_with_selenium()
+    missing = [it for it in ("chromium", "chromedriver", "nginx") if not shutil.which(it)] + ["python3-selenium"] * (not python)
+    if missing:
+        print(f"page: NOT TRIED, as there is no {', '.join(missing)} here")
+        return 0
+    words = [python, "-m", "tests.page", INSIDE, *given]
+    with subprocess.Popen(words, cwd=ROOT, start_new_session=True) as run:
+        try:
+            return run.wait(LIMIT)
+        except subprocess.TimeoutExpired:
+            print(f"page: not done within {LIMIT} seconds")
+            return 1
+        finally:
+            try:
+                os.killpg(run.pid, signal.SIGKILL)
+            except ProcessLookupError:
+                pass
+
+
+def inside(given):
+    """The looks, or the pictures."""
+    from tests.page import pictures, running
+    program = os.path.abspath(given.pop(0) if given and os.path.isfile(given[0]) else PROGRAM)
+    return pictures.draw(program) if given == ["--pictures"] else running.look(program, given)
+
+
+if __name__ == "__main__":
+    sys.exit(inside(sys.argv[2:]) if sys.argv[1:2] == [INSIDE] else outside(sys.argv[1:]))

@@ -1,0 +1,111 @@
+"""What every look at the page needs: a room, the program, one browser, and sources that are made up, each behind nginx with the page."""
+import contextlib
+import itertools
+import pathlib
+import re
+import subprocess
+
+from tests.page.site import site
+from tests.program import Differs
+from tests.served_source import free_port
+from tests.tools.lists_server import serving
+
+SECONDS = 20
+
+
+def same(what, wanted, found):
+    """Compares two values."""
+    if wanted != found:
+        raise Differs(f"{what}: wanted {wanted!r}, found {str(found)[:500]!r}")
+
+
+def has(what, words, text):
+    """Looks whether a text has some words."""
+    if words not in text:
+        raise Differs(f"{what}: {words!r} is not in {text[-500:]!r}")
+
+
+class Unfit(Exception):
+    """A change that does not fit what it changes: no look has to find this out."""
+
+
+def exchanged(text, old, new):
+    """A text with other words in the one place where the old ones stand."""
+    if text.count(old) != 1:
+        raise Unfit(f"{old!r} is there {text.count(old)} times")
+    return text.replace(old, new)
+
+
+def replaced(file, old, new):
+    """Puts other words into a file."""
+    file.write_text(exchanged(file.read_text(), old, new))
+
+
+class Shown:
+    """A page that is shown, and the source behind it, which can become another one."""
+
+    def __init__(self, base, fake, server):
+        self.base, self.fake, self.server = base, fake, server
+
+    def is_now(self, fake):
+        """From here on the source is this one."""
+        self.fake, self.server.answer = fake, fake.answer()
+
+
+class Looked:
+    """The room of all looks. `change` makes other settings of nginx, `edit` another page: a look has to notice where they are wrong."""
+
+    def __init__(self, program, room, browser):
+        self.program, self.room, self.browser = program, pathlib.Path(room), browser
+        self.change, self.edit, self.numbers = lambda settings: settings, lambda page: None, itertools.count()
+
+    def site(self, behind, port=None, change=lambda settings: settings, certificate=""):
+        """nginx before a port, with the page and the settings that are looked at."""
+        return site(self.room, behind, port, lambda settings: change(self.change(settings)), self.edit, certificate)
+
+    @contextlib.contextmanager
+    def hurried(self, file, old, new):
+        """A page that waits less long in one place."""
+        before = self.edit
+
+        def edit(page):
+            before(page)
+            replaced(page / file, old, new)
+
+        self.edit = edit
+        try:
+            yield
+        finally:
+            self.edit = before
+
+    @contextlib.contextmanager
+    def fake(self, make, change=lambda settings: settings, base="", port=0, certificate=""):
+        """A source that is made up by a function of its base, behind nginx, which has TLS where there is a certificate."""
+        port = port or free_port()
+        fake = make(base or f"http{'s' * bool(certificate)}://127.0.0.1:{port}")
+        with serving(fake.answer()) as server, self.site(int(server.url.rpartition(":")[2]), port, change, certificate):
+            yield Shown(fake.base, fake, server)
+
+    @contextlib.contextmanager
+    def source(self, fill, limit=3):
+        """The program on a new file, filled by a function of its base, behind nginx; gives its base and its file."""
+        port, disk = free_port(), self.room / f"{next(self.numbers)}.disk"
+        base = f"http://127.0.0.1:{port}"
+        subprocess.run([self.program, "format", disk, str(4 << 20), base, str(limit)], check=True, capture_output=True, timeout=SECONDS)
+        with subprocess.Popen([self.program, "serve", disk, "0", "1000000"], stdout=subprocess.PIPE) as server:
+            try:
+                behind = int(server.stdout.readline().rpartition(b":")[2])
+                with self.site(behind, port):
+                    fill(port)
+                    yield base, disk, server
+            finally:
+                server.kill()
+
+    def status(self, disk):
+        """What `status` tells of a file, once its server has ended."""
+        told = subprocess.run([self.program, "run", disk], input=b"status\n", capture_output=True, check=True, timeout=SECONDS).stdout.decode()
+        return re.fullmatch(r"resources (\d+) changes (\d+) publication (\d+) last (\S+)\n", told).groups()
+
+    def is_well(self):
+        """Nothing of the page's own failed, its policy refused nothing, and nothing of a source's ran."""
+        same("what went wrong in the page", {"faults": [], "refused": [], "ran": []}, self.browser.faults())
