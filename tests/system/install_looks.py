@@ -16,7 +16,8 @@ import subprocess
 import tempfile
 import time
 
-from tests.program import ROOT, Differs, compare
+from package import places
+from tests.program import ROOT, TOOLS, Differs, compare
 from tests.reading import disk_reader
 from tests.served_source import free_port
 from tests.system.edge_runs import connected, read_to_end
@@ -26,7 +27,6 @@ INSTALL = ROOT / "install"
 SECONDS = 30
 # The greatest exposure of the unit, of 100, that `systemd-analyze security` may find.
 EXPOSURE = 15
-UNITS = ["ropepeach.service", "ropepeach-verify.service"]
 LONGEST_BODY = 16_777_216
 # How long a head is kept at most: nginx counts in whole seconds.
 HEAD = 2.1
@@ -61,18 +61,24 @@ def the_page_is_clean(program, room):
 
 
 def the_units_are_whole_and_closed(program, room):
-    """systemd finds no fault in the units, their exposure is low, and it reads when the timer comes."""
-    for name in (*UNITS, "ropepeach-verify.timer"):
-        text = INSTALL.joinpath(name).read_text()
-        pathlib.Path(room, name).write_text(text.replace("/usr/local/bin/rs_source", program))
-    for name in (*UNITS, "ropepeach-verify.timer"):
-        compare(name, repr(("", 0)).encode(), repr(told_by("systemd-analyze", "verify", "--man=no", f"./{name}", cwd=room)).encode())
-    for name in UNITS:
+    """systemd finds no fault in the units, nor in an instance of each, their exposure is low, and it reads when the timers come."""
+    # (what a unit runs has to be there)
+    here = {"bin/rs_source": program, "bin/ropepeach": TOOLS / "ropepeach-command", "lib/ropepeach": INSTALL}
+    for name, text in places.units(INSTALL):
+        for place, path in here.items():
+            text = text.replace(f"/usr/local/{place}", str(path))
+        pathlib.Path(room, name.replace("@.", "@name.")).write_text(text)
+    names, exposures = sorted(os.listdir(room)), {}
+    told, status = told_by("systemd-analyze", "verify", "--man=no", *(f"./{it}" for it in names), cwd=room)
+    compare("what systemd says of the units", repr(("", 0)).encode(), repr((told, status)).encode()[:600])
+    for name in (it for it in names if it.endswith(".service")):
         told, status = told_by("systemd-analyze", "security", "--offline=true", f"--threshold={EXPOSURE}", f"./{name}", cwd=room)
-        print(f"{name}: an exposure of {told.strip().rpartition(': ')[2].split()[0]} of 10")
+        exposures[name] = told.strip().rpartition(": ")[2].split()[0]
         compare(f"{name}: an exposure of at most {EXPOSURE} of 100", b"0", b"%d" % status)
-    when = re.search(r"(?m)^OnCalendar=(.*)", pathlib.Path(room, "ropepeach-verify.timer").read_text())[1]
-    compare("when the timer comes", b"0", b"%d" % told_by("systemd-analyze", "calendar", when)[1])
+    print(f"{len(names)} units; the greatest exposure is {max(exposures.values())} of 10, that of ropepeach.service {exposures['ropepeach.service']}")
+    for name in (it for it in names if it.endswith(".timer")):
+        for when in re.findall(r"(?m)^OnCalendar=(.*)", pathlib.Path(room, name).read_text()):
+            compare(f"when {name} comes", b"0", b"%d" % told_by("systemd-analyze", "calendar", when)[1])
 
 
 def calls_let_pass(unit):
@@ -100,7 +106,7 @@ def the_filter_lets_the_program_work(program, room):
             server.wait(SECONDS)
         finally:
             server.kill()
-    compare_calls(room, {"accept4", "pwrite64", "fsync", "sendto"}, "ropepeach.service")
+    compare_calls(room, {"accept4", "pwrite64", "fsync", "sendto"}, "ropepeach@.service")
 
 
 def compare_calls(room, some, unit):
@@ -113,11 +119,11 @@ def compare_calls(room, some, unit):
 
 def verification(program, *before):
     """What the service that verifies runs, as systemd reads its line, over a.disk; its answer, and whether it succeeds."""
-    line = re.search(r"(?m)^ExecStart=(.*)", INSTALL.joinpath("ropepeach-verify.service").read_text())[1].replace("$$", "$")
-    words = [it.replace("/usr/local/bin/rs_source", program).replace("/var/lib/ropepeach/source.disk", "a.disk") for it in shlex.split(line)]
+    line = re.search(r"(?m)^ExecStart=(.*)", INSTALL.joinpath("ropepeach-verify@.service").read_text())[1].replace("$$", "$")
+    words = [it.replace("/usr/local/bin/rs_source", program) for it in shlex.split(line)]
 
     def run(room):
-        told, status = told_by(*before, *words, cwd=room)
+        told, status = told_by(*before, *words, cwd=room, env=os.environ | {"FILE": "a.disk"})
         return told, status == 0
 
     return run
@@ -145,7 +151,7 @@ def the_filter_lets_the_verification_work(program, room):
     """Each system call that is made while a source is verified is one that the unit's filter lets pass."""
     subprocess.run([program, "format", "a.disk", "65536", "http://a.example", "2"], cwd=room, check=True, capture_output=True)
     compare_answers("an empty source", ("verified 0\n", True), verification(program, "strace", "-f", "-qq", "-o", "calls")(room))
-    compare_calls(room, {"execve", "pread64", "flock"}, "ropepeach-verify.service")
+    compare_calls(room, {"execve", "pread64", "flock"}, "ropepeach-verify@.service")
 
 
 def site_on(room, port, source):

@@ -8,7 +8,7 @@ import tempfile
 from tests.program import ROOT
 from tests.system import install_looks
 
-PAGE, SERVICE, VERIFY, SITE = "rs_source.8", "ropepeach.service", "ropepeach-verify.service", "ropepeach.nginx"
+PAGE, SERVICE, VERIFY, SITE = "rs_source.8", "ropepeach@.service", "ropepeach-verify@.service", "ropepeach.nginx"
 FILTER = "SystemCallFilter=~@privileged @resources"
 # What has to notice it, the file, and what stands in it in the place of what. A slow client is not here: the source
 # without nginx, which makes others wait, is a part of that check itself.
@@ -17,16 +17,22 @@ WRONG = [
     ("the_page_is_clean", PAGE, ".Sh CAVEATS", ".Qz CAVEATS"),
     ("the_units_are_whole_and_closed", SERVICE, "ProtectSystem=strict", "ProtectSystem=stricter"),
     ("the_units_are_whole_and_closed", SERVICE, "CapabilityBoundingSet=\n", "CapabilityBoundingSet=~\n"),
-    ("the_units_are_whole_and_closed", "ropepeach-verify.timer", "Sun 04:00", "Sunday at four"),
+    ("the_units_are_whole_and_closed", "ropepeach-verify@.timer", "Sun 04:00", "Sunday at four"),
     ("the_filter_lets_the_program_work", SERVICE, FILTER, FILTER + " @file-system"),
     ("the_verification_tells_damage", VERIFY, "*) exit 1 ;;", "*) ;;"),
-    ("the_verification_tells_damage", VERIFY, "source.disk) &&", "source.disk) ;"),
+    ("the_verification_tells_damage", VERIFY, "FILE\") &&", "FILE\") ;"),
     ("the_filter_lets_the_verification_work", VERIFY, FILTER, FILTER + " @process"),
     ("the_longest_body_passes", SITE, "client_max_body_size      16m", "client_max_body_size      15m"),
     ("names_pass_as_they_were_sent", SITE, "    location / {\n        proxy_pass            http://ropepeach;",
      "    location / {\n        proxy_pass            http://ropepeach/;"),
     ("parts_are_kept_and_heads_for_a_second", SITE, "map $request_uri $is_part", "map $uri $is_part"),
     ("who_may_change_is_asked", SITE, "        return 403;", "        set $nothing 1;"),
+    ("lists_are_compressed", SITE, "gzip_proxied              any;", "gzip_proxied              off;"),
+    ("lists_are_found", SITE, "map $request_uri $page {", "map $uri $page {"),
+    ("lists_are_found", SITE, "if ($request_uri = /robots.txt) {", "if ($uri = /robots.txt) {"),
+    ("a_unit_is_up_when_it_listens", "until-it-listens", "exit 1", "exit 0"),
+    ("a_unit_is_up_when_it_listens", "until-it-listens", "0A", "01"),
+    ("a_closed_source_is_told", "closed", "(503, b\"Closed\\n\")", "(503, b\"NoMemory\\n\")"),
     ("certificates_let_change", SITE, "ssl_verify_client      optional;", "ssl_verify_client      optional_no_ca;"),
 ]
 
@@ -45,12 +51,13 @@ def is_noticed(program, check, *change):
     with tempfile.TemporaryDirectory() as room, contextlib.redirect_stdout(io.StringIO()):
         right, install_looks.INSTALL = install_looks.INSTALL, changed(f"{room}/install", *change)
         try:
-            return bool(install_looks.fault_of(getattr(install_looks, check), program))
+            return bool(install_looks.fault_of(check, program))
         finally:
             install_looks.INSTALL = right
 
 
 def look(program, tried):
     """Which wrong files are not noticed by what was tried, and how many there were for it."""
-    made = [it for it in WRONG if it[0] in tried]
-    return [f"{it[0]}: {it[1]} with {it[3]!r}" for it in made if not is_noticed(program, *it)], len(made)
+    named = {it.__name__: it for it in tried}
+    made = [it for it in WRONG if it[0] in named]
+    return [f"{it[0]}: {it[1]} with {it[3]!r}" for it in made if not is_noticed(program, named[it[0]], *it[1:])], len(made)
