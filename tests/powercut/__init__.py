@@ -1,0 +1,1 @@
+"""Power cuts below real file systems."""

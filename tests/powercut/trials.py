@@ -1,0 +1,158 @@
+"""Trials: a recording on a file system, cuts of its log, and images of each, which are mounted and opened."""
+import collections
+import contextlib
+import os
+import random
+
+from tests.powercut import cut_images, kinds, machine, wrong_histories
+from tests.powercut.histories import HELD, LOST, OUTCOMES, REPAIRED, UNMOUNTED, outcome_of
+from tests.powercut.recordings import Recording
+from tests.powercut.write_log import Settled, Settling, entries
+
+# How many images are made of one cut, and of how many images that were mounted the replay is cut, too.
+IMAGES_OF_A_CUT, CUT_AGAIN = 3, 0.2
+# How many images of a trial that are not held are told.
+TOLD_AT_MOST = 5
+# What is chosen where all is kept but one write.
+LOST_WRITES = "lost writes"
+# An image: the place of the cut, the name of what was chosen, and its pieces.
+Image = collections.namedtuple("Image", "place name pieces")
+
+
+class Trial:
+    """One recording, and what came of the images of its cuts. `cache` is that of the device (write_log.py)."""
+
+    def __init__(self, room, server, program, kind, seed, environment=None, clock=None, cache=None):
+        self.kind, self.cache, self.program, self.rng = kind, cache, program, random.Random(seed)
+        self.bytes = kinds.made(kind, os.path.join(room, "bytes"))
+        self.device = machine.Device(server, room, self.bytes, kind.sector)
+        self.recording = Recording(program, self.device, self.rng, environment, clock)
+        self.log, self.outcomes, self.cuts, self.told = b"", collections.Counter(), 0, []
+
+    def record(self, life):
+        """Records what a life does. Something may fail where faults are planted; the file system is unmounted all the same."""
+        self.device.order(HOLD=50)
+        with self.device.mounted(self.kind.system, self.kind.options):
+            life(self.recording)
+        self.device.order(HOLD=0)
+        self.log = self.device.log.read_bytes()
+
+    def places(self, count, is_behind):
+        """Places to cut at, in their order, all right behind an acknowledgement, or a third there, a third within a command, a third anywhere."""
+        ends = [it.end for it in entries(self.log)]
+        events = [it for history in self.recording.histories.values() for it in history.events[1:]]
+        within = [end for it in events for end in ends if it.begun < end <= (it.acknowledged or it.begun)]
+        behind = [it.acknowledged for it in events if it.acknowledged]
+        chosen = [behind] if is_behind else [ends, within or ends, behind or ends]
+        return sorted(self.rng.choice(self.rng.choice(chosen)) for _ in range(count))
+
+    def look(self, count, choices, is_over, is_behind):
+        """Makes about this many images, and looks at each."""
+        if choices == LOST_WRITES:
+            self.look_without_one(count, is_over)
+            return
+        settled = Settled(self.bytes, self.log, self.cache)
+        try:
+            for place in self.places(max(count // IMAGES_OF_A_CUT, 1), is_behind):
+                if is_over():
+                    break
+                cut = settled.cut_at(place)
+                self.cuts += 1
+                for _ in range(IMAGES_OF_A_CUT if cut.writes else 1):
+                    name, pieces = cut_images.image_of(cut, self.rng, self.kind.sector, choices or cut_images.CHOICES)
+                    self.look_at(Image(place, name, pieces))
+        finally:
+            settled.close()
+
+    def look_without_one(self, count, is_over):
+        """Images of the end, or of a place before it, in which all is kept but one write, which the device took and lost."""
+        writes = [it for it in entries(self.log) if it.kind == b"W"]
+        for _ in range(count):
+            if is_over():
+                break
+            lost = self.rng.randrange(len(writes))
+            last = len(writes) if self.rng.random() < 0.5 else self.rng.randrange(lost + 1, len(writes) + 1)
+            place = len(self.log) if last == len(writes) else writes[last].end
+            kept = [(it.at, it.data) for number, it in enumerate(writes[:last]) if number != lost]
+            allowed = {name: it.allowed(place) for name, it in self.recording.histories.items()}
+            outcome, why, _ = self.opened(kept, allowed)
+            self.count(Image(place, f"without write {lost}", None), outcome, why)
+            self.cuts += 1
+
+    def unnoticed(self):
+        """What an image of the end is taken for, though it was not done."""
+        kept, found = [(it.at, it.data) for it in entries(self.log) if it.kind == b"W"], []
+        name, history = next(iter(self.recording.histories.items()))
+        for wrong in wrong_histories.WRONG:
+            self.recording.histories[name] = wrong(history) or history
+            outcome, _, _ = self.opened(kept, {it: other.allowed(len(self.log)) for it, other in self.recording.histories.items()})
+            found += [wrong.__name__] if outcome == HELD and self.recording.histories[name] is not history else []
+        self.recording.histories[name] = history
+        return found
+
+    def look_at(self, image):
+        """Looks at an image, and at some cuts of its own replay."""
+        allowed = {name: it.allowed(image.place) for name, it in self.recording.histories.items()}
+        outcome, why, told = self.opened(image.pieces, allowed)
+        self.count(image, outcome, why)
+        if outcome == HELD and self.rng.random() < CUT_AGAIN:
+            self.cut_again(image, allowed, told)
+
+    def cut_again(self, image, allowed, told):
+        """Cuts within the replay of an image, or within its opening."""
+        log = self.device.log.read_bytes()
+        ends = [it.end for it in entries(log)]
+        if not ends:
+            return
+        place, pieces = self.rng.choice(ends), list(image.pieces)
+        settling = Settling(lambda at, data: pieces.append((at, data)), self.cache)
+        for it in entries(log):
+            if it.end > place:
+                break
+            settling.go_on(it)
+        name, more = cut_images.image_of(settling.cut(place), self.rng, self.kind.sector, cut_images.CHOICES)
+        # What was told once the program had opened the file stays.
+        allowed = {it: {number} if number is not None and place >= at else allowed[it] for it, (number, at) in told.items()}
+        outcome, why, _ = self.opened(pieces + more, allowed)
+        self.count(Image(image.place, f"{image.name}, again {name}", None), outcome, why)
+
+    def opened(self, pieces, allowed):
+        """What comes of an image: the worst outcome of its files, why, and the event that each tells, with the place of the log then."""
+        self.device.begin(pieces)
+        try:
+            return self.mounted(allowed)
+        except machine.Unmounted as fault:
+            if not self.device.is_repaired(self.kind.system):
+                return UNMOUNTED, str(fault), {}
+        try:
+            outcome, why, told = self.mounted(allowed)
+            return REPAIRED if outcome == HELD else outcome, f"behind a repair: {why}", told
+        except machine.Unmounted as fault:
+            return UNMOUNTED, f"{fault}, behind a repair", {}
+
+    def mounted(self, allowed):
+        """The same of what is on the device now."""
+        found, told = [(HELD, "")], {}
+        with self.device.mounted(self.kind.system, self.kind.options) as top:
+            for name, history in self.recording.histories.items():
+                with self.device.patience():
+                    outcome, why, number = outcome_of(self.program, top / name, history, allowed[name])
+                told[name] = (number, self.device.place())
+                found.append((outcome, f"{name}: {why}"))
+        return *max(found, key=lambda it: OUTCOMES.index(it[0])), told
+
+    def count(self, image, outcome, why):
+        self.outcomes[outcome] += 1
+        if outcome != HELD and len(self.told) < TOLD_AT_MOST:
+            where = f"cut at {image.place} of {len(self.log)}, {image.name}: " if image else ""
+            self.told.append(f"{where}{outcome}: {why}")
+
+    def close(self):
+        self.device.close()
+        with contextlib.suppress(OSError):
+            os.unlink(self.bytes)
+
+
+def in_words(outcomes):
+    """The counts of outcomes, for a reader."""
+    return ", ".join(f"{outcomes[it]} {it}" for it in OUTCOMES if outcomes[it] or it in (HELD, LOST))

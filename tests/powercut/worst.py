@@ -1,0 +1,179 @@
+"""The picture of the second put of docs/CRASH.md on ext4, and of what power cuts within each of its calls leave of the file.
+
+The put is recorded with the place of the log before and behind each of its calls. Within each call the power is cut at several places, and images are
+made of each. The worst image of a call is the one that is torn most: of the blocks that were written so far some are as the put leaves them, and some
+are not. It is drawn.
+"""
+import collections
+import pathlib
+import random
+import subprocess
+
+from tests.pictures.svg import EDGE, FILLS, INK, SOFT, Picture
+from tests.powercut import cut_images, kinds, machine
+from tests.powercut.write_log import Settled, entries
+from tests.program import Differs, interposed
+from tests.reading.disk_formats import BLOCK
+
+BLOCKS, CALLS, IMAGES = 16, 10, 60
+LINES = ["at 951782400000", "put a 68656c6c6f text/plain", "put b " + "77" * 600 + " text/plain", ""]
+# A library that notes each write and each sync of the program, with the length of the log before it and behind it.
+NOTES = r"""
+#define _GNU_SOURCE
+#include <fcntl.h>
+#include <stdio.h>
+#include <stdlib.h>
+#include <sys/stat.h>
+#include <sys/syscall.h>
+#include <unistd.h>
+static long place(void) { struct stat it; return stat(getenv("DEVICE_LOG"), &it) ? -1 : it.st_size; }
+static long noted(const char *name, long at, long length, long before, long result) {
+    FILE *notes = fopen(getenv("NOTES"), "a");
+    fprintf(notes, "%s %ld %ld %ld %ld\n", name, at, length, before, place());
+    fclose(notes);
+    return result;
+}
+ssize_t pwrite64(int fd, const void *from, size_t n, off_t at) {
+    long before = place();
+    return noted("write", at, n, before, syscall(SYS_pwrite64, fd, from, n, at));
+}
+ssize_t pwrite(int fd, const void *from, size_t n, off_t at) { return pwrite64(fd, from, n, at); }
+int fsync(int fd) {
+    long before = place();
+    return noted("sync", 0, 0, before, syscall(SYS_fsync, fd));
+}
+"""
+# A call: its name, where it writes and how much, and the places of the log before and behind it. And what came of the images within it: how many
+# writes of the device were in question at most, how many images tell the old state and the new one, and the blocks of the file in the worst.
+Call = collections.namedtuple("Call", "name at length before behind")
+Row = collections.namedtuple("Row", "call questions old new written worst")
+
+
+def recorded(program, room, device, kind):
+    """The calls of the second put, and the bytes of the file before it and behind it."""
+    notes, path = pathlib.Path(room, "notes"), device.top / "a.disk"
+    environment = interposed(room, "notes", NOTES) | {"NOTES": str(notes), "DEVICE_LOG": str(device.log)}
+    with device.mounted(kind.system, kind.options):
+        subprocess.run([program, "format", path, str(BLOCKS * BLOCK), "http://127.0.0.1:8080", "2"], check=True, capture_output=True)
+        subprocess.run([program, "run", path], input="\n".join(LINES[:2]).encode() + b"\n", check=True, capture_output=True)
+        before = path.read_bytes()
+        ran = subprocess.run([program, "run", path], input="\n".join(LINES[2:]).encode(), env=environment, check=True, capture_output=True)
+        if not ran.stdout.startswith(b"created "):
+            raise Differs(f"the second put is answered {ran.stdout!r}")
+        behind = path.read_bytes()
+    calls = [Call(it[0], *map(int, it[1:])) for it in (line.split() for line in notes.read_text().splitlines())]
+    return calls[-CALLS:], before, behind
+
+
+def image_of(program, device, kind, pieces):
+    """The bytes of the file in an image, and how many changes it tells."""
+    device.begin(pieces)
+    with device.mounted(kind.system, kind.options) as top:
+        ran = subprocess.run([program, "run", top / "a.disk"], input=b"status\n", capture_output=True, timeout=machine.SECONDS)
+        if ran.returncode:
+            raise Differs(f"an image is answered {ran.stderr!r}")
+        return (top / "a.disk").read_bytes(), int(ran.stdout.split()[3])
+
+
+def blocks_of(data):
+    return [data[at : at + BLOCK] for at in range(0, len(data), BLOCK)]
+
+
+def look(program, device, kind, settled, places, rng):
+    """The images of cuts at these places: how many writes are in question at most, and each file with the number of changes that is told."""
+    questions, images = 0, []
+    for place in places:
+        cut = settled.cut_at(place)
+        questions = max(questions, len(cut.writes))
+        for _ in range(max(IMAGES // len(places), 1) if cut.writes else 1):
+            images.append(image_of(program, device, kind, cut_images.image_of(cut, rng, kind.sector, cut_images.CHOICES)[1]))
+    return questions, images
+
+
+def compared(image, before, behind):
+    """What each block of a file is: `new`, as the put leaves it; `old`, as it was before; `other`; or nothing, where the put changes nothing."""
+    blocks = zip(*map(blocks_of, (image, before, behind)))
+    return ["" if new == old else "new" if it == new else "old" if it == old else "other" for it, old, new in blocks]
+
+
+def rows(program, room, device, kind, bytes_):
+    """What power cuts within each call leave."""
+    calls, before, behind = recorded(program, room, device, kind)
+    log, rng, found, written = device.log.read_bytes(), random.Random(CALLS), [], set()
+    settled, ends = Settled(bytes_, log), [it.end for it in entries(log)]
+    for call in calls:
+        if call.name == "write":
+            written = written | set(range(call.at // BLOCK, (call.at + call.length - 1) // BLOCK + 1))
+        places = [end for end in ends if call.before < end <= call.behind] or [call.before]
+        questions, images = look(program, device, kind, settled, places, rng)
+        counts = collections.Counter(changes for _, changes in images)
+        if set(counts) - {1, 2}:
+            raise Differs(f"images tell {sorted(counts)} changes")
+        told = [compared(image, before, behind) for image, _ in images]
+        arrived = [sum(it[block] == "new" for block in written) for it in told]
+        worst = max(zip(arrived, told), key=lambda it: (min(it[0], len(written) - it[0]), len(written) - it[0]))[1]
+        found.append(Row(call, questions, counts[1], counts[2], written, worst))
+    settled.close()
+    return found
+
+
+def named(call):
+    if call.name == "sync":
+        return "sync"
+    return f"write {call.length} byte{'s' * (call.length > 1)} at {call.at}"
+
+
+# Where things stand in the picture.
+LEFT, TOP, CELL, TALL, STEP = 200, 118, 25, 22, 32
+COLOURS = {"new": FILLS["pub"], "old": FILLS["body"], "other": FILLS["dir"]}
+TOLD = [
+    "The put of b of docs/CRASH.md on a file of 16 blocks on ext4. Within each call the power is cut, and images are made",
+    "of what the device may have. Drawn is the file in one image of each call: the one that is torn most.",
+]
+COLUMNS = [(672, "writes of the device", "in question, at most"), (775, "images that", "tell the old state")]
+COLUMNS += [(866, "images that", "tell the new state")]
+
+
+def picture_of(found):
+    title = "What power cuts leave of a put"
+    told = [f"call {number}, {named(it.call)}: {it.old} images tell the old state and {it.new} the new one" for number, it in enumerate(found, 1)]
+    picture = Picture(920, TOP + STEP * len(found) + 60, title, "A row for each call of a put. " + "; ".join(told) + ".")
+    picture.text(30, 34, title, 17, font_weight="bold")
+    picture.lines(30, 56, TOLD, 12, fill=SOFT)
+    for block in range(BLOCKS):
+        picture.text(LEFT + (block + 0.5) * CELL, TOP - 8, str(block), 10, "middle", fill=SOFT)
+    for x, *words in COLUMNS:
+        picture.lines(x, TOP - 22, words, 10, anchor="middle", fill=SOFT)
+    for number, row in enumerate(found, 1):
+        draw(picture, number, row, TOP + STEP * (number - 1))
+    legend(picture, TOP + STEP * len(found) + 14)
+    return picture
+
+
+def draw(picture, number, row, y):
+    """One row."""
+    picture.text(30, y + 15, str(number), 12, "end", fill=SOFT)
+    picture.text(40, y + 15, named(row.call), 12)
+    for block, told in enumerate(row.worst):
+        is_drawn = told and block in row.written
+        picture.box(LEFT + block * CELL, y, CELL, TALL, COLOURS[told] if is_drawn else FILLS["free"], INK if is_drawn else EDGE)
+    for (x, *_), count in zip(COLUMNS, (row.questions, row.old, row.new)):
+        picture.text(x, y + 15, str(count), 12, "middle")
+
+
+def legend(picture, y):
+    words = ["as the put leaves it", "as it was before the put", "anything else", "not written by the put, or not by now"]
+    for x, fill, words in zip((40, 220, 430, 590), (*COLOURS.values(), FILLS["free"]), words):
+        picture.box(x, y, CELL, TALL, fill, INK if fill != FILLS["free"] else EDGE)
+        picture.text(x + CELL + 8, y + 15, words, 12)
+
+
+def drawn(server, room, program):
+    """The picture, of a run of the program."""
+    kind = kinds.KINDS["ext4"]
+    bytes_ = kinds.made(kind, pathlib.Path(room, "bytes"))
+    device = machine.Device(server, room, bytes_, kind.sector)
+    try:
+        return picture_of(rows(program, room, device, kind, bytes_))
+    finally:
+        device.close()
