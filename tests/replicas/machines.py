@@ -1,0 +1,216 @@
+"""Three machines on one kernel. Each has a network, mounts, processes and a name of its own, and a disk of its own, an XFS on a loop device.
+
+A machine dies as a whole with its first process, and all of them die with the process that made them. What one kernel cannot show: two
+clocks, two disks beneath, a real power cut. `drop_pages` is the nearest to one: the machine's file system forgets what it has not synced.
+"""
+import contextlib
+import fcntl
+import os
+import re
+import select
+import signal
+import struct
+import subprocess
+import time
+from pathlib import Path
+
+NETWORK = "10.78.0"
+# The first process of a machine: it mounts, says so, and waits for what ends below it.
+FIRST = """
+set -e
+mount --make-rprivate /
+hostname "$1"
+mount -t tmpfs tmpfs /run
+mkdir -p /run/ceph /run/gluster /run/lock /var/lib/glusterd "$3"
+mount -o loop,noatime "$2" "$3"
+echo ready
+trap '' TERM INT
+while :; do sleep 3600 & wait $!; done
+"""
+# XFS_IOC_GOINGDOWN of linux/fs/xfs, with XFS_FSOP_GOING_FLAGS_NOLOGFLUSH: nothing more reaches the device.
+GOING_DOWN, AT_ONCE = 0x8004587D, 2
+DYING = ["setpriv", "--pdeathsig", "KILL"]
+SECONDS = 60
+
+
+class Stuck(Exception):
+    """A step that did not end well, or not within its time."""
+
+
+class Late(Exception):
+    """The time for all is over. No step waits on after it."""
+
+
+class Ended(Exception):
+    """A program that has ended where it had to answer."""
+
+
+def done(words, seconds=SECONDS, check=True):
+    """What a command prints. It is killed where it takes longer."""
+    try:
+        ran = subprocess.run(list(map(str, words)), stdin=subprocess.DEVNULL, stdout=subprocess.PIPE, stderr=subprocess.STDOUT, timeout=seconds + 10)
+    except subprocess.TimeoutExpired as late:
+        raise Stuck(f"{' '.join(map(str, words))}: no end within {seconds + 10} s: {late.output}") from None
+    said = ran.stdout.decode(errors="replace").strip()
+    if check and ran.returncode:
+        raise Stuck(f"{' '.join(map(str, words))}: status {ran.returncode}: {said[-500:]}")
+    return said
+
+
+def kill(process):
+    """Ends a process that was started on a machine, and the one below it, which entered the machine's processes."""
+    with contextlib.suppress(OSError):
+        for it in Path(f"/proc/{process.pid}/task/{process.pid}/children").read_text().split():
+            os.kill(int(it), signal.SIGKILL)
+    process.kill()
+
+
+def until(is_so, seconds, what, pause=0.1):
+    """Waits until something is so, and gives it with the seconds that it took."""
+    started = time.monotonic()
+    while not (found := is_so()):
+        if time.monotonic() - started > seconds:
+            raise Stuck(f"{what}: not within {seconds} s")
+        time.sleep(pause)
+    return found, time.monotonic() - started
+
+
+class Switch:
+    """The network between the machines, with a place of its own from which one can ask the store."""
+
+    def __init__(self):
+        self.process = subprocess.Popen([*DYING, "unshare", "--net", "--uts", "sh", "-c", "hostname m0; exec sleep infinity"], start_new_session=True)
+        ours = os.readlink("/proc/self/ns/net")
+        until(lambda: os.readlink(f"/proc/{self.process.pid}/ns/net") != ours, SECONDS, "the network")
+        for words in ("set lo up", "add br0 type bridge", "set br0 up"):
+            self.done("ip", "link", *words.split())
+        self.done("ip", "address", "add", f"{NETWORK}.100/24", "dev", "br0")
+
+    def within(self):
+        return ["nsenter", "-t", str(self.process.pid), "-n", "-u"]
+
+    def done(self, *words, seconds=SECONDS, check=True):
+        return done([*self.within(), "timeout", "-s", "KILL", seconds, *words], seconds, check)
+
+    def started(self, *words, **how):
+        """A process beside the machines, which ends with this one."""
+        return subprocess.Popen([*DYING, *self.within(), *map(str, words)], start_new_session=True, **how)
+
+    def close(self):
+        self.process.kill()
+        self.process.wait()
+
+
+class Machine:
+    """A machine of this number, 1 to 3. Its disk outlasts its death."""
+
+    def __init__(self, number, switch, room, size="8G"):
+        self.number, self.switch, self.address, self.name = number, switch, f"{NETWORK}.{number}", f"m{number}"
+        self.room = Path(room, self.name)
+        self.data, self.disk, self.process = self.room / "data", self.room / "disk.img", None
+        self.room.mkdir()
+        done(["truncate", "-s", size, self.disk])
+        done(["mkfs.xfs", "-q", self.disk])
+
+    def start(self):
+        """Starts the machine, and joins it to the network."""
+        words = [*DYING, "unshare", "--net", "--mount", "--pid", "--uts", "--fork", "--kill-child", "--mount-proc"]
+        words += ["sh", "-c", FIRST, "sh", self.name, str(self.disk), str(self.data)]
+        self.process = subprocess.Popen(words, start_new_session=True, stdin=subprocess.DEVNULL, stdout=subprocess.PIPE, stderr=subprocess.STDOUT)
+        is_told, _, _ = select.select([self.process.stdout], [], [], SECONDS)
+        said = self.process.stdout.readline() if is_told else b"nothing"
+        if said != b"ready\n":
+            raise Stuck(f"{self.name} did not start: {said!r}")
+        self.first = int(Path(f"/proc/{self.process.pid}/task/{self.process.pid}/children").read_text().split()[0])
+        link, switch = f"v{self.number}", self.switch
+        switch.done("ip", "link", "delete", link, check=False)
+        # (the same address of the card after each start, as a real one has)
+        card = ["name", "eth0", "address", f"02:00:00:00:00:0{self.number}", "netns", self.first]
+        switch.done("ip", "link", "add", link, "type", "veth", "peer", *card)
+        switch.done("ip", "link", "set", link, "master", "br0", "up")
+        for words in ("link set lo up", f"address add {self.address}/24 dev eth0", "link set eth0 up"):
+            self.done("ip", *words.split())
+
+    @property
+    def is_live(self):
+        return self.process is not None
+
+    def within(self):
+        return ["nsenter", "-t", str(self.first), "-n", "-m", "-p", "-u"]
+
+    def done(self, *words, seconds=SECONDS, check=True):
+        """What a command prints on this machine."""
+        return done([*self.within(), "timeout", "-s", "KILL", seconds, *words], seconds, check)
+
+    def started(self, *words, **how):
+        return subprocess.Popen([*DYING, *self.within(), *map(str, words)], start_new_session=True, **how)
+
+    def processes(self, pattern):
+        """The numbers of this machine's processes of this command line."""
+        ours, found = os.readlink(f"/proc/{self.first}/ns/pid"), []
+        for it in Path("/proc").iterdir():
+            with contextlib.suppress(OSError):
+                if it.name.isdigit() and os.readlink(it / "ns/pid") == ours:
+                    words = (it / "cmdline").read_bytes().replace(b"\0", b" ").decode(errors="replace")
+                    found += [int(it.name)] if int(it.name) != self.first and re.search(pattern, words) else []
+        return found
+
+    def send(self, sign, pattern):
+        """Sends a signal to processes, and gives their numbers."""
+        found = self.processes(pattern)
+        for it in found:
+            with contextlib.suppress(ProcessLookupError):
+                os.kill(it, sign)
+        return found
+
+    def kill(self, pattern):
+        """Kills processes, and waits until they are gone."""
+        self.send(signal.SIGKILL, pattern)
+        until(lambda: not self.processes(pattern), SECONDS, f"the end of {pattern} on {self.name}", 0.02)
+
+    def connect(self, is_up):
+        """Plugs the machine in, or pulls the plug."""
+        self.switch.done("ip", "link", "set", f"v{self.number}", "up" if is_up else "down")
+
+    def drop_pages(self):
+        """The machine's file system goes down without writing anything more, as its disk does in a power cut."""
+        number = os.open(f"/proc/{self.first}/root{self.data}", os.O_RDONLY)
+        try:
+            fcntl.ioctl(number, GOING_DOWN, struct.pack("I", AT_ONCE))
+        finally:
+            os.close(number)
+
+    def die(self, by_power=False):
+        """All of it ends at once; by power, also what its disk does not have yet."""
+        if not self.is_live:
+            return
+        if by_power:
+            self.drop_pages()
+            self.connect(False)
+        with contextlib.suppress(ProcessLookupError):
+            os.kill(self.first, signal.SIGKILL)
+        try:
+            self.process.wait(SECONDS)
+        except subprocess.TimeoutExpired:
+            self.process.kill()
+            self.process.wait(SECONDS)
+        self.process.stdout.close()
+        self.process = None
+        attached = ["losetup", "--list", "--noheadings", "--output", "BACK-FILE"]
+        until(lambda: str(self.disk) not in done(attached), SECONDS, f"the disk of {self.name} is free")
+
+
+@contextlib.contextmanager
+def three(room, size="8G"):
+    """A switch and three machines, started; at the end nothing of them is left."""
+    switch, machines = Switch(), []
+    try:
+        for number in (1, 2, 3):
+            machines.append(Machine(number, switch, room, size))
+            machines[-1].start()
+        yield switch, machines
+    finally:
+        for it in machines:
+            with contextlib.suppress(Stuck, OSError, subprocess.SubprocessError):
+                it.die()
+        switch.close()
