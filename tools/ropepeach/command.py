@@ -11,7 +11,7 @@ import sys
 
 from ropepeach.faults import Fault, plain
 
-COMMANDS = ["fill", "mirror", "look", "size", "why", "health"]
+COMMANDS = ["fill", "mirror", "look", "size", "why", "health", "collection", "grow", "takeover"]
 # Two names that the program had before; they work for one version more.
 OLD_NAMES = {"publish_folder": "fill", "destination": "mirror"}
 INTERRUPTED = 130

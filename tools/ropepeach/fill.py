@@ -17,6 +17,7 @@ import re
 from array import array
 
 from ropepeach import room
+from ropepeach.collection_file import is_collection
 from ropepeach.connections import Connections, add_options
 from ropepeach.facts import fit, kind_of, length_of
 from ropepeach.faults import Fault
@@ -52,13 +53,17 @@ class Plan:
         self.changed, self.sizes, self.gone, self.left_out, self.same = [], array("Q"), [], {}, 0
         self.files = self.bytes = self.blocks = self.longest = self.names = self.types = 0
 
+    def all_names(self, order=sorted):
+        """The names of all files, in an order."""
+        return names_below(self.folder, order)
+
     def leave_out(self, name, why):
         self.left_out[name] = True
         tell(f"left out {shown(path_of(self.folder, name)[len(self.folder):].lstrip(b'/'))}: {why}")
 
     def measure(self):
         """Counts what can be resources, before anything is read."""
-        for name in names_below(self.folder, iter):
+        for name in self.all_names(iter):
             try:
                 size = size_of(path_of(self.folder, name), name)
             except Unfit:
@@ -71,7 +76,7 @@ class Plan:
         """Finds which files are new or changed, and which resources are gone; empties what is held."""
         self.held = len(held)
         with Progress("comparing", self.files, self.bytes) as bar:
-            for name in names_below(self.folder):
+            for name in self.all_names():
                 facts, path = held.pop(name, None), path_of(self.folder, name)
                 try:
                     size = size_of(path, name)
@@ -158,7 +163,7 @@ def number_given(text):
 
 def add_arguments(parser):
     parser.add_argument("folder", metavar="FOLDER")
-    parser.add_argument("url", metavar="URL", help="where the source is served, as http://127.0.0.1:8080")
+    parser.add_argument("url", metavar="URL", help="where the source is served, as http://127.0.0.1:8080, or the file of a collection")
     parser.add_argument("--dry-run", action="store_true", help="tell what would be done, and do nothing")
     parser.add_argument("--publish", action=argparse.BooleanOptionalAction, default=True, help="publish at the end, and where the history is full")
     parser.add_argument("--max-delete", type=number_given, metavar="N", help="delete nothing if more than N would be deleted (half of what is held)")
@@ -170,6 +175,11 @@ def add_arguments(parser):
 
 
 def run(given):
+    if is_collection(given.url):
+        # (it imports from here)
+        from ropepeach import collection_fill
+
+        return collection_fill.run(given)
     plan = Plan(os.fsencode(given.folder), Kinds(given.types))
     connections = Connections(given.url, given.patience, given.certificate, given.max_time)
     plan.measure()

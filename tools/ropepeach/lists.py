@@ -39,6 +39,14 @@ class Dropped(Fault):
     """The Change List begins after the moment that was asked for: no list has what came between."""
 
 
+class Several(Fault):
+    """A Source Description that names several sources, or one that lies below it."""
+
+    def __init__(self, address, bases):
+        super().__init__(f"{address}: the Source Description names {len(bases):,} sources; take each by its own base: {' '.join(bases[:10])}")
+        self.bases = bases
+
+
 class Source:
     """A source that is asked at an address, and calls itself by its base."""
 
@@ -47,8 +55,9 @@ class Source:
         self.connections, self.base, self.documents = connections, connections.address, 0
         named_ones = addresses(self.document(self.base + DESCRIPTION), "capabilitylist")
         bases = [it.removesuffix(CAPABILITIES) for it in named_ones]
-        if len(bases) > 1:
-            raise Fault(f"{self.base}: the Source Description names {len(bases):,} sources; take each by its own base: {' '.join(bases[:10])}")
+        # (one below the address is a collection of one)
+        if len(bases) > 1 or (is_at_base and bases[0].startswith(self.base + "/")):
+            raise Several(self.base, bases)
         if is_at_base and bases[0] != self.base:
             raise Fault(f"{self.base}: the source calls itself {bases[0]}; use that address, its base")
         self.base = bases[0]

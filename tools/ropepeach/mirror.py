@@ -16,7 +16,7 @@ import time
 from ropepeach.connections import Connections, add_options
 from ropepeach.facts import length_of
 from ropepeach.faults import Fault, Silent
-from ropepeach.lists import DESCRIPTION, Dropped, Source, Unheld
+from ropepeach.lists import DESCRIPTION, Dropped, Several, Source, Unheld
 from ropepeach.mirror_folder import Folder
 from ropepeach.progress import Progress
 
@@ -49,9 +49,11 @@ class Run:
                 return "incremental", facts_of(changes.entries), self.folder.until, changes
         # A stop from here on leaves a folder that has a baseline before it.
         self.folder.remember(None, None)
-        at, listed, changes = self.source.lists_that_meet()
-        unlisted = dict.fromkeys(self.folder.names())
-        return "baseline", unlisted | listed | facts_of(changes.entries), at, changes
+        at, wanted, changes = self.source.lists_that_meet()
+        wanted.update(facts_of(changes.entries))
+        for name in self.folder.names():
+            wanted.setdefault(name)
+        return "baseline", wanted, at, changes
 
     def go(self, is_baseline):
         """Does the run, anew where changes were dropped that it needs, and describes it in one line."""
@@ -87,9 +89,10 @@ class Run:
         """Removes what is no more, and fetches. Gives what could not be had, and why."""
         for name in [name for name, facts in wanted.items() if facts is None]:
             self.removed += self.folder.remove(name)
-        left, held = {}, {name: facts for name, facts in wanted.items() if facts is not None}
-        with Progress("fetching", len(held), sum(map(length_of, held.values()))) as bar:
-            for name, facts in held.items():
+            del wanted[name]
+        left = {}
+        with Progress("fetching", len(wanted), sum(map(length_of, wanted.values()))) as bar:
+            for name, facts in wanted.items():
                 try:
                     if not self.folder.has(name, facts):
                         self.fetch(name, facts)
@@ -135,15 +138,24 @@ def add_arguments(parser):
     way = parser.add_mutually_exclusive_group()
     way.add_argument("--baseline", action="store_true", help="read the Resource List, and all files")
     way.add_argument("--incremental", action="store_true", help="refuse to begin with a baseline")
+    parser.add_argument("--elsewhere", action="store_true", help="mirror also the sources of other hosts that a Source Description of several names")
     add_options(parser)
 
 
 def run(given):
+    # (it imports from here)
+    from ropepeach import mirror_collection
+
     connections = Connections(given.url.rstrip("/").removesuffix(DESCRIPTION), given.patience, given.certificate, given.max_time)
+    if mirror_collection.is_whole(given.folder):
+        return mirror_collection.run(given, connections)
     folder = Folder(given.folder, connections.address)
     if given.incremental and folder.until is None:
         raise Fault("there is no earlier run to go on from")
-    source = Source(connections, is_at_base=True)
+    try:
+        source = Source(connections, is_at_base=True)
+    except Several:
+        return mirror_collection.begin(given, connections, folder)
     folder.begin()
     print(Run(source, folder).go(given.baseline or folder.until is None))
     return 0

@@ -1,0 +1,34 @@
+"""Collections of two to five sources: their settings, where names live, the site byte by byte, and what is refused before anything is changed.
+
+Each function is one row, and its first line says what has to hold. Then `ropepeach` is given wrong bodies, each of which a row has to notice.
+
+usage: python3 -m tests.collection.rows [PROGRAM] [NAME..]     names of rows (all, if none is given); most need nginx and openssl
+Exit status 1 if one does not hold.
+"""
+import os
+import sys
+
+from tests.collection.host import missing
+from tests.collection.refused import REFUSED
+from tests.collection.rows_wrong import noticed
+from tests.collection.settings import SETTINGS
+from tests.collection.whole import WHOLE
+from tests.program import PROGRAM
+from tests.tools.running import rows
+
+
+def main():
+    os.environ["PATH"] += ":/usr/sbin:/sbin"
+    lacking = missing()
+    if lacking:
+        print(f"collection: NOT TRIED, as there is no {lacking} here: the site, and what is mirrored through it")
+    checks = SETTINGS + ([] if lacking else REFUSED + WHOLE)
+    given = sys.argv[1:]
+    program = os.path.abspath(given[0] if given and os.path.isfile(given[0]) else PROGRAM)
+    is_all = not [it for it in given if not os.path.isfile(it)]
+    status = rows("collection", checks)
+    return max(status, noticed(program, checks)) if is_all else status
+
+
+if __name__ == "__main__":
+    sys.exit(main())

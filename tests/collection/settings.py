@@ -1,0 +1,139 @@
+"""Rows of settings: what a file of a collection may be, what is made of it, and where names live. They need no server."""
+import pathlib
+import subprocess
+import xml.etree.ElementTree as ElementTree
+
+from ropepeach.collection_file import Collection
+from ropepeach.faults import Misused
+from tests.program import ROOT, Differs
+from tests.tools.rows import page_of
+from tests.tools.running import SECONDS, has, ropepeach, same
+
+HOMES = ROOT / "tests/collection/homes.txt"
+# A file of a collection of these many sources.
+HEAD = 'address = "https://archive.example.org"\n'
+SOURCE = '[source.s{0}]\naddress = "http://127.0.0.1:{1}"\nbase = "https://archive.example.org/s{0}"\nfile = "/var/lib/ropepeach/s{0}.disk"\n'
+SITEMAP, RS = "{http://www.sitemaps.org/schemas/sitemap/0.9}", "{http://www.openarchives.org/rs/terms/}"
+
+
+def settings(count):
+    return HEAD + "".join(SOURCE.format(it, 8080 + it) for it in range(1, count + 1))
+
+
+# What is changed in the settings of two sources, and the words of the refusal.
+WRONG = [
+    ("", "colour = 1\n", "colour: there is no such key"),
+    ('file = "/var/lib/ropepeach/s2.disk"', 'file = "/var/lib/ropepeach/s2.disk"\nsize = 1', "source.s2.size: there is no such key"),
+    (HEAD, "", "address: this key is missing"),
+    ('file = "/var/lib/ropepeach/s2.disk"\n', "", "source.s2.file: this key is missing"),
+    ("archive.example.org/s2", "archive.example.org/s1", "source.s2.base: https://archive.example.org/s1 is the base of s1, too"),
+    ("archive.example.org/s2", "archive.example.org/s1/s2", "source.s2.base: https://archive.example.org/s1/s2 lies below the base of s1"),
+    ("http://127.0.0.1:8082", "http://127.0.0.1:8081", "source.s2.address: http://127.0.0.1:8081 is the address of s1, too"),
+    ("s2.disk", "s1.disk", "source.s2.file: /var/lib/ropepeach/s1.disk is the file of s1, too"),
+    ("https://archive.example.org/s2", "https://other.example.org/s2", "source.s2.base: 'https://other.example.org/s2': a base is"),
+    ("archive.example.org/s2", "archive.example.org/../s2", "a base is"),
+    ("archive.example.org/s2", "archive.example.org/.well-known", "a base is"),
+    ("archive.example.org/s2", "archive.example.org/s2/", "a base is"),
+    ("archive.example.org/s2", "archive.example.org", "a base is"),
+    ("archive.example.org/s2", "archive.example.org/s2;}", "a base is"),
+    ("archive.example.org/s2", "archive.example.org/" + "a" * 120, "a base is"),
+    ("http://127.0.0.1:8082", "127.0.0.1:8082", "source.s2.address: '127.0.0.1:8082': an address is"),
+    ("http://127.0.0.1:8082", "http://127.0.0.1", "an address is"),
+    ("http://127.0.0.1:8082", "http://127.0.0.1:99999", "a port is 1 to 65535"),
+    ("http://127.0.0.1:8082", "http://127.0.0.1:0", "a port is 1 to 65535"),
+    ("/var/lib/ropepeach/s2.disk", "s2.disk", "a file is a whole path"),
+    ("/var/lib/ropepeach/s2.disk", "/var/lib/a b", "a file is a whole path"),
+    ("[source.s2]", '[source."../s2"]', "a name is 1 to 32 of"),
+    ("[source.s2]", "[source.S2]", "a name is 1 to 32 of"),
+    ("[source.s2]", "[[source.s2]]", "source.s2: is no table"),
+    ('address = "https://archive.example.org"', 'address = "https://archive.example.org/a"', "example.org/a': an address is"),
+    ('address = "https://archive.example.org"', "address = 1", "address: 1: an address is"),
+    (HEAD, HEAD + 'near = "127.0.0.1"\n', "near: wants a list"),
+    (HEAD, HEAD + 'near = ["127.0.0.1/8; }"]\n', "is no address, and no network"),
+    (HEAD, HEAD + 'key = "/a b"\n', "key: '/a b': a file is a whole path"),
+    (HEAD, HEAD + "address =\n", "is no TOML"),
+]
+
+
+def wrong_settings_are_refused_before_anything(program, room):
+    """Each wrong file is refused by its words; each command that takes one ends by status 2 then, writes nothing, and asks nobody."""
+    pathlib.Path("folder").mkdir()
+    for number, (old, new, why) in enumerate(WRONG):
+        text = settings(2)
+        if old not in text:
+            raise Differs(f"{old!r} is not in the settings")
+        place = 0 if old == HEAD or old.startswith("address") else text.rindex(old)
+        pathlib.Path("c.toml").write_text(text[:place] + new + text[place + len(old):] if old else new + text)
+        try:
+            Collection("c.toml")
+            raise Differs(f"{new!r} is taken")
+        except Misused as fault:
+            has(f"{new!r}", why, str(fault))
+        for words in [["collection", "c.toml", "--into", "site"], ["fill", "folder", "c.toml"], ["grow", "c.toml"]] if number < 2 else []:
+            status, told, said = ropepeach(*words)
+            same(f"{new!r}, {words[0]}: {said}", (2, "", 1), (status, told, said.count("\n")))
+            has(f"{new!r}, {words[0]}", why, said)
+    same("no file", 2, ropepeach("collection", "none.toml", "--into", "site")[0])
+    pathlib.Path("c.toml").write_text(HEAD + "source = {}\n")
+    same("no source", 2, ropepeach("collection", "c.toml", "--into", "site")[0])
+    same("nothing is written", False, pathlib.Path("site").exists())
+
+
+def files_are_made_of_settings(program, room):
+    """There are a file for each unit, the site and the Source Description, which names each Capability List once."""
+    pathlib.Path("c.toml").write_text(settings(3))
+    same("made", 0, ropepeach("collection", "c.toml", "--into", "site")[0])
+    same("files", ["collection.nginx", "resourcesync.xml", "s1.env", "s2.env", "s3.env"], sorted(it.name for it in pathlib.Path("site").iterdir()))
+    lines = [it for it in pathlib.Path("site/s2.env").read_text().splitlines() if not it.startswith("#")]
+    same("the settings of a unit", ["FILE=/var/lib/ropepeach/s2.disk", "ADDRESS=127.0.0.1", "PORT=8082", "COUNT=1000000000"], lines)
+    root = ElementTree.fromstring(pathlib.Path("site/resourcesync.xml").read_bytes())
+    same("the root", SITEMAP + "urlset", root.tag)
+    same("the capability", "description", root.find(RS + "md").get("capability"))
+    found = [(it.find(SITEMAP + "loc").text, it.find(RS + "md").get("capability")) for it in root.findall(SITEMAP + "url")]
+    same("the sources", [(f"https://archive.example.org/s{it}/capabilitylist.xml", "capabilitylist") for it in (1, 2, 3)], found)
+    before = {it.name: it.read_bytes() for it in pathlib.Path("site").iterdir()}
+    same("made again", 0, ropepeach("collection", "c.toml", "--into", "site")[0])
+    same("the same", before, {it.name: it.read_bytes() for it in pathlib.Path("site").iterdir()})
+
+
+def spelled(names, count):
+    """The home of each name among s1, s2.., and its digest, by sha256sum."""
+    files = [(f"spelled/{number}-{it}", name, f"s{it}") for number, name in enumerate(names) for it in range(1, count + 1)]
+    pathlib.Path("spelled").mkdir(exist_ok=True)
+    for path, name, source in files:
+        pathlib.Path(path).write_bytes(f"{source}\0{name}".encode())
+    ran = subprocess.run(["sha256sum", *(it[0] for it in files)], capture_output=True, check=True, timeout=SECONDS, text=True)
+    digests = {path: digest for digest, path in map(str.split, ran.stdout.splitlines())}
+    found = {}
+    for path, name, source in files:
+        found[name] = max(found.get(name, ("", "")), (digests[path], source))
+    return found
+
+
+def names_live_where_the_table_says(program, room):
+    """The table of homes is what sha256sum gives, and what the command says; a fifth source takes about one name of five, and no other moves."""
+    table = [it.split() for it in HOMES.read_text().splitlines() if not it.startswith("#")]
+    names = [it[0] for it in table]
+    four, five = spelled(names, 4), spelled(names, 5)
+    same("by sha256sum", table, [[it, four[it][1], *reversed(five[it])] for it in names])
+    many, homes = [f"d{it % 40}/{it}.txt" for it in range(4_000)], {}
+    for column, count in ((1, 4), (2, 5)):
+        pathlib.Path("c.toml").write_text(settings(count))
+        pathlib.Path("names").write_text("".join(f"{it}\n" for it in names + many))
+        told = [it.split() for it in ropepeach("collection", "c.toml", "--names", "names")[1].splitlines()]
+        same(f"homes among {count}", [[it[column], it[0]] for it in table], told[: len(names)])
+        homes[count] = {name: home for home, name in told[len(names):]}
+    moved = [it for it in many if homes[4][it] != homes[5][it]]
+    same("they move to the new one alone", {"s5"}, {homes[5][it] for it in moved})
+    # (four standard deviations about a fifth)
+    same(f"about one of five moves: {len(moved)} of 4,000", True, 700 <= len(moved) <= 900)
+
+
+def the_pages_say_what_the_commands_are(program, room):
+    """The pages of the manual have the options and the exit statuses of the commands."""
+    for name in ("collection", "grow"):
+        page_of(name)
+
+
+SETTINGS = [wrong_settings_are_refused_before_anything, files_are_made_of_settings, names_live_where_the_table_says,
+            the_pages_say_what_the_commands_are]

@@ -1,0 +1,147 @@
+"""Fills the sources of a collection from one folder, side by side, with one connection each.
+
+First each source is read and compared with the files that live in it. Where one does not answer, is too full, or holds what lives in
+another one, the run ends, and nothing was changed. Then all are changed.
+"""
+import os
+import tempfile
+import types
+
+from ropepeach import room
+from ropepeach.collection_file import Collection
+from ropepeach.collection_sources import Astray, asked_source, astray_in, told_of_astray
+from ropepeach.faults import Fault
+from ropepeach.fill import Plan, held_by, published
+from ropepeach.fill_files import Kinds, names_below
+from ropepeach.fill_sending import Sending
+from ropepeach.progress import tell
+from ropepeach.side_by_side import Sides, check, failures
+
+
+class PartPlan(Plan):
+    """What a run has to do to one source: the names that live in it stand in a file, a line each."""
+
+    def __init__(self, folder, kinds, listed):
+        super().__init__(folder, kinds)
+        self.listed = listed
+
+    def all_names(self, order=sorted):
+        """The names of this source. They stand in the order of their bytes."""
+        self.listed.seek(0)
+        for line in self.listed:
+            yield line.rstrip("\n")
+
+
+def placed(folder, collection):
+    """A file of names for each source, of all that lives there."""
+    files, counts = {it: tempfile.TemporaryFile("w+", encoding="ascii") for it in collection.members}, dict.fromkeys(collection.members, 0)
+    for name in names_below(folder):
+        home = collection.homes.of(name)
+        files[home].write(f"{name}\n")
+        counts[home] += 1
+    for name, count in counts.items():
+        if count > room.MOST_RESOURCES:
+            raise Fault(f"{count:,} files of FOLDER live in {name}, and a source holds {room.MOST_RESOURCES:,} at most: "
+                        f"add sources to {collection.path}, then `ropepeach grow {collection.path}`")
+    for it in files.values():
+        it.flush()
+    return files
+
+
+class Part:
+    """A run of one source, in a process of its own."""
+
+    def __init__(self, collection, name, given, listed):
+        self.collection, self.name, self.given = collection, name, given
+        self.member, self.plan = collection.members[name], PartPlan(os.fsencode(given.folder), Kinds(given.types), listed)
+
+    def compare(self):
+        """What has to be done. Nothing is changed."""
+        self.plan.measure()
+        self.source = asked_source(self.member, self.given)
+        held, self.at, self.is_published = held_by(self.source)
+        self.plan.compare(held)
+        self.plan.check_room(self.source.base, self.given.room)
+        self.check_disk()
+        homes = ((name, self.collection.homes.of(name)) for name in self.plan.gone)
+        astray = [Astray(name, self.name, home, None) for name, home in homes if home != self.name]
+        return {"files": self.plan.files, "held": self.plan.held, "gone": len(self.plan.gone), "astray": astray}
+
+    def check_disk(self):
+        """Refuses what the file of the source, if it lies on this machine, cannot hold with the changes of this run alone."""
+        plan, mean = self.plan, lambda sum: -(-sum // self.plan.files)
+        if plan.files and os.path.exists(self.member.file):
+            it = room.Collection(plan.files, plan.blocks, plan.longest, mean(plan.names), mean(plan.types))
+            check_file(self.member, it, min(room.MOST_CHANGES, len(plan.changed) + len(plan.gone)))
+
+    def told(self):
+        """What the run would do, a line for each change."""
+        return "".join([f"delete {self.name} {it}\n" for it in self.plan.gone] + [f"put {self.name} {it}\n" for it in self.plan.changed])
+
+    def change(self):
+        """Does it, and gives the words of its end, whether something was left out, and why it ended early."""
+        sending, end, why = Sending(self.source, self.at, self.given.publish), "ended early", None
+        try:
+            self.plan.send(sending)
+            end = published(self.given, self.plan, sending, self.is_published)
+        except Fault as fault:
+            why = str(fault)
+        return self.plan.summary(sending, end), bool(self.plan.left_out), why
+
+    def work(self, link):
+        link.send(self.compare())
+        if link.recv() == "tell":
+            link.send((self.told(), bool(self.plan.left_out)))
+        else:
+            link.send(self.change())
+
+
+def check_file(member, it, changes):
+    """Refuses a collection of bodies that the file of a source cannot hold with this many changes."""
+    needed, size = room.used(it, len(member.base), changes) * room.BLOCK, min(os.stat(member.file).st_size, room.MOST_BYTES)
+    if needed > size:
+        raise Fault(f"{member.file} is too small: it has {size:,} bytes, and {it.count:,} resources with {changes:,} changes need {needed:,}")
+
+
+def run(given):
+    """Fills all, and gives the exit status."""
+    collection = Collection(given.url)
+    files = placed(os.fsencode(given.folder), collection)
+    with Sides(collection.members, lambda name, link: Part(collection, name, given, files[name]).work(link)) as sides:
+        found = check({name: sides.heard(name) for name in collection.members})
+        astray = astray_in({name: it["astray"] for name, it in found.items()})
+        if astray:
+            raise Fault(told_of_astray(collection, astray, given) + "\nnothing was changed")
+        check_deletions(given, found)
+        if given.dry_run:
+            return told(sides.asked(dict.fromkeys(found, "tell")))
+        return changed(sides.asked(dict.fromkeys(found, "change")))
+
+
+def check_deletions(given, found):
+    """Refuses to delete more of the whole than was allowed."""
+    sums = {key: sum(it[key] for it in found.values()) for key in ("files", "held", "gone")}
+    Plan.check_deletions(types.SimpleNamespace(gone=range(sums["gone"]), held=sums["held"], files=sums["files"]), given)
+
+
+def told(answers):
+    """Prints what would be done, and gives the exit status."""
+    for text, _ in check(answers).values():
+        print(text, end="")
+    return 3 if any(it[1] for it in answers.values()) else 0
+
+
+def changed(answers):
+    """Prints what was done, and gives the exit status."""
+    failed = failures(answers)
+    for name, it in answers.items():
+        if name in failed:
+            tell(f"{name}: {it.text}")
+            continue
+        summary, _, why = it
+        print(f"{name}: {summary}")
+        if why:
+            tell(f"{name}: {why}")
+    if failed or any(it[2] for it in answers.values()):
+        return 1
+    return 3 if any(it[1] for it in answers.values()) else 0
