@@ -16,13 +16,22 @@
 #   make system   looks at the calls, the edges, the sizes and the like of the program; 'make tests.system.calls' at the calls alone
 #   make tools    fills, mirrors and looks by the command `ropepeach`, also sources that lie, and through the site of nginx
 #   make operate  looks at what is installed beside the program: the page, the units, the site (mandoc, systemd-analyze, strace, nginx, openssl)
+#   make package  packs the proved program and the tools for Debian, with SHA256SUMS and PROVED, in out/package
+#   make machine  boots a whole Debian with the packages, and kills it (as root, with debootstrap and systemd-nspawn)
+#   make page     looks at the page of install/site in headless Chromium, through the site of nginx
+#   make million  fills, mirrors, changes and grows 1,000,000 resources of 1 KiB in 24 sources (MILLION="--resources 200000 --sources 8" takes
+#                 others; some 12 GB in /tmp; 'make test' has 20,000 in 4)
+#   make powercut cuts the power below ext4, XFS and btrfs, on a device whose writes are logged, IMAGES=20000 images (as root, with FUSE and
+#                 loop devices; 'make test' has a short form)
 #   make snapshots  opens snapshots that are taken while a source is put to (as root, with loop devices; 'make test' has it not)
+#   make replicas three machines on one kernel with a CephFS over them: a source goes from one to another as they die, REPLICA_ROUNDS=200
+#                 times, and stores that lose are seen to lose (as root, with packages.txt's `replicas`; 'make test' has a short form)
 #   make pictures draws the pictures of docs/pictures anew, from runs of the proved program
 #   make bench    measures speed (docs/keepers/BENCH.md has figures; it needs wrk, lighttpd and python3-lmdb of Debian)
 #   make bench-more  measures what changes seldom: digests, `verify`, the writing of lists, and list makers that are killed (it needs jekyll)
 #   make proof-times  tells what each part of the proofs of CRATES="rs_io rs_time" took
-#   make install  puts the built program, its page of the manual, its unit, its site and its tools in their places (PREFIX, DESTDIR;
-#                 docs/OPERATING.md)
+#   make install  puts the built program, its pages of the manual, its units, its site and its tools in their places (PREFIX, DESTDIR;
+#                 package/places.py, docs/OPERATING.md)
 #   make uninstall  takes them away again, and leaves every source as it is
 
 SCRIPT ?= examples/first.script
@@ -34,20 +43,20 @@ ROUNDS ?= 200
 DISKS ?= 100000
 LINES ?= 100000
 REQUESTS ?= 100000
+REPLICA_ROUNDS ?= 200
+IMAGES ?= 20000
+MILLION ?= --resources 1000000 --sources 24
 PREFIX ?= /usr/local
 DESTDIR ?=
 PROGRAM ?= crates/rs_source/out/rs_source
-AT = $(DESTDIR)$(PREFIX)
 # The checks of tests/system that have no target of their own.
 SYSTEM = calls edges growths large documents pages kept tour folder sizes
-# The command of the package in tools/ropepeach, and two names that it had before.
-TOOLS = ropepeach destination publish_folder
 # The checks of tests/tools.
-TOOL_CHECKS = fill mirror hostile served look size why health
+TOOL_CHECKS = fill mirror power hostile served look size why health takeover
 # How many checks of edits go side by side, if not as many as there are processors and memory for.
 LANES ?=
 
-.PHONY: demo test edits build rows statement bench bench-more proof-times memory ends crash hostile mirror system tools operate snapshots pictures install uninstall
+.PHONY: demo test edits build rows statement bench bench-more proof-times memory ends crash hostile mirror system tools operate package machine page million powercut replicas snapshots pictures install uninstall
 
 # Quick, and no more than an unproved build.
 demo:
@@ -119,6 +128,26 @@ tools: build
 operate: build
 	@python3 -m tests.system.install
 
+# The Debian packages of the proved program and of its tools.
+package: build
+	@python3 -m package
+
+machine: build
+	@python3 -m tests.machine
+
+page: build
+	@python3 -m tests.page
+
+million: build
+	@python3 -m tests.collection $(MILLION) --rates
+
+powercut: build
+	@python3 -m tests.powercut --images $(IMAGES)
+
+# (it ends all that it starts, also where it is stopped)
+replicas: build
+	@python3 -m tests.replicas --rounds $(REPLICA_ROUNDS)
+
 snapshots: build
 	@python3 -m tests.system.snapshots
 
@@ -128,25 +157,12 @@ tests.%: build
 
 pictures: build
 	@python3 -m tests.pictures.draw
+	@python3 -m tests.page --pictures
 
-# What `make build` made, and what stands beside it. It proves and builds nothing, so that it can run as root.
+# What `make build` made, and what stands beside it (package/places.py). It proves and builds nothing, so that it can run as root.
 install:
 	@test -x $(PROGRAM) || { echo "there is no program yet: make build" >&2; exit 1; }
-	install -D -m 755 $(PROGRAM) $(AT)/bin/rs_source
-	install -D -m 644 install/rs_source.8 $(AT)/share/man/man8/rs_source.8
-	install -D -m 644 -t $(AT)/share/man/man1 install/*.1
-	install -D -m 644 install/ropepeach.nginx $(AT)/share/doc/ropepeach/ropepeach.nginx
-	install -D -m 644 docs/OPERATING.md $(AT)/share/doc/ropepeach/OPERATING.md
-	install -D -m 644 install/ropepeach.sysusers $(AT)/lib/sysusers.d/ropepeach.conf
-	install -D -m 644 -t $(AT)/lib/systemd/system install/ropepeach.service install/ropepeach-verify.service install/ropepeach-verify.timer
-	sed -i 's|/usr/local/bin/|$(PREFIX)/bin/|' $(AT)/lib/systemd/system/ropepeach.service $(AT)/lib/systemd/system/ropepeach-verify.service
-	install -D -m 644 -t $(AT)/lib/ropepeach/ropepeach tools/ropepeach/*.py
-	install -D -m 755 -t $(AT)/lib/ropepeach tools/ropepeach-command
-	for it in $(TOOLS); do ln -sf ../lib/ropepeach/ropepeach-command $(AT)/bin/$$it; done
+	@python3 -B -m package.places install "$(PROGRAM)" "$(PREFIX)" "$(DESTDIR)"
 
 uninstall:
-	rm -f $(AT)/bin/rs_source $(TOOLS:%=$(AT)/bin/%) $(AT)/share/man/man8/rs_source.8
-	rm -f $(AT)/share/man/man1/ropepeach.1 $(AT)/share/man/man1/ropepeach-*.1
-	rm -f $(AT)/lib/sysusers.d/ropepeach.conf
-	rm -f $(AT)/lib/systemd/system/ropepeach.service $(AT)/lib/systemd/system/ropepeach-verify.service $(AT)/lib/systemd/system/ropepeach-verify.timer
-	rm -rf $(AT)/lib/ropepeach $(AT)/share/doc/ropepeach
+	@python3 -B -m package.places uninstall "$(PROGRAM)" "$(PREFIX)" "$(DESTDIR)"

@@ -27,9 +27,10 @@ import runs
 LOG = ROOT / "out" / "test.log"
 # What is looked at on the proved program: the module tests.NAME of each; those of SHORT have a short form.
 CHECKS = ["rows", "system.calls", "system.edges", "system.growths", "system.large", "system.documents", "system.pages", "system.kept", "system.tour",
-          "mirror", "system.folder", "system.sizes", "pictures", "system.install",
-          "tools.fill", "tools.mirror", "tools.hostile", "tools.served", "tools.look", "tools.size", "tools.why", "tools.health"]
-SHORT = ["crash", "hostile.disks", "hostile.lines", "hostile.requests", "ends"]
+          "mirror", "system.folder", "system.sizes", "pictures", "system.install", "machine",
+          "tools.fill", "tools.mirror", "tools.power", "tools.hostile", "tools.served", "tools.look", "tools.size", "tools.why", "tools.health", "tools.takeover",
+          "collection.rows", "collection", "page"]
+SHORT = ["crash", "hostile.disks", "hostile.lines", "hostile.requests", "ends", "powercut", "replicas"]
 
 
 def copied(room):

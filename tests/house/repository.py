@@ -6,8 +6,8 @@ import re
 from pathlib import Path
 
 SOURCES = ["crates/*/src/**/*.rt", "crates/*/specs/**/*.antt", "crates/*/proofs/*.antt", "Makefile", "crates.txt", "packages.txt",
-           "tests/house/words.txt", "statement/kit_words.txt", "tools/*", "install/*", "examples/*"]
-SOURCES += [f"{folder}/**/*.py" for folder in ("bench", "gate", "statement", "tests", "tools")]
+           "tests/house/words.txt", "statement/kit_words.txt", "tools/*", "install/*", "install/site/*", "package/debian/*", "examples/*"]
+SOURCES += [f"{folder}/**/*.py" for folder in ("bench", "gate", "package", "statement", "tests", "tools")]
 COMMENT, WORD, FLAG = re.compile(r"(?m)(?<!\S)(?://|--(?=\s)).*"), re.compile(r"[^\W\d]\w*"), re.compile(r"(?<![\w-])--[a-z][a-z-]*")
 FENCE, SPAN = re.compile(r"(?ms)^ *```(\w*)\n(.*?)^ *```"), re.compile(r"(?<!`)`([^`]+)`(?!`)")
 
