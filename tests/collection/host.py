@@ -31,7 +31,7 @@ class Host:
     def __init__(self, program, room, names, size=8 << 20, limit=100):
         self.program, self.room, self.size, self.limit = program, pathlib.Path(room).resolve(), size, limit
         # The seconds of a processor that sources used which have ended.
-        self.port, self.nginx, self.ended, self.changed = free_port(), None, 0.0, 0.0
+        self.port, self.nginx, self.ended = free_port(), None, 0.0
         self.address, self.sources = f"https://127.0.0.1:{self.port}", {}
         certify(self.room)
         self.environment = os.environ | DIRECT | {"SSL_CERT_FILE": f"{self.room}/server.crt"}
@@ -97,13 +97,10 @@ class Host:
         return running.begun(*words, env=self.environment)
 
     def run(self, *words, seconds=LONGEST):
-        """A whole run of the command. A mirror begins once nginx keeps no head from before the last change."""
+        """A whole run of the command. A mirror begins once nginx keeps no head from before."""
         if words[0] == "mirror":
-            time.sleep(max(0.0, self.changed + HEAD - time.monotonic()))
-        ended = waited(self.begin(*words), seconds)
-        if words[0] != "mirror":
-            self.changed = time.monotonic()
-        return ended
+            time.sleep(HEAD)
+        return waited(self.begin(*words), seconds)
 
     def well(self, *words, seconds=LONGEST):
         """What a run prints that ends well."""

@@ -4,8 +4,10 @@ import re
 import shutil
 import signal
 import threading
+import time
 
 from tests.collection.host import SETTINGS, Host, asked, same_files, waited
+from tests.system.install_looks import HEAD
 from tests.tools.hostile_source import listed
 from tests.tools.lists_server import always, serving
 from tests.tools.running import Server, files_of, has, ropepeach, same, wait_until, written
@@ -46,6 +48,8 @@ def a_moved_name_is_never_gone(program, room):
         host.well("mirror", host.address, "m")
         name = next(it for it, home in host.homes(list(FILES)[:50]).items() if home == "s1")
         for baseline in ([], ["--baseline"]):
+            # (nginx keeps heads for that long)
+            time.sleep(HEAD)
             host.sources["s1"].hold()
             seen = pathlib.Path("access").read_text().count("/s2/changelist.xml")
             run = host.begin("mirror", host.address, "m", *baseline)
