@@ -32,6 +32,7 @@ LONGEST_DOCUMENT = 10_485_760
 PIECE = 65_536
 AWAY = {502, 503, 504}
 Answer = namedtuple("Answer", "status reason fields body")
+FIELDS = {"User-Agent": "ropepeach"}
 # How urllib3 asks once: the caller has the patience, and takes the bytes as they are sent.
 AS_SENT = {"preload_content": False, "enforce_content_length": True, "decode_content": False}
 ONCE = AS_SENT | {"retries": Retry(False, redirect=False), "redirect": False}
@@ -94,11 +95,16 @@ class Plain(HTTPConnection):
 
 
 class Connections:
-    """One connection to the source at an address, opened anew where the source closes it: `plain`, or the one of a pool."""
+    """One connection to the source at an address, opened anew where the source closes it: `plain`, or the one of a pool.
+
+    Beside `plain` there is `spare`. Where the source closes each connection behind an answer, the request that comes next (`expected`) is
+    sent by it (`sent`) before the answer to this one is read, so that the source works meanwhile.
+    """
 
     def __init__(self, address, patience=PATIENCE, certificate=None, whole=WHOLE):
         self.address, self.patience, self.whole, self.target = address.rstrip("/"), patience, whole, ""
-        self.longest, self.plain = LONGEST_DOCUMENT, None
+        self.longest, self.plain, self.spare = LONGEST_DOCUMENT, None, None
+        self.expected, self.sent, self.is_closing = "", "", False
         try:
             self.pool, self.front = self.pool_to(urlsplit(self.address), certificate)
         except (ValueError, HTTPError):
@@ -118,7 +124,7 @@ class Connections:
             front = parts.path if parts.scheme == "https" else self.address
             return urllib3.proxy_from_url(proxy, **words).connection_from_url(self.address), front
         if parts.scheme == "http":
-            self.plain = Plain(parts.hostname, parts.port or 80, timeout=CONNECT)
+            self.plain, self.spare = (Plain(parts.hostname, parts.port or 80, timeout=CONNECT) for _ in range(2))
         return urllib3.connection_from_url(self.address, **words), parts.path
 
     def exact(self, kind):
@@ -137,7 +143,7 @@ class Connections:
         A request that is not safe to repeat is sent again only where the source cannot have seen it.
         """
         what, waiting, is_told = f"{method} {self.address}{path}", None, False
-        fields = {"User-Agent": "ropepeach"} | ({"Content-Type": kind} if kind else {})
+        fields = FIELDS | ({"Content-Type": kind} if kind else {})
         while True:
             fault, answer = None, None
             try:
@@ -186,15 +192,35 @@ class Connections:
         finally:
             response.release_conn()
 
-    def asked_plainly(self, what, method, target, body, fields, most):
-        is_whole = False
-        if is_connection_dropped(self.plain):
-            self.plain.close()
+    def send_ahead(self):
+        """Sends what is expected next. Where that fails, it is sent in its turn."""
+        self.sent, self.expected = self.front + self.expected, ""
         try:
-            self.plain.request(method, target, body=body, headers=fields, **PLAINLY)
+            self.send(self.spare, "GET", self.sent, None, FIELDS)
+        except (HTTPError, OSError, http.client.HTTPException):
+            self.spare.close()
+            self.sent = ""
+
+    def send(self, connection, method, target, body, fields):
+        if is_connection_dropped(connection):
+            connection.close()
+        connection.request(method, target, body=body, headers=fields, **PLAINLY)
+
+    def asked_plainly(self, what, method, target, body, fields, most):
+        is_whole, is_sent = False, method == "GET" and self.sent == target
+        if is_sent:
+            self.plain, self.spare = self.spare, self.plain
+        elif self.sent:
+            self.spare.close()
+        self.sent = ""
+        try:
+            if not is_sent:
+                self.send(self.plain, method, target, body, fields)
+            if self.expected and self.is_closing:
+                self.send_ahead()
             response = self.plain.getresponse()
             answer = Answer(response.status, response.reason or "", response.headers, taken(response, what, most))
-            is_whole = left_of(response) == 0
+            is_whole, self.is_closing = left_of(response) == 0, answer.fields.get("Connection", "").lower() == "close"
             return answer
         finally:
             # What is left of an answer must not be taken for the next one.

@@ -83,8 +83,9 @@ class Source:
         except (ParseError, defusedxml.DefusedXmlException, ValueError) as fault:
             raise Fault(f"{address}: refused, as it is no document: {type(fault).__name__}") from None
 
-    def resource(self, name, facts):
-        """The bytes of a resource, if they are the ones that are listed."""
+    def resource(self, name, facts, following=None):
+        """The bytes of a resource, if they are the ones that are listed. Another one may follow."""
+        self.connections.expected = f"/resource/{following}" if following else ""
         address = f"{self.base}/resource/{name}"
         try:
             body = self.asked(address, length_of(facts))

@@ -92,19 +92,29 @@ class Run:
             del wanted[name]
         left = {}
         with Progress("fetching", len(wanted), sum(map(length_of, wanted.values()))) as bar:
-            for name, facts in wanted.items():
+            due = ((name, facts) for name, facts in wanted.items() if not self.is_had(name, facts, bar))
+            following = next(due, None)
+            while following:
+                (name, facts), following = following, next(due, None)
                 try:
-                    if not self.folder.has(name, facts):
-                        self.fetch(name, facts)
+                    self.fetch(name, facts, following)
                 except Unheld as why:
                     left[name] = why
                 bar.add(1, length_of(facts))
         self.folder.settle()
         return left
 
-    def fetch(self, name, facts):
+    def is_had(self, name, facts, bar):
+        """Whether a file needs no fetching."""
+        is_had = self.folder.has(name, facts)
+        if is_had:
+            bar.add(1, length_of(facts))
+        return is_had
+
+    def fetch(self, name, facts, following):
+        """Fetches one resource, and lets the source work on the one behind it meanwhile."""
         try:
-            body = self.source.resource(name, facts)
+            body = self.source.resource(name, facts, following and following[0])
         except Silent:
             # What was fetched before is kept.
             self.folder.settle()
