@@ -1,4 +1,4 @@
-"""How the commands ask a source over HTTP: urllib3, with one connection, patience, and limits on what comes back.
+"""How the commands ask a source over HTTP: urllib3, with one connection or two, patience, and limits on what comes back.
 
 A source over plain HTTP is asked on urllib3's connection itself, which costs half of what its pool does; the pool knows TLS and proxies.
 
@@ -95,7 +95,7 @@ class Plain(HTTPConnection):
 
 
 class Connections:
-    """One connection to the source at an address, opened anew where the source closes it: `plain`, or the one of a pool.
+    """A connection to the source at an address, opened anew where the source closes it: `plain`, or the one of a pool.
 
     Beside `plain` there is `spare`. Where the source closes each connection behind an answer, the request that comes next (`expected`) is
     sent by it (`sent`) before the answer to this one is read, so that the source works meanwhile.
