@@ -74,7 +74,8 @@ def groups_over_http(program, room):
         together.append(answer(port, "POST /group", "".join(f"{it}\n" for it in lines).encode()))
     server.wait()
     one, all_of_them = statistics.median(alone), statistics.median(together)
-    print(f"groups over HTTP: 16 PUTs of 4 KiB {1000 * one:.1f} ms, a group of 16 {1000 * all_of_them:.1f} ms: {all_of_them / one:.2f} of it", flush=True)
+    print(f"groups over HTTP: 16 PUTs of 4 KiB {1000 * one:.1f} ms, a group of 16 {1000 * all_of_them:.1f} ms: "
+          f"{all_of_them / one:.2f} of it", flush=True)
 
 
 def filled(program, file):

@@ -1,7 +1,8 @@
 """Durable puts of 4 KiB on a file with 100 resources held: the program, LMDB and SQLite, all in one run on one disk.
 
-Each replaces one of 100 resources after the other, and is asked for the next only once the put is on the disk. Each keeps the body, its MD5 and SHA-256, its type and its moment, and
-a log of changes. The program reads its puts from a script; a run of none is timed too and taken off. Needs Debian's python3-lmdb; run it by `/usr/bin/python3 -m bench.durable`.
+Each replaces one of 100 resources after the other, and is asked for the next only once the put is on the disk. Each keeps the body, its MD5
+and SHA-256, its type and its moment, and a log of changes. The program reads its puts from a script; a run of none is timed too and taken off.
+Needs Debian's python3-lmdb; run it by `/usr/bin/python3 -m bench.durable`.
 """
 import hashlib
 import os

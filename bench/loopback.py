@@ -104,7 +104,8 @@ def big(file, hasher):
     put, both, written, get, sha256 = (statistics.median(column) for column in zip(*rows))
     for name, took, than, least in (("PUT", put, "MD5 and SHA-256", both), ("GET", get, "SHA-256", sha256)):
         print(f"16 MiB: {name} {1000 * took:.0f} ms, {took / least:.2f} times the kit's {than} over it ({1000 * least:.0f} ms)")
-    print(f"16 MiB: the writes and syncs of a PUT {1000 * written:.0f} ms; it took {put / (both + written):.2f} times as long as these and its hashing")
+    print(f"16 MiB: the writes and syncs of a PUT {1000 * written:.0f} ms; it took {put / (both + written):.2f} times as long as these "
+          "and its hashing")
 
 
 def main():

@@ -38,7 +38,8 @@ def main():
         if wrong := built.build_each({*due} - {PROGRAM}, when_done):
             sys.exit(wrong.partition(":")[0])
         started, words = time.time(), [kit.RT, "run", "--", "mem", "65536", (sys.argv[1:] or ["http://127.0.0.1:8080"])[0], "2"]
-        ran = subprocess.run(words, cwd=ROOT / "crates" / PROGRAM, stdin=script, stdout=subprocess.DEVNULL, stderr=subprocess.PIPE, text=True, errors="replace")
+        how = {"stdin": script, "stdout": subprocess.DEVNULL, "stderr": subprocess.PIPE, "text": True, "errors": "replace"}
+        ran = subprocess.run(words, cwd=ROOT / "crates" / PROGRAM, **how)
         when_done(PROGRAM, kit.Told(ran.returncode, ran.stderr, time.time() - started))
     if ran.returncode:
         sys.exit(f"{PROGRAM}: rt run ended with status {ran.returncode}")

@@ -28,9 +28,12 @@ LOG = ROOT / "out" / "test.log"
 # What is looked at on the proved program: the module tests.NAME of each; those of SHORT have a short form.
 CHECKS = ["rows", "system.calls", "system.edges", "system.growths", "system.large", "system.documents", "system.pages", "system.kept", "system.tour",
           "mirror", "system.folder", "system.sizes", "pictures", "system.install", "machine",
-          "tools.fill", "tools.mirror", "tools.power", "tools.hostile", "tools.served", "tools.look", "tools.size", "tools.why", "tools.health", "tools.takeover",
+          "tools.fill", "tools.mirror", "tools.power", "tools.hostile", "tools.served", "tools.look", "tools.size", "tools.why", "tools.health",
+          "tools.takeover",
           "collection.rows", "collection", "page"]
 SHORT = ["crash", "hostile.disks", "hostile.lines", "hostile.requests", "ends", "powercut", "replicas"]
+# A line of Python has at most so many columns.
+WIDTH = 150
 
 
 def copied(room):
@@ -61,12 +64,23 @@ class Parts:
         return not failed
 
 
+def files_of(*kinds, below=ROOT):
+    """The files of these kinds, without what is built."""
+    return [it for kind in kinds for it in sorted(below.rglob(kind)) if "out" not in it.relative_to(below).parts]
+
+
 def layout():
-    """Whether each file of code, specs and proofs is in the toolchain's layout."""
-    files = [it for kind in ("*.rt", "*.antt") for it in sorted(Path(ROOT, "crates").rglob(kind)) if "out" not in it.parts]
-    ran = subprocess.run([f"{kit.folder()}/bin/rattle", "fmt", "--check", *files], capture_output=True, text=True)
-    named = (ran.stdout + ran.stderr).splitlines()
-    return (0 if ran.returncode else 1), (named or ["the layout was not checked"]) if ran.returncode else []
+    """Whether each file of code, specs and proofs is in the toolchain's layout, and no line of Python is longer than WIDTH."""
+    words = [f"{kit.folder()}/bin/rattle", "fmt", "--check", *files_of("*.rt", "*.antt", below=ROOT / "crates")]
+    ran = subprocess.run(words, capture_output=True, text=True)
+    wrong = (ran.stdout + ran.stderr).splitlines() or ["the layout was not checked"] if ran.returncode else []
+    wrong += [line for file in files_of("*.py") for line in wide(file)]
+    return int(not wrong), wrong
+
+
+def wide(file):
+    """The lines of a file that are too long, by number."""
+    return [f"{file}:{at}: more than {WIDTH} columns" for at, line in enumerate(file.read_text().splitlines(), 1) if len(line) > WIDTH]
 
 
 def dates():
@@ -120,7 +134,8 @@ def announce(uses, names):
     processors, known = kit.lanes(), runs.table()
     number = sum(len(record.edits_of(ROOT, it)) for it in names)
     seconds = runs.proving(uses, [*uses], processors, with_tests=True) + number * known["an_edit"][0] / processors + known["all_else"][0]
-    what = f"make test: proves {len(uses)} crates and their tests, tries {number} must-fail edits of {len(names)} crates, and looks at the program that it proved."
+    tried = f"tries {number} must-fail edits of {len(names)} crates"
+    what = f"make test: proves {len(uses)} crates and their tests, {tried}, and looks at the program that it proved."
     runs.announce(what, seconds, processors, LOG)
 
 

@@ -24,7 +24,7 @@ def table():
 
 
 def proving(uses, names, processors, with_tests=False):
-    """About how many seconds it takes to prove these crates from nothing: those of the longest chain of them, or those of all on this many processors."""
+    """About how many seconds it takes to prove these crates from nothing on this many processors: at least those of their longest chain."""
     known, chain, ends, total = table(), {}, [0], 0
     for name in uses:
         own, tests = known.get(name, (60, 0)) if name in names else (0, 0)
@@ -37,14 +37,16 @@ def proving(uses, names, processors, with_tests=False):
 def announce(what, seconds, processors, log):
     """The two lines with which a run begins."""
     took = f"about {round(seconds / 60)} minutes" if seconds > 60 else "less than a minute"
-    print(f"{what}\nThat takes {took} on {processors} of the processors here, and less over kept work. What the toolchain says goes to {log}.", flush=True)
+    print(f"{what}\nThat takes {took} on {processors} of the processors here, and less over kept work. What the toolchain says goes to {log}.",
+          flush=True)
 
 
 def rt_ci(copy, crates, log, seconds):
     """The toolchain's own run in a copy of the repository, with a line for each crate: how many passed, and what failed.
     All that it says goes to a log, and is shown where it fails. `seconds` gives those of a processor."""
     number, since, last = count(1), [], ""
-    with open(log, "w") as kept, subprocess.Popen([kit.RT, "ci"], cwd=copy, stdout=subprocess.PIPE, stderr=subprocess.STDOUT, text=True, errors="replace") as ran:
+    how = {"stdout": subprocess.PIPE, "stderr": subprocess.STDOUT, "text": True, "errors": "replace"}
+    with open(log, "w") as kept, subprocess.Popen([kit.RT, "ci"], cwd=copy, **how) as ran:
         for line in ran.stdout:
             kept.write(line)
             since.append(line)

@@ -157,7 +157,8 @@ class Readers(unittest.TestCase):
         self.assertEqual(self.words_of(self.low, "IsPast"), ["ℕ", "zero", "Unit", "suc"])
         self.assertEqual(self.words_of(self.low, "◌then◌"), ["ℕ"])
         high = antt.read("Rattle.high.specs.Lawful", "Lawful.antt", HIGH)
-        self.assertEqual(self.words_of(high, "IsLawful"), ["single", "Shape", "single", "point", "ℕ", "after", "IsPair", "then", "×", "IsPast", "kind_of"])
+        words = ["single", "Shape", "single", "point", "ℕ", "after", "IsPair", "then", "×", "IsPast", "kind_of"]
+        self.assertEqual(self.words_of(high, "IsLawful"), words)
         self.assertEqual(high.brought["after"], antt.Name("Rattle.low.specs.Numbers", "next"))
         self.assertEqual((high.aliases, high.passed), ({"single": "Rattle.low.specs.declared.item.Item.TheVariants"}, {"IsPast"}))
 
@@ -185,7 +186,8 @@ class Reached(unittest.TestCase):
     def test_a_clause_reaches_what_it_uses_and_no_other(self):
         found = promises.promises(made(self.room), PROMISES)[0].reach
         names = [(it.crate, [each.name for each in it.definitions], [each.name for each in it.types]) for it in found.chapters]
-        self.assertEqual(names, [("high", ["IsLawful"], ["Boxed"]), ("low", ["Shape", "next", "IsPair", "IsPast", "◌then◌", "kind_of"], ["Item"])])
+        low = ("low", ["Shape", "next", "IsPair", "IsPast", "◌then◌", "kind_of"], ["Item"])
+        self.assertEqual(names, [("high", ["IsLawful"], ["Boxed"]), low])
         self.assertEqual([it.label for it in found.kit], ["std.suc", "std.zero", "std.ℕ", "std.◌+◌", "std.◌≡◌"])
         self.assertEqual(found.counts, (7, 20, 2, 5))
 
@@ -200,9 +202,9 @@ class Reached(unittest.TestCase):
 
     def test_wrong_promises_are_told(self):
         world = made(self.room)
-        for wrong in (PROMISES.replace("at once", "later"), PROMISES.replace("open lawful", "open awful"), PROMISES.replace("row: opening", "row: closing")):
+        for words, others in (("at once", "later"), ("open lawful", "open awful"), ("row: opening", "row: closing")):
             with self.assertRaises(promises.Wrong):
-                promises.promises(world, wrong)
+                promises.promises(world, PROMISES.replace(words, others))
 
     def test_counts_that_rise_or_fall_are_told(self):
         every = promises.promises(made(self.room), PROMISES)

@@ -29,7 +29,10 @@ def texts_of(folder):
 
 
 def can_be_copied(edit, folder):
-    """Whether an edit changes one function alone, which is no method of a trait, calls not itself, has no proof by hand, and is named in no text but its own proof files."""
+    """Whether an edit changes one function alone, whose copy can stand beside it.
+
+    Such a function is no method of a trait, does not call itself, has no proof by hand, and only its own proof files name it.
+    """
     if len(edit.symbols) != 1 or len({path for path, _, _ in edit.pairs}) != 1:
         return False
     symbol = next(iter(edit.symbols))
@@ -41,7 +44,10 @@ def can_be_copied(edit, folder):
 
 
 def with_copy(texts, folder, edit, edited, number):
-    """These texts with a copy of the function that the edit changes, as the text of its file in `edited` has it, and with the copy's proof files; and the copy's symbol, in a set."""
+    """These texts, with a copy of the function that the edit changes and the copy's proof files; and the copy's symbol, in a set.
+
+    The copy is as `edited` has the function.
+    """
     symbol, path = next(iter(edit.symbols)), edit.pairs[0][0]
     text, edited = texts.get(path) or Path(folder, path).read_text(), edited[path]
     is_it = lambda it: (it.name, it.block) == (edit.function.name, edit.function.block)

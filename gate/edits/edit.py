@@ -23,7 +23,7 @@ class Outcome(Enum):
 
 @dataclass
 class Edit:
-    """An edit of a crate: pairs of texts, the symbols of the functions whose bodies alone it changes, and the first of these as it stands in its text."""
+    """An edit of a crate: pairs of texts, the symbols of the functions whose bodies alone it changes, and the first of these functions."""
 
     label: str
     pairs: list

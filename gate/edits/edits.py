@@ -33,7 +33,10 @@ class Trial:
         self.checks, self.seconds = 0, 0.0
 
     def check(self, room, texts, only=(), kept=None):
-        """Checks a copy of the crate with these texts in place of its own, or these functions of it alone, over a copy of the work in the folder `room`, or over that work itself."""
+        """Checks a copy of the crate with these texts in place of its own, or only these functions of it.
+
+        It goes over a copy of the work in the folder `room`, or over the work `kept` itself.
+        """
         with self.built.turns, tempfile.TemporaryDirectory(prefix="copy-", dir=room) as crate:
             for part in ("src", "specs", "proofs"):
                 if os.path.isdir(f"{self.folder}/{part}"):
@@ -87,7 +90,10 @@ class Trial:
             self.judge(group, told)
 
     def judge(self, group, told):
-        """Takes those edits of a group as refused of whose own functions, or copies of them, the check has an error or an open goal: the known one, where one is."""
+        """Takes an edit of a group as refused where the check has an error or an open goal of its own functions, or of copies of them.
+
+        The goal that is known is taken first.
+        """
         found = verdict.read(self.name, told, {symbol: goals.beside(it, self.folder) for symbol, it in group.tried.items()})
         # An error of a function that none of them changes could come from any: then each is tried alone.
         if found.is_read and {*found.own} <= {*group.tried}:
@@ -116,7 +122,10 @@ class Trial:
 
 
 def try_crates(root, names, jobs, when_done=lambda name, edits: None):
-    """Tries the edits of these crates, `jobs` checks side by side, prints what came of each, and returns the edits by crate. Calls `when_done` as each crate is done."""
+    """Tries the edits of these crates, `jobs` checks side by side, and gives the edits by crate.
+
+    It prints what came of each, and calls `when_done` as each crate is done.
+    """
     built, known = Libraries(root, jobs), goals.known(root)
     trials = [Trial(name, found, built) for name in names if (found := edit.of_crate(root, name, known))]
     # A crate's own checks go side by side too, so that the last one leaves no processor idle. Those with the most edits begin.

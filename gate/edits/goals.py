@@ -35,7 +35,8 @@ def write(root, crate, edits):
 
 
 def of_function(kept, symbol):
-    """The goals of a function as it is, as kept work names what its proof declares: none where that is kept in another way, which costs time alone."""
+    """The goals of a function as it is, by what kept work says that its proof declares. Where that is kept in another way it gives none,
+    which costs only time."""
     crate, *names = symbol.split("::")
     file = next(Path(kept).glob(f"*/Rattle-{crate}-proofs.{'.'.join(names)}.Proof.oantt"), None)
     declared = DECLARED.search(file.read_bytes()) if file else None

@@ -57,7 +57,8 @@ def below(uses, name):
 
 def check(words, crate_folder):
     """Runs a check in a crate's folder."""
-    with subprocess.Popen(words, cwd=crate_folder, errors="replace", stdin=subprocess.DEVNULL, stdout=subprocess.PIPE, stderr=subprocess.STDOUT) as ran:
+    streams = {"stdin": subprocess.DEVNULL, "stdout": subprocess.PIPE, "stderr": subprocess.STDOUT}
+    with subprocess.Popen(words, cwd=crate_folder, errors="replace", **streams) as ran:
         text = ran.stdout.read()
         _, status, took = os.wait4(ran.pid, 0)
         ran.returncode = os.waitstatus_to_exitcode(status)

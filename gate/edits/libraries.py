@@ -56,7 +56,10 @@ class Libraries:
         return ""
 
     def build_each(self, names, when_done=lambda name, told: None):
-        """Builds these crates and all that they stand on, side by side, each with the jobs that no other one waits for, and gives what was wrong, or nothing."""
+        """Builds these crates and all that they stand on, side by side, and gives what was wrong, or nothing.
+
+        Each crate gets the jobs that no other one waits for.
+        """
         wanted = {needed for it in names for needed in (*kit.below(self.uses, it), it)}
         left, running, wrong = [it for it in self.uses if it in wanted and not self.is_built(it)], {}, ""
         with ThreadPoolExecutor(self.jobs) as pool:

@@ -82,7 +82,7 @@ def item_of(text, function):
 
 
 def outline(text):
-    """What a source text says to the crates above, which no test does, since they stand on no crate that has tests: all of it but comments and the bodies of functions."""
+    """What a source text says to the crates above: all of it but comments and the bodies of functions. (No test says anything to them.)"""
     for function in reversed(functions_of(text)):
         if function.end <= len(text):
             text = text[: function.start] + ";" + text[function.end :]

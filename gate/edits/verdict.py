@@ -21,7 +21,10 @@ CUT = re.compile(rf"\n +(?={SECOND_HAND.pattern})")
 
 @dataclass(frozen=True)
 class Verdict:
-    """Whether all was read and some of it refused; of each function the first error of its own, its open goals and those of which an answer by hand is refused; the first error of all."""
+    """What a check says: whether all was read and some of it refused; and the first error of all.
+
+    Of each function it has the first error, the open goals, and the goals of which an answer by hand is refused.
+    """
 
     is_read: bool
     own: dict

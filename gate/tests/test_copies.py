@@ -13,7 +13,17 @@ import edit
 import goals
 import source
 
-ANSWERS = "use Rattle.sample.proofs.next.Goals as goal\n\npub returns : goal.returns\nreturns = help\n\nhelp : ℕ\nhelp = 1\n\npub second : goal.second\nsecond = tt\n"
+ANSWERS = """use Rattle.sample.proofs.next.Goals as goal
+
+pub returns : goal.returns
+returns = help
+
+help : ℕ
+help = 1
+
+pub second : goal.second
+second = tt
+"""
 
 
 class Copying(unittest.TestCase):
@@ -37,7 +47,7 @@ class Copying(unittest.TestCase):
         self.assertEqual(self.edit("result ≤ a", "result ≤ b", "smaller").symbols, set())
 
     def test_edits_that_stand_on_copies(self):
-        """Each edit stands on a copy of its own, and the function as it is; where it can't be copied, one of them stands in its place in each check."""
+        """Each edit stands on a copy of its own, and the function as it is. Where it can't be copied, each check has one edit in its place."""
         every = [self.edit("from(x) + 1", f"from(x) + {i}") for i in (2, 3, 4)]
         groups = lambda edits: [{symbol: it.label for symbol, it in group.tried.items()} for group in edit.grouped(edits, self.folder)]
         [group] = edit.grouped(every, self.folder)
@@ -92,6 +102,7 @@ class Copying(unittest.TestCase):
         """Those that the head of its kept proof declares for itself, but where a goal is there by its clauses; none where there is no such head."""
         declared = [("returns", False), ("returns-clause-size", False), ("size", False), ("size-clauses", False), ("open_spec", True)]
         exports = json.dumps({"exports": [{"spelling": name, "pub": is_public} for name, is_public in declared]})
-        for head, wanted in ((f"--@ interface {exports}\n--@ body\n", ["returns-clause-size", "size", "size-clauses"]), (f"interface {exports}\n", []), ("", [])):
+        sizes = ["returns-clause-size", "size", "size-clauses"]
+        for head, wanted in ((f"--@ interface {exports}\n--@ body\n", sizes), (f"interface {exports}\n", []), ("", [])):
             write(f"--@ checked\n{head}", self.folder, "checked/Rattle-low-proofs.m.open.Proof.oantt")
             self.assertEqual((goals.of_function(self.folder, "low::m::open"), goals.of_function(self.folder, "low::m::opened")), (wanted, []))

@@ -18,7 +18,8 @@ from libraries import Libraries
 
 # What a check told of functions, and of a function and its copy of which one answer each is left out.
 TOLD, LEFT_OUT = text("told"), text("left_out")
-CUT = "./proofs/m/open/Answers.antt:3:1: error: `returns`: record `low.m.open.Lts.View`%shas no field `found`\nfn low::m::open: not proved\nlogic=not-proved\n"
+CUT = ("./proofs/m/open/Answers.antt:3:1: error: `returns`: record `low.m.open.Lts.View`%shas no field `found`\n"
+       "fn low::m::open: not proved\nlogic=not-proved\n")
 OPEN, COPY, FOUND, SIZE = "low::m::open", "low::m::open_tried_1", "returns-clause-found", "returns-clause-size"
 
 
@@ -38,7 +39,7 @@ class Trying(unittest.TestCase):
             self.came(room, [it for it in rows("edits") if not it[-1]])
 
     def test_one_goal_of_each_edit_in_one_check(self):
-        """Where their goals are known, edits of one function stand in one check, and each is tried by its goal; one that it does not refuse is tried alone."""
+        """Where their goals are known, edits of one function stand in one check, each is tried by its goal, and one not refused is tried alone."""
         with repository(sample=CODE) as room:
             came = self.came(room, [it for it in rows("edits") if it[-1]])
             self.assertEqual({it for it in came if "_tried_" in came[it].why}, {"known.always_the_first", "known.the_greater", "known.kept"})
@@ -54,14 +55,21 @@ class Trying(unittest.TestCase):
     def test_how_a_run_ends(self):
         """Its last line counts what is refused and what is not, by which its status goes; nothing is tried over a library that is not built."""
         refused, proved = (edit.Edit("low/one", [], it) for it in (edit.Outcome.REFUSED, edit.Outcome.PROVED))
-        for every, wrong, ends in (([refused], "", (0, "1 refused, 0 not refused")), ([refused, proved], "", (1, "1 refused, 1 not refused")), ([refused], "no", "no")):
-            with repository(low=CODE) as room, contextlib.redirect_stdout(io.StringIO()) as out, mock.patch.object(sys, "argv", ["edits.py", "--root", room]):
-                with mock.patch.object(Libraries, "build_each", lambda self, names: wrong), mock.patch.object(edits, "try_crates", lambda *given: {"low": every}):
-                    try:
-                        came = edits.main(), out.getvalue().splitlines()[-1]
-                    except SystemExit as ended:
-                        came = ended.code
-            self.assertEqual(came, ends)
+        one, both = (0, "1 refused, 0 not refused"), (1, "1 refused, 1 not refused")
+        for every, wrong, ends in (([refused], "", one), ([refused, proved], "", both), ([refused], "no", "no")):
+            self.assertEqual(self.ended(every, wrong), ends)
+
+    def ended(self, every, wrong):
+        """The status and the last line of a run in which this came of all edits, or how it ended early."""
+        with contextlib.ExitStack() as changed:
+            room, out = changed.enter_context(repository(low=CODE)), changed.enter_context(contextlib.redirect_stdout(io.StringIO()))
+            changed.enter_context(mock.patch.object(sys, "argv", ["edits.py", "--root", room]))
+            changed.enter_context(mock.patch.object(Libraries, "build_each", lambda self, names: wrong))
+            changed.enter_context(mock.patch.object(edits, "try_crates", lambda *given: {"low": every}))
+            try:
+                return edits.main(), out.getvalue().splitlines()[-1]
+            except SystemExit as ended:
+                return ended.code
 
 
 class Reading(unittest.TestCase):
@@ -75,7 +83,8 @@ class Reading(unittest.TestCase):
         found, of_some = verdict.read("low", kit.Told(1, TOLD)), TOLD.replace("logic=not-proved", "only=7 proved=1")
         self.assertEqual(({*found.own}, found.is_read), ({OPEN, "low::m::Kept::change", "low::m::answered", "low::m::calls_itself"}, True))
         self.assertEqual(verdict.read("low", kit.Told(1, of_some)), found)
-        for status, told in ((1, "src/m.rt:1:1: error[unexpected-token]: no\n" + TOLD), (2, TOLD), (2, of_some), (1, TOLD.replace("logic=not-proved\n", "rattle: no verdict\n"))):
+        unread, without = "src/m.rt:1:1: error[unexpected-token]: no\n" + TOLD, TOLD.replace("logic=not-proved\n", "rattle: no verdict\n")
+        for status, told in ((1, unread), (2, TOLD), (2, of_some), (1, without)):
             self.assertFalse(verdict.read("low", kit.Told(status, told)).is_read)
 
     def test_an_error_that_is_cut_in_two(self):
@@ -85,7 +94,8 @@ class Reading(unittest.TestCase):
 
     def test_which_goal_of_several_comes_first(self):
         """One that the prover found to be false, one of what the function ensures, one of which the answer by hand is refused."""
-        told = ["that a sum fits (`sum-fits`)", f"what it ensures (`{SIZE}`)", f"what it ensures (`{FOUND}`); the facts known there {verdict.IS_FALSE}"]
+        is_false = f"what it ensures (`{FOUND}`); the facts known there {verdict.IS_FALSE}"
+        told = ["that a sum fits (`sum-fits`)", f"what it ensures (`{SIZE}`)", is_false]
         self.assertEqual(verdict.named(told), [FOUND, SIZE, "sum-fits"])
         told = kit.Told(1, LEFT_OUT.replace("`gone` is not in scope", "the two types differ"))
         self.assertEqual(verdict.read("low", told, {COPY: [SIZE]}).refused(COPY), [FOUND, "invariant-loop-n"])

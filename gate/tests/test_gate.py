@@ -26,6 +26,13 @@ class Parts(unittest.TestCase):
                 write_edit(room, "low", name, old, "x")
                 self.assertEqual(gate.fitting(), wanted)
 
+    def test_a_long_line_of_python_is_told(self):
+        with tempfile.TemporaryDirectory() as room:
+            write(f"#{'x' * 149}\n#{'x' * 150}\n#\n", room, "it.py")
+            self.assertEqual(gate.wide(Path(room, "it.py")), [f"{room}/it.py:2: more than 150 columns"])
+            write("\n", room, "out/it.py")
+            self.assertEqual(gate.files_of("*.py", below=Path(room)), [Path(room, "it.py")])
+
     def test_a_part_that_is_a_program_passes_by_its_status(self):
         with tempfile.TemporaryDirectory() as room:
             for status, wanted in ((0, (1, 0)), (1, (0, 1)), (3, (0, 1)), (None, (0, 1))):
@@ -36,7 +43,8 @@ class Parts(unittest.TestCase):
 
     def test_parts_are_counted_and_a_failed_one_stops_none(self):
         parts = gate.Parts()
-        self.assertEqual([parts.run(*it) for it in (("one", lambda: (2, [])), ("two", lambda: (0, ["it"])), ("three", lambda: (1, [])))], [True, False, True])
+        some = [("one", lambda: (2, [])), ("two", lambda: (0, ["it"])), ("three", lambda: (1, []))]
+        self.assertEqual([parts.run(*it) for it in some], [True, False, True])
         self.assertEqual((parts.passed, parts.failed, len(parts.rows)), (3, ["it"], 3))
 
     def test_each_part_has_a_program_and_a_row_of_the_page(self):
@@ -76,6 +84,7 @@ class Telling(unittest.TestCase):
         """As long as the longest chain of crates, or as all of them on this many processors; each crate has its line of the table."""
         uses = {"a": [], "b": ["a"], "c": ["a", "std"], "d": []}
         with mock.patch.object(runs, "table", lambda: {"a": [100, 0], "b": [50, 300], "c": [70, 0], "d": [20, 0]}):
-            for names, processors, with_tests, wanted in (("abcd", 1, False, 240), ("abcd", 4, False, 170), ("bc", 4, False, 70), ("abcd", 4, True, 450)):
+            rows = [("abcd", 1, False, 240), ("abcd", 4, False, 170), ("bc", 4, False, 70), ("abcd", 4, True, 450)]
+            for names, processors, with_tests, wanted in rows:
                 self.assertEqual(runs.proving(uses, names, processors, with_tests), wanted)
         self.assertEqual({*kit.crates_of(gate.ROOT)} | {"an_edit", "all_else"}, {*runs.table()})

@@ -69,14 +69,17 @@ class Recording(unittest.TestCase):
                 built, told_of, file = [], [], Path(room, "crates", changed)
                 if changed:
                     file.write_text(file.read_text() + "// more\n")
-                with mock.patch.object(kit, "check", lambda words, folder: built.append(folder.name) or kit.Told(status, f"fn {folder.name}::next: proved\nit is told")):
+                check = lambda words, folder: built.append(folder.name) or kit.Told(status, f"fn {folder.name}::next: proved\nit is told")
+                with mock.patch.object(kit, "check", check):
                     came = Libraries(room, 2).build_each(["middle"], lambda name, told: told_of.append(name))
                 self.assertEqual(((came, built), known(), told_of), (wanted, proved, built))
 
     def test_of_a_program_the_proofs_alone_are_kept(self):
         """And a crate that no other one waits beside has all jobs."""
         asked = []
-        with repository(low=CODE, top=ABOVE) as room, mock.patch.object(kit, "check", lambda words, folder: asked.append(words) or kit.Told(0, "fn top::main: proved\n")):
+        check = lambda words, folder: asked.append(words) or kit.Told(0, "fn top::main: proved\n")
+        with repository(low=CODE, top=ABOVE) as room, mock.patch.object(kit, "check", check):
             Path(room, "crates/top/src/lib.rt").rename(Path(room, "crates/top/src/main.rt"))
             self.assertEqual((Libraries(room, 3).build_each(["top"]), Libraries(room, 1).proved("top")), ("", ["top::main"]))
-            self.assertEqual([(words[1], "-o" in words, words[words.index("--jobs") + 1]) for words in asked], [("build", True, "3"), ("check", False, "3")])
+            found = [(words[1], "-o" in words, words[words.index("--jobs") + 1]) for words in asked]
+            self.assertEqual(found, [("build", True, "3"), ("check", False, "3")])

@@ -4,5 +4,6 @@ import sys
 import unittest
 from pathlib import Path
 
-ran = unittest.TextTestRunner(verbosity=2).run(unittest.defaultTestLoader.discover(str(Path(__file__).parent), top_level_dir=str(Path(__file__).parents[2])))
+HERE = Path(__file__).parent
+ran = unittest.TextTestRunner(verbosity=2).run(unittest.defaultTestLoader.discover(str(HERE), top_level_dir=str(HERE.parents[1])))
 sys.exit(not (ran.testsRun and ran.wasSuccessful()))

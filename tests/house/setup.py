@@ -65,7 +65,8 @@ def nothing_is_started():
 def ran(*words):
     """Whether a command ends well; where it does not, its last lines are printed."""
     try:
-        done = subprocess.run(words, env={**os.environ, "DEBIAN_FRONTEND": "noninteractive"}, stdin=subprocess.DEVNULL, capture_output=True, text=True)
+        quiet = {**os.environ, "DEBIAN_FRONTEND": "noninteractive"}
+        done = subprocess.run(words, env=quiet, stdin=subprocess.DEVNULL, capture_output=True, text=True)
     except OSError as fault:
         print(fault)
         return False

@@ -38,7 +38,8 @@ class SetUp(unittest.TestCase):
             told, installed = self.said(user, **{"SETUP": "", **environment})
             self.assertEqual(installed, wanted)
             self.assertTrue(told.startswith("== this machine lacks of Debian: none, file (packages.txt)\n"))
-            self.assertTrue(told.endswith("NOT TRIED, as there is no no-such-command here: the tour\nNOT TRIED, as there is no /no/such/file here: pages\n"))
+            left_out = [("no-such-command", "the tour"), ("/no/such/file", "pages")]
+            self.assertTrue(told.endswith("".join(f"NOT TRIED, as there is no {what} here: {part}\n" for what, part in left_out)))
 
     def test_nothing_is_said_where_nothing_is_missing(self):
         with contextlib.redirect_stdout(io.StringIO()) as out:

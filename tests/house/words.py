@@ -23,7 +23,8 @@ PAGES = ["README.md", "CONTRIBUTING.md", "docs/**/*.md", "crates/*/README.md", "
 CLAUSE, CUT = r"^ *(?:pub |fn |requires\b|ensures\b)", r"(?:(?!\b(?:ensures|requires|fn)\b)[\s\S])*?"
 FILE = re.compile(r"(?<![\w/.:~%-])(?:(?:crates|docs|tests|tools|gate|statement|bench|examples|install|specs|src|proofs|must-fail)/[\w./*-]*"
                   r"|[\w*-]+(?:/[\w*-]+)*\.(?:md|py|rt|antt|sh|svg|session|disks|edit|txt|http))(?![\w/])")
-OURS = re.compile(r"\brs_source\b|\bmake\b|\b(?:tools|gate|statement)/|\b(?:tests|bench)\.\w|\bropepeach (?:fill|mirror|look|size|why|health|collection|grow|takeover)\b|^--")
+OURS = re.compile(r"\brs_source\b|\bmake\b|\b(?:tools|gate|statement)/|\b(?:tests|bench)\.\w|^--"
+                  r"|\bropepeach (?:fill|mirror|look|size|why|health|collection|grow|takeover)\b")
 
 
 def crate_of(page):

@@ -1,6 +1,7 @@
 """Reads what the program publishes with tools that are not ours.
 
-Runs a script of a few hundred commands through the proved program (`make build`), shows every document several times on the way, and checks each of them:
+Runs a script of a few hundred commands through the proved program (`make build`), shows every document several times on
+the way, and checks each of them:
   - xmllint --noout, where it is installed, and Python's xml.etree read it without complaint;
   - a destination written here in Python gathers the Resource List (through its index, where there is one) and the
     Change List, applies the changes after the list's `at`, and has then exactly the resources that a model written

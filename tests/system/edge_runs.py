@@ -30,7 +30,12 @@ static int fails(void) { if (++calls != number("FILE_FAILS_AT", 0)) return 0; er
 /* A read of what a client sends, or of standard input, is interrupted. */
 static int interrupted(void) { if (++reads != number("INTERRUPTED_AT", 0)) return 0; errno = EINTR; return 1; }
 /* A write of this many bytes or more takes none of them; each is counted. */
-static int takes_none(size_t n) { long from = number("NONE_TAKEN_FROM", 0); if (!from || n < (size_t)from) return 0; nones += number("TRIES", 1); return 1; }
+static int takes_none(size_t n) {
+    long from = number("NONE_TAKEN_FROM", 0);
+    if (!from || n < (size_t)from) return 0;
+    nones += number("TRIES", 1);
+    return 1;
+}
 
 /* The time of day is SECONDS and NANOSECONDS, and DAYS later with each connection that was taken. No time passes. */
 int clock_gettime(clockid_t id, struct timespec *t) {
@@ -49,7 +54,8 @@ int accept4(int fd, struct sockaddr *a, socklen_t *n, int flags) {
 /* Two seconds for the rest of a request become a minute, so that nothing here depends on speed. */
 int setsockopt(int fd, int level, int name, const void *value, socklen_t n) {
     struct timeval minute = {60, 0};
-    return level == SOL_SOCKET && name == SO_RCVTIMEO ? NEXT(setsockopt)(fd, level, name, &minute, sizeof minute) : NEXT(setsockopt)(fd, level, name, value, n);
+    if (level == SOL_SOCKET && name == SO_RCVTIMEO) return NEXT(setsockopt)(fd, level, name, &minute, sizeof minute);
+    return NEXT(setsockopt)(fd, level, name, value, n);
 }
 ssize_t send(int fd, const void *bytes, size_t n, int flags) {
     if (getenv("SENDS_FAIL")) { errno = EIO; return -1; }

@@ -48,7 +48,8 @@ def faults_of_standard_ends_are_told(program, room):
     os.close(unreadable)
     wanted = b"(1, b'rs_source: Write\\n')"
     for number, output in enumerate(["/dev/full", None]):
-        for words in [MEMORY, ["run", file], ["format", f"{number}.disk", *MEMORY[1:]], ["serve", file, "0", "1"], ["copy", file, f"{number}.copy", "65536"]]:
+        on_files = [["format", f"{number}.disk", *MEMORY[1:]], ["serve", file, "0", "1"], ["copy", file, f"{number}.copy", "65536"]]
+        for words in [MEMORY, ["run", file], *on_files]:
             with open(output, "wb") if output else contextlib.nullcontext() as stdout:
                 closing = {} if output else {"preexec_fn": lambda: os.close(1)}
                 found = ran(program, room, *words, given=b"put %d - a/b\n" % number, stdout=stdout, **closing)

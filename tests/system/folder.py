@@ -106,7 +106,8 @@ def a_folder_is_published_again_and_again(program, room):
             status, told, _ = publish(room, url)
             compare_runs("a run", (0, f"{put} put", f"{deleted} deleted"), (status, told.split(" (")[0], told.split(", ")[1]))
             before = pathlib.Path(room, "a.disk").read_bytes()
-            compare_runs("a second run", (0, f"0 put (0 bytes), 0 deleted, {len(wanted)} the same, 0 left out; published before\n", ""), publish(room, url))
+            nothing = f"0 put (0 bytes), 0 deleted, {len(wanted)} the same, 0 left out; published before\n"
+            compare_runs("a second run", (0, nothing, ""), publish(room, url))
             if pathlib.Path(room, "a.disk").read_bytes() != before:
                 raise Differs("a second run changed the source")
         holds(program, room, wanted, publication)
@@ -152,7 +153,8 @@ def a_dry_run_changes_nothing(program, room):
     format_source(program, room)
     write(room, b"a b.txt", b"1")
     with serving(program, room) as (url, _):
-        compare_runs("not published", (0, "1 put (1 bytes), 0 deleted, 0 the same, 0 left out; not published\n", ""), publish(room, url, "--no-publish"))
+        told = "1 put (1 bytes), 0 deleted, 0 the same, 0 left out; not published\n"
+        compare_runs("not published", (0, told, ""), publish(room, url, "--no-publish"))
         before = pathlib.Path(room, "a.disk").read_bytes()
         pathlib.Path(room, "folder/a b.txt").rename(pathlib.Path(room, "folder/c.txt"))
         told = "delete a%20b.txt\nput c.txt\n0 put (0 bytes), 0 deleted, 0 the same, 0 left out; 1 to put, 1 to delete\n"
@@ -182,36 +184,38 @@ def a_stopped_run_is_begun_again(program, room):
                 write(room, b"more.txt", b"more")
             status, told, _ = publish(room, url)
             wanted = (0, f"{put} put", f"0 deleted, {same} the same, 0 left out", word)
-            compare_runs("a run more", wanted, (status, told.split(" (")[0], told[told.index("), ") + 3:told.index(";")], told.split("; ")[1][:len(word)]))
+            found = status, told.split(" (")[0], told[told.index("), ") + 3:told.index(";")], told.split("; ")[1][:len(word)]
+            compare_runs("a run more", wanted, found)
     # (the second publication has dropped the changes that the first one lists)
     compare("status", b"resources 21 changes 1 publication 2 ", answers(program, room, ["status"])[:37])
 
 
 def refusals_end_a_run_with_their_word(program, room):
-    """A full disk is 507 Full, until its file is made longer; a device that fails is 500 Device, and 503 Closed behind it; what was done before stands."""
+    """A full disk is 507 Full, until its file is longer; a device that fails is 500 Device, and 503 Closed behind it. What was done stands."""
     format_source(program, room, size=16_384)
     write(room, b"a", b"1")
     write(room, b"b", bytes(16_000))
     with serving(program, room) as (url, _):
         status, told, complaint = publish(room, url)
-    compare_runs("full", (1, "1 put (1 bytes), 0 deleted, 0 the same, 0 left out; ended early\n", "ropepeach fill: PUT /resource/b was refused: 507 Full\n"),
-                 (status, told, complaint))
+    early, refusal = "1 put (1 bytes), 0 deleted, 0 the same, 0 left out; ended early\n", "ropepeach fill: PUT /resource/b was refused: 507 Full\n"
+    compare_runs("full", (1, early, refusal), (status, told, complaint))
     os.truncate(pathlib.Path(room, "a.disk"), 65_536)
     with serving(program, room) as (url, _):
         compare_runs("a longer file", (0, "1 put (15.6 KiB)"), (lambda it: (it[0], it[1].split(",")[0]))(publish(room, url)))
     write(room, b"b", b"2")
     system = interposed(room, "system", SYSTEM)
     first = next(it for it in range(1, 1000) if not failing(program, room, system, it))
+    silent = "ropepeach fill: GET {}/.well-known/resourcesync: no answer for 0 seconds: {}\n"
     with serving(program, room, env=system | {"FILE_FAILS_AT": str(first)}) as (url, _):
         compare_runs("device", (1, "ropepeach fill: PUT /resource/b was refused: 500 Device\n"), publish(room, url)[::2])
-        compare_runs("closed", (1, f"ropepeach fill: GET {url}/.well-known/resourcesync: no answer for 0 seconds: 503 Closed\n"), publish(room, url)[::2])
-    compare_runs("no server", (1, f"ropepeach fill: GET {url}/.well-known/resourcesync: no answer for 0 seconds: Connection refused\n"), publish(room, url)[::2])
+        compare_runs("closed", (1, silent.format(url, "503 Closed")), publish(room, url)[::2])
+    compare_runs("no server", (1, silent.format(url, "Connection refused")), publish(room, url)[::2])
 
 
 def failing(program, room, system, number):
     """Whether the opening of a.disk fails where the call of this number on a file does."""
-    ran = subprocess.run([program, "run", "a.disk"], cwd=room, input=b"", capture_output=True, env=system | {"FILE_FAILS_AT": str(number)}, timeout=SECONDS)
-    return ran.returncode != 0
+    env = system | {"FILE_FAILS_AT": str(number)}
+    return subprocess.run([program, "run", "a.disk"], cwd=room, input=b"", capture_output=True, env=env, timeout=SECONDS).returncode != 0
 
 
 def nothing_is_deleted_unasked(program, room):
@@ -224,7 +228,8 @@ def nothing_is_deleted_unasked(program, room):
         status, told, complaint = publish(room, url)
         compare_runs("missing", (1, "", "ropepeach fill: a folder cannot be listed"), (status, told, complaint[:41]))
         pathlib.Path(room, "folder/empty").mkdir(parents=True)
-        compare_runs("empty", (1, "", "ropepeach fill: 1 of 1 resources would be deleted, more than half: is FOLDER the right one? (--yes deletes them)\n"), publish(room, url))
+        refusal = "ropepeach fill: 1 of 1 resources would be deleted, more than half: is FOLDER the right one? (--yes deletes them)\n"
+        compare_runs("empty", (1, "", refusal), publish(room, url))
         status, told, _ = publish(room, url, "--allow-empty")
         compare_runs("allowed", (0, "0 put (0 bytes), 1 deleted, 0 the same, 0 left out"), (status, told.split("; ")[0]))
 

@@ -80,7 +80,8 @@ def made(program, room):
     for count in (100, 1_000, 10_000):
         pathlib.Path(room, "held.disk").write_bytes(held(count))
         yield f"{count} resources", "held.disk"
-    for name, data in [(f"{PAGES} pages of one item", small_pages(PAGES)), *((it, made_disks.DISKS[it]()) for it in ("most_changes", "most_resources"))]:
+    most = [(it, made_disks.DISKS[it]()) for it in ("most_changes", "most_resources")]
+    for name, data in [(f"{PAGES} pages of one item", small_pages(PAGES)), *most]:
         pathlib.Path(room, "held.disk").write_bytes(data)
         yield name, "held.disk"
 

@@ -57,7 +57,8 @@ def the_page_is_clean(program, room):
     """mandoc has nothing to say of the pages. Which other pages this machine has is no matter."""
     for page in sorted(INSTALL.glob("*.[18]")):
         told = told_by("mandoc", "-T", "lint", page)[0].splitlines()
-        compare(f"mandoc, {page.name}", b"", "\n".join(it for it in told if "outdated mandoc.db" not in it and "referenced manual not found" not in it).encode())
+        ours = [it for it in told if "outdated mandoc.db" not in it and "referenced manual not found" not in it]
+        compare(f"mandoc, {page.name}", b"", "\n".join(ours).encode())
 
 
 def the_units_are_whole_and_closed(program, room):
@@ -188,8 +189,9 @@ def proxied(program, room, change=without_tls, port=None):
             # (a master that is root gives its workers another user, who cannot write here)
             user = f"user {pwd.getpwuid(os.getuid()).pw_name};" if os.getuid() == 0 else ""
             config = pathlib.Path(room, "nginx.conf")
-            config.write_text(f"daemon off; worker_processes 1; {user} pid {room}/pid; error_log {room}/errors;\nevents {{}}\nhttp {{\naccess_log off;\n"
-                              + "".join(f"{it.replace('-', '_')}_temp_path {room}/{it};\n" for it in folders) + change(site_on(room, port, behind)) + "}\n")
+            places = "".join(f"{it.replace('-', '_')}_temp_path {room}/{it};\n" for it in folders)
+            config.write_text(f"daemon off; worker_processes 1; {user} pid {room}/pid; error_log {room}/errors;\nevents {{}}\n"
+                              f"http {{\naccess_log off;\n{places}{change(site_on(room, port, behind))}}}\n")
             with subprocess.Popen(["nginx", "-p", room, "-e", f"{room}/errors", "-c", config]) as nginx:
                 try:
                     wait_for(port, nginx)
@@ -225,7 +227,7 @@ def compare_answers(what, wanted, found):
 
 
 def a_slow_client_holds_nobody(program, room):
-    """While one client sends its body a byte at a time, and another reads nothing of a long response, others are answered; without nginx they wait."""
+    """While one client sends its body a byte at a time, and another reads nothing of its response, others are answered; without nginx they wait."""
     head = b"PUT /resource/slow HTTP/1.1\r\nHost: a\r\nConnection: close\r\nContent-Length: 20\r\n\r\n"
     slowest = 0.0
     with proxied(program, room) as (port, _, behind):
@@ -318,7 +320,7 @@ def certified(room, name):
 
 
 def certificates_let_change(program, room):
-    """Over TLS, from an address that is not near, `ropepeach fill` fills a source with a known certificate, and without it or with another it cannot."""
+    """Over TLS, from an address that is not near, `ropepeach fill` fills a source with a known certificate, and with no other."""
     server, known, unknown = (certified(room, it) for it in ("server", "known", "unknown"))
 
     def change(site):
@@ -330,7 +332,8 @@ def certificates_let_change(program, room):
     with proxied(program, room, change) as (port, _, behind):
         words = [*COMMAND, "fill", f"{room}/folder", f"https://127.0.0.1:{port}"]
         trusting = os.environ | {"SSL_CERT_FILE": f"{room}/server.crt"}
-        for certificate, wanted in [([], "403 Forbidden"), (["--certificate", unknown], "400 Bad Request"), (["--certificate", known], "published 1 ")]:
+        refusals = [([], "403 Forbidden"), (["--certificate", unknown], "400 Bad Request")]
+        for certificate, wanted in [*refusals, (["--certificate", known], "published 1 ")]:
             told, _ = told_by(*words, *certificate, env=trusting)
             compare(f"with {certificate}: {told.strip()}", b"True", str(wanted in told).encode())
         compare_answers("the resource", (200, b"a"), asked(behind, "GET", "/resource/a"))
@@ -353,8 +356,8 @@ CHECKS = {
     the_page_has_every_word: [], the_page_is_clean: ["mandoc"], the_units_are_whole_and_closed: ["systemd-analyze"],
     the_filter_lets_the_program_work: ["systemd-analyze", "strace"], the_verification_tells_damage: ["sh"],
     the_filter_lets_the_verification_work: ["systemd-analyze", "strace"], a_slow_client_holds_nobody: ["nginx"], the_longest_body_passes: ["nginx"],
-    names_pass_as_they_were_sent: ["nginx"], parts_are_kept_and_heads_for_a_second: ["nginx"], who_may_change_is_asked: ["nginx"], certificates_let_change: ["nginx", "openssl"],
-    the_tools_run_where_they_are_installed: ["make"],
+    names_pass_as_they_were_sent: ["nginx"], parts_are_kept_and_heads_for_a_second: ["nginx"], who_may_change_is_asked: ["nginx"],
+    certificates_let_change: ["nginx", "openssl"], the_tools_run_where_they_are_installed: ["make"],
 }
 
 

@@ -94,7 +94,9 @@ def requests():
 
 def refused(answer):
     """What would be answered instead by a program that refuses for want of memory."""
-    return b"refused NoMemory\n" if not answer.startswith(b"HTTP/") else request_judge.response(503, request_judge.date_of(CLOCK), "text/plain", b"NoMemory\n")
+    if not answer.startswith(b"HTTP/"):
+        return b"refused NoMemory\n"
+    return request_judge.response(503, request_judge.date_of(CLOCK), "text/plain", b"NoMemory\n")
 
 
 def compare(what, wanted, found):

@@ -77,7 +77,9 @@ int fcntl64(int fd, int command, ...) { TO; return fcntl_of(fd, command, to); }
 int fsync(int fd) { return PASSED("sync", fd, syscall(SYS_fsync, fd), 0, 0); }
 int fdatasync(int fd) { return PASSED("datasync", fd, syscall(SYS_fdatasync, fd), 0, 0); }
 int syncfs(int fd) { return PASSED("syncfs", fd, syscall(SYS_syncfs, fd), 0, 0); }
-int statx(int fd, const char *path, int flags, unsigned mask, struct statx *to) { return PASSED("measure", fd, syscall(SYS_statx, fd, path, flags, mask, to), 0, 0); }
+int statx(int fd, const char *path, int flags, unsigned mask, struct statx *to) {
+    return PASSED("measure", fd, syscall(SYS_statx, fd, path, flags, mask, to), 0, 0);
+}
 off_t lseek(int fd, off_t at, int whence) { return PASSED("seek", fd, syscall(SYS_lseek, fd, at, whence), at, whence); }
 off_t lseek64(int fd, off_t at, int whence) { return lseek(fd, at, whence); }
 int flock(int fd, int how) { return PASSED("lock", fd, syscall(SYS_flock, fd, how), how, 0); }
@@ -141,7 +143,7 @@ def calls_of(text):
 
 
 def texts(calls):
-    """The calls as texts, of which one tells of each: `write source.disk 1024 86`. A read of input is `line`, and what is written of one answer is one `answer`."""
+    """A text for each call: `write source.disk 1024 86`. A read of input is `line`, and what is written of one answer is one `answer`."""
     found = []
     for it in calls:
         text = it.name if it.name in ("line", "answer") else f"{it.name} {it.path} {it.words}".rstrip()

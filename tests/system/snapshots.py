@@ -191,7 +191,8 @@ def main():
     given = sys.argv[1:]
     program = os.path.abspath(given.pop(0) if given and os.path.isfile(given[0]) else PROGRAM)
     os.environ["PATH"] += ":/usr/sbin:/sbin"
-    missing = [it for it in TOOLS if not shutil.which(it)] + (["root"] if os.getuid() else []) + ([] if pathlib.Path("/dev/loop-control").exists() else ["loop devices"])
+    missing = [it for it in TOOLS if not shutil.which(it)] + ["root"] * bool(os.getuid())
+    missing += [] if pathlib.Path("/dev/loop-control").exists() else ["loop devices"]
     if missing:
         print(f"snapshots: not tried, as this machine has no {', '.join(missing)}")
         return 2

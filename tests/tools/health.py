@@ -85,7 +85,8 @@ def changes_are_counted(room, program):
 def too_many_changes_is_near(room, program):
     """The two bounds, at each side."""
     words = ["--changes-warning", "4", "--changes-critical", "6"]
-    for changes, status, phrase in ((3, 0, "3 changes"), (4, 1, "TooManyChanges comes closer"), (5, 1, "comes closer"), (6, 2, "TooManyChanges is near")):
+    rows = [(3, 0, "3 changes"), (4, 1, "TooManyChanges comes closer"), (5, 1, "comes closer"), (6, 2, "TooManyChanges is near")]
+    for changes, status, phrase in rows:
         with serving(documents_of(source(changes, 3))) as it:
             found = said(it.url, *words)
         wanted(found[0] == status and phrase in found[1], f"{changes} changes: {found}")
@@ -97,7 +98,8 @@ def what_is_too_old(room, program):
     """The ages of the last change and of the last publication, and moments in the future."""
     with serving(documents_of(source(2, age=3 * DAY, published=2 * DAY))) as it:
         rows = [(["--change-age", "4", "--publication-age", "3"], 0, "3 days ago"), (["--change-age", "2.9"], 1, "no change within 69.6 hours"),
-                (["--publication-age", "1.5"], 1, "no publication within 36 hours"), (["--change-age", "3.1", "--publication-age", "2.1"], 0, "2 days ago")]
+                (["--publication-age", "1.5"], 1, "no publication within 36 hours"),
+                (["--change-age", "3.1", "--publication-age", "2.1"], 0, "2 days ago")]
         for words, status, phrase in rows:
             found = said(it.url, *words)
             wanted(found[0] == status and phrase in found[1], f"{words}: {found}")
@@ -161,8 +163,9 @@ def a_part_that_is_dropped_meanwhile(room, program):
 
 def metrics(path):
     """The figures of a file, by name, and the label."""
-    found = dict(re.fullmatch(r'ropepeach_(\w+)\{source="[^"]*"\} (\S+)', it).groups() for it in path.read_text().splitlines() if not it.startswith("#"))
-    return {name: float(value) for name, value in found.items()}
+    lines = [it for it in path.read_text().splitlines() if not it.startswith("#")]
+    found = [re.fullmatch(r'ropepeach_(\w+)\{source="[^"]*"\} (\S+)', it).groups() for it in lines]
+    return {name: float(value) for name, value in found}
 
 
 def the_file_for_prometheus(room, program):

@@ -5,7 +5,8 @@ import socket
 import threading
 import time
 
-HEAD = '<?xml version="1.0" encoding="UTF-8"?>\n<{} xmlns="http://www.sitemaps.org/schemas/sitemap/0.9" xmlns:rs="http://www.openarchives.org/rs/terms/">\n'
+SPACES = 'xmlns="http://www.sitemaps.org/schemas/sitemap/0.9" xmlns:rs="http://www.openarchives.org/rs/terms/"'
+HEAD = f'<?xml version="1.0" encoding="UTF-8"?>\n<{{}} {SPACES}>\n'
 MOMENT = "2000-02-29T00:00:00.001Z"
 
 

@@ -35,7 +35,8 @@ RULES = {
     "another SHA-256": ["has the SHA-256 that is told of it"], "a page of ": ["a page lies "], "the directory of ": ["the directory lies "],
     "last is the greater": ["the last moment is that of the last change or of the publication"],
     "no bytes begin": ["a body of no bytes has no first block"],
-    "no more parts": ["no more parts of the changes"], "start <= at": ["the moments of formatting", "year 9999"], "the base": ["the base is an address"],
+    "no more parts": ["no more parts of the changes"], "start <= at": ["the moments of formatting", "year 9999"],
+    "the base": ["the base is an address"],
     "the disk ends": ["all that is used lies in", "lies within the file"], "the item limit": ["the item limit is 2 to 4,000"],
     "the kept changes": ["the moments of formatting"], "the moment of a change": ["the moments of changes are in their bounds", "year 9999"],
     "the moment of a record": ["are in their bounds", "year 9999"], "the moments of changes": ["the moments of changes rise"],
@@ -146,7 +147,8 @@ def files_past_4_gib(room, program):
 
 def rules_in_a_sentence(room, program):
     """The command on damaged files: one sentence, and a status of its own."""
-    rows = [(["sound", "bytes=1024:01"], 4, "the directory has the SHA-256"), (["sound", "held.a.first=4"], 4, "no two things have a block in common"),
+    rows = [(["sound", "bytes=1024:01"], 4, "the directory has the SHA-256"),
+            (["sound", "held.a.first=4"], 4, "no two things have a block in common"),
             (["two_held_pages", "more_held.d.name=a"], 4, "`a` comes behind `b`"), (["sound", "directory.last=1008"], 4, "whichever is later"),
             (["sound", "slot.gate=0"], 5, "neither slot of the file is open"), (["sound", "slot.version=3"], 5, "version 3"),
             (["sound", "spare.gate=1", "spare.generation=1"], 5, "both slots are open with one generation")]
@@ -190,7 +192,8 @@ def lines_and_json(room, program):
     it, lines = json_of("look", path, "--json", "--put", "512"), "\n".join(lines_of(ran("look", path, "--put", "512")))
     for phrase in ("version 2, generation 4", f"blocks: {it['blocks']['used']} used of 16", f"{it['blocks']['free']} free", "resources: 2 of 50,000",
                    f"changes kept: {it['changes']} of 50,000", f"{it['parts']} parts of up to 2, the first is number 1", "publications: 2",
-                   f"longest free run: {it['blocks']['longest_free_run']} blocks", f"puts of 512 bytes: {it['put']['fit']} more fit, then {it['put']['then']}"):
+                   f"longest free run: {it['blocks']['longest_free_run']} blocks",
+                   f"puts of 512 bytes: {it['put']['fit']} more fit, then {it['put']['then']}"):
         wanted(phrase in lines, f"no {phrase!r} in {lines!r}")
     return f"{len(lines.splitlines())} lines, with the figures of the object"
 
@@ -207,7 +210,8 @@ def the_picture(room, program):
         columns, each = disk_picture.shape(facts["blocks"]["all"])
         block = disk_picture.WIDTH / columns * disk_picture.HEIGHT / each
         for kind, count in facts["blocks"]["of"].items():
-            wanted(abs(areas[kind] - count * block) <= (0.01 * count + 0.3) * block, f"{name}: {kind} has {areas[kind] / block:.1f} blocks of {count}")
+            is_near = abs(areas[kind] - count * block) <= (0.01 * count + 0.3) * block
+            wanted(is_near, f"{name}: {kind} has {areas[kind] / block:.1f} blocks of {count}")
         texts = [it for it in root if it.tag.endswith("text")]
         width, height = float(root.get("width")), float(root.get("height"))
         ends = [(float(it.get("x")) + len(it.text) * float(it.get("font-size")) * 0.6, float(it.get("y"))) for it in texts]

@@ -85,8 +85,9 @@ def run(program, path, lines):
 
 def the_programs_own_status(room, program):
     """The counts of the program on each spelled file that opens."""
-    names = ["sound", "shared", "empty", "part_dropped", "all_dropped", "five_of_version_1", "two_change_pages", "formatted", "after_put", "after_publish",
-             "after_delete", "after_update", "after_all", "five_published", "copied", "written_before", "lists_of_one_page", "two_puts_65536"]
+    names = ["sound", "shared", "empty", "part_dropped", "all_dropped", "five_of_version_1", "two_change_pages", "formatted", "after_put",
+             "after_publish", "after_delete", "after_update", "after_all", "five_published", "copied", "written_before", "lists_of_one_page",
+             "two_puts_65536"]
     for name in names:
         disks.disk(room, name, "a.disk")
         it = json_of("look", str(room / "a.disk"), "--json")
@@ -181,7 +182,8 @@ def puts_that_fit(room, program):
             lines = [f"put {f'z{number:05d}':z>{name}} {'61' * length or '-'} {KIND:x<{kind}}" for number in range(it["fit"] + 1)]
             answers = [it.split(" ")[0] if it.startswith("created") else it for it in run(program, room / "copy.disk", lines)]
             wanted(answers == ["created"] * it["fit"] + [f"refused {it['then']}"],
-                   f"{size} bytes after {count} commands, puts of {length}: {it['fit']} were promised, {answers.count('created')} done, then {answers[-1]}")
+                   f"{size} bytes after {count} commands, puts of {length}: {it['fit']} were promised, "
+                   f"{answers.count('created')} done, then {answers[-1]}")
             told.append(it["fit"])
     return f"{len(told)} promises of {min(told)} to {max(told)} puts, each kept to the last"
 

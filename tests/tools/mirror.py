@@ -96,7 +96,8 @@ def a_mirror_follows_its_source(program, room):
     held = FILES | {"a": b"1", "b%20c": b"2", "e": b""}
     server = filled(program, held, limit=20)
     changes = [("put a/b 33 text/plain", "put e 34 a/b", "delete b%20c"), ("delete a/b", "delete d0/0.txt", "publish"), ("put d0 35 a/b",)]
-    after = [{"a": None, "a#": b"1", "a/b": b"3", "e": b"4", "b%20c": None}, {"a": b"1", "a#": None, "a/b": None, "d0/0.txt": None}, {"d0": None, "d0#": b"5"}]
+    after = [{"a": None, "a#": b"1", "a/b": b"3", "e": b"4", "b%20c": None}, {"a": b"1", "a#": None, "a/b": None, "d0/0.txt": None},
+             {"d0": None, "d0#": b"5"}]
     try:
         for lines, wanted in zip([()] + changes, [{}] + after):
             server.answers(*lines, "status")
@@ -194,7 +195,8 @@ def a_connection_that_stays_open_is_used_again(program, room):
             found.append((answer.status, answer.body == answers[path][2]))
             ports.append(connections.plain.sock and connections.plain.sock.getsockname())
         same("answers", [(200, True), (200, True), (200, True), (404, False), (200, True)], found)
-        same("one connection at first, none behind the long refusal, another one then", (True, None, True), (len({*ports[:3]}) == 1, ports[3], ports[4] not in ports[:4]))
+        same("one connection at first, none behind the long refusal, another one then", (True, None, True),
+             (len({*ports[:3]}) == 1, ports[3], ports[4] not in ports[:4]))
         connections.plain.close()
 
 

@@ -133,7 +133,8 @@ WRONG = {
     "the state is not synced": (FOLDER, "            os.fsync(file.fileno())\n", "            pass\n"),
     "the state's name is not synced": (FOLDER, "        os.fsync(self.lock)\n", ""),
     "the state is written in its place": (FOLDER, "        state, path = {", "        path = self.at(STATE)\n        state, _ = {"),
-    "a moment is remembered before files are in their places": ("mirror.py", "        self.folder.settle()\n        return left", "        return left"),
+    "a moment is remembered before files are in their places": ("mirror.py", "        self.folder.settle()\n        return left",
+                                                                "        return left"),
 }
 PASSED_OVER = "a sync that failed is passed over", FOLDER, "    if LIBRARY.syncfs(opened):\n", "    if LIBRARY.syncfs(opened) and False:\n"
 

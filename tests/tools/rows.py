@@ -57,7 +57,8 @@ def page_of(name):
     wanted(options == written, f"options {sorted(options)}, and {sorted(written)} on the page")
     above = page.partition(".Sh DESCRIPTION")[0]
     wanted(all(f"Op Fl {it[1:]}" in above for it in options), "an option is not in the synopsis of the page")
-    statuses = set(re.findall(r"(?m)^  (\d+)  ", said)), set(re.findall(r"(?m)^\.It (\d+)$", page.partition(".Sh EXIT STATUS")[2].partition(".Sh ")[0]))
+    section = page.partition(".Sh EXIT STATUS")[2].partition(".Sh ")[0]
+    statuses = set(re.findall(r"(?m)^  (\d+)  ", said)), set(re.findall(r"(?m)^\.It (\d+)$", section))
     wanted(statuses[0] == statuses[1] and statuses[0], f"statuses {statuses}")
     what = re.search(r"(?m)^\.Nd (.*)", page)[1]
     wanted(f".Cm {name}" in (ROOT / "install/ropepeach.1").read_text() and name in ran("--help").stdout, "the page of the whole has it not")

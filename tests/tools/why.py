@@ -71,7 +71,8 @@ def locking(path, how="LOCK_EX"):
 
 def listening(port, address="127.0.0.1", kind="AF_INET", more="s.listen()"):
     """The words of a process that listens on a port."""
-    taken = f"s = socket.socket(socket.{kind}); s.setsockopt(socket.SOL_SOCKET, socket.SO_REUSEADDR, {int(bool(more))}); s.bind(({address!r}, {port}))"
+    reused = f"s.setsockopt(socket.SOL_SOCKET, socket.SO_REUSEADDR, {int(bool(more))})"
+    taken = f"s = socket.socket(socket.{kind}); {reused}; s.bind(({address!r}, {port}))"
     return sys.executable, "-c", f"import socket; {taken}; {more or 'pass'}; print('begun', flush=True); input()"
 
 
@@ -248,7 +249,8 @@ def a_file_system_that_is_full(room, program):
     folder = room / "mount"
     folder.mkdir()
     path = folder / "a.disk"
-    made = f"-t tmpfs -o size=256k none {folder}; cp {file_in(room)} {path}; truncate -s 1M {path}; head -c 300k /dev/zero >{folder}/b 2>/dev/null || true"
+    made = (f"-t tmpfs -o size=256k none {folder}; cp {file_in(room)} {path}; truncate -s 1M {path}; "
+            f"head -c 300k /dev/zero >{folder}/b 2>/dev/null || true")
     it = in_a_mount(room, made, path)
     if it is None:
         return "NOT TRIED, as nobody may mount here"

@@ -257,7 +257,8 @@ def taken(response, what, most):
 
 def add_options(parser):
     """The options of each command that asks a source."""
-    parser.add_argument("--patience", type=seconds_given, default=PATIENCE, metavar="SECONDS", help="how long to ask a source that does not answer (30)")
+    parser.add_argument("--patience", type=seconds_given, default=PATIENCE, metavar="SECONDS",
+                        help="how long to ask a source that does not answer (30)")
     parser.add_argument("--max-time", type=seconds_given, default=WHOLE, metavar="SECONDS", help="how long one answer may take (600)")
     parser.add_argument("--certificate", metavar="FILE", help="a client's certificate and key, in PEM")
 

@@ -90,7 +90,8 @@ class File:
     def referred(self, entry, what, most):
         """The bytes that an entry tells of. More than `most` would cost memory, and break a rule of the lists."""
         first, blocks, length, sha256 = entry
-        hold(blocks == blocks_of(length), "{} lies in exactly the blocks of its length, and that in block {} has {} for {:,} bytes", what, first, blocks, length)
+        hold(blocks == blocks_of(length), "{} lies in exactly the blocks of its length, and that in block {} has {} for {:,} bytes",
+             what, first, blocks, length)
         hold(first + blocks <= self.blocks(), "{} lies within the file, and that in block {} does not", what, first)
         hold(length <= most, "{} has {:,} bytes at most, and that in block {} has {:,}", what, most, first, length)
         data = self.part(first, length)

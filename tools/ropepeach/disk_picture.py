@@ -81,7 +81,8 @@ def drawn(title, extents, most, longest):
         y = TOP + number * (HEIGHT + 2)
         # (the last row may have fewer cells, and its last cell fewer blocks)
         blocks = min(most - number * columns * each, columns * each)
-        parts.append(element("rect", x=LEFT, y=y, width=blocks / each * WIDTH / columns, height=HEIGHT, fill="#ffffff", stroke=EDGE, stroke_width=0.5))
+        width = blocks / each * WIDTH / columns
+        parts.append(element("rect", x=LEFT, y=y, width=width, height=HEIGHT, fill="#ffffff", stroke=EDGE, stroke_width=0.5))
         parts += row(cells_of_row, columns, each, y)
     parts += legend(counts, most, TOP + len(rows) * (HEIGHT + 2) + LINE)
     size = f'width="{WIDTH + 2 * LEFT}" height="{height}" viewBox="0 0 {WIDTH + 2 * LEFT} {height}"'

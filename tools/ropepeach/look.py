@@ -93,7 +93,8 @@ def lines_of(it):
 def write_picture(path, name, source, facts):
     """Draws the map, in place of a file only when it is whole."""
     blocks, beside = facts["blocks"], f"{path}.new"
-    picture = disk_picture.drawn(f"{os.path.basename(name)}, generation {facts['generation']}", source.extents, source.blocks, blocks["longest_free_run"])
+    title = f"{os.path.basename(name)}, generation {facts['generation']}"
+    picture = disk_picture.drawn(title, source.extents, source.blocks, blocks["longest_free_run"])
     with open(beside, "w", encoding="utf-8") as file:
         file.write(picture)
     os.replace(beside, path)
