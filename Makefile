@@ -53,7 +53,7 @@ PROGRAM ?= crates/rs_source/out/rs_source
 SYSTEM = calls edges growths large documents pages kept tour folder sizes
 # The checks of tests/tools.
 TOOL_CHECKS = fill mirror power hostile served look size why health takeover
-# How many checks of edits go side by side, if not as many as there are processors and memory for.
+# How many go side by side: checks of edits, if not as many as there are processors and memory for; stores of `make replicas`, if not one.
 LANES ?=
 
 .PHONY: demo test edits build rows statement bench bench-more proof-times memory ends crash hostile mirror system tools operate package machine page million powercut replicas snapshots pictures install uninstall
@@ -146,7 +146,7 @@ powercut: build
 
 # (it ends all that it starts, also where it is stopped)
 replicas: build
-	@python3 -m tests.replicas --rounds $(REPLICA_ROUNDS)
+	@python3 -m tests.replicas --rounds $(REPLICA_ROUNDS) $(if $(LANES),--lanes $(LANES))
 
 snapshots: build
 	@python3 -m tests.system.snapshots

@@ -33,6 +33,16 @@ class Parts(unittest.TestCase):
             write("\n", room, "out/it.py")
             self.assertEqual(gate.files_of("*.py", below=Path(room)), [Path(room, "it.py")])
 
+    def test_what_the_layout_tells(self):
+        """A file that the toolchain would lay out otherwise, a toolchain that tells nothing, lines of Python that are too long."""
+        wide, unread = ["it.py:2: more than 150 columns"], ["the layout was not checked"]
+        rows = [(0, "", [], (1, [])), (1, "a.rt\n", [], (0, ["a.rt"])), (1, "", [], (0, unread)), (0, "", wide, (0, wide))]
+        for status, told, lines, wanted in rows:
+            ran = mock.Mock(returncode=status, stdout=told, stderr="")
+            with mock.patch.object(gate.subprocess, "run", lambda *words, **how: ran), mock.patch.object(gate, "wide", lambda file: lines):
+                with mock.patch.object(gate, "files_of", lambda *kinds, **how: ["it"]):
+                    self.assertEqual(gate.layout(), wanted)
+
     def test_a_part_that_is_a_program_passes_by_its_status(self):
         with tempfile.TemporaryDirectory() as room:
             for status, wanted in ((0, (1, 0)), (1, (0, 1)), (3, (0, 1)), (None, (0, 1))):

@@ -7,7 +7,8 @@ and controls, of which each has to be seen to lose (controls.py): a trial that c
 It needs root, name spaces, loop devices, FUSE and Debian's packages of Ceph; the controls those of GlusterFS and rbd-fuse. Without, it says what it
 did not try. All that it starts ends with it.
 
-usage: python3 -m tests.replicas [--short] [--rounds N] [--seed N] [--minutes N] [--only PART] [PROGRAM]     parts: rounds, ways, controls, times
+usage: python3 -m tests.replicas [--short] [--rounds N] [--lanes N] [--seed N] [--minutes N] [--only PART] [PROGRAM]
+The parts are rounds, ways, controls, times. With `--lanes` so many stores share the rounds side by side (lanes.py).
 Exit status 1 where something was lost, or a control was not seen to lose.
 """
 import argparse
@@ -28,7 +29,7 @@ from pathlib import Path
 
 from tests import PYTHON
 from tests.program import PROGRAM, Differs
-from tests.replicas import controls, rounds, times, ways
+from tests.replicas import controls, lanes, rounds, times, ways
 from tests.replicas.ceph_store import CephFS
 from tests.replicas.machines import Ended, Late, Stuck, three
 from tests.replicas.relay import Relay
@@ -70,6 +71,7 @@ def words():
     parser = argparse.ArgumentParser(prog="tests.replicas")
     parser.add_argument("--short", action="store_true")
     parser.add_argument("--rounds", type=int, default=200)
+    parser.add_argument("--lanes", type=int, default=1)
     parser.add_argument("--seed", type=int, default=1)
     parser.add_argument("--minutes", type=float, default=600)
     parser.add_argument("--only", choices=PARTS, action="append")
@@ -161,11 +163,14 @@ def main():
         print(f"replicas: NOT TRIED, as this machine has not {', '.join(missing)}: a source on a store of three machines")
         return 0
     parts = ["rounds"] if given.short else given.only or PARTS
-    failed = []
+    failed, left = [], parts
+    if "rounds" in parts and 1 < given.lanes <= given.rounds:
+        failed, left = lanes.run(given), [it for it in parts if it != "rounds"]
     signal.alarm(SHORT_SECONDS if given.short else 0)
     try:
-        with tempfile.TemporaryDirectory(prefix="replicas-", ignore_cleanup_errors=True) as room:
-            failed = on_ceph(given, room, parts)
+        if left and not failed:
+            with tempfile.TemporaryDirectory(prefix="replicas-", ignore_cleanup_errors=True) as room:
+                failed = on_ceph(given, room, left)
     except FAULTS as fault:
         signal.alarm(0)
         if given.short and isinstance(fault, (Late, Stuck)):

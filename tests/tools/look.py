@@ -32,7 +32,7 @@ RULES = {
     "creates, updates or deletes": ["creates, updates or deletes"], "a media type": ["a media type is lawful"],
     "a page has an item": ["1 to 50,000 items"],
     "a field ends": ["ends within a field", "as many entries", "1 to 50,000 items", "a media type is lawful"],
-    "another SHA-256": ["has the SHA-256 that is told of it"], "a page of ": ["a page lies "], "the directory of ": ["the directory lies "],
+    "another SHA-256": ["has the SHA-256 of its reference"], "a page of ": ["a page lies "], "the directory of ": ["the directory lies "],
     "last is the greater": ["the last moment is that of the last change or of the publication"],
     "no bytes begin": ["a body of no bytes has no first block"],
     "no more parts": ["no more parts of the changes"], "start <= at": ["the moments of formatting", "year 9999"],

@@ -95,7 +95,7 @@ class File:
         hold(first + blocks <= self.blocks(), "{} lies within the file, and that in block {} does not", what, first)
         hold(length <= most, "{} has {:,} bytes at most, and that in block {} has {:,}", what, most, first, length)
         data = self.part(first, length)
-        hold(hashlib.sha256(data).digest() == sha256, "{} has the SHA-256 that is told of it, and that in block {} has another", what, first)
+        hold(hashlib.sha256(data).digest() == sha256, "{} has the SHA-256 of its reference, and that in block {} has another", what, first)
         return data
 
     def pages(self, entries, kind):

@@ -122,7 +122,7 @@ def told_of_two(found):
 
 
 def coming_to(collection, astray):
-    """What comes to each source: of what several hold, one of them."""
+    """What each source gets: of what several hold, one of them."""
     coming, known, differing = {name: [] for name in collection.members}, {}, []
     for it in astray:
         other = known.setdefault(it.name, it)

@@ -3,7 +3,7 @@
 It asks for the Source Description, the Capability List, the Resource List and the Change List, as a mirror does, and changes nothing.
 The line ends with the figures that monitoring systems draw. `Closed` lasts until the program is restarted.
 
-critical: no answer, `Closed`, lists that cannot be read, or so many changes kept that `TooManyChanges` is next
+critical: no answer, `Closed`, lists that cannot be read, or `TooManyChanges` is next
 warning: many changes kept, a last change or a publication older than you allow, a moment in the future
 """
 import argparse

@@ -48,7 +48,7 @@ def blocks_of(source, runs):
 
 
 def facts_of(path, source, put):
-    """All that is told of a source, by its names in JSON."""
+    """All facts of a source, by their names in JSON."""
     header, held = source.header, items_of(source.catalogue)
     changes = len(items_of(source.changes))
     parts = -(-changes // header.limit)
@@ -70,7 +70,7 @@ def facts_of(path, source, put):
 
 
 def lines_of(it):
-    """What is told as lines for a person."""
+    """The facts as lines for a person."""
     blocks, publications = it["blocks"], it["publications"]
     longest = blocks["longest_free_run"]
     parts = f"{it['parts']:,} part{'s' * (it['parts'] != 1)} of up to {it['item_limit']:,}, the first is number {it['first_part']}"

@@ -1,6 +1,6 @@
 """Mirrors a collection: each source that a Source Description names, into a folder of its own, side by side.
 
-Each folder below the one of the whole is then exactly what its source held at the moment that is told for it. There is no moment for all.
+Each folder below the one of the whole is then exactly what its source held at the moment in its line. There is no moment for all.
 What moves from one source to another is put there before it is deleted here (ropepeach-grow(1)). So nothing is removed before every
 source was read after the deletion was: what was moved is fetched first, and a mirror has it once or twice, never not at all.
 """

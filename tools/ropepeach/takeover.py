@@ -15,13 +15,13 @@ from ropepeach.takeover_store import CephFS, Refused
 NAME, HELP = "takeover", "take a source over from another machine, on a replicated store"
 EPILOG = """exit status:
   0    every step is done, and FILE opens: start the program
-  1    a step is not done, which is told
+  1    a step is not done; the output names it
   2    wrong arguments
   3    the store, the mount or FILE can't be asked
 """
 STOPPED = "stopped; nothing is started"
 PROGRAM, SOCKETS, WAIT = "rs_source", "/run/ceph", 60
-# The program opens a file within this many seconds, and copies the longest one within so many.
+# The most seconds in which the program opens a file, and copies the longest one.
 OPENING, COPYING = 120, 3_600
 
 

@@ -19,7 +19,7 @@ from ropepeach.processes import Processes
 NAME, HELP = "why", "tell why the program says Device: what is in the way of a file and a port"
 EPILOG = """exit status:
   0    nothing is found in the way
-  1    something is, which is told
+  1    something is; the output names it
   2    wrong arguments
   3    one can't look
 """
