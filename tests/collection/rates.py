@@ -7,8 +7,8 @@ from tests.collection.host import SETTINGS, Host
 from tests.collection.measuring import Meter, processors
 from tests.tools.running import written
 
-# So many sources side by side, each with this many resources of this many bytes.
-BESIDE, RESOURCES, BODY = (1, 2, 3, 4, 8), 3_000, 1_024
+# So many sources side by side, each with this many resources of this many bytes: a mirror of several waits some seconds, however many there are.
+BESIDE, RESOURCES, BODY = (1, 2, 3, 4, 8), 20_000, 1_024
 # The share of the processors from which they are used up, of 100.
 USED_UP = 90
 

@@ -45,7 +45,7 @@ ROOM, MEMORY = 8 << 30, 2 << 30
 FAULTS = (Differs, Ended, Late, Stuck, OSError, ValueError, LookupError, TypeError, subprocess.SubprocessError)
 # The short form has these two kinds of death, and ends after so many seconds, wherever it is: a machine with other work to do may be too slow
 # for three machines. Only what was lost fails it.
-SHORT, SHORT_SECONDS = [rounds.power, rounds.network], 165
+SHORT, SHORT_SECONDS = [rounds.power, rounds.network], 240
 
 
 def lacking():
