@@ -85,10 +85,13 @@ class Relay:
         while True:
             try:
                 return self.store.mount(to, seconds=60)
-            except Stuck:
+            except Stuck as stuck:
                 self.store.unmount(to, is_lost=True)
                 if time.monotonic() > end:
                     raise
+                # (a fence that was asked for while a monitor was away may come once more, behind its lifting)
+                if "blocklisted" in str(stuck):
+                    self.store.lift(to)
 
     def go_back(self, to):
         """The planned way: the program ends in peace here, and the source is opened there."""
