@@ -26,7 +26,7 @@ def follow(lane, number):
 
 def faults(told):
     """What is wrong with the ends of lanes."""
-    return [f"store {number} ended with status {status}, after {figures[0] if figures else 'no'} rounds"
+    return [f"store {number} ended with status {status}, and {figures[0] if figures else 'none'} of its rounds are counted"
             for number, (figures, status) in enumerate(told, 1) if status or not figures or not figures[0]]
 
 
@@ -45,7 +45,8 @@ def run(given):
             # (each takes along what it started)
             for it in lanes:
                 it.terminate()
-    counts = [sum(it) for it in zip(*(figures for figures, _ in told if figures))] or [0, 0, 0]
-    print(f"replicas: {counts[0]} rounds on {given.lanes} stores, {counts[1]} commands acknowledged, 0 lost; {counts[2]} commands without an "
-          "answer stood", flush=True)
-    return faults(told)
+    counts = [sum(it) for it in zip(*(figures for figures, status in told if figures and not status))] or [0, 0, 0]
+    wrong = faults(told)
+    print(f"replicas: {counts[0]} rounds on {given.lanes - len(wrong)} of {given.lanes} stores, {counts[1]} commands acknowledged, 0 lost; "
+          f"{counts[2]} commands without an answer stood", flush=True)
+    return wrong
