@@ -117,12 +117,26 @@ def fill_refuses_before_anything(program, room):
         refused("too small", "small is too small: it has 16,384 bytes")
         host.settle()
         same("a wrong word", 2, host.run("fill", folder, "collection.tom")[0])
+        too_deep(folder)
+        refused("too deep", "ropepeach fill: a folder cannot be listed: folder/deep/")
+        shutil.rmtree("folder/deep")
         host.well("fill", folder, SETTINGS)
         shutil.rmtree("folder")
         os.mkdir("folder")
         refused("too much is deleted", "60 of 60 resources would be deleted, more than half")
         refused("a dry run", "more than half", "--dry-run")
         has("it is deleted", "deleted", host.well("fill", "folder", SETTINGS, "--yes"))
+
+
+def too_deep(folder):
+    """Makes folders below a folder, the innermost of which can't be listed: its path has more than 4,096 bytes."""
+    above = os.open(folder, os.O_RDONLY)
+    for name in ["deep", *["d" * 250] * 17]:
+        os.mkdir(name, dir_fd=above)
+        below = os.open(name, os.O_RDONLY, dir_fd=above)
+        os.close(above)
+        above = below
+    os.close(above)
 
 
 def fill_refuses_more_than_a_source_holds(program, room):

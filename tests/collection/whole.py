@@ -19,10 +19,12 @@ MANY = {f"d{number % 7}/{number}.txt": b"%d\n" % number * 40 for number in range
 
 def fill_and_mirror_are_exact(program, room):
     """Each source holds what lives in it, and nothing else; each part of a mirror is its source's, and tells its moment."""
-    folder = written("folder", {"d0/0.txt": b"0"} | FILES | {"x y": b"3"})
+    folder = written("folder", {"d0/0.txt": b"0"} | FILES | {"x y": b"3", "d0/e/f": b"4"})
     with Host(program, room, ["s1", "s2", "s3"]) as host:
+        homes = host.homes([*FILES, "x%20y", "d0/e/f"])
+        same("what would be done, by sources and names", sorted(f"put {home} {it}" for it, home in homes.items()),
+             host.well("fill", folder, SETTINGS, "--dry-run").splitlines())
         told = host.well("fill", folder, SETTINGS)
-        homes = host.homes([*FILES, "x%20y"])
         for name in host.sources:
             same(f"{name} holds", {it for it in homes if homes[it] == name}, host.held(name))
         same("a line for each", ["s1", "s2", "s3"], [it.split(":")[0] for it in told.splitlines()])

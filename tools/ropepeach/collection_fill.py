@@ -3,6 +3,7 @@
 First each source is read and compared with the files that live in it. Where one does not answer, is too full, or holds what lives in
 another one, the run ends, and nothing was changed. Then all are changed.
 """
+import collections
 import os
 import tempfile
 import types
@@ -12,7 +13,7 @@ from ropepeach.collection_file import Collection
 from ropepeach.collection_sources import Astray, asked_source, astray_in, told_of_astray
 from ropepeach.faults import Fault
 from ropepeach.fill import Plan, held_by, published
-from ropepeach.fill_files import Kinds, names_below
+from ropepeach.fill_files import Kinds, entries_of, names_in
 from ropepeach.fill_sending import Sending
 from ropepeach.progress import tell
 from ropepeach.side_by_side import Sides, check, failures
@@ -26,19 +27,22 @@ class PartPlan(Plan):
         self.listed = listed
 
     def all_names(self, order=sorted):
-        """The names of this source. They stand in the order of their bytes."""
+        """The names of this source, in an order."""
         self.listed.seek(0)
-        for line in self.listed:
+        for line in order(self.listed):
             yield line.rstrip("\n")
 
 
 def placed(folder, collection):
-    """A file of names for each source, of all that lives there."""
+    """A file of names for each source, of all that lives there. Each processor takes a share of what lies at the top of the folder."""
     files, counts = {it: tempfile.TemporaryFile("w+", encoding="ascii") for it in collection.members}, dict.fromkeys(collection.members, 0)
-    for name in names_below(folder):
-        home = collection.homes.of(name)
-        files[home].write(f"{name}\n")
-        counts[home] += 1
+    entries, processors = list(entries_of(folder)), range(len(os.sched_getaffinity(0)))
+    shares = {it: entries[it :: len(processors)] for it in processors}
+    with Sides(shares, lambda it, link: link.send(lines_by_home(folder, shares[it], collection.homes))) as sides:
+        for it in shares:
+            for home, lines in sides.well(it).items():
+                files[home].write(lines)
+                counts[home] += lines.count("\n")
     for name, count in counts.items():
         if count > room.MOST_RESOURCES:
             raise Fault(f"{count:,} files of FOLDER live in {name}, and a source holds {room.MOST_RESOURCES:,} at most: "
@@ -46,6 +50,14 @@ def placed(folder, collection):
     for it in files.values():
         it.flush()
     return files
+
+
+def lines_by_home(folder, entries, homes):
+    """The names of all that some entries of the folder are or hold: a text of lines for each source in which some of them live."""
+    found = collections.defaultdict(list)
+    for name in names_in(folder, entries, iter):
+        found[homes.of(name)].append(f"{name}\n")
+    return {home: "".join(lines) for home, lines in found.items()}
 
 
 class Part:

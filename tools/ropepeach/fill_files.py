@@ -25,13 +25,24 @@ class Unfit(Exception):
 
 def names_below(folder, order=sorted, front=""):
     """The names of all that a folder holds but folders, in the order of their bytes, or as they come if the order is `iter`."""
+    return names_in(folder, entries_of(folder, front), order, front)
+
+
+def names_in(folder, entries, order=sorted, front=""):
+    """The names of all that some entries of a folder are or hold."""
+    for it in order(entries):
+        if it.endswith("/"):
+            yield from names_below(folder, order, front + it)
+        else:
+            yield front + it
+
+
+def entries_of(folder, front=""):
+    """What a folder holds, as it comes: the last segments of names, with a `/` behind that of a folder."""
     try:
         with os.scandir(path_of(folder, front)) as entries:
-            for it in order(quoted(it.name) + "/" * it.is_dir(follow_symlinks=False) for it in entries):
-                if it.endswith("/"):
-                    yield from names_below(folder, order, front + it)
-                else:
-                    yield front + it
+            for it in entries:
+                yield quoted(it.name) + "/" * it.is_dir(follow_symlinks=False)
     except OSError as fault:
         raise Fault(f"a folder cannot be listed: {shown(path_of(folder, front))}: {fault.strerror}") from None
 

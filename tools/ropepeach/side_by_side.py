@@ -18,8 +18,14 @@ from ropepeach.faults import Fault, plain
 ENDING = 10
 
 
-# What a process could not do, and the exit status that it asks for.
-Failed = collections.namedtuple("Failed", "text status")
+class Failed(collections.namedtuple("Failed", "text status")):
+    """What a process could not do, and the exit status that it asks for."""
+
+    def fault(self, text=None):
+        """The fault that ends the run, told in its own words or in others."""
+        fault = Fault(text or self.text)
+        fault.status = self.status
+        return fault
 
 
 class Prefixed(io.TextIOBase):
@@ -93,6 +99,13 @@ class Sides:
         except (EOFError, OSError):
             return Failed("its process has ended", 1)
 
+    def well(self, name):
+        """What a process says next, if it is no failure."""
+        said = self.heard(name)
+        if isinstance(said, Failed):
+            raise said.fault()
+        return said
+
     def asked(self, messages):
         """Sends each process its message, and gives what each answers."""
         for name, it in messages.items():
@@ -110,7 +123,6 @@ def check(answers):
     """Ends the run where something failed, with a line for each."""
     failed = failures(answers)
     if failed:
-        fault = Fault("\n".join(f"{name}: {it.text}" for name, it in failed.items()))
-        fault.status = max(it.status for it in failed.values())
-        raise fault
+        worst = max(failed.values(), key=lambda it: it.status)
+        raise worst.fault("\n".join(f"{name}: {it.text}" for name, it in failed.items()))
     return answers
