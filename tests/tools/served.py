@@ -2,7 +2,7 @@
 
 The site lets nobody change the source but who has a certificate. Each row begins a run of `ropepeach fill` or `ropepeach mirror`, waits
 until it is amid its work, and does something to the program, which is there again after a second. The run has to end by status 0, and at
-its end the source holds what the folder holds, and the mirror too. Two rows are tools that are killed themselves.
+its end the source holds what the folder holds, and the mirror too. One row is tools that are killed themselves, and one a host that is another one.
 
 usage: python3 -m tests.tools.served [PROGRAM] [NAME..]     names of rows (all, if none is given); it needs nginx and openssl
 Exit status 1 if one does not hold.
@@ -164,7 +164,20 @@ def tools_that_are_killed_begin_again(program, room):
         same("the mirror is the folder", True, files_of(folder) == files_of("mirror"))
 
 
-CHECKS = [row(begin, event) for begin in ("fill", "mirror") for event in ("restart", "stop", "kill")] + [tools_that_are_killed_begin_again]
+def another_host_is_refused(program, room):
+    """A certificate that names another host, or that nobody vouches for, ends a run by status 1 at once, and nothing is made."""
+    with site(program, room) as it:
+        unknown = {name: value for name, value in it.environment.items() if name != "SSL_CERT_FILE"}
+        localhost = it.url.replace("127.0.0.1", "localhost")
+        for url, environment, why in [(localhost, it.environment, "localhost'"), (it.url, unknown, "verify failed")]:
+            status, told, said = ended(begun("mirror", url, "mirror", env=environment))
+            same(f"{url}: {said}", (1, "", 1), (status, told, said.count("\n")))
+            has(url, why, said)
+        same("a folder", False, os.path.exists("mirror"))
+
+
+CHECKS = [row(begin, event) for begin in ("fill", "mirror") for event in ("restart", "stop", "kill")]
+CHECKS += [tools_that_are_killed_begin_again, another_host_is_refused]
 
 
 def main():

@@ -21,6 +21,7 @@ from urllib3.connection import HTTPConnection
 from urllib3.exceptions import ConnectTimeoutError, HTTPError, MaxRetryError, NewConnectionError, ProxyError, SSLError
 from urllib3.util.connection import is_connection_dropped
 from urllib3.util.retry import Retry
+from urllib3.util.ssl_match_hostname import CertificateError
 
 from ropepeach.faults import Fault, Long, Misused, Silent, Slow
 from ropepeach.progress import tell
@@ -288,7 +289,7 @@ def is_near(host):
 def is_final(fault):
     """Whether asking again cannot help: the other side is not who it should be."""
     fault = fault.original_error if isinstance(fault, ProxyError) else fault
-    return isinstance(fault, SSLError) and any(isinstance(it, ssl.SSLCertVerificationError) for it in fault.args)
+    return isinstance(fault, SSLError) and any(isinstance(it, (ssl.SSLCertVerificationError, CertificateError)) for it in fault.args)
 
 
 def reason_of(fault):
