@@ -116,6 +116,7 @@ def fill_refuses_before_anything(program, room):
         host.settle(file={"s1": str(pathlib.Path("small").resolve())})
         refused("too small", "small is too small: it has 16,384 bytes")
         host.settle()
+        refused("no types", "s1: none: cannot be read", "--types", "none", status=2)
         same("a wrong word", 2, host.run("fill", folder, "collection.tom")[0])
         too_deep(folder)
         refused("too deep", "ropepeach fill: a folder cannot be listed: folder/deep/")

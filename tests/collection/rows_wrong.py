@@ -21,6 +21,7 @@ WRONG = [
     ("strays are not looked for", fill_refuses_before_anything, "collection_fill.py", "        if astray:\n", "        if False:\n"),
     ("a share of the names is passed over", fill_and_mirror_are_exact, "collection_fill.py", "for it in shares:", "for it in list(shares)[1:]:"),
     ("a folder that can't be listed is passed over", fill_refuses_before_anything, "side_by_side.py", "raise said.fault()", "return {}"),
+    ("the exit status of a source's run is lost", fill_refuses_before_anything, "side_by_side.py", "        fault.status = self.status\n", ""),
     ("another base is taken", fill_refuses_before_anything, "collection_sources.py", "if source.base != member.base", "if False"),
     ("all deletions are allowed", fill_refuses_before_anything, "collection_fill.py", "        check_deletions(given, found)\n", ""),
     ("what differs is deleted", grow_refuses_before_anything, "grow.py", "self.held.get(it.name, it.facts) != it.facts", "False"),
