@@ -249,14 +249,18 @@ class CephFS:
         except Stuck as stuck:
             raise Stuck(f"{stuck}: {self.heard}; {self.ails()}") from None
 
+    def fences(self, machine):
+        """The fences of a machine's mounts, each with its end, or None where the monitors do not answer."""
+        found = (self.asker.asked("osd dump") or {}).get("blocklist")
+        # (a mount has port 0, and a metadata server that was replaced another one)
+        return None if found is None else {it: end for it, end in found.items() if it.startswith(f"{machine.address}:0/")}
+
     def lift(self, machine):
         """Lets a machine's mounts in again, once nothing of before runs there."""
         def is_lifted():
-            fences = (self.asker.asked("osd dump") or {}).get("blocklist")
-            # (a mount has port 0, and a metadata server that was replaced another one)
-            found = [it for it in fences or {} if it.startswith(f"{machine.address}:0/")]
-            for it in found:
+            fences = self.fences(machine)
+            for it in fences or {}:
                 self.must("osd blocklist", blocklistop="rm", addr=it)
-            return fences is not None and not found
+            return fences == {}
 
         until(is_lifted, SECONDS, f"the fence of {machine.name} is lifted", 0.2)

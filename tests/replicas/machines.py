@@ -65,6 +65,15 @@ def kill(process):
     process.kill()
 
 
+def is_over(number):
+    """Whether a process has ended with all of its threads: until then it has its files, and no command line any more."""
+    try:
+        state = Path(f"/proc/{number}/stat").read_text().rpartition(") ")[2][0]
+        return state in "ZX" and len(os.listdir(f"/proc/{number}/task")) == 1
+    except OSError:
+        return True
+
+
 def until(is_so, seconds, what, pause=0.1):
     """Waits until something is so, and gives it with the seconds that it took."""
     started = time.monotonic()
@@ -165,8 +174,8 @@ class Machine:
 
     def kill(self, pattern):
         """Kills processes, and waits until they are gone."""
-        self.send(signal.SIGKILL, pattern)
-        until(lambda: not self.processes(pattern), SECONDS, f"the end of {pattern} on {self.name}", 0.02)
+        found = self.send(signal.SIGKILL, pattern)
+        until(lambda: all(map(is_over, found)) and not self.processes(pattern), SECONDS, f"the end of {pattern} on {self.name}", 0.02)
 
     def connect(self, is_up):
         """Plugs the machine in, or pulls the plug."""

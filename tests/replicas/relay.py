@@ -91,6 +91,7 @@ class Relay:
                     raise
                 # (a fence that was asked for while a monitor was away may come once more, behind its lifting)
                 if "blocklisted" in str(stuck):
+                    print(f"{to.name} is fenced once more: {self.store.fences(to)}", flush=True)
                     self.store.lift(to)
 
     def go_back(self, to):
