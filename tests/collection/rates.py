@@ -1,6 +1,6 @@
 """How many resources a second a source takes and gives, alone and beside others: until the processors are used up it should be the same.
 
-The processors of a machine may be a third slower for a minute. So what is compared is how long a source takes for each second of a
+The processors of a machine may be half as fast for minutes. So what is compared is how long a source takes for each second of a
 processor that its own work takes. They are used up where so many sources, each at the rate of one alone, would need more than there are.
 """
 import collections

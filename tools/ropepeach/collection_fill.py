@@ -36,8 +36,8 @@ class PartPlan(Plan):
 def placed(folder, collection):
     """A file of names for each source, of all that lives there. Each processor takes a share of what lies at the top of the folder."""
     files, counts = {it: tempfile.TemporaryFile("w+", encoding="ascii") for it in collection.members}, dict.fromkeys(collection.members, 0)
-    entries, processors = list(entries_of(folder)), range(len(os.sched_getaffinity(0)))
-    shares = {it: entries[it :: len(processors)] for it in processors}
+    entries, processors = list(entries_of(folder)), len(os.sched_getaffinity(0))
+    shares = {it: entries[it::processors] for it in range(processors)}
     with Sides(shares, lambda it, link: link.send(lines_by_home(folder, shares[it], collection.homes))) as sides:
         for it in shares:
             for home, lines in sides.well(it).items():
