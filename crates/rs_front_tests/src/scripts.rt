@@ -290,9 +290,16 @@ fn is_answered(
     rt: &(impl Abort + AllocGlobal),
     source: &mut Source<MemoryDisk>,
 ) -> Result<(), Fail> {
-    let output = script_bytes(rt.alloc(), source, b"at 7\nput a 61 a/b\nshow /resource/a")?;
+    let mut output = Watched::new(Vec::new(rt.alloc()));
+    script_bytes(
+        rt.alloc(),
+        source,
+        b"at 7\nput a 61 a/b\nshow /resource/a",
+        &mut output,
+    )?;
     assert!(rt;
-        output.as_slice() == b"ok\ncreated 1970-01-01T00:00:00.007Z\nbytes 1\na\n".as_slice()
+        output.into_inner().as_slice()
+            == b"ok\ncreated 1970-01-01T00:00:00.007Z\nbytes 1\na\n".as_slice()
     );
     Ok(())
 }
@@ -318,7 +325,8 @@ fn goes_on_after_a_fault(
     rt: &(impl Abort + AllocGlobal),
     source: &mut Source<MemoryDisk>,
 ) -> Result<(), Fail> {
-    let output = script_bytes(rt.alloc(), source, VERIFIED)?;
+    let mut output = Watched::new(Vec::new(rt.alloc()));
+    script_bytes(rt.alloc(), source, VERIFIED, &mut output)?;
     let wanted = b"created 1970-01-01T00:00:00.001Z
 published 1 1970-01-01T00:00:00.002Z
 created 1970-01-01T00:00:00.003Z
@@ -328,7 +336,7 @@ bytes 3
 abc
 published 2 1970-01-01T00:00:00.004Z
 ";
-    assert!(rt; output.as_slice() == wanted.as_slice());
+    assert!(rt; output.into_inner().as_slice() == wanted.as_slice());
     Ok(())
 }
 

@@ -1,5 +1,5 @@
 -- How the answer to a plan and to a request ends.
-use Rattle.std.proofs.Common.{◌≡◌, ◌/◌, ◌+◌, ℕ, List, [], ◌++◌, Option, Result, Ok, Err, refl, ap, sym, ◌∙◌, subst, inl, inr, ◌⊎◌, arith, append-nil}
+use Rattle.std.proofs.Common.{◌≡◌, ◌/◌, ℕ, List, [], ◌++◌, Option, Result, Ok, Err, refl, ap, sym, ◌∙◌, subst, inl, inr, ◌⊎◌, arith, append-nil}
 use Rattle.std.specs.Prelude.{MatchResult, OnOk, OnErr, IfErr, IsErrOf, Some, Bool}
 use Rattle.std.specs.Result.{IsErr, IsErrAnd}
 use Rattle.std.specs.Io.KnownBytes.{Consumes, Appends, Keeps, IsAtEnd}
@@ -30,7 +30,7 @@ use Rattle.rs_http.specs.Requests.{Asks}
 use Rattle.rs_http.specs.Responses.{RequestOutcome, response_text, go_on}
 use Rattle.rs_http.specs.Outcomes.{outcome_replied, RequestGives, Sends, Responds}
 use Rattle.rs_http.specs.Laws.{RequestsRecover, BrokenBodiesRecover, RequestsMakeWalks, BrokenBodiesMakeNoEvent}
-use Rattle.rs_http.specs.Serving.{PlanEnds, RequestEnds, TakesPart, preface_of, IsUnsaid, IsCutOff, Stands, Reads, Serves, Breaks, Halts}
+use Rattle.rs_http.specs.Serving.{bytes_of, PlanEnds, RequestEnds, TakesPart, preface_of, IsUnsaid, IsCutOff, Stands, Reads, Serves, Breaks, Halts}
 use Rattle.rs_http.proofs.Asking.{answered}
 
 -- a response that was sent is not answered as unread
@@ -41,7 +41,7 @@ unread (Err fault) is e = absurd cc
 module _ {W : Type 0} (contents : W → Option (List ℕ)) (before after : Watched W) where
   -- a response that was sent, as its bytes show it
   seen_sends : (framing : Framing) (outcome : RequestOutcome) (result : Result ℕ FrontFault) → Sends contents before after framing outcome result
-      → Sends (λ bytes. bytes) (seen_by contents before) (seen_by contents after) framing outcome result
+      → Sends bytes_of (seen_by contents before) (seen_by contents after) framing outcome result
   seen_sends framing outcome (Ok status) s = s
   seen_sends framing outcome (Err fault) s =
       let w = s.1 in (s.0, record { failed = w.failed; part = w.part; left_out = w.left_out; bytes_are = w.bytes_are; took = w.took }, s.2)
@@ -122,7 +122,7 @@ module _ {X E W : Type 0} (contents : W → Option (List ℕ)) (before mid after
   unflushed (Err e) failed = took_all (seen_by contents before) (seen_by contents mid) (seen_by contents after) [] text put.0 put.1 kept failed
 
 module _ {D : Type 0} {device : D → DiskState} (turn : Turn device) (request : Request) (date : HttpDate) (dated : unix_secs date ≡ turn.now / 1000)
-    (left rest before mid after : End) (preface : Wrote (λ bytes. bytes) before mid (preface_of request.plan)) where
+    (left rest before mid after : End) (preface : Wrote bytes_of before mid (preface_of request.plan)) where
   abbrev framing : Framing
   framing = record { date = date; is_head = request.is_head }
 

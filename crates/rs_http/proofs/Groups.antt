@@ -61,12 +61,13 @@ pub unasked_counts : (n : ℕ) (came : List ℕ) (rest : Option (List ℕ)) (out
     → counted_group (items_asked n came) now outcome ≡ []
 unasked_counts n came rest outcome now (inl short) = ap (λ asked. counted_group asked now outcome) (asked_short n came short.0)
 unasked_counts n came rest outcome now (inr (inl faulty)) = ap (λ asked. counted_group asked now outcome) (asked_faulty n came faulty.1 faulty.0 faulty.2)
-unasked_counts n came rest outcome now (inr (inr lacking)) = ap (counted_group (items_asked n came) now) lacking.1 ∙ no_memory_counts (items_asked n came) now
+unasked_counts n came rest outcome now (inr (inr (inl body))) = ap (counted_group (items_asked n came) now) body.1 ∙ no_memory_counts (items_asked n came) now
+unasked_counts n came rest outcome now (inr (inr (inr items))) = ap (counted_group (items_asked n came) now) items.1 ∙ no_memory_counts (items_asked n came) now
 
 -- a body that did not come into memory
 pub unread_unasked : (n : ℕ) (came : List ℕ) (rest : Option (List ℕ)) (refusal : stored.Refusal) → (refusal ≡ ReadFault → ⊥) → IsUnread n rest came refusal
     → UnaskedGroup n came rest (refused refusal)
-unread_unasked n came rest NoMemory other_than none = inr (inr (inl none, refl))
+unread_unasked n came rest NoMemory other_than none = inr (inr (inl (none, refl)))
 unread_unasked n came rest ShortBody other_than short = inl (short.0, short.1, refl)
 unread_unasked n came rest ReadFault other_than few = absurd (other_than refl)
 unread_unasked n came rest refusal other_than none = absurd none
@@ -74,7 +75,7 @@ unread_unasked n came rest refusal other_than none = absurd none
 -- items that were not read, by the reason
 pub faulty_unasked : (came : List ℕ) (rest : Option (List ℕ)) (reason : NoPlan) → (reason ≡ reasons.NoMemory) ⊎ ((fault : ItemFault) × (items_in came ≡ Err fault) × (reason ≡ reason_of_fault fault))
     → UnaskedGroup (length came) came rest (unplanned reason)
-faulty_unasked came rest reason (inl lacking) = inr (inr (inr refl, ap unplanned lacking))
+faulty_unasked came rest reason (inl lacking) = inr (inr (inr (refl, ap unplanned lacking)))
 faulty_unasked came rest reason (inr (fault, is, same)) = inr (inl (refl, fault, is, ap unplanned same))
 
 too_many : (n : ℕ) → 17 ≤ n → not (nat_le 1 n && nat_le n 16) ≡ true

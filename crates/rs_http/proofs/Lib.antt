@@ -11,3 +11,6 @@ pub mod Room
 pub mod Counting
 pub mod NamedDocuments
 pub mod Walks
+pub mod Running
+pub mod Replying
+pub mod CountedExamples

@@ -74,14 +74,14 @@ may_fit n came NoMemory may = none_or_all n came may
 may_fit n came refusal may = rw may (omega arith)
 
 module _ {D : Type 0} {device : D → DiskState} (turn : Turn device) where
-  some_of : (name kind : List ℕ) (n : ℕ) (came : List ℕ) (result : Result Reply stored.Refusal)
+  pub some_of : (name kind : List ℕ) (n : ℕ) (came : List ℕ) (result : Result Reply stored.Refusal)
       → AnswersFrom device turn.old turn.new (coming_put name kind n turn.now) came result → length came ≤ n
   some_of name kind n came (Ok reply) a = omega (arith, a.0)
   some_of name kind n came (Err ReadFault) a = omega (arith, a.fewer)
   some_of name kind n came (Err ShortBody) a = omega (arith, a.fewer)
   some_of name kind n came (Err refusal) a = may_fit n came refusal a.0
 
-  some_body : (plan : Result RequestPlan NoPlan) (more : List ℕ) (rest : Option (List ℕ)) (outcome : RequestOutcome) → RequestGives turn plan more rest outcome
+  pub some_body : (plan : Result RequestPlan NoPlan) (more : List ℕ) (rest : Option (List ℕ)) (outcome : RequestOutcome) → RequestGives turn plan more rest outcome
       → (body : List ℕ) × IsBodyFor plan more body
   some_body (Ok (Put name kind n waits)) more rest outcome gives = begins_one n more (some_of name kind n more gives.0.result gives.0.answers)
   some_body (Ok (Group n waits)) more rest outcome gives = (more, refl)
@@ -141,8 +141,10 @@ module _ {D : Type 0} (device : D → DiskState) (sound : (disk : D) → IsMediu
   unasked_walk n came rest outcome (inl short) held = subst (Grouped outcome) (sym (asked_short n came short.0)) (nothing (GroupEvents s None turn.now outcome) refl held)
   unasked_walk n came rest outcome (inr (inl faulty)) held =
       subst (Grouped outcome) (sym (asked_faulty n came faulty.1 faulty.0 faulty.2)) (nothing (GroupEvents s None turn.now outcome) refl held)
-  unasked_walk n came rest outcome (inr (inr lacking)) held =
-      subst (λ (o : RequestOutcome). Grouped o (items_asked n came)) (sym lacking.1) (lacking_walk (items_asked n came) held)
+  unasked_walk n came rest outcome (inr (inr (inl body))) held =
+      subst (λ (o : RequestOutcome). Grouped o (items_asked n came)) (sym body.1) (lacking_walk (items_asked n came) held)
+  unasked_walk n came rest outcome (inr (inr (inr items))) held =
+      subst (λ (o : RequestOutcome). Grouped o (items_asked n came)) (sym items.1) (lacking_walk (items_asked n came) held)
 
   group_walk : (n : ℕ) (came : List ℕ) (rest : Option (List ℕ)) (outcome : RequestOutcome) → GroupComesTo turn n came rest outcome → Grouped outcome (items_asked n came)
   group_walk n came rest outcome (inl unasked) = unasked_walk n came rest outcome unasked.1 (same_held unasked.0)

@@ -1,12 +1,13 @@
 -- Which command of a request counts, and what the disk holds after a stop within the request.
-use Rattle.std.specs.Prelude.{◌≡◌, ℕ, List, [], ◌∷◌, Option, Some, None, Result, Ok, Err}
+use Rattle.std.specs.Prelude.{◌≡◌, ◌≤◌, ℕ, length, List, [], ◌∷◌, Option, Some, None, Result, Ok, Err}
 use Rattle.rs_disk.specs.Medium.{DiskState}
 use Rattle.rs_model.specs.declared.command.Command.{Command}
 use Rattle.rs_model.specs.declared.command.Command.TheVariants as commands
 use Rattle.rs_model.specs.declared.command.Item.{Item}
 use Rattle.rs_store.specs.Received.{IsBodyOf}
 use Rattle.rs_store.specs.declared.refusal.Refusal.TheVariants.{Device}
-use Rattle.rs_recovery.specs.Prefixes.{Recovers}
+use Rattle.rs_store.specs.Source.{Stored}
+use Rattle.rs_recovery.specs.Prefixes.{IsRunOf, Recovers}
 use Rattle.rs_http.specs.declared.request.RequestPlan.{RequestPlan}
 use Rattle.rs_http.specs.declared.request.RequestPlan.TheVariants.{ShowBody, ShowDocument, Put, Delete, Publish, Group}
 use Rattle.rs_http.specs.declared.request.NoPlan.{NoPlan}
@@ -42,3 +43,7 @@ Counts now (Err reason) more outcome counted = counted ≡ []
 abbrev pub RequestRecovers : {D : Type 0} {device : D → DiskState} → Turn device → Result RequestPlan NoPlan → List ℕ → RequestOutcome → Type 0
 RequestRecovers {device = device} turn plan more outcome =
     (counted : List (Command × ℕ)) → Counts turn.now plan more outcome counted → Recovers device turn.old counted turn.new
+
+-- a run in which at most n commands count
+abbrev pub RunsAtMost : {D : Type 0} → (D → DiskState) → Stored D → ℕ → Stored D → Type 0
+RunsAtMost {D} device old n new = (commands : List (Command × ℕ)) × (length commands ≤ n) × IsRunOf device old commands new

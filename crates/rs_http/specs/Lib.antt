@@ -11,3 +11,4 @@ pub mod Serving
 pub mod Laws
 pub mod Walked
 pub mod Turn
+pub mod Told

@@ -86,14 +86,26 @@ abbrev pub unplanned : NoPlan → RequestOutcome
 unplanned (Refused fault) = faulted fault
 unplanned NoPlanMemory = refused NoMemory
 
--- The source did not get a group of n bytes; these bytes came, and the rest was left. The input ended within the body.
--- Or the body came whole, and this is its first fault. Or there was no memory: for the body, and no byte came, or for
--- its items.
+-- the input ended within a body of n bytes, of which these came
+abbrev pub BodyIsShort : ℕ → List ℕ → Option (List ℕ) → RequestOutcome → Type 0
+BodyIsShort n came rest outcome = (length came < n) × IsAtEnd rest × (outcome ≡ refused ShortBody)
+
+-- the body of n bytes came whole, and this is the first fault of its lines
+abbrev pub BodyIsFaulty : ℕ → List ℕ → RequestOutcome → Type 0
+BodyIsFaulty n came outcome = (length came ≡ n) × (fault : ItemFault) × (items_in came ≡ Err fault) × (outcome ≡ unplanned (reason_of_fault fault))
+
+-- there was no memory for the body, and no byte of it was read
+abbrev pub BodyLacksMemory : List ℕ → RequestOutcome → Type 0
+BodyLacksMemory came outcome = (came ≡ []) × (outcome ≡ refused NoMemory)
+
+-- the body of n bytes came whole, and there was no memory for its items
+abbrev pub ItemsLackMemory : ℕ → List ℕ → RequestOutcome → Type 0
+ItemsLackMemory n came outcome = (length came ≡ n) × (outcome ≡ refused NoMemory)
+
+-- why the source did not get a group of n bytes, of which these came, and the rest was left
 abbrev pub UnaskedGroup : ℕ → List ℕ → Option (List ℕ) → RequestOutcome → Type 0
 UnaskedGroup n came rest outcome =
-    ((length came < n) × IsAtEnd rest × (outcome ≡ refused ShortBody))
-    ⊎ ((length came ≡ n) × (fault : ItemFault) × (items_in came ≡ Err fault) × (outcome ≡ unplanned (reason_of_fault fault)))
-    ⊎ (((came ≡ []) ⊎ (length came ≡ n)) × (outcome ≡ refused NoMemory))
+    BodyIsShort n came rest outcome ⊎ BodyIsFaulty n came outcome ⊎ BodyLacksMemory came outcome ⊎ ItemsLackMemory n came outcome
 
 -- the body of n bytes came whole and has no fault, and the source got all its items in one command
 pub record AskedGroup {D : Type 0} {device : D → DiskState} (turn : Turn device) (n : ℕ) (came : List ℕ) (outcome : RequestOutcome) : Type 0 where

@@ -47,6 +47,10 @@ pub record TakesPart (before after : End) (first text : List ℕ) : Type 0 where
   pub took : Appends (watched before) (watched after) (first ++ part)
   pub failed : PutFailed before after ⊎ ((left_out ≡ []) × FlushFailed before after)
 
+-- the bytes of an end that is seen by its bytes
+abbrev pub bytes_of : Option (List ℕ) → Option (List ℕ)
+bytes_of bytes = bytes
+
 -- How the answer to a plan ends. These bytes were read past the head, and the result is `Read` only where the reader
 -- failed: then it failed in the body of a put or of a group, and nothing is written. Otherwise the outcome of the plan
 -- is answered: its response is written, or a beginning of it where the writer failed.
@@ -57,7 +61,7 @@ pub record PlanEnds {D : Type 0} {device : D → DiskState} (turn : Turn device)
   pub reader : TellsEnd (IsErrOf result Read) ends.left ends.rest
   pub broken : IsErrOf result Read → (ends.after ≡ ends.before) × IsBroken turn plan more
   pub answered : ¬ IsErrOf result Read
-      → Responds (λ bytes. bytes) ends.before ends.after framing (RequestGives turn plan more (watched ends.rest)) result
+      → Responds bytes_of ends.before ends.after framing (RequestGives turn plan more (watched ends.rest)) result
 
 -- the outcome of a request is answered: this is its status, and its response is written, behind the word to go on where
 -- that was due

@@ -3,10 +3,11 @@
 //! Each function here does nothing: its contract is the law, which the check proves.
 
 ghost use Rattle.rs_http.specs.Laws.{RequestsAreRuns, BrokenBodiesAreRuns, RequestsRecover, BrokenBodiesRecover, RequestsMakeWalks, BrokenBodiesMakeNoEvent};
+ghost use Rattle.rs_http.specs.Told.{RequestsReply, BrokenBodiesReplyNothing};
 
 use rs_caps::laws::answered::paths_are_answered;
 use rs_disk::Disk;
-use rs_recovery::laws::{runs_go_on, runs_recover};
+use rs_recovery::laws::{replies_are_seen, runs_go_on, runs_recover};
 use rs_recovery::walking::commands_make_walks;
 use rs_store::laws::held_sources_rest;
 
@@ -29,6 +30,17 @@ pub fn requests_recover<D: Disk>()
 {
     requests_are_runs::<D>();
     runs_recover::<D>();
+}
+
+/// The reply that the outcome of a request tells is that to the command that the source accepted. Where the reader failed
+/// in the body of a put or of a group, there is none.
+pub fn requests_reply<D: Disk>()
+    ensures answered { RequestsReply D.state }
+    ensures broken { BrokenBodiesReplyNothing D.state }
+{
+    held_sources_rest::<D>();
+    runs_go_on::<D>();
+    replies_are_seen::<D>();
 }
 
 /// A request makes a walk of one event or none. A command is tried where the model decides the answer, refused where

@@ -1,18 +1,21 @@
 //! One request to a source.
 
 ghost use Rattle.std.specs.Prelude.{◌≡◌, ℕ, true, IfOk, OnOk, IsErrOf};
-ghost use Rattle.rs_io.specs.Watch.{is_flushed, StaysFlushed, ends_of};
+ghost use Rattle.rs_io.specs.Watch.{is_flushed, seen_by, StaysFlushed, ends_of};
 ghost use Rattle.rs_store.specs.Advancing.{GoesOnOnce};
+ghost use Rattle.rs_http.specs.Counted.{RunsAtMost};
 ghost use Rattle.rs_http.specs.Turn.{turn};
 ghost use Rattle.rs_http.specs.Serving.{Serves, Breaks, Halts};
+ghost use Rattle.rs_http.specs.Told.{TellsReply};
 
 use crate::answer::answer;
 use crate::fault::FrontFault;
 use crate::head::{HEAD_LIMIT, read_head};
-use crate::laws::{requests_make_walks, requests_recover};
+use crate::laws::{requests_are_runs, requests_make_walks, requests_recover, requests_reply};
 use crate::plan::read_request;
 use rs_disk::Disk;
 use rs_io::Watched;
+use rs_recovery::laws::replies_are_seen;
 use rs_store::Source;
 use rs_time::Moment;
 use std::alloc::Global;
@@ -75,7 +78,18 @@ pub fn serve_one<D: Disk, R: Read, W: Write>(
 
     // Whatever the result, one command at most changes the held state, while the source is open.
     ensures goes_on { GoesOnOnce D.state source.old now source.new }
+
+    // Whatever the result, the call is a run of at most one counted command.
+    ensures run { RunsAtMost D.state source.old 1 source.new }
+
+    // Whatever the result, where the source held a state, its disk saw commands answered from that state
+    // on. The reply that the writer took is that to the accepted one of these commands.
+    ensures answered { TellsReply D.state source.old source.new
+        (seen_by W.contents writer.old) (seen_by W.contents writer.new) }
 {
+    requests_are_runs::<D>();
+    requests_reply::<D>();
+    replies_are_seen::<D>();
     requests_recover::<D>();
     requests_make_walks::<D>();
     let mut buf = [0u8; HEAD_LIMIT];

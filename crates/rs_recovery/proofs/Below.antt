@@ -5,8 +5,9 @@ use Rattle.rs_disk.specs.Leaves.{Leaves}
 use Rattle.rs_model.specs.declared.command.Command.{Command}
 use Rattle.rs_store.specs.declared.refusal.Refusal.TheVariants.{Device}
 use Rattle.rs_store.specs.declared.running.Ack.{Ack}
-use Rattle.rs_store.specs.Counted.{counted_commands}
-use Rattle.rs_store.specs.Laws.{AreClosed, ClosedCountNone}
+use Rattle.rs_store.specs.Counted.{is_accepted, is_in_doubt, counted_commands}
+use Rattle.rs_store.specs.Laws.{AreClosed}
+use Rattle.rs_recovery.proofs.FromBelow.{closed_is_no_device, closed_is_no_ok, none_counts}
 
 abbrev pub Commands : Type 0
 Commands = List (Command × ℕ)
@@ -15,9 +16,10 @@ abbrev pub Acks : Type 0
 Acks = List Ack
 
 -- where the device failed in a command, that command counts, and none after it
-pub counts_alone : ClosedCountNone → (c : Command × ℕ) (cs : Commands) (call : ℕ) (acks : Acks) → AreClosed acks
+pub counts_alone : (c : Command × ℕ) (cs : Commands) (call : ℕ) (acks : Acks) → AreClosed acks
     → counted_commands (c ∷ cs) (record { reply = Err Device; at_call = call } ∷ acks) ≡ c ∷ []
-counts_alone none_counts c cs call acks closed = let none = none_counts cs acks closed in λ i. none.0 i ++ c ∷ none.1 i
+counts_alone c cs call acks closed = λ i.
+    none_counts is_accepted closed_is_no_ok cs acks closed i ++ c ∷ none_counts is_in_doubt closed_is_no_device cs acks closed i
 
 abbrev pub one : Bool → ℕ
 one b = cond b 1 0

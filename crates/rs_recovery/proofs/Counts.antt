@@ -1,10 +1,10 @@
 -- What a state has behind it, which each accepted command raises, so that an image stands for one number of commands
 -- alone.
-use Rattle.std.proofs.Common.{◌≡◌, inl, inr, ℕ, zero, suc, ◌+◌, ◌-◌, ◌*◌, ◌<◌, ◌≤◌, Bool, true, false, ◌||◌, List, [], ◌∷◌, ◌++◌, length, take, drop, refl, sym, ◌∙◌, ap, subst, arith, cond, Option, Some, None, Result, Ok, Err, div-mul-le_self}
-use Rattle.std.specs.Prelude.{nat_le}
+use Rattle.std.proofs.Common.{◌≡◌, inl, inr, ℕ, zero, suc, ◌+◌, ◌-◌, ◌*◌, ◌<◌, ◌≤◌, Bool, true, false, ◌||◌, List, [], ◌∷◌, ◌++◌, length, take, drop, refl, sym, ap, subst, arith, cond, Option, Some, None, Result, Ok, Err, div-mul-le_self}
+use Rattle.std.specs.Prelude.{nat_le, MatchOption}
 use Rattle.std.proofs.lemmas.Bool.{cases_lt}
 use Rattle.std.proofs.lemmas.List.{length-append, length-drop}
-use Rattle.rs_disk.specs.Medium.{DiskState, IsMedium}
+use Rattle.rs_disk.specs.Medium.{DiskState}
 use Rattle.rs_record.specs.Changes.{deleted}
 use Rattle.rs_record.specs.declared.change.Change.{Change}
 use Rattle.rs_model.specs.State.{Source, facts_of}
@@ -15,17 +15,17 @@ use Rattle.rs_model.specs.declared.command.Command.{Command}
 use Rattle.rs_model.specs.declared.command.Command.TheVariants.{Put, Delete, Publish, Group}
 use Rattle.rs_model.specs.declared.command.Reply.{Reply}
 use Rattle.rs_model.specs.declared.command.Refusal as model
+use Rattle.rs_model.specs.declared.command.Refusal.TheVariants as decides
 use Rattle.rs_image.specs.StateOfImage.{StandsFor}
 use Rattle.rs_store.specs.declared.refusal.Refusal.{Refusal}
-use Rattle.rs_store.specs.declared.refusal.Refusal.TheVariants.{Closed, Device}
-use Rattle.rs_store.specs.Source.{Stored, Holds, state_of}
-use Rattle.rs_store.specs.Refusals.{decided, or_spent, is_spent}
-use Rattle.rs_store.specs.Answered.{Answers}
+use Rattle.rs_store.specs.declared.refusal.Refusal.TheVariants.{Device}
+use Rattle.rs_store.specs.Refusals.{named_as}
 use Rattle.rs_store.specs.declared.running.Ack.{Ack}
 use Rattle.rs_store.specs.Counted.{is_accepted, is_in_doubt, answered, counted_commands, begun}
-use Rattle.rs_store.specs.Runs.{InTurn}
-use Rattle.rs_recovery.specs.Below.{Below}
+use Rattle.rs_store.specs.Runs.{IsBeyondModel, MayAnswer, Condition, Holding, condition_after, AreAnswered}
+use Rattle.rs_image.specs.Laws.{StandsOnce}
 use Rattle.rs_recovery.proofs.Below.{Commands, Acks, one, counts_alone}
+use Rattle.rs_recovery.proofs.FromBelow.{all_closed}
 
 -- the changes that were dropped, those that are kept, and the publications
 pub behind : Source → ℕ
@@ -128,10 +128,6 @@ one_alone s commands j k rises first second same = elim (cases_lt j k) [
   ]
 ]
 
-undecided : (o : Option model.Refusal) (spent : Bool) → or_spent o spent ≡ None → o ≡ None
-undecided None spent is = refl
-undecided (Some refusal) spent is = absurd cc
-
 -- no more commands have begun than count
 doubt_or_ok : (a : Ack) → one (is_accepted a || is_in_doubt a) ≤ one (is_accepted a) + one (is_in_doubt a)
 doubt_or_ok a = by_two (is_accepted a) (is_in_doubt a)
@@ -150,61 +146,68 @@ begun_further : (b : Bool) (n : ℕ) → cond b n 0 ≤ n
 begun_further true n = omega arith
 begun_further false n = omega arith
 
-pub begun_counts : {D : Type 0} (device : D → DiskState) (m : ℕ) (old : Stored D) (cs : Commands) (acks : Acks) (new : Stored D) → InTurn device old cs acks new → begun m acks ≤ length (counted_commands cs acks)
-begun_counts {D} device m old [] [] new turn = omega arith
-begun_counts {D} device m old (c ∷ cs) (a ∷ acks) new turn =
-    let rest : begun m acks ≤ length (counted_commands cs acks) = begun_counts device m turn.2 cs acks new turn.5 in
+pub begun_counts : (m : ℕ) (cs : Commands) (acks : Acks) → length cs ≡ length acks → begun m acks ≤ length (counted_commands cs acks)
+begun_counts m [] [] same = omega arith
+begun_counts m (c ∷ cs) (a ∷ acks) same =
+    let rest : begun m acks ≤ length (counted_commands cs acks) = begun_counts m cs acks (omega (arith, same)) in
     let both = length-append (answered is_accepted cs acks) (answered is_in_doubt cs acks) in
     let all = length-append (answered is_accepted (c ∷ cs) (a ∷ acks)) (answered is_in_doubt (c ∷ cs) (a ∷ acks)) in
     let oks = length_answered is_accepted c cs a acks in
     let doubts = length_answered is_in_doubt c cs a acks in
     omega (arith, rest, both, all, oks, doubts, doubt_or_ok a, begun_further (nat_le a.at_call m) (begun m acks))
-begun_counts {D} device m old cs acks new turn = absurd turn
+begun_counts m [] (a ∷ acks) same = absurd (omega (arith, same))
+begun_counts m (c ∷ cs) [] same = absurd (omega (arith, same))
 
-module _ {D : Type 0} (device : D → DiskState) (sound : (disk : D) → IsMedium (device disk).size (device disk).now) (below : Below device) where
-  -- a command that was answered Device is one that the model accepts
-  pub not_refused : (old new : Stored D) (s : Source) (command : Command) (now : ℕ) → Holds device old s → Answers device old new command now (Err Device) → refusal_of s command now ≡ None
-  not_refused old new s command now holds answers =
-      let same : state_of device old ≡ s = (holds.told (device old.disk).now.seen (sound old.disk).image).state in
-      let none : decided old (state_of device old) command now ≡ None = (answers.refused Device refl).0 in
-      let here : or_spent (refusal_of (state_of device old) command now) (is_spent old) ≡ None =
-      sym (ap (λ (b : Bool). cond b (Some Closed) (or_spent (refusal_of (state_of device old) command now) (is_spent old))) holds.is_open) ∙ none in
-      undecided (refusal_of s command now) (is_spent old) (subst (λ (t : Source). or_spent (refusal_of t command now) (is_spent old) ≡ None) same here)
+-- there is an answer to each command
+pub answered_length : (old : DiskState) (is : Condition) (cs : Commands) (acks : Acks) (new : DiskState) → AreAnswered old is cs acks new → length cs ≡ length acks
+answered_length old is [] [] new all = refl
+answered_length old is (c ∷ cs) (a ∷ acks) new all =
+    let more : length cs ≡ length acks = answered_length all.0 (condition_after is c a.reply) cs acks new all.2 in
+    omega (arith, more)
+answered_length old is cs acks new all = absurd all
 
-  -- the number of changes behind the state rises with each counted command
-  pub counted_rise : (s : Source) (old : Stored D) (cs : Commands) (acks : Acks) (new : Stored D) → Holds device old s → InTurn device old cs acks new
-      → Rises s (counted_commands cs acks)
-  counted_rise s old [] [] new holds turn = none_rise s
-  counted_rise s old (c ∷ cs) (a ∷ acks) new holds turn = after a.reply turn.3 (λ t held. counted_rise t turn.2 cs acks new held turn.5)
-    where
-      kept : Holds device turn.0 s
-      kept = (turn.1.holds s holds).0
+-- a command that may be answered Device is one that the model accepts
+named_otherwise : (r : model.Refusal) → Device ≡ named_as r → ⊥
+named_otherwise decides.BadGroup is = cc
+named_otherwise decides.TooLong is = cc
+named_otherwise decides.NotHeld is = cc
+named_otherwise decides.TooManyResources is = cc
+named_otherwise decides.TooManyChanges is = cc
+named_otherwise decides.Exhausted is = cc
 
-      counted_with : Result Reply Refusal → Commands
-      counted_with reply = counted_commands (c ∷ cs) (record { reply = reply; at_call = a.at_call } ∷ acks)
+pub accepted_in_doubt : (o : Option model.Refusal) → MatchOption o (IsBeyondModel Device) (λ r. Device ≡ named_as r) → o ≡ None
+accepted_in_doubt None may = refl
+accepted_in_doubt (Some r) may = absurd (named_otherwise r may)
 
-      -- the commands after an accepted one
-      further : (t : Source) (reply : Reply) → step s c.0 c.1 ≡ Ok (t, reply) → Rises t (counted_commands cs acks) → Rises s (counted_with (Ok reply))
-      further t reply steps rest =
-          let none = unrefused (refusal_of s c.0 c.1) (next_state s c.0 (moment_at s c.1), reply_to s c.0 (moment_at s c.1)) (t, reply) steps in
-          let next : state_after s (step s c.0 c.1) ≡ t = ap (state_after s) steps in
-          one_before s c (counted_commands cs acks) (one_more s c.0 c.1 none) (subst (λ (x : Source). Rises x (counted_commands cs acks)) (sym next) rest)
+-- the number of changes behind the state rises with each counted command
+pub counted_rise : (s : Source) (old : DiskState) (cs : Commands) (acks : Acks) (new : DiskState) → AreAnswered old (Holding s) cs acks new
+    → Rises s (counted_commands cs acks)
+counted_rise s old [] [] new all = none_rise s
+counted_rise s old (c ∷ cs) (a ∷ acks) new all = after a.reply all.1.reply all.2 (λ t rest. counted_rise t all.0 cs acks new rest)
+  where
+    counted_with : Result Reply Refusal → Commands
+    counted_with reply = counted_commands (c ∷ cs) (record { reply = reply; at_call = a.at_call } ∷ acks)
 
-      after : (reply : Result Reply Refusal) → Answers device turn.0 turn.2 c.0 c.1 reply
-          → ((t : Source) → Holds device turn.2 t → Rises t (counted_commands cs acks)) → Rises s (counted_with reply)
-      after (Ok reply) answers rest = let lead = answers.leads s kept in further lead.0 reply lead.1 (rest lead.0 lead.2)
-      after (Err Device) answers rest =
-          let closed = (below.closed turn.2 cs acks new (answers.closes refl) turn.5).2 in
-          let more = one_more s c.0 c.1 (not_refused turn.0 turn.2 s c.0 c.1 kept answers) in
-          subst (Rises s) (sym (counts_alone below.none_counts c cs a.at_call acks closed)) (one_before s c [] more (none_rise (state_after s (step s c.0 c.1))))
-      after (Err refusal) answers rest = rest s (answers.leads s kept).0
-  counted_rise s old cs acks new holds turn = absurd turn
+    next : Source
+    next = state_after s (step s c.0 c.1)
 
-  -- an image stands for one number of a run's counted commands
-  pub one_number : (s : Source) (old : Stored D) (cs : Commands) (acks : Acks) (new : Stored D) → Holds device old s → InTurn device old cs acks new → (m : ℕ) (image : List ℕ) (j k : ℕ)
-      → j ≤ begun m acks → k ≤ begun m acks → StandsFor image (fold_of s (take j (counted_commands cs acks))) → StandsFor image (fold_of s (take k (counted_commands cs acks))) → k ≡ j
-  one_number s old cs acks new holds turn m image j k most_j most_k stands also =
-      let counted : Commands = counted_commands cs acks in
-      let all = begun_counts device m old cs acks new turn in
-      let same : fold_of s (take j counted) ≡ fold_of s (take k counted) = below.stands_once image (fold_of s (take j counted)) (fold_of s (take k counted)) stands also in
-      one_alone s counted j k (counted_rise s old cs acks new holds turn) (omega (arith, all, most_j)) (omega (arith, all, most_k)) (ap behind same)
+    after : (reply : Result Reply Refusal) → MayAnswer s c.0 c.1 reply → AreAnswered all.0 (condition_after (Holding s) c reply) cs acks new
+        → ((t : Source) → AreAnswered all.0 (Holding t) cs acks new → Rises t (counted_commands cs acks)) → Rises s (counted_with reply)
+    after (Ok reply) may rest on =
+        let none = unrefused (refusal_of s c.0 c.1) (next_state s c.0 (moment_at s c.1), reply_to s c.0 (moment_at s c.1)) (may.0, reply) may.1 in
+        one_before s c (counted_commands cs acks) (one_more s c.0 c.1 none) (on next rest)
+    after (Err Device) may rest on =
+        let closed = all_closed all.0 s next cs acks new rest in
+        let more = one_more s c.0 c.1 (accepted_in_doubt (refusal_of s c.0 c.1) may) in
+        subst (Rises s) (sym (counts_alone c cs a.at_call acks closed)) (one_before s c [] more (none_rise next))
+    after (Err refusal) may rest on = on s rest
+counted_rise s old cs acks new all = absurd all
+
+-- an image stands for one number of a session's counted commands
+pub one_number : StandsOnce → (s : Source) (old : DiskState) (cs : Commands) (acks : Acks) (new : DiskState) → AreAnswered old (Holding s) cs acks new → (m : ℕ) (image : List ℕ) (j k : ℕ)
+    → j ≤ begun m acks → k ≤ begun m acks → StandsFor image (fold_of s (take j (counted_commands cs acks))) → StandsFor image (fold_of s (take k (counted_commands cs acks))) → k ≡ j
+one_number once s old cs acks new all m image j k most_j most_k stands also =
+    let counted : Commands = counted_commands cs acks in
+    let most = begun_counts m cs acks (answered_length old (Holding s) cs acks new all) in
+    let same : fold_of s (take j counted) ≡ fold_of s (take k counted) = once image (fold_of s (take j counted)) (fold_of s (take k counted)) stands also in
+    one_alone s counted j k (counted_rise s old cs acks new all) (omega (arith, most, most_j)) (omega (arith, most, most_k)) (ap behind same)

@@ -16,15 +16,12 @@ use Rattle.rs_model.specs.declared.value.Entry.{Entry}
 use Rattle.rs_caps.specs.Answer.{answer}
 use Rattle.rs_caps.specs.Destination.{part_paths, fetched_at, IsFetchedPart, IsFollowed, Mirrors, WasHeld, DestinationMirrors, MirrorWasHeld}
 use Rattle.rs_caps.specs.Gather.{gather_resources, gather_changes, listed_entry}
-use Rattle.rs_store.specs.Counted.{is_accepted, is_in_doubt, answered, counted_commands}
+use Rattle.rs_store.specs.Counted.{is_accepted, is_in_doubt, answered}
 use Rattle.rs_store.specs.declared.running.Ack.{Ack}
-use Rattle.rs_recovery.specs.AnyDisk.{state_of_any}
-use Rattle.rs_recovery.specs.Sessions.{Session, commands_standing}
+use Rattle.rs_recovery.specs.Sessions.{Session, asked, ended, counted, commands_left}
 use Rattle.rs_recovery.specs.Served.{IsNoLater, IsPrefixOf, CommandsStand, SessionsStand}
 use Rattle.rs_recovery.specs.Mirrored.{AreLawfulSessions, list_head, changes_head, Asked, answered_by, IsAskedPart, AsksBoth, changes_made, AreOfNext, IsMirrored, SessionsAreMirrored}
 use Rattle.rs_recovery.proofs.Below.{Commands, Acks}
-use Rattle.rs_recovery.proofs.Sessions.{any_is_sound}
-use Rattle.rs_recovery.proofs.Walked.{told}
 use Rattle.rs_recovery.proofs.Recorded.{tried, tried_behind, split_at, within_next}
 
 -- what holds of each of some elements
@@ -56,15 +53,15 @@ answered_lawful test (c ∷ commands) [] all = tt
 answered_lawful test (c ∷ commands) (a ∷ acks) all =
     one_more (test a) c (answered test commands acks) all.0 (answered_lawful test commands acks all.1)
 
-standing_lawful : (sessions : List Session) (standing : List ℕ) → AreLawfulSessions sessions → AllByRecursion IsLawfulTimed (commands_standing sessions standing)
+standing_lawful : (sessions : List Session) (standing : List ℕ) → AreLawfulSessions sessions → AllByRecursion IsLawfulTimed (commands_left sessions standing)
 standing_lawful [] standing all = tt
 standing_lawful (x ∷ past) [] all = tt
 standing_lawful (x ∷ past) (j ∷ standing) all =
-    let counted : AllByRecursion IsLawfulTimed (counted_commands x.commands x.acks) =
-    all_joined IsLawfulTimed (answered is_accepted x.commands x.acks) (answered is_in_doubt x.commands x.acks)
-    (answered_lawful is_accepted x.commands x.acks all.0) (answered_lawful is_in_doubt x.commands x.acks all.0) in
-    all_joined IsLawfulTimed (commands_standing past standing) (take j (counted_commands x.commands x.acks))
-    (standing_lawful past standing all.1) (all_first IsLawfulTimed j (counted_commands x.commands x.acks) counted)
+    let these : AllByRecursion IsLawfulTimed (counted x) =
+    all_joined IsLawfulTimed (answered is_accepted (asked x) (ended x)) (answered is_in_doubt (asked x) (ended x))
+    (answered_lawful is_accepted (asked x) (ended x) all.0) (answered_lawful is_in_doubt (asked x) (ended x) all.0) in
+    all_joined IsLawfulTimed (commands_left past standing) (take j (counted x))
+    (standing_lawful past standing all.1) (all_first IsLawfulTimed j (counted x) these)
 
 -- lawful commands are lawful events
 tried_lawful : (commands : Commands) → AllByRecursion IsLawfulTimed commands → AllByRecursion IsLawfulEvent (map tried commands)
@@ -86,7 +83,7 @@ module _ (mirrors : DestinationMirrors) (was_held : MirrorWasHeld) (catalogued :
     (base : List ℕ) (limit moment : ℕ) (before : Commands) (sessions : List Session) (standing : List ℕ)
     (lawful : IsLawful (start_of base limit moment)) (early : AllByRecursion IsLawfulTimed before) (all : AreLawfulSessions sessions)
     (stand : CommandsStand (fold_of (start_of base limit moment) before) sessions standing)
-    (asked : Asked sessions standing) (asks : AsksBoth asked.asking asked.last) where
+    (both : Asked (fold_of (start_of base limit moment) before) sessions standing) (asks : AsksBoth both.asking both.last) where
   abbrev formatted : Source
   formatted = start_of base limit moment
 
@@ -94,47 +91,47 @@ module _ (mirrors : DestinationMirrors) (was_held : MirrorWasHeld) (catalogued :
   start = fold_of formatted before
 
   abbrev whole : Commands
-  whole = commands_standing sessions standing
+  whole = commands_left sessions standing
 
   abbrev events : List Event
   events = map tried (before ++ whole)
 
   abbrev when : List ℕ → ℕ
-  when path = length before + length (asked.behind path)
+  when path = length before + length (both.behind path)
 
   abbrev latest : ℕ
-  latest = length before + length asked.behind_last
+  latest = length before + length both.behind_last
 
   -- what was answered is what the walk answers
-  answered_alike : (path : List ℕ) → answered_by asked.asking path ≡ fetched_at formatted events when path
+  answered_alike : (path : List ℕ) → answered_by both.asking path ≡ fetched_at formatted events when path
   answered_alike path =
-      let served = stand.served (asked.asking path) (asked.behind path) (asked.served path) in
-      let state : state_at formatted events (when path) ≡ fold_of start (asked.behind path) =
-      tried_behind formatted before whole (length (asked.behind path)) ∙ ap (fold_of start) (first_are (asked.behind path) whole served.1) in
-      ap (λ t. answer t path) (told state_of_any any_is_sound (asked.asking path).source (fold_of start (asked.behind path)) served.0 ∙ sym state)
+      let served = stand.served (both.asking path) (both.behind path) (both.served path) in
+      let state : state_at formatted events (when path) ≡ fold_of start (both.behind path) =
+      tried_behind formatted before whole (length (both.behind path)) ∙ ap (fold_of start) (first_are (both.behind path) whole served.1) in
+      ap (λ t. answer t path) (served.0 ∙ sym state)
 
-  alike : answered_by asked.asking ≡ fetched_at formatted events when
+  alike : answered_by both.asking ≡ fetched_at formatted events when
   alike = λ i path. answered_alike path i
 
   -- an earlier request has no more commands behind it
-  later_path : (path other : List ℕ) → IsNoLater (asked.asking path) (asked.asking other) → when path ≤ when other
+  later_path : (path other : List ℕ) → IsNoLater (both.asking path) (both.asking other) → when path ≤ when other
   later_path path other order =
-      let front = stand.ordered (asked.asking path) (asked.asking other) (asked.behind path) (asked.behind other) order (asked.served path) (asked.served other) in
-      omega (arith, no_more (asked.behind path) (asked.behind other) front)
+      let front = stand.ordered (both.asking path) (both.asking other) (both.behind path) (both.behind other) order (both.served path) (both.served other) in
+      omega (arith, no_more (both.behind path) (both.behind other) front)
 
-  by_last : (path : List ℕ) → IsNoLater (asked.asking path) asked.last → when path ≤ latest
+  by_last : (path : List ℕ) → IsNoLater (both.asking path) both.last → when path ≤ latest
   by_last path order =
-      let front = stand.ordered (asked.asking path) asked.last (asked.behind path) asked.behind_last order (asked.served path) asked.last_served in
-      omega (arith, no_more (asked.behind path) asked.behind_last front)
+      let front = stand.ordered (both.asking path) both.last (both.behind path) both.behind_last order (both.served path) both.last_served in
+      omega (arith, no_more (both.behind path) both.behind_last front)
 
   at_most : (path : List ℕ) → when path ≤ length before + length whole
   at_most path =
-      omega (arith, no_more (asked.behind path) whole (stand.served (asked.asking path) (asked.behind path) (asked.served path)).1)
+      omega (arith, no_more (both.behind path) whole (stand.served (both.asking path) (both.behind path) (both.served path)).1)
 
-  last_stands : IsPrefixOf asked.behind_last whole
-  last_stands = (stand.served asked.last asked.behind_last asked.last_served).1
+  last_stands : IsPrefixOf both.behind_last whole
+  last_stands = (stand.served both.last both.behind_last both.last_served).1
 
-  part_fetched : (head path : List ℕ) (last : ℕ) → IsAskedPart asked.asking head path → when path ≤ last → IsFetchedPart formatted events when (when head) last path
+  part_fetched : (head path : List ℕ) (last : ℕ) → IsAskedPart both.asking head path → when path ≤ last → IsFetchedPart formatted events when (when head) last path
   part_fetched head path last part le = record {
     after_head = later_path head path part.after_head;
     by_last = le;
@@ -146,7 +143,7 @@ module _ (mirrors : DestinationMirrors) (was_held : MirrorWasHeld) (catalogued :
     resources = record {
       by_last = at_most list_head;
       parts = λ text document found read.
-          all_so (IsAskedPart asked.asking list_head) (IsFetchedPart formatted events when (when list_head) (length before + length whole))
+          all_so (IsAskedPart both.asking list_head) (IsFetchedPart formatted events when (when list_head) (length before + length whole))
           (λ path part. part_fetched list_head path (length before + length whole) part (at_most path)) (part_paths document)
           (asks.resources text document (answered_alike list_head ∙ found) read);
     };
@@ -155,8 +152,8 @@ module _ (mirrors : DestinationMirrors) (was_held : MirrorWasHeld) (catalogued :
       by_last = by_last changes_head asks.head_by_last;
       parts = λ text document found read.
           let here = answered_alike changes_head ∙ found in
-          let Part : List ℕ → Type 0 = IsAskedPart asked.asking changes_head in
-          let InTime : List ℕ → Type 0 = λ path. IsNoLater (asked.asking path) asked.last in
+          let Part : List ℕ → Type 0 = IsAskedPart both.asking changes_head in
+          let InTime : List ℕ → Type 0 = λ path. IsNoLater (both.asking path) both.last in
           all_so (λ path. Part path × InTime path) (IsFetchedPart formatted events when (when changes_head) latest)
           (λ path part. part_fetched changes_head path latest part.0 (by_last path part.1)) (part_paths document)
           (all_both Part InTime (part_paths document) (asks.changes text document here read) (asks.parts_by_last text document here read));
@@ -168,7 +165,7 @@ module _ (mirrors : DestinationMirrors) (was_held : MirrorWasHeld) (catalogued :
   -- a mirror is what was held after the first j standing commands, and then the first changes of the next one
   abbrev IsHeldWith : ℕ → Names Entry → List Change → Type 0
   IsHeldWith j mirror made =
-      AreOfNext start (take j whole) asked.behind_last made × (mirror ≡ mirror_of (entries (fold_of start (take j whole)).held) start.start made)
+      AreOfNext start (take j whole) both.behind_last made × (mirror ≡ mirror_of (entries (fold_of start (take j whole)).held) start.start made)
 
   held_with : (j n : ℕ) (mirror : Names Entry)
       → let p = length before + j in
@@ -179,14 +176,14 @@ module _ (mirrors : DestinationMirrors) (was_held : MirrorWasHeld) (catalogued :
   held_with j n mirror low is held (inl same) =
       ([], (inl refl, held same ∙ ap (λ (t : Source). entries t.held) (tried_behind formatted before whole j)))
   held_with j n mirror low is held (inr (soon, high)) =
-      let short : suc j ≤ length asked.behind_last = omega (arith, soon) in
-      let few : j < length whole = omega (arith, short, no_more asked.behind_last whole last_stands) in
+      let short : suc j ≤ length both.behind_last = omega (arith, soon) in
+      let few : j < length whole = omega (arith, short, no_more both.behind_last whole last_stands) in
       let at = split_at j whole few in
       let found = within_next catalogued base limit moment before whole j n few low high in
       let k : ℕ = n - count_at formatted events (length before + j) in
-      let front : IsPrefixOf (take j whole ++ at.0 ∷ []) asked.behind_last =
-      subst (λ (l : Commands). IsPrefixOf (take j whole ++ at.0 ∷ []) l) (first_are asked.behind_last whole last_stands)
-      (subst (λ (l : Commands). IsPrefixOf l (take (length asked.behind_last) whole)) at.1 (first_of_first (suc j) (length asked.behind_last) whole short)) in
+      let front : IsPrefixOf (take j whole ++ at.0 ∷ []) both.behind_last =
+      subst (λ (l : Commands). IsPrefixOf (take j whole ++ at.0 ∷ []) l) (first_are both.behind_last whole last_stands)
+      (subst (λ (l : Commands). IsPrefixOf l (take (length both.behind_last) whole)) at.1 (first_of_first (suc j) (length both.behind_last) whole short)) in
       (take k (changes_made (fold_of start (take j whole)) at.0), (inr (at.0, front, k, found.0, refl), is ∙ found.1))
 
   -- the same of what was held at a point of the walk
@@ -199,7 +196,7 @@ module _ (mirrors : DestinationMirrors) (was_held : MirrorWasHeld) (catalogued :
       (subst (λ (p : ℕ). count_at formatted events p ≡ w.n → mirror ≡ entries (state_at formatted events p).held) at w.held)
       (subst (λ (p : ℕ). (count_at formatted events p ≡ w.n) ⊎ ((p < latest) × (w.n < count_at formatted events (suc p)))) at w.passed.passed)
 
-  pub is_mirrored : IsMirrored start sessions standing asked
+  pub is_mirrored : IsMirrored start sessions standing both
   is_mirrored =
       let are = tried_lawful (before ++ whole) (all_joined IsLawfulTimed before whole early (standing_lawful sessions standing all)) in
       let done : ℕ = length before + length whole in
@@ -212,8 +209,8 @@ module _ (mirrors : DestinationMirrors) (was_held : MirrorWasHeld) (catalogued :
       let j : ℕ = w.passed.point - length before in
       let is : w.passed.point ≡ length before + j = omega (arith, after) in
       let found = held_at j mirror w is in
-      let last_first = first_are asked.behind_last whole last_stands in
-      let head_first = first_are (asked.behind changes_head) whole (stand.served (asked.asking changes_head) (asked.behind changes_head) (asked.served changes_head)).1 in
+      let last_first = first_are both.behind_last whole last_stands in
+      let head_first = first_are (both.behind changes_head) whole (stand.served (both.asking changes_head) (both.behind changes_head) (both.served changes_head)).1 in
       record {
         at = m.at;
         listed = m.listed;
@@ -224,9 +221,9 @@ module _ (mirrors : DestinationMirrors) (was_held : MirrorWasHeld) (catalogued :
         resources_gathered = ap gather_resources alike ∙ m.resources_gathered;
         changes_gathered = ap gather_changes alike ∙ m.changes_gathered;
         after_head = subst (λ (l : Commands). IsPrefixOf l (take j whole)) head_first
-            (first_of_first (length (asked.behind changes_head)) j whole (omega (arith, after)));
+            (first_of_first (length (both.behind changes_head)) j whole (omega (arith, after)));
         by_last = subst (λ (l : Commands). IsPrefixOf (take j whole) l) last_first
-            (first_of_first j (length asked.behind_last) whole (omega (arith, until)));
+            (first_of_first j (length both.behind_last) whole (omega (arith, until)));
         stands = (drop j whole, take-append-drop j whole);
         next = found.1.0;
         mirrored = found.1.1;
@@ -238,5 +235,5 @@ sessions_mirrored mirrors was_held catalogued stands base limit moment before se
     let stand = stands start sessions are in (
       stand.0,
       stand.1,
-      λ asked asks. is_mirrored mirrors was_held catalogued base limit moment before sessions stand.0 lawful early all stand.1 asked asks,
+      λ both asks. is_mirrored mirrors was_held catalogued base limit moment before sessions stand.0 lawful early all stand.1 both asks,
     )

@@ -10,9 +10,7 @@ use Rattle.rs_store.specs.declared.opening.OpenFault.{OpenFault}
 use Rattle.rs_store.specs.declared.opening.OpenFault.TheVariants.{NotASource, Damaged, Device, NoMemory}
 use Rattle.rs_store.specs.Source.{Stored, Holds, state_of}
 use Rattle.rs_store.specs.Opening.{IsOpened, IsNotOpened, disk_of}
-use Rattle.rs_recovery.specs.Sessions.{IsOpenedOn}
-use Rattle.rs_recovery.specs.AnyDisk.{AreSound}
-use Rattle.rs_recovery.specs.Recovered.{HandsBack, GivesBack}
+use Rattle.rs_recovery.specs.Recovered.{HandsBack, IsOpenedOn}
 
 no_slots : (image : List ℕ) (slots : Standing) → current image ≡ Some slots → current image ≡ None → ⊥
 no_slots image slots is none = let clash : Some slots ≡ None = sym is ∙ none in cc
@@ -33,10 +31,3 @@ pub opened_on : {D : Type 0} (device : D → DiskState) (disk : D) (result : Res
     → IfOk result (λ source. IsTrue (device source.disk).honest → IsOpenedOn device (device disk).now.seen source)
 opened_on device disk (Ok source) opened = λ honest. (state_of device source, (opened.holds honest).1, (opened.holds honest).0)
 opened_on device disk (Err refused) opened = tt
-
--- a source that is given back is open, and its state is the one that it holds
-pub given : {D : Type 0} (device : D → DiskState) → AreSound device → (disk : D) (result : Result (Stored D) (D × OpenFault)) (s : Source)
-    → HandsBack device disk result s → GivesBack device disk result s
-given device sound disk (Ok source) s holds = (holds.is_open, (holds.told (device source.disk).now.seen (sound source.disk).image).state)
-given device sound disk (Err (back, NoMemory)) s excuse = tt
-given device sound disk (Err (back, fault)) s excuse = excuse

@@ -9,7 +9,6 @@ use Rattle.rs_model.specs.declared.command.Command.{Command}
 use Rattle.rs_model.specs.declared.command.Reply.{Reply}
 use Rattle.rs_store.specs.declared.refusal.Refusal.{Refusal}
 use Rattle.rs_store.specs.declared.refusal.Refusal.TheVariants.{Device}
-use Rattle.rs_store.specs.declared.running.Ack.{Ack}
 use Rattle.rs_store.specs.Source.{Stored, Holds}
 use Rattle.rs_store.specs.Answered.{Answers}
 use Rattle.rs_store.specs.Counted.{is_accepted, is_device, is_in_doubt, answered, counted_commands, acknowledged, begun}
@@ -20,7 +19,8 @@ use Rattle.rs_recovery.specs.Prefixes.{counted_as, StandsForFirst, LeavesPrefixe
 use Rattle.rs_recovery.specs.Turns.{CommandsAreTurns}
 use Rattle.rs_recovery.proofs.Below.{Commands, Acks, one, weaker}
 use Rattle.rs_recovery.proofs.Counts.{begun_counts}
-use Rattle.rs_recovery.proofs.Acknowledged.{all_acknowledged}
+use Rattle.rs_recovery.proofs.Acknowledged.{all_acknowledged, all_by, same_length}
+use Rattle.rs_recovery.proofs.Sessions.{answered_joined}
 
 -- what was acknowledged stays so
 later_one : (b : Bool) (call m n : ℕ) → m ≤ n → one (b && nat_le call m) ≤ one (b && nat_le call n)
@@ -54,19 +54,6 @@ alone_counted command now (Ok reply) call = refl
 alone_counted command now (Err Device) call = refl
 alone_counted command now (Err refusal) call = refl
 
--- two runs' answers that pass a test
-answered_append : (test : Ack → Bool) {D : Type 0} (device : D → DiskState) (old mid : Stored D) (cs more : Commands) (acks late : Acks) → InTurn device old cs acks mid
-    → answered test (cs ++ more) (acks ++ late) ≡ answered test cs acks ++ answered test more late
-answered_append test {D} device old mid [] more [] late turn = refl
-answered_append test {D} device old mid (c ∷ cs) more (a ∷ acks) late turn =
-    let rest : answered test (cs ++ more) (acks ++ late) ≡ answered test cs acks ++ answered test more late = answered_append test device turn.2 mid cs more acks late turn.5 in
-    elim (test a) as (λ b. cond b (c ∷ answered test (cs ++ more) (acks ++ late)) (answered test (cs ++ more) (acks ++ late))
-    ≡ cond b (c ∷ answered test cs acks) (answered test cs acks) ++ answered test more late) [
-      | true ↦ ap (λ (l : Commands). c ∷ l) rest
-      | false ↦ rest
-    ]
-answered_append test {D} device old mid cs more acks late turn = absurd turn
-
 module _ {D : Type 0} (device : D → DiskState) (below : Below device) where
   -- an answer that leaves doubt closes the source
   closed_by_doubt : (old new : Stored D) (command : Command) (now : ℕ) (reply : Result Reply Refusal) → Answers device old new command now reply → is_device reply ≡ true → new.is_closed ≡ true
@@ -82,7 +69,7 @@ module _ {D : Type 0} (device : D → DiskState) (below : Below device) where
   none_begun : (m : ℕ) (old new : Stored D) (cs : Commands) (acks : Acks) → old.is_closed ≡ true → InTurn device old cs acks new → begun m acks ≡ 0
   none_begun m old new cs acks shut turn =
       let none = none_count old new cs acks shut turn in
-      let all = begun_counts device m old cs acks new turn in
+      let all = begun_counts m cs acks (same_length device old cs acks new turn) in
       let both = length-append (answered is_accepted cs acks) (answered is_in_doubt cs acks) in
       omega (arith, all, both, ap length none.0, ap length none.1)
 
@@ -114,8 +101,9 @@ module _ {D : Type 0} (device : D → DiskState) (below : Below device) where
   join_counted : (old mid new : Stored D) (cs more : Commands) (acks late : Acks) → InTurn device old cs acks mid → InTurn device mid more late new
       → counted_commands (cs ++ more) (acks ++ late) ≡ counted_commands cs acks ++ counted_commands more late
   join_counted old mid new cs more acks late turn then =
-      let accepted = answered_append is_accepted device old mid cs more acks late turn in
-      let doubts = answered_append is_in_doubt device old mid cs more acks late turn in
+      let same = same_length device old cs acks mid turn in
+      let accepted = answered_joined is_accepted cs more acks late same in
+      let doubts = answered_joined is_in_doubt cs more acks late same in
       let a = answered is_accepted cs acks in
       let d = answered is_in_doubt cs acks in
       let b = answered is_accepted more late in
@@ -157,7 +145,7 @@ module _ {D : Type 0} (device : D → DiskState) (below : Below device) where
         → (j : ℕ) × (acknowledged m acks ≤ j) × (j ≤ acknowledged m acks + 1) × StandsForFirst s (counted_commands cs acks) j image
     first_of m image p =
         let few = few_begun m old new cs acks turn in
-        let all = begun_counts device m old cs acks new turn in (
+        let all = begun_counts m cs acks (same_length device old cs acks new turn) in (
           p.j,
           p.least,
           omega (arith, p.most, few),
@@ -183,7 +171,11 @@ module _ {D : Type 0} (device : D → DiskState) (below : Below device) where
     leaves_prefixes =
         let run = below.moments s old cs acks new held turn in
         let last = (device new.disk).calls in record {
-          done = λ m. acknowledged m acks;
+          asked = cs;
+          acks = acks;
+          answered = below.answered s old cs acks new held turn;
+          count = refl;
+          by_exit = all_by device rise old cs acks new turn;
           rises = acknowledged_rises acks;
           each = weaker (device old.disk) (device new.disk) (StandsForPrefix s cs acks) _ first_of run;
           holds = below.end s old cs acks new held turn;

@@ -1,32 +1,27 @@
 -- Sessions one after another.
-use Rattle.std.proofs.Common.{◌≡◌, ⊎_elim, ℕ, zero, suc, ◌+◌, ◌≤◌, Bool, true, false, ◌&&◌, List, [], ◌∷◌, ◌++◌, length, map, take, refl, sym, ◌∙◌, ap, subst, arith, cond, Result, Ok, Err, true≢false, append_assoc, inl, inr, ◌<◌}
+use Rattle.std.proofs.Common.{◌≡◌, ⊎_elim, ℕ, zero, suc, ◌+◌, ◌≤◌, Bool, true, false, ◌&&◌, List, [], ◌∷◌, ◌++◌, length, take, refl, sym, ◌∙◌, ap, subst, arith, cond, Result, Ok, Err, Option, Some, None, append_assoc, inl, inr, ◌<◌}
 use Rattle.std.specs.List.{AllByRecursion}
 use Rattle.std.proofs.lemmas.Bool.{le-leb}
-use Rattle.std.proofs.lemmas.List.{append-nil}
+use Rattle.std.proofs.lemmas.List.{append-nil, length-append}
 use Rattle.rs_disk.specs.Medium.{IsImage, IsImageAt}
 use Rattle.rs_model.specs.State.{Source}
 use Rattle.rs_model.specs.Regular.{IsRegular}
 use Rattle.rs_model.specs.Step.{step, state_after, fold_of}
+use Rattle.rs_model.specs.declared.command.Command.{Command}
 use Rattle.rs_model.specs.declared.command.Reply.{Reply}
 use Rattle.rs_image.specs.StateOfImage.{StandsFor}
+use Rattle.rs_image.specs.Laws.{StandsOnce}
 use Rattle.rs_store.specs.declared.refusal.Refusal.{Refusal}
 use Rattle.rs_store.specs.declared.refusal.Refusal.TheVariants.{Device}
-use Rattle.rs_store.specs.Source.{Stored, Holds}
-use Rattle.rs_store.specs.Answered.{Answers}
 use Rattle.rs_store.specs.declared.running.Ack.{Ack}
-use Rattle.rs_store.specs.Counted.{is_accepted, is_in_doubt, is_device, answered, counted_commands, acknowledged}
-use Rattle.rs_store.specs.Runs.{InTurn, StandsForPrefix}
-use Rattle.rs_recovery.specs.AnyDisk.{AnyDisk, state_of_any, AreSound}
-use Rattle.rs_recovery.specs.Sessions.{Session, IsStoppedSession, IsOpenedOn, AreSessions, last_image, disk_session, commands_standing, AreStanding, OneStanding, OpeningsStopToo}
-use Rattle.rs_recovery.proofs.DiskSessions.{image_left}
+use Rattle.rs_store.specs.Counted.{is_accepted, is_in_doubt, answered, counted_commands, acknowledged}
+use Rattle.rs_store.specs.Laws.{AnswersLeavePrefixes}
+use Rattle.rs_store.specs.Runs.{StandsForPrefix, Holding, InDoubt, condition_after, condition_behind}
+use Rattle.rs_recovery.specs.Sessions.{Session, all_asked, all_ended, asked, ended, counted, IsStopped, AreSessions, commands_left, AreLeft, OneStanding, OpeningsStopToo}
 use Rattle.rs_recovery.specs.Served.{Asking, CouldServe, HasServed, IsNoLater, IsPrefixOf, CommandsStand, SessionsStand}
 use Rattle.rs_recovery.specs.Recovered.{YieldsHeld}
-use Rattle.rs_recovery.proofs.Counts.{one_number}
-use Rattle.rs_recovery.specs.Below.{Below}
+use Rattle.rs_recovery.proofs.Counts.{answered_length, one_number}
 use Rattle.rs_recovery.proofs.Below.{Commands, Acks, one, weaker}
-
-pub any_is_sound : AreSound state_of_any
-any_is_sound disk = disk.sound
 
 pub fold_append : (s : Source) (a b : Commands) → fold_of s (a ++ b) ≡ fold_of (fold_of s a) b
 fold_append s [] b = refl
@@ -84,151 +79,212 @@ prefix_on front whole more (rest, is) = (rest ++ more, sym (append_assoc front r
 prefix_under : (base front whole : Commands) → IsPrefixOf front whole → IsPrefixOf (base ++ front) (base ++ whole)
 prefix_under base front whole (rest, is) = (rest, append_assoc base front rest ∙ ap (λ (l : Commands). base ++ l) is)
 
-module _ (below : Below state_of_any) where
-  -- a run that leaves a source open has no command in doubt
-  none_in_doubt : (old : Stored AnyDisk) (cs : Commands) (acks : Acks) (new : Stored AnyDisk) → InTurn state_of_any old cs acks new → new.is_closed ≡ false → answered is_in_doubt cs acks ≡ []
-  none_in_doubt old [] [] new turn open_then = refl
-  none_in_doubt old (c ∷ cs) (a ∷ acks) new turn open_then = after a.reply turn.3 (none_in_doubt turn.2 cs acks new turn.5 open_then)
-    where
-      after : (reply : Result Reply Refusal) → Answers state_of_any turn.0 turn.2 c.0 c.1 reply → answered is_in_doubt cs acks ≡ []
-          → cond (is_device reply) (c ∷ answered is_in_doubt cs acks) (answered is_in_doubt cs acks) ≡ []
-      after (Ok reply) answers rest = rest
-      after (Err Device) answers rest = absurd (true≢false (sym (below.closed turn.2 cs acks new (answers.closes refl) turn.5).0 ∙ open_then))
-      after (Err refusal) answers rest = rest
-  none_in_doubt old cs acks new turn open_then = absurd turn
+-- the answers to commands, and to more behind them
+pub answered_joined : (test : Ack → Bool) (cs more : Commands) (acks late : Acks) → length cs ≡ length acks
+    → answered test (cs ++ more) (acks ++ late) ≡ answered test cs acks ++ answered test more late
+answered_joined test [] more [] late same = refl
+answered_joined test (c ∷ cs) more (a ∷ acks) late same =
+    let rest : answered test (cs ++ more) (acks ++ late) ≡ answered test cs acks ++ answered test more late = answered_joined test cs more acks late (omega (arith, same)) in
+    elim (test a) as (λ b. cond b (c ∷ answered test (cs ++ more) (acks ++ late)) (answered test (cs ++ more) (acks ++ late))
+    ≡ cond b (c ∷ answered test cs acks) (answered test cs acks) ++ answered test more late) [
+      | true ↦ ap (λ (l : Commands). c ∷ l) rest
+      | false ↦ rest
+    ]
+answered_joined test [] more (a ∷ acks) late same = absurd (omega (arith, same))
+answered_joined test (c ∷ cs) more [] late same = absurd (omega (arith, same))
 
-  -- what a stop of a session leaves, where its source held a state
-  stopped_at : (s : Source) (x : Session) → Holds state_of_any x.first s → IsStoppedSession x → StandsForPrefix s x.commands x.acks x.stop x.image
-  stopped_at s x holds stopped = (below.moments s x.first x.commands x.acks x.last holds stopped.turn).each x.stop x.image stopped.from stopped.to stopped.image
+acknowledged_more : (m : ℕ) (acks late : Acks) → acknowledged m acks ≤ acknowledged m (acks ++ late)
+acknowledged_more m [] late = omega arith
+acknowledged_more m (a ∷ acks) late = omega (arith, acknowledged_more m acks late)
 
-  -- what a session could serve
-  serves : (start : Source) (before : Commands) (x : Session) (j n : ℕ) (source : Stored AnyDisk) → Holds state_of_any x.first (fold_of start before) → acknowledged x.stop x.acks ≤ j → CouldServe x n source
-      → Holds state_of_any source (fold_of start (before ++ counted_commands (take n x.commands) (take n x.acks))) × IsPrefixOf (before ++ counted_commands (take n x.commands) (take n x.acks)) (before ++ take j (counted_commands x.commands x.acks))
-  serves start before x j n source holds least could =
-      let cs = take n x.commands in
-      let acks = take n x.acks in
-      let none : answered is_in_doubt cs acks ≡ [] = none_in_doubt x.first cs acks source could.turn could.is_open in
-      let these : counted_commands cs acks ≡ answered is_accepted cs acks = ap (λ (l : Commands). answered is_accepted cs acks ++ l) none ∙ append-nil (answered is_accepted cs acks) in
-      let part = first_answered is_accepted n x.commands x.acks in
-      let few : length (answered is_accepted cs acks) ≤ j = omega (arith, least, few_answered x.stop n x.commands x.acks could.before) in
-      let doubt = answered is_in_doubt x.commands x.acks in
-      let whole : answered is_accepted cs acks ++ (part.0 ++ doubt) ≡ counted_commands x.commands x.acks =
-      sym (append_assoc (answered is_accepted cs acks) part.0 doubt) ∙ ap (λ (l : Commands). l ++ doubt) part.1 in
-      let front : IsPrefixOf (answered is_accepted cs acks) (take j (counted_commands x.commands x.acks)) =
-      subst (λ (l : Commands). IsPrefixOf (answered is_accepted cs acks) (take j l)) whole (front_of (answered is_accepted cs acks) (part.0 ++ doubt) j few) in (
-        subst (λ (t : Source). Holds state_of_any source t) (sym (fold_append start before (counted_commands cs acks)))
-            (below.end (fold_of start before) x.first cs acks source holds could.turn could.is_open),
-        prefix_under before (counted_commands cs acks) (take j (counted_commands x.commands x.acks)) (subst (λ (l : Commands). IsPrefixOf l (take j (counted_commands x.commands x.acks))) (sym these) front),
-      )
+-- a session's commands with answers, beside all its commands
+with_answers : (commands : Commands) (acks : Acks) (o : Option (Command × ℕ)) (n : ℕ) → length (all_asked commands o) ≡ length (all_ended acks o n) → length commands ≡ length acks
+with_answers commands acks None n same = same
+with_answers commands acks (Some c) n same =
+    omega (arith, same, length-append commands (c ∷ []), length-append acks (record { reply = Err Device; at_call = n } ∷ []))
 
-  -- what a session could serve, and then later
-  serves_on : (x : Session) (n m : ℕ) (source : Stored AnyDisk) → n ≤ m → CouldServe x n source
-      → IsPrefixOf (counted_commands (take n x.commands) (take n x.acks)) (counted_commands (take m x.commands) (take m x.acks))
-  serves_on x n m source le could =
-      let cs = take n x.commands in
-      let acks = take n x.acks in
-      let none : answered is_in_doubt cs acks ≡ [] = none_in_doubt x.first cs acks source could.turn could.is_open in
-      let these : counted_commands cs acks ≡ answered is_accepted cs acks = ap (λ (l : Commands). answered is_accepted cs acks ++ l) none ∙ append-nil (answered is_accepted cs acks) in
-      let front = prefix_on (answered is_accepted cs acks) (answered is_accepted (take m x.commands) (take m x.acks)) (answered is_in_doubt (take m x.commands) (take m x.acks))
-      (first_of_more is_accepted n m x.commands x.acks le) in
-      subst (λ (l : Commands). IsPrefixOf l (counted_commands (take m x.commands) (take m x.acks))) (sym these) front
+acknowledged_ended : (m : ℕ) (acks : Acks) (o : Option (Command × ℕ)) (n : ℕ) → acknowledged m acks ≤ acknowledged m (all_ended acks o n)
+acknowledged_ended m acks None n = omega arith
+acknowledged_ended m acks (Some c) n = acknowledged_more m acks (record { reply = Err Device; at_call = n } ∷ [])
 
-  -- what was served was served in one session
-  served_in : (sessions : List Session) (standing : List ℕ) (asking : Asking) (commands : Commands) → HasServed sessions standing asking commands → asking.sessions < length sessions
-  served_in [] standing asking commands has = absurd has
-  served_in (x ∷ past) [] asking commands has = absurd has
-  served_in (x ∷ past) (j ∷ standing) asking commands (inl here) = let same : asking.sessions ≡ length past = here.0 in omega (arith, same)
-  served_in (x ∷ past) (j ∷ standing) asking commands (inr older) = omega (arith, served_in past standing asking commands older)
+answered_first : (test : Ack → Bool) (commands : Commands) (acks : Acks) (o : Option (Command × ℕ)) (n : ℕ) → length commands ≡ length acks
+    → IsPrefixOf (answered test commands acks) (answered test (all_asked commands o) (all_ended acks o n))
+answered_first test commands acks None n same = ([], append-nil (answered test commands acks))
+answered_first test commands acks (Some c) n same =
+    let late : Acks = record { reply = Err Device; at_call = n } ∷ [] in
+    (answered test (c ∷ []) late, sym (answered_joined test commands (c ∷ []) acks late same))
 
-  abbrev AreServed : Source → List Session → List ℕ → Type 0
-  AreServed start sessions standing = (asking : Asking) (commands : Commands) → HasServed sessions standing asking commands
-      → Holds state_of_any asking.source (fold_of start commands) × IsPrefixOf commands (commands_standing sessions standing)
+prefix_in : (front mid whole : Commands) → IsPrefixOf front mid → IsPrefixOf mid whole → IsPrefixOf front whole
+prefix_in front mid whole (rest, is) more = subst (λ (l : Commands). IsPrefixOf front l) more.1 (subst (λ (l : Commands). IsPrefixOf front (l ++ more.0)) is (rest ++ more.0, sym (append_assoc front rest more.0)))
 
-  abbrev AreOrdered : List Session → List ℕ → Type 0
-  AreOrdered sessions standing = (asking later : Asking) (commands more : Commands) → IsNoLater asking later
-      → HasServed sessions standing asking commands → HasServed sessions standing later more → IsPrefixOf commands more
+-- a doubt stays
+doubt_stays : (s next : Source) (cs : Commands) (acks : Acks) (t : Source) → condition_behind (InDoubt s next) cs acks ≡ Holding t → ⊥
+doubt_stays s next [] acks t is = cc
+doubt_stays s next (c ∷ cs) [] t is = cc
+doubt_stays s next (c ∷ cs) (a ∷ acks) t is = doubt_stays s next cs acks t is
 
-  order_on : (start : Source) (x : Session) (past : List Session) (j : ℕ) (standing : List ℕ) → AreServed start past standing → AreOrdered past standing → AreOrdered (x ∷ past) (j ∷ standing)
-  order_on start x past j standing served ordered asking later commands more (inl earlier) (inl first) (inl then) =
-      let one : asking.sessions ≡ length past = first.0 in
-      let two : later.sessions ≡ length past = then.0 in
-      absurd (omega (arith, earlier, one, two))
-  order_on start x past j standing served ordered asking later commands more (inr same) (inl first) (inl then) =
-      let n = asking.commands in
-      let m = later.commands in
-      let front = prefix_under (commands_standing past standing) (counted_commands (take n x.commands) (take n x.acks)) (counted_commands (take m x.commands) (take m x.acks)) (serves_on x n m asking.source same.1 first.1) in
-      subst (λ (l : Commands). IsPrefixOf commands l) (sym then.2)
-      (subst (λ (l : Commands). IsPrefixOf l (commands_standing past standing ++ counted_commands (take m x.commands) (take m x.acks))) (sym first.2) front)
-  order_on start x past j standing served ordered asking later commands more (inl earlier) (inl first) (inr older) =
-      let one : asking.sessions ≡ length past = first.0 in
-      absurd (omega (arith, earlier, one, served_in past standing later more older))
-  order_on start x past j standing served ordered asking later commands more (inr same) (inl first) (inr older) =
-      let one : asking.sessions ≡ length past = first.0 in
-      let two : asking.sessions ≡ later.sessions = same.0 in
-      absurd (omega (arith, one, two, served_in past standing later more older))
-  order_on start x past j standing served ordered asking later commands more no_later (inr older) (inl then) =
-      let m = later.commands in
-      subst (λ (l : Commands). IsPrefixOf commands l) (sym then.2)
-      (prefix_on commands (commands_standing past standing) (counted_commands (take m x.commands) (take m x.acks)) (served asking commands older).1)
-  order_on start x past j standing served ordered asking later commands more no_later (inr older) (inr then) = ordered asking later commands more no_later older then
+held_is : (s t : Source) → Holding s ≡ Holding t → t ≡ s
+held_is s t is = cc
 
-  -- one session more
-  one_more : (start : Source) (x : Session) (past : List Session) (standing : List ℕ) → IsStoppedSession x → Holds state_of_any x.first (fold_of start (commands_standing past standing))
-      → AreStanding start past standing → AreServed start past standing → AreOrdered past standing
-      → (more : List ℕ) × CommandsStand start (x ∷ past) more
-  one_more start x past standing stopped holds held served ordered =
-      let before = commands_standing past standing in
-      let p = stopped_at (fold_of start before) x holds stopped in
-      let image : StandsFor x.image (fold_of start (before ++ take p.j (counted_commands x.commands x.acks))) =
-      subst (λ (t : Source). StandsFor x.image t) (sym (fold_append start before (take p.j (counted_commands x.commands x.acks)))) p.stands in (
-        p.j ∷ standing,
-        record {
-          holds = (p.least, p.most, image, held);
-          ordered = order_on start x past p.j standing served ordered;
-          served = λ asking commands has. ⊎_elim
-              (λ here. subst (λ (l : Commands). Holds state_of_any asking.source (fold_of start l) × IsPrefixOf l (commands_standing (x ∷ past) (p.j ∷ standing))) (sym here.2)
-              (serves start before x p.j asking.commands asking.source holds p.least here.1))
-              (λ older. let found = served asking commands older in (found.0, prefix_on commands before (take p.j (counted_commands x.commands x.acks)) found.1))
-              has;
-        },
-      )
+-- where the answers leave a source that holds a state, none of them leaves a doubt, and the accepted commands make the state
+held_is_made : (s : Source) (cs : Commands) (acks : Acks) (t : Source) → condition_behind (Holding s) cs acks ≡ Holding t
+    → (answered is_in_doubt cs acks ≡ []) × (t ≡ fold_of s (answered is_accepted cs acks))
+held_is_made s [] acks t is = (refl, held_is s t is)
+held_is_made s (c ∷ cs) [] t is = (refl, held_is s t is)
+held_is_made s (c ∷ cs) (a ∷ acks) t is = after a.reply (λ u same. held_is_made u cs acks t same) is
+  where
+    after : (reply : Result Reply Refusal)
+        → ((u : Source) → condition_behind (Holding u) cs acks ≡ Holding t → (answered is_in_doubt cs acks ≡ []) × (t ≡ fold_of u (answered is_accepted cs acks)))
+        → condition_behind (condition_after (Holding s) c reply) cs acks ≡ Holding t
+        → (answered is_in_doubt (c ∷ cs) (record { reply = reply; at_call = a.at_call } ∷ acks) ≡ []) × (t ≡ fold_of s (answered is_accepted (c ∷ cs) (record { reply = reply; at_call = a.at_call } ∷ acks)))
+    after (Ok reply) rest same = rest (state_after s (step s c.0 c.1)) same
+    after (Err Device) rest same = absurd (doubt_stays s (state_after s (step s c.0 c.1)) cs acks t same)
+    after (Err refusal) rest same = rest s same
 
-  -- a source that was opened on the latest image holds its state
-  opened_holds : (start : Source) (x : Session) (past : List Session) (standing : List ℕ) (source : Stored AnyDisk) → AreStanding start (x ∷ past) standing → IsOpenedOn state_of_any x.image source
-      → Holds state_of_any source (fold_of start (commands_standing (x ∷ past) standing))
-  opened_holds start x past standing source stands (s, image, holds) =
-      subst (Holds state_of_any source) (below.stands_once x.image s (fold_of start (commands_standing (x ∷ past) standing)) image (image_left fold_of start (disk_session x) (map disk_session past) standing stands)) holds
+session_lengths : (s : Source) (x : Session) → IsStopped s x → length x.commands ≡ length x.acks
+session_lengths s x is =
+    with_answers x.commands x.acks x.unanswered x.last.calls (answered_length x.first (Holding s) (asked x) (ended x) x.last is.answered)
 
-  pub sessions_stand : SessionsStand
-  sessions_stand start [] are = absurd are
-  sessions_stand start (x ∷ []) are = one_more start x [] [] are.0 are.1 tt (λ asking commands has. absurd has) (λ asking later commands more no_later has then. absurd has)
-  sessions_stand start (x ∷ y ∷ past) are =
-      let past_stand = sessions_stand start (y ∷ past) are.2 in
-      let stand = past_stand.1 in
-      one_more start x (y ∷ past) past_stand.0 are.0 (opened_holds start y past past_stand.0 x.first stand.holds are.1) stand.holds stand.served stand.ordered
+-- what a session could serve
+serves : (start : Source) (before : Commands) (x : Session) (j n : ℕ) (t : Source) → length x.commands ≡ length x.acks → acknowledged x.stop (ended x) ≤ j → CouldServe (fold_of start before) x n t
+    → (t ≡ fold_of start (before ++ counted_commands (take n x.commands) (take n x.acks)))
+    × IsPrefixOf (before ++ counted_commands (take n x.commands) (take n x.acks)) (before ++ take j (counted x))
+serves start before x j n t same least could =
+    let cs = take n x.commands in
+    let acks = take n x.acks in
+    let s : Source = fold_of start before in
+    let held = held_is_made s cs acks t could.held in
+    let accepted : Commands = answered is_accepted cs acks in
+    let these : counted_commands cs acks ≡ accepted = ap (λ (l : Commands). accepted ++ l) held.0 ∙ append-nil accepted in
+    let all : Commands = answered is_accepted (asked x) (ended x) in
+    let part = prefix_in accepted (answered is_accepted x.commands x.acks) all (first_answered is_accepted n x.commands x.acks) (answered_first is_accepted x.commands x.acks x.unanswered x.last.calls same) in
+    let whole = prefix_on accepted all (answered is_in_doubt (asked x) (ended x)) part in
+    let few : length accepted ≤ j = omega (arith, least, few_answered x.stop n x.commands x.acks could.before, acknowledged_ended x.stop x.acks x.unanswered x.last.calls) in
+    let front : IsPrefixOf accepted (take j (counted x)) =
+    subst (λ (l : Commands). IsPrefixOf accepted (take j l)) whole.1 (front_of accepted whole.0 j few) in (
+      held.1 ∙ sym (ap (λ (l : Commands). fold_of s l) these) ∙ sym (fold_append start before (counted_commands cs acks)),
+      prefix_under before (counted_commands cs acks) (take j (counted x)) (subst (λ (l : Commands). IsPrefixOf l (take j (counted x))) (sym these) front),
+    )
 
-  -- two numbers of standing commands of the latest session, where those of the sessions before are the same
-  same_latest : (start : Source) (x : Session) (past : List Session) (standing : List ℕ) (j k : ℕ) → IsStoppedSession x → Holds state_of_any x.first (fold_of start (commands_standing past standing))
-      → AreStanding start (x ∷ past) (j ∷ standing) → AreStanding start (x ∷ past) (k ∷ standing) → k ≡ j
-  same_latest start x past standing j k stopped holds stands also =
-      let before = commands_standing past standing in
-      let cs = x.commands in
-      let acks = x.acks in
-      one_number state_of_any any_is_sound below (fold_of start before) x.first cs acks x.last holds stopped.turn x.stop x.image j k stands.1 also.1
-      (subst (λ (t : Source). StandsFor x.image t) (fold_append start before (take j (counted_commands cs acks))) stands.2)
-      (subst (λ (t : Source). StandsFor x.image t) (fold_append start before (take k (counted_commands cs acks))) also.2)
+-- what a session could serve, and then later
+serves_on : (s : Source) (x : Session) (n m : ℕ) (t : Source) → n ≤ m → CouldServe s x n t
+    → IsPrefixOf (counted_commands (take n x.commands) (take n x.acks)) (counted_commands (take m x.commands) (take m x.acks))
+serves_on s x n m t le could =
+    let cs = take n x.commands in
+    let acks = take n x.acks in
+    let none = (held_is_made s cs acks t could.held).0 in
+    let these : counted_commands cs acks ≡ answered is_accepted cs acks = ap (λ (l : Commands). answered is_accepted cs acks ++ l) none ∙ append-nil (answered is_accepted cs acks) in
+    let front = prefix_on (answered is_accepted cs acks) (answered is_accepted (take m x.commands) (take m x.acks)) (answered is_in_doubt (take m x.commands) (take m x.acks))
+    (first_of_more is_accepted n m x.commands x.acks le) in
+    subst (λ (l : Commands). IsPrefixOf l (counted_commands (take m x.commands) (take m x.acks))) (sym these) front
+
+-- what was served was served in one session
+served_in : (start : Source) (sessions : List Session) (standing : List ℕ) (asking : Asking) (commands : Commands) → HasServed start sessions standing asking commands → asking.sessions < length sessions
+served_in start [] standing asking commands has = absurd has
+served_in start (x ∷ past) [] asking commands has = absurd has
+served_in start (x ∷ past) (j ∷ standing) asking commands (inl here) = let same : asking.sessions ≡ length past = here.0 in omega (arith, same)
+served_in start (x ∷ past) (j ∷ standing) asking commands (inr older) = omega (arith, served_in start past standing asking commands older)
+
+abbrev AreServed : Source → List Session → List ℕ → Type 0
+AreServed start sessions standing = (asking : Asking) (commands : Commands) → HasServed start sessions standing asking commands
+    → (asking.state ≡ fold_of start commands) × IsPrefixOf commands (commands_left sessions standing)
+
+abbrev AreOrdered : Source → List Session → List ℕ → Type 0
+AreOrdered start sessions standing = (asking later : Asking) (commands more : Commands) → IsNoLater asking later
+    → HasServed start sessions standing asking commands → HasServed start sessions standing later more → IsPrefixOf commands more
+
+order_on : (start : Source) (x : Session) (past : List Session) (j : ℕ) (standing : List ℕ) → AreServed start past standing → AreOrdered start past standing → AreOrdered start (x ∷ past) (j ∷ standing)
+order_on start x past j standing served ordered asking later commands more (inl earlier) (inl first) (inl then) =
+    let one : asking.sessions ≡ length past = first.0 in
+    let two : later.sessions ≡ length past = then.0 in
+    absurd (omega (arith, earlier, one, two))
+order_on start x past j standing served ordered asking later commands more (inr same) (inl first) (inl then) =
+    let n = asking.commands in
+    let m = later.commands in
+    let before : Commands = commands_left past standing in
+    let front = prefix_under before (counted_commands (take n x.commands) (take n x.acks)) (counted_commands (take m x.commands) (take m x.acks)) (serves_on (fold_of start before) x n m asking.state same.1 first.1) in
+    subst (λ (l : Commands). IsPrefixOf commands l) (sym then.2)
+    (subst (λ (l : Commands). IsPrefixOf l (before ++ counted_commands (take m x.commands) (take m x.acks))) (sym first.2) front)
+order_on start x past j standing served ordered asking later commands more (inl earlier) (inl first) (inr older) =
+    let one : asking.sessions ≡ length past = first.0 in
+    absurd (omega (arith, earlier, one, served_in start past standing later more older))
+order_on start x past j standing served ordered asking later commands more (inr same) (inl first) (inr older) =
+    let one : asking.sessions ≡ length past = first.0 in
+    let two : asking.sessions ≡ later.sessions = same.0 in
+    absurd (omega (arith, one, two, served_in start past standing later more older))
+order_on start x past j standing served ordered asking later commands more no_later (inr older) (inl then) =
+    let m = later.commands in
+    subst (λ (l : Commands). IsPrefixOf commands l) (sym then.2)
+    (prefix_on commands (commands_left past standing) (counted_commands (take m x.commands) (take m x.acks)) (served asking commands older).1)
+order_on start x past j standing served ordered asking later commands more no_later (inr older) (inr then) = ordered asking later commands more no_later older then
+
+-- the latest image
+pub image_left : (start : Source) (x : Session) (past : List Session) (standing : List ℕ) → AreLeft start (x ∷ past) standing
+    → StandsFor x.image (fold_of start (commands_left (x ∷ past) standing))
+image_left start x past [] left = absurd left
+image_left start x past (j ∷ standing) left = left.2
+
+module _ (once : StandsOnce) where
+  -- the state in which a later session began is the one that the sessions before left
+  begins_at : (start s : Source) (x y : Session) (past : List Session) (standing : List ℕ) → AreLeft start (y ∷ past) standing → StandsFor y.image s → IsStopped s x
+      → IsStopped (fold_of start (commands_left (y ∷ past) standing)) x
+  begins_at start s x y past standing left stands is =
+      subst (λ (t : Source). IsStopped t x) (once y.image s (fold_of start (commands_left (y ∷ past) standing)) stands (image_left start y past standing left)) is
+
+  module _ (leave : AnswersLeavePrefixes) where
+    -- what a stop of a session leaves
+    stopped_at : (s : Source) (x : Session) → IsStopped s x → StandsForPrefix s (asked x) (ended x) x.stop x.image
+    stopped_at s x is = (leave s x.first (asked x) (ended x) x.last is.answered).each x.stop x.image is.stopped.from is.stopped.to is.stopped.left
+
+    -- one session more
+    one_more : (start : Source) (x : Session) (past : List Session) (standing : List ℕ) → IsStopped (fold_of start (commands_left past standing)) x
+        → AreLeft start past standing → AreServed start past standing → AreOrdered start past standing
+        → (more : List ℕ) × CommandsStand start (x ∷ past) more
+    one_more start x past standing is held served ordered =
+        let before = commands_left past standing in
+        let p = stopped_at (fold_of start before) x is in
+        let image : StandsFor x.image (fold_of start (before ++ take p.j (counted x))) =
+        subst (λ (t : Source). StandsFor x.image t) (sym (fold_append start before (take p.j (counted x)))) p.stands in (
+          p.j ∷ standing,
+          record {
+            holds = (p.least, p.most, image, held);
+            ordered = order_on start x past p.j standing served ordered;
+            served = λ asking commands has. ⊎_elim
+                (λ here. subst (λ (l : Commands). (asking.state ≡ fold_of start l) × IsPrefixOf l (commands_left (x ∷ past) (p.j ∷ standing))) (sym here.2)
+                (serves start before x p.j asking.commands asking.state (session_lengths (fold_of start before) x is) p.least here.1))
+                (λ older. let found = served asking commands older in (found.0, prefix_on commands before (take p.j (counted x)) found.1))
+                has;
+          },
+        )
+
+    pub sessions_stand : SessionsStand
+    sessions_stand start [] are = absurd are
+    sessions_stand start (x ∷ []) are = one_more start x [] [] are tt (λ asking commands has. absurd has) (λ asking later commands more no_later has then. absurd has)
+    sessions_stand start (x ∷ y ∷ past) are =
+        let past_stand = sessions_stand start (y ∷ past) are.3 in
+        let stand = past_stand.1 in
+        one_more start x (y ∷ past) past_stand.0 (begins_at start are.0 x y past past_stand.0 stand.holds are.1 are.2) stand.holds stand.served stand.ordered
+
+  -- two numbers of surviving commands of the latest session, where those of the sessions before are the same
+  same_latest : (start : Source) (x : Session) (past : List Session) (standing : List ℕ) (j k : ℕ) → IsStopped (fold_of start (commands_left past standing)) x
+      → AreLeft start (x ∷ past) (j ∷ standing) → AreLeft start (x ∷ past) (k ∷ standing) → k ≡ j
+  same_latest start x past standing j k is left also =
+      let before = commands_left past standing in
+      one_number once (fold_of start before) x.first (asked x) (ended x) x.last is.answered x.stop x.image j k left.1 also.1
+      (subst (λ (t : Source). StandsFor x.image t) (fold_append start before (take j (counted x))) left.2)
+      (subst (λ (t : Source). StandsFor x.image t) (fold_append start before (take k (counted x))) also.2)
 
   pub one_standing : OneStanding
-  one_standing start [] standing others are stands also = absurd are
-  one_standing start (x ∷ past) [] others are stands also = absurd stands
-  one_standing start (x ∷ past) (j ∷ standing) [] are stands also = absurd also
-  one_standing start (x ∷ []) (j ∷ []) (k ∷ []) are stands also = ap (λ (n : ℕ). n ∷ []) (same_latest start x [] [] j k are.0 are.1 stands also)
-  one_standing start (x ∷ []) (j ∷ i ∷ standing) (k ∷ others) are stands also = absurd stands.3
-  one_standing start (x ∷ []) (j ∷ []) (k ∷ i ∷ others) are stands also = absurd also.3
-  one_standing start (x ∷ y ∷ past) (j ∷ standing) (k ∷ others) are stands also =
-      let tails : others ≡ standing = one_standing start (y ∷ past) standing others are.2 stands.3 also.3 in
-      let these : AreStanding start (x ∷ y ∷ past) (k ∷ standing) = subst (λ (l : List ℕ). AreStanding start (x ∷ y ∷ past) (k ∷ l)) tails also in
-      let same : k ≡ j = same_latest start x (y ∷ past) standing j k are.0 (opened_holds start y past standing x.first stands.3 are.1) stands these in
+  one_standing start [] standing others are left also = absurd are
+  one_standing start (x ∷ past) [] others are left also = absurd left
+  one_standing start (x ∷ past) (j ∷ standing) [] are left also = absurd also
+  one_standing start (x ∷ []) (j ∷ []) (k ∷ []) are left also = ap (λ (n : ℕ). n ∷ []) (same_latest start x [] [] j k are left also)
+  one_standing start (x ∷ []) (j ∷ i ∷ standing) (k ∷ others) are left also = absurd left.3
+  one_standing start (x ∷ []) (j ∷ []) (k ∷ i ∷ others) are left also = absurd also.3
+  one_standing start (x ∷ y ∷ past) (j ∷ standing) (k ∷ others) are left also =
+      let tails : others ≡ standing = one_standing start (y ∷ past) standing others are.3 left.3 also.3 in
+      let these : AreLeft start (x ∷ y ∷ past) (k ∷ standing) = subst (λ (l : List ℕ). AreLeft start (x ∷ y ∷ past) (k ∷ l)) tails also in
+      let same : k ≡ j = same_latest start x (y ∷ past) standing j k (begins_at start are.0 x y past standing left.3 are.1 are.2) left these in
       λ i. same i ∷ tails i
 
 -- a session whose stop left another image of the same moment
@@ -236,15 +292,12 @@ pub openings_stop_too : OpeningsStopToo
 openings_stop_too start x past before after are as_left opening =
     weaker before after (λ _. IsImage before.now) (λ _ image. AreSessions start (record x { image = image } ∷ past)) (λ m image is. again past are (as_left image is)) opening
   where
-    again : {image : List ℕ} (past : List Session) → AreSessions start (x ∷ past) → IsImageAt x.last.disk.state x.stop image → AreSessions start (record x { image = image } ∷ past)
-    again [] are at = (record { turn = are.0.turn; from = are.0.from; to = are.0.to; image = at }, are.1)
-    again (y ∷ past) are at = (record { turn = are.0.turn; from = are.0.from; to = are.0.to; image = at }, are.1, are.2)
+    stopped_with : {image : List ℕ} (s : Source) → IsStopped s x → IsImageAt x.last x.stop image → IsStopped s (record x { image = image })
+    stopped_with s is at = record { answered = is.answered; stopped = record { from = is.stopped.from; to = is.stopped.to; left = at } }
 
--- what the latest stop left, of any sessions
-pub left_standing : (start : Source) (sessions : List Session) (standing : List ℕ) → AreSessions start sessions → AreStanding start sessions standing
-    → StandsFor (last_image sessions) (fold_of start (commands_standing sessions standing))
-left_standing start (x ∷ past) standing are stands = image_left fold_of start (disk_session x) (map disk_session past) standing stands
-left_standing start [] standing are stands = absurd are
+    again : {image : List ℕ} (past : List Session) → AreSessions start (x ∷ past) → IsImageAt x.last x.stop image → AreSessions start (record x { image = image } ∷ past)
+    again [] are at = stopped_with start are at
+    again (y ∷ past) are at = (are.0, are.1, stopped_with are.0 are.2 at, are.3)
 
 -- what a regular state yields
 pub yields_held : (t : Source) → IsRegular t → YieldsHeld t

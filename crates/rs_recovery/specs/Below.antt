@@ -1,12 +1,13 @@
--- The laws of the crates below that sessions rest on.
+-- The laws of the crates below that runs rest on.
 use Rattle.rs_disk.specs.Medium.{DiskState}
 use Rattle.rs_image.specs.Laws.{StandsOnce}
-use Rattle.rs_store.specs.Laws.{ClosedStays, ClosedCountNone, RunsLeavePrefixes, OpenHoldsAll}
+use Rattle.rs_store.specs.Laws.{ClosedStays, ClosedCountNone, RunsAreAnswered, RunsLeavePrefixes, OpenHoldsAll}
 
 -- these laws
 pub record Below {D : Type 0} (device : D → DiskState) : Type 0 where
   pub stands_once : StandsOnce
   pub closed : ClosedStays device
   pub none_counts : ClosedCountNone
+  pub answered : RunsAreAnswered device
   pub moments : RunsLeavePrefixes device
   pub end : OpenHoldsAll device

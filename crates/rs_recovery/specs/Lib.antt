@@ -1,12 +1,9 @@
 pub mod Below
-pub mod AnyDisk
 pub mod Turns
 pub mod Prefixes
+pub mod Replies
 pub mod Sessions
-pub mod AsSessions
 pub mod Served
-pub mod DiskSessions
-pub mod Seen
 pub mod Recovered
 pub mod Surviving
 pub mod Reopened

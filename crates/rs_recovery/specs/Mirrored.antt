@@ -11,14 +11,12 @@ use Rattle.rs_caps.specs.Destination.{part_paths}
 use Rattle.rs_caps.specs.Gather.{gather_resources, gather_changes, listed_entry}
 use Rattle.rs_caps.specs.Readings.{Listed, Document}
 use Rattle.rs_caps.specs.Reads.{reads}
-use Rattle.rs_store.specs.Source.{state_of}
-use Rattle.rs_recovery.specs.AnyDisk.{state_of_any}
-use Rattle.rs_recovery.specs.Sessions.{Session, AreSessions, commands_standing}
+use Rattle.rs_recovery.specs.Sessions.{Session, asked, AreSessions, commands_left}
 use Rattle.rs_recovery.specs.Served.{Asking, HasServed, IsNoLater, IsPrefixOf, CommandsStand}
 
 -- each command of these sessions has a lawful name, a lawful type and a moment
 abbrev pub AreLawfulSessions : List Session → Type 0
-AreLawfulSessions sessions = AllByRecursion (λ x. AllByRecursion IsLawfulTimed x.commands) sessions
+AreLawfulSessions sessions = AllByRecursion (λ x. AllByRecursion IsLawfulTimed (asked x)) sessions
 
 abbrev pub list_head : List ℕ
 list_head = codes "/resourcelist.xml"
@@ -28,17 +26,17 @@ changes_head = codes "/changelist.xml"
 
 -- For each path, the source that is asked for it, which could be asked then, and the commands behind that source. The
 -- same for the last request.
-pub record Asked (sessions : List Session) (standing : List ℕ) : Type 0 where
+pub record Asked (start : Source) (sessions : List Session) (standing : List ℕ) : Type 0 where
   pub asking : List ℕ → Asking
   pub behind : List ℕ → List (Command × ℕ)
-  pub served : (path : List ℕ) → HasServed sessions standing (asking path) (behind path)
+  pub served : (path : List ℕ) → HasServed start sessions standing (asking path) (behind path)
   pub last : Asking
   pub behind_last : List (Command × ℕ)
-  pub last_served : HasServed sessions standing last behind_last
+  pub last_served : HasServed start sessions standing last behind_last
 
 -- the answer at a path, by the source that is asked for it
 abbrev pub answered_by : (List ℕ → Asking) → List ℕ → Option (List ℕ)
-answered_by asking path = answer (state_of state_of_any (asking path).source) path
+answered_by asking path = answer (asking path).state path
 
 -- The destination asks for a part with its head or later, and gets an answer.
 pub record IsAskedPart (asking : List ℕ → Asking) (head path : List ℕ) : Type 0 where
@@ -81,25 +79,25 @@ AreOfNext start commands whole made =
     (made ≡ []) ⊎ ((next : Command × ℕ) × IsPrefixOf (commands ++ next ∷ []) whole
     × (k : ℕ) × (k < length (changes_made (fold_of start commands) next)) × (made ≡ take k (changes_made (fold_of start commands) next)))
 
--- Both lists read. The one mirrored with the other is what the source held after the first standing commands: at least
+-- Both lists read. The one mirrored with the other is what the source held after the first surviving commands: at least
 -- those behind it when the destination asked for the Change List's head, and at most those at the last request. Where
 -- the next command is a group, it may be what was held followed by the group's first changes (`made`).
-pub record IsMirrored (start : Source) (sessions : List Session) (standing : List ℕ) (asked : Asked sessions standing) : Type 0 where
+pub record IsMirrored (start : Source) (sessions : List Session) (standing : List ℕ) (both : Asked start sessions standing) : Type 0 where
   pub at : ℕ
   pub listed : List Listed
   pub from : ℕ
   pub changes : List Change
   pub commands : List (Command × ℕ)
   pub made : List Change
-  pub resources_gathered : gather_resources (answered_by asked.asking) ≡ Some (at, listed)
-  pub changes_gathered : gather_changes (answered_by asked.asking) ≡ Some (from, changes)
-  pub after_head : IsPrefixOf (asked.behind changes_head) commands
-  pub by_last : IsPrefixOf commands asked.behind_last
-  pub stands : IsPrefixOf commands (commands_standing sessions standing)
-  pub next : AreOfNext start commands asked.behind_last made
+  pub resources_gathered : gather_resources (answered_by both.asking) ≡ Some (at, listed)
+  pub changes_gathered : gather_changes (answered_by both.asking) ≡ Some (from, changes)
+  pub after_head : IsPrefixOf (both.behind changes_head) commands
+  pub by_last : IsPrefixOf commands both.behind_last
+  pub stands : IsPrefixOf commands (commands_left sessions standing)
+  pub next : AreOfNext start commands both.behind_last made
   pub mirrored : mirror_of (map listed_entry listed) at changes ≡ mirror_of (entries (fold_of start commands).held) start.start made
 
--- Over any number of sessions, whatever the stops, commands stand so that a destination that asks for both lists
+-- Over any number of sessions, whatever the stops, commands survive so that a destination that asks for both lists
 -- mirrors what was held. The first session began with the state that a formatting and some commands made: no commands
 -- where the source was formatted, and those behind the copied source where it is a copy.
 abbrev pub SessionsAreMirrored : Type 0
@@ -109,4 +107,4 @@ SessionsAreMirrored =
     IsLawful (start_of base limit moment) → AllByRecursion IsLawfulTimed before → AreLawfulSessions sessions
     → AreSessions start sessions
     → (standing : List ℕ) × CommandsStand start sessions standing
-    × ((asked : Asked sessions standing) → AsksBoth asked.asking asked.last → IsMirrored start sessions standing asked)
+    × ((both : Asked start sessions standing) → AsksBoth both.asking both.last → IsMirrored start sessions standing both)

@@ -1,5 +1,6 @@
 -- What a stop leaves of commands that a source gets one by one, as from a script or from requests.
 use Rattle.std.specs.Prelude.{◌≡◌, ℕ, ◌+◌, ◌≤◌, false, List, [], ◌∷◌, ◌++◌, length, take, Result, Ok, Err}
+use Rattle.std.specs.List.{AllByRecursion}
 use Rattle.rs_disk.specs.Medium.{DiskState, IsImage}
 use Rattle.rs_disk.specs.Leaves.{Leaves}
 use Rattle.rs_model.specs.State.{Source}
@@ -12,8 +13,8 @@ use Rattle.rs_store.specs.declared.refusal.Refusal.TheVariants.{Device}
 use Rattle.rs_store.specs.declared.running.Ack.{Ack}
 use Rattle.rs_store.specs.Source.{Stored, Holds}
 use Rattle.rs_store.specs.Answered.{Answers}
-use Rattle.rs_store.specs.Counted.{counted_commands}
-use Rattle.rs_store.specs.Runs.{IsIdle, InTurn}
+use Rattle.rs_store.specs.Counted.{counted_commands, acknowledged}
+use Rattle.rs_store.specs.Runs.{IsIdle, InTurn, Holding, AreAnswered}
 
 -- A command counts where it was accepted, and where the device failed in it, since its step may stand then.
 abbrev pub counted_as : Command → ℕ → Result Reply Refusal → List (Command × ℕ)
@@ -33,18 +34,26 @@ pub record StandsForFirst (s : Source) (commands : List (Command × ℕ)) (j : �
   pub most : j ≤ length commands
   pub stands : StandsFor image (fold_of s (take j commands))
 
--- Whenever a stop comes, each image stands for what the first commands make of the state that was held.
--- `done m`: how many of them were answered at m counted calls. It does not fall.
--- `each`: an image of that moment stands for those, or for one more, which had begun. So a later image stands for at
--- most one command fewer than an earlier one.
+-- What commands leave of a source that held a state, whenever a stop comes.
+-- `asked`, `acks`: all commands that it got, those that it refused too, and their answers.
+-- `answered`: its disk saw them answered in their order, so they are commands of a session.
+-- `count`: these of them count.
+-- `by_exit`: each answer came before the end.
+-- `each`: an image of a crash after m calls stands for what the commands make that were acknowledged by then, or for one
+-- more, which had begun.
+-- `rises`: what was acknowledged stays so. So a later image stands for at most one command fewer than an earlier one.
 -- `holds`: a source that is open at the end holds what all of them make.
 -- `at_exit`: each image at the end stands for all of them. The last one may be missing where the source is closed,
 -- since the device failed in it.
 pub record LeavesPrefixes {D : Type 0} (device : D → DiskState) (old : Stored D) (s : Source) (commands : List (Command × ℕ)) (new : Stored D) : Type 0 where
-  pub done : ℕ → ℕ
-  pub rises : (m n : ℕ) → m ≤ n → done m ≤ done n
+  pub asked : List (Command × ℕ)
+  pub acks : List Ack
+  pub answered : AreAnswered (device old.disk) (Holding s) asked acks (device new.disk)
+  pub count : counted_commands asked acks ≡ commands
+  pub by_exit : AllByRecursion (λ a. a.at_call ≤ (device new.disk).calls) acks
   pub each : Leaves (device old.disk) (device new.disk)
-      (λ m image. (j : ℕ) × (done m ≤ j) × (j ≤ done m + 1) × StandsForFirst s commands j image)
+      (λ m image. (j : ℕ) × (acknowledged m acks ≤ j) × (j ≤ acknowledged m acks + 1) × StandsForFirst s commands j image)
+  pub rises : (m n : ℕ) → m ≤ n → acknowledged m acks ≤ acknowledged n acks
   pub holds : new.is_closed ≡ false → Holds device new (fold_of s commands)
   pub at_exit : (image : List ℕ) → IsImage (device new.disk).now image
       → (j : ℕ) × (length commands ≤ j + 1) × (new.is_closed ≡ false → j ≡ length commands) × StandsForFirst s commands j image
@@ -53,9 +62,18 @@ pub record LeavesPrefixes {D : Type 0} (device : D → DiskState) (old : Stored 
 abbrev pub Recovers : {D : Type 0} → (D → DiskState) → Stored D → List (Command × ℕ) → Stored D → Type 0
 Recovers device old commands new = (s : Source) → Holds device old s → LeavesPrefixes device old s commands new
 
+-- Where a source held a state, its disk saw some commands answered in their order, from that state on.
+abbrev pub HasAnswered : {D : Type 0} → (D → DiskState) → Stored D → Stored D → Type 0
+HasAnswered {D} device old new = (s : Source) → Holds device old s
+    → (commands : List (Command × ℕ)) × (acks : List Ack) × AreAnswered (device old.disk) (Holding s) commands acks (device new.disk)
+
 -- A stop of any run leaves what the first counted commands make.
 abbrev pub RunsRecover : {D : Type 0} → (D → DiskState) → Type 0
 RunsRecover {D} device = (old new : Stored D) (commands : List (Command × ℕ)) → IsRunOf device old commands new → Recovers device old commands new
+
+-- A source that held a state and made a run has answered its commands.
+abbrev pub RunsHaveAnswered : {D : Type 0} → (D → DiskState) → Type 0
+RunsHaveAnswered {D} device = (old new : Stored D) (commands : List (Command × ℕ)) → IsRunOf device old commands new → HasAnswered device old new
 
 -- A source that idles ran no command that counts.
 abbrev pub IdleIsRun : {D : Type 0} → (D → DiskState) → Type 0

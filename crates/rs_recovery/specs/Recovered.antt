@@ -1,5 +1,5 @@
 -- What an opening recovers after a stop.
-use Rattle.std.specs.Prelude.{◌≡◌, ℕ, ◌≤◌, false, List, ◌∷◌, take, Result, Ok, Err, IsTrue}
+use Rattle.std.specs.Prelude.{◌≡◌, ℕ, ◌≤◌, List, ◌∷◌, take, Result, Ok, Err, IsTrue}
 use Rattle.std.specs.List.{AllByRecursion}
 use Rattle.rs_disk.specs.Medium.{DiskState}
 use Rattle.rs_model.specs.State.{Source, start_of, facts_of, entries}
@@ -8,15 +8,15 @@ use Rattle.rs_model.specs.Regular.{IsRegular, IsTimely}
 use Rattle.rs_model.specs.declared.command.Command.{Command}
 use Rattle.rs_store.specs.declared.opening.OpenFault.{OpenFault}
 use Rattle.rs_store.specs.declared.opening.OpenFault.TheVariants.{NotASource, Damaged, Device, NoMemory}
-use Rattle.rs_store.specs.Source.{Stored, Holds, state_of}
+use Rattle.rs_image.specs.StateOfImage.{StandsFor}
+use Rattle.rs_store.specs.Source.{Stored, Holds}
 use Rattle.rs_store.specs.declared.running.Ack.{Ack}
 use Rattle.rs_disk.specs.Runs.{HasFailed}
 use Rattle.rs_store.specs.Opening.{disk_of}
 use Rattle.rs_store.specs.Counted.{counted_commands, acknowledged, begun}
 use Rattle.rs_store.specs.Runs.{StandsForPrefix}
-use Rattle.rs_recovery.specs.Sessions.{Session, AreSessions, last_image, commands_standing}
+use Rattle.rs_recovery.specs.Sessions.{Session, AreSessions, commands_left, AreLeft}
 use Rattle.rs_recovery.specs.Served.{CommandsStand}
-use Rattle.rs_recovery.specs.DiskSessions.{DiskSession, after_all, AreDiskSessions, commands_left, AreLeft}
 
 -- Why an existing source is not opened: a call of the device failed, or memory was refused.
 abbrev pub IsExcuse : DiskState → DiskState → OpenFault → Type 0
@@ -50,39 +50,23 @@ pub record YieldsHeld (s : Source) : Type 0 where
   pub mirrored : mirror_of s.listed s.at s.changes ≡ entries s.held
   pub facts : AllByRecursion (λ held. held.1.entry.facts ≡ facts_of held.1.entry.facts.kind held.1.bytes) s.held
 
--- After sessions an opening gives back exactly the state that their standing commands make.
-pub record IsBack {D : Type 0} (device : D → DiskState) (disk : D) (result : Result (Stored D) (D × OpenFault))
+-- A source was opened on a disk of these bytes: it holds a state that they stand for. So it may begin a session.
+abbrev pub IsOpenedOn : {D : Type 0} → (D → DiskState) → List ℕ → Stored D → Type 0
+IsOpenedOn device bytes source = (s : Source) × StandsFor bytes s × Holds device source s
+
+-- After sessions an opening gives back exactly the state that their surviving commands make.
+-- `standing`, `left`: how many commands of each session survive.
+-- `state`: the source that is opened holds the state that they make, one after another.
+-- `yields`: what was published, followed by the changes after it, yields what is held.
+-- `regular`, `timely`: the state is one that the laws of served lists speak of.
+pub record IsRecovered {D : Type 0} (device : D → DiskState) (disk : D) (result : Result (Stored D) (D × OpenFault))
     (start : Source) (sessions : List Session) : Type 0 where
   pub standing : List ℕ
-  pub stand : CommandsStand start sessions standing
-  pub state : HandsBack device disk result (fold_of start (commands_standing sessions standing))
-  pub regular : IsRegular (fold_of start (commands_standing sessions standing))
-  pub timely : IsTimely (fold_of start (commands_standing sessions standing))
-  pub yields : YieldsHeld (fold_of start (commands_standing sessions standing))
-
--- The headline for sessions whose sources may be asked. It also says that the model's steps make the state, that the
--- state is regular, that the opened source can go on, and that what was served meanwhile stands.
-abbrev pub GivesBackSessions : {D : Type 0} → (D → DiskState) → D → Result (Stored D) (D × OpenFault) → Type 0
-GivesBackSessions {D} device disk result = (base : List ℕ) (limit moment : ℕ) (before : List (Command × ℕ)) (sessions : List Session)
-    → let start = fold_of (start_of base limit moment) before in
-    AreSessions start sessions → (device disk).now.seen ≡ last_image sessions
-    → IsTrue (device (disk_of result)).honest → IsBack device disk result start sessions
-
--- An opening gives back a state: the source is open, and this is its state; or a call of the device failed, or memory
--- was refused.
-abbrev pub GivesBack : {D : Type 0} → (D → DiskState) → D → Result (Stored D) (D × OpenFault) → Source → Type 0
-GivesBack device disk (Ok source) s = (source.is_closed ≡ false) × (state_of device source ≡ s)
-GivesBack device disk (Err (back, Device)) s = HasFailed (device disk) (device back)
-GivesBack device disk (Err (back, NoMemory)) s = Unit {0}
-GivesBack device disk (Err refused) s = ⊥
-
--- After sessions an opening gives back the state that their standing commands make.
-pub record IsRecovered {D : Type 0} (device : D → DiskState) (disk : D) (result : Result (Stored D) (D × OpenFault))
-    (start : Source) (sessions : List DiskSession) : Type 0 where
-  pub standing : List ℕ
-  pub left : AreLeft after_all start sessions standing
-  pub state : GivesBack device disk result (after_all start (commands_left sessions standing))
-  pub yields : YieldsHeld (after_all start (commands_left sessions standing))
+  pub left : AreLeft start sessions standing
+  pub state : HandsBack device disk result (fold_of start (commands_left sessions standing))
+  pub yields : YieldsHeld (fold_of start (commands_left sessions standing))
+  pub regular : IsRegular (fold_of start (commands_left sessions standing))
+  pub timely : IsTimely (fold_of start (commands_left sessions standing))
 
 -- Stopped before or within any disk call, during a command or between two, recovery gives exactly the resources and
 -- published documents of a prefix of the accepted commands that holds every acknowledged one; and in every recovered
@@ -91,7 +75,21 @@ pub record IsRecovered {D : Type 0} (device : D → DiskState) (disk : D) (resul
 -- and some commands made: no commands where the source was formatted, and those behind the copied source where it is a
 -- copy. Each session may be on a disk of another type than this one, since a file that is opened anew has another type.
 abbrev pub Headline : {D : Type 0} → (D → DiskState) → D → Result (Stored D) (D × OpenFault) → Type 0
-Headline {D} device disk result = (base : List ℕ) (limit moment : ℕ) (before : List (Command × ℕ)) (x : DiskSession) (past : List DiskSession)
-    → let start = after_all (start_of base limit moment) before in
-    AreDiskSessions start (x ∷ past) → (device disk).now.seen ≡ x.image
+Headline {D} device disk result = (base : List ℕ) (limit moment : ℕ) (before : List (Command × ℕ)) (x : Session) (past : List Session)
+    → let start = fold_of (start_of base limit moment) before in
+    AreSessions start (x ∷ past) → (device disk).now.seen ≡ x.image
     → IsTrue (device (disk_of result)).honest → IsRecovered device disk result start (x ∷ past)
+
+-- The state that an opening gives back after sessions has behind it what was served in them.
+pub record KeepsServed {D : Type 0} (device : D → DiskState) (disk : D) (result : Result (Stored D) (D × OpenFault))
+    (start : Source) (sessions : List Session) : Type 0 where
+  pub standing : List ℕ
+  pub stand : CommandsStand start sessions standing
+  pub state : HandsBack device disk result (fold_of start (commands_left sessions standing))
+
+-- The same sessions, where the source was asked meanwhile: what was served is behind the state that is given back.
+abbrev pub GivesBackServed : {D : Type 0} → (D → DiskState) → D → Result (Stored D) (D × OpenFault) → Type 0
+GivesBackServed {D} device disk result = (base : List ℕ) (limit moment : ℕ) (before : List (Command × ℕ)) (x : Session) (past : List Session)
+    → let start = fold_of (start_of base limit moment) before in
+    AreSessions start (x ∷ past) → (device disk).now.seen ≡ x.image
+    → IsTrue (device (disk_of result)).honest → KeepsServed device disk result start (x ∷ past)

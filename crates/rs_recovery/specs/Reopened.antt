@@ -7,12 +7,12 @@ use Rattle.rs_model.specs.declared.command.Command.{Command}
 use Rattle.rs_store.specs.declared.running.Ack.{Ack}
 use Rattle.rs_store.specs.Source.{Stored, Holds}
 use Rattle.rs_store.specs.Counted.{counted_commands, acknowledged, begun}
-use Rattle.rs_store.specs.Runs.{InTurn}
-use Rattle.rs_recovery.specs.Sessions.{IsOpenedOn}
-use Rattle.rs_recovery.specs.AsSessions.{IsStopOf}
+use Rattle.rs_image.specs.StateOfImage.{StandsFor}
+use Rattle.rs_store.specs.Runs.{Holding, AreAnswered}
+use Rattle.rs_recovery.specs.Sessions.{IsStop}
 use Rattle.rs_recovery.specs.Recovered.{YieldsHeld}
 use Rattle.rs_recovery.specs.declared.surviving.Halt.{Halt}
-use Rattle.rs_recovery.specs.Surviving.{HasRun, IsLost}
+use Rattle.rs_recovery.specs.Surviving.{IsRunFrom, IsLost}
 
 -- Three disks, one after another, of three types: the state of each, which second disk is given for the one that the
 -- first run left, and which third disk for the one that the second run left.
@@ -36,14 +36,11 @@ pub record Run : Type 0 where
 abbrev pub run_of : List (Command × ℕ) → List Ack → Run
 run_of commands acks = record { commands = commands; acks = acks }
 
--- A source was opened on a disk of these bytes, if the device has followed the model. It answered the commands in their
--- turn, and the run left this disk.
-pub record HasRunOn {D : Type 0} (device : D → DiskState) (bytes : List ℕ) (commands : List (Command × ℕ)) (acks : List Ack) (left : D) : Type 0 where
-  pub first : Stored D
-  pub last : Stored D
-  pub began : IsTrue (device first.disk).honest → IsOpenedOn device bytes first
-  pub turn : InTurn device first commands acks last
-  pub left_by : last.disk ≡ left
+-- The source on a disk of these bytes was opened, which left the disk `opened`. Its disk saw these commands answered from
+-- then on, from a state that the bytes stand for, if the device had followed the model.
+abbrev pub IsRunOn : List ℕ → DiskState → Run → DiskState → Type 0
+IsRunOn bytes opened run left =
+    IsTrue opened.honest → (s : Source) × StandsFor bytes s × AreAnswered opened (Holding s) run.commands run.acks left
 
 -- These are the first of the counted commands of two runs. The first run stopped at m counted calls, the second at n.
 -- Of each run no command that was acknowledged by then is missing, and none is there that had not begun.
@@ -59,19 +56,20 @@ pub record TwoPrefixes (earlier later : Run) (m n : ℕ) (these : List (Command 
 -- A run from the start on, and a run on the second disk.
 pub record RanTwice {A B C : Type 0} (disks : Disks A B C) (start : Source) (earlier later : Run) (left : B) : Type 0 where
   pub left_first : A
-  pub run : HasRun disks.one start earlier.commands earlier.acks left_first
+  pub run : IsRunFrom start earlier.commands earlier.acks (disks.one left_first)
   pub second : B
   pub given : disks.GivesSecond left_first (Some second)
-  pub run_on : HasRunOn disks.two (disks.two second).now.seen later.commands later.acks left
+  pub opened : DiskState
+  pub run_on : IsRunOn (disks.two second).now.seen opened later (disks.two left)
 
 -- The bytes of the second disk are an image that a stop of the first run may have left at m counted calls, and those of
 -- the third disk one that a stop of the second run may have left at n. The second disk had followed the model when it
 -- had been opened.
 pub record AreLeftBy {A B C : Type 0} {disks : Disks A B C} {start : Source} {earlier later : Run} {left : B}
     (ran : RanTwice disks start earlier later left) (third : C) (m n : ℕ) : Type 0 where
-  pub stop : IsStopOf disks.one ran.run.first ran.run.last m (disks.two ran.second).now.seen
-  pub honest : IsTrue (disks.two ran.run_on.first.disk).honest
-  pub stop_then : IsStopOf disks.two ran.run_on.first ran.run_on.last n (disks.three third).now.seen
+  pub stop : IsStop ran.run.0 (disks.one ran.left_first) m (disks.two ran.second).now.seen
+  pub honest : IsTrue ran.opened.honest
+  pub stop_then : IsStop ran.opened (disks.two left) n (disks.three third).now.seen
 
 -- Whatever the two stops, the source that was opened on the third disk holds the state that the first commands of both
 -- runs make. What was published, followed by the changes after it, yields what is held.
@@ -89,11 +87,11 @@ pub record SurvivesTwice {A B C : Type 0} (disks : Disks A B C) (start : Source)
 pub record IsOtherThanLeft {A B C : Type 0} (disks : Disks A B C) (start : Source) (commands : List (Command × ℕ)) : Type 0 where
   pub left : A
   pub acks : List Ack
-  pub run : HasRun disks.one start commands acks left
+  pub run : IsRunFrom start commands acks (disks.one left)
   pub second : B
   pub given : disks.GivesSecond left (Some second)
   pub back : B
-  pub other : (m : ℕ) → IsStopOf disks.one run.first run.last m (disks.two second).now.seen → ¬ IsTrue (disks.two back).honest
+  pub other : (m : ℕ) → IsStop run.0 (disks.one left) m (disks.two second).now.seen → ¬ IsTrue (disks.two back).honest
 
 -- The same of the third disk, after both runs.
 pub record IsOtherThanLeftThen {A B C : Type 0} (disks : Disks A B C) (start : Source) (commands more : List (Command × ℕ)) : Type 0 where

@@ -1,80 +1,90 @@
--- Sessions of a source, one after another, each ended by a stop.
-use Rattle.std.specs.Prelude.{◌≡◌, ℕ, ◌≤◌, List, [], ◌∷◌, map, Ok, IsTrue}
+-- Sessions of a source, one after another, each ended by a stop, as their disks saw them.
+use Rattle.std.specs.Prelude.{◌≡◌, ℕ, ◌≤◌, List, [], ◌∷◌, ◌++◌, take, Option, Some, None, Err}
 use Rattle.rs_disk.specs.Medium.{DiskState, IsImage, IsImageAt}
 use Rattle.rs_disk.specs.Leaves.{Leaves}
 use Rattle.rs_model.specs.State.{Source}
-use Rattle.rs_model.specs.Step.{fold_of}
+use Rattle.rs_model.specs.Step.{fold_of, refusal_of}
 use Rattle.rs_model.specs.declared.command.Command.{Command}
 use Rattle.rs_image.specs.StateOfImage.{StandsFor}
-use Rattle.rs_store.specs.Source.{Stored, Holds}
+use Rattle.rs_store.specs.declared.refusal.Refusal.TheVariants.{Device}
 use Rattle.rs_store.specs.declared.running.Ack.{Ack}
-use Rattle.rs_store.specs.Runs.{InTurn}
-use Rattle.rs_store.specs.Copied.{AnswersCopy}
-use Rattle.rs_recovery.specs.AnyDisk.{AnyDisk, state_of_any, AreSound, on_any}
-use Rattle.rs_recovery.specs.DiskSessions.{DiskSession, commands_left, AreLeft}
+use Rattle.rs_store.specs.Counted.{counted_commands, acknowledged, begun}
+use Rattle.rs_store.specs.Runs.{Holding, condition_behind, AreAnswered}
 
--- A session, on a disk of any type: the source when it was made or opened, its commands with their answers, the source
--- after them; and the stop: after how many counted calls it came, and which image of the disk it left.
+-- A stop: it came before or within any disk call, after any number of calls from the first moment to the last, with any
+-- image of that moment.
+pub record IsStop (first last : DiskState) (stop : ℕ) (image : List ℕ) : Type 0 where
+  pub from : first.calls ≤ stop
+  pub to : stop ≤ last.calls
+  pub left : IsImageAt last stop image
+
+-- A session, on a disk of any type: the disk when its source was made or opened; the commands with their answers; the
+-- command that was never answered, if the machine stopped in one; the disk after them; and the stop: after how many
+-- counted calls it came, and which image of the disk it left.
 pub record Session : Type 0 where
-  pub first : Stored AnyDisk
+  pub first : DiskState
   pub commands : List (Command × ℕ)
   pub acks : List Ack
-  pub last : Stored AnyDisk
+  pub unanswered : Option (Command × ℕ)
+  pub last : DiskState
   pub stop : ℕ
   pub image : List ℕ
 
--- The commands were answered in their turn. The stop came before or within any disk call, during a command or between
--- two: after any number of calls from the first moment of the session to the last, with any image of that moment.
-pub record IsStoppedSession (x : Session) : Type 0 where
-  pub turn : InTurn state_of_any x.first x.commands x.acks x.last
-  pub from : x.first.disk.state.calls ≤ x.stop
-  pub to : x.stop ≤ x.last.disk.state.calls
-  pub image : IsImageAt x.last.disk.state x.stop x.image
+-- all its commands
+abbrev pub all_asked : List (Command × ℕ) → Option (Command × ℕ) → List (Command × ℕ)
+all_asked commands None = commands
+all_asked commands (Some c) = commands ++ c ∷ []
 
--- A source was opened on a disk of these bytes: it holds a state that they stand for.
-abbrev pub IsOpenedOn : {D : Type 0} → (D → DiskState) → List ℕ → Stored D → Type 0
-IsOpenedOn device bytes source = (s : Source) × StandsFor bytes s × Holds device source s
+-- how they ended: one that was never answered may be done or not, as one that is answered Device at the end
+abbrev pub all_ended : List Ack → Option (Command × ℕ) → ℕ → List Ack
+all_ended acks None calls = acks
+all_ended acks (Some c) calls = acks ++ record { reply = Err Device; at_call = calls } ∷ []
 
--- Sessions of one source, the latest first. The first one began with the formatting or the copy that made the source
--- with this state. Each later one began with an opening on the image that the stop before it had left. Each may be on a
--- disk of another type.
+abbrev pub asked : Session → List (Command × ℕ)
+asked x = all_asked x.commands x.unanswered
+
+abbrev pub ended : Session → List Ack
+ended x = all_ended x.acks x.unanswered x.last.calls
+
+-- the accepted commands, and then the one that was answered Device or never, if there is one
+abbrev pub counted : Session → List (Command × ℕ)
+counted x = counted_commands (asked x) (ended x)
+
+-- The commands were answered from this state on, and then the session was stopped.
+pub record IsStopped (s : Source) (x : Session) : Type 0 where
+  pub answered : AreAnswered x.first (Holding s) (asked x) (ended x) x.last
+  pub stopped : IsStop x.first x.last x.stop x.image
+
+-- Sessions of one source, the latest first. The first one began with this state. Each later one began with the state of
+-- the image that the stop before it had left. Each may be on a disk of another type.
 abbrev pub AreSessions : Source → List Session → Type 0
 AreSessions start [] = ⊥
-AreSessions start (x ∷ []) = IsStoppedSession x × Holds state_of_any x.first start
-AreSessions start (x ∷ y ∷ past) = IsStoppedSession x × IsOpenedOn state_of_any y.image x.first × AreSessions start (y ∷ past)
+AreSessions start (x ∷ []) = IsStopped start x
+AreSessions start (x ∷ y ∷ past) = (s : Source) × StandsFor y.image s × IsStopped s x × AreSessions start (y ∷ past)
 
--- the image that the latest stop left
-abbrev pub last_image : List Session → List ℕ
-last_image [] = []
-last_image (x ∷ past) = x.image
+-- the commands behind the image of the latest stop, where of each session this many of its counted commands survive
+abbrev pub commands_left : List Session → List ℕ → List (Command × ℕ)
+commands_left (x ∷ past) (j ∷ standing) = commands_left past standing ++ take j (counted x)
+commands_left sessions standing = []
 
--- what the disk saw of a session
-abbrev pub disk_session : Session → DiskSession
-disk_session x = record {
-  first = x.first.disk.state;
-  commands = x.commands;
-  acks = x.acks;
-  last = x.last.disk.state;
-  stop = x.stop;
-  image = x.image;
-}
+-- Of each session this many of its counted commands survive. No command that was acknowledged by the stop is missing,
+-- and none is there that had not begun. The image of the stop stands for the state that these commands make, after
+-- those of the sessions before.
+abbrev pub AreLeft : Source → List Session → List ℕ → Type 0
+AreLeft start [] [] = Unit {0}
+AreLeft start (x ∷ past) (j ∷ standing) =
+    (acknowledged x.stop (ended x) ≤ j) × (j ≤ begun x.stop (ended x))
+    × StandsFor x.image (fold_of start (commands_left (x ∷ past) (j ∷ standing))) × AreLeft start past standing
+AreLeft start sessions standing = ⊥
 
--- the commands behind the image of the latest stop, where of each session this many of its counted commands stand
-abbrev pub commands_standing : List Session → List ℕ → List (Command × ℕ)
-commands_standing sessions standing = commands_left (map disk_session sessions) standing
-
--- Of each session this many of its counted commands stand, by the steps of the model.
-abbrev pub AreStanding : Source → List Session → List ℕ → Type 0
-AreStanding start sessions standing = AreLeft fold_of start (map disk_session sessions) standing
-
--- The numbers of standing commands are the only ones.
+-- The numbers of surviving commands are the only ones.
 abbrev pub OneStanding : Type 0
 OneStanding = (start : Source) (sessions : List Session) (standing others : List ℕ) → AreSessions start sessions
-    → AreStanding start sessions standing → AreStanding start sessions others → others ≡ standing
+    → AreLeft start sessions standing → AreLeft start sessions others → others ≡ standing
 
 -- A disk is as a session left it: the stop might have left each of its images.
 abbrev pub IsLeftBy : Session → DiskState → Type 0
-IsLeftBy x disk = (image : List ℕ) → IsImage disk.now image → IsImageAt x.last.disk.state x.stop image
+IsLeftBy x disk = (image : List ℕ) → IsImage disk.now image → IsImageAt x.last x.stop image
 
 -- A stop within an opening leaves an image that the stop before it might have left: the sessions stay, with that image.
 abbrev pub OpeningsStopToo : Type 0
@@ -82,9 +92,11 @@ OpeningsStopToo = (start : Source) (x : Session) (past : List Session) (before a
     → AreSessions start (x ∷ past) → IsLeftBy x before → Leaves before after (λ _. IsImage before.now)
     → Leaves before after (λ _ image. AreSessions start (record x { image = image } ∷ past))
 
--- Where a source that held a state was copied with the answer Ok, and its device has followed the model, a session on
--- the copy is the first of sessions that begin with that state.
-abbrev pub CopiesBeginSessions : {D E : Type 0} → (D → DiskState) → (E → DiskState) → Type 0
-CopiesBeginSessions {D} {E} device other = (sound : AreSound other) (old new : Stored D) (to : E) (copy : Stored E) (s : Source) (x : Session)
-    → AnswersCopy device other old new to (Ok copy) → Holds device old s → IsTrue (device new.disk).honest
-    → x.first ≡ on_any other sound copy → IsStoppedSession x → AreSessions s (x ∷ [])
+-- A command that the model accepts may be left without an answer. What was seen of it with its answer was seen without:
+-- whatever a machine that stopped in it had done by then is the beginning of what the whole command does.
+abbrev pub AnswersMayBeMissing : Type 0
+AnswersMayBeMissing =
+    (first : DiskState) (s t : Source) (commands : List (Command × ℕ)) (acks : List Ack) (c : Command × ℕ) (a : Ack) (last : DiskState) (stop : ℕ) (image : List ℕ)
+    → AreAnswered first (Holding s) (commands ++ c ∷ []) (acks ++ a ∷ []) last → condition_behind (Holding s) commands acks ≡ Holding t
+    → refusal_of t c.0 c.1 ≡ None → IsStop first last stop image
+    → IsStopped s (record { first = first; commands = commands; acks = acks; unanswered = Some c; last = last; stop = stop; image = image })

@@ -16,23 +16,19 @@ use Rattle.rs_store.specs.declared.refusal.Refusal.TheVariants as refusals
 use Rattle.rs_store.specs.declared.running.Ack.{Ack}
 use Rattle.rs_store.specs.Source.{Stored, Holds}
 use Rattle.rs_store.specs.Counted.{is_accepted, answered, counted_commands}
-use Rattle.rs_store.specs.Runs.{InTurn}
+use Rattle.rs_store.specs.Runs.{Holding, AreAnswered}
 use Rattle.rs_recovery.specs.declared.surviving.Halt.{Halt}
 use Rattle.rs_recovery.specs.declared.surviving.Halt.TheVariants.{Formatting, Running, Imaging, Opening}
 use Rattle.rs_recovery.specs.Recovered.{YieldsHeld}
 
--- The commands were answered in their turn, from the start on, and the run left this disk.
-pub record HasRun {D : Type 0} (device : D → DiskState) (start : Source) (commands : List (Command × ℕ)) (acks : List Ack) (left : D) : Type 0 where
-  pub first : Stored D
-  pub last : Stored D
-  pub began : Holds device first start
-  pub turn : InTurn device first commands acks last
-  pub left_by : last.disk ≡ left
+-- The disk saw these commands answered from the start on, from some moment on.
+abbrev pub IsRunFrom : Source → List (Command × ℕ) → List Ack → DiskState → Type 0
+IsRunFrom start commands acks left = (first : DiskState) × AreAnswered first (Holding start) commands acks left
 
 -- The run left this disk. Its image by this choice stands for the state after the first j counted commands, for some j.
 -- The source holds that state, and each accepted command is among these.
 pub record Survives (start : Source) (commands : List (Command × ℕ)) (acks : List Ack) (left : MemoryDisk) (choice : List ℕ) (source : Stored MemoryDisk) : Type 0 where
-  pub run : HasRun memory_state start commands acks left
+  pub run : IsRunFrom start commands acks (memory_state left)
   pub j : ℕ
   pub image : StandsFor (image_of choice (memory_state left).now) (fold_of start (take j (counted_commands commands acks)))
   pub accepted : length (answered is_accepted commands acks) ≤ j

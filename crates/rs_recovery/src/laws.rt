@@ -11,13 +11,11 @@ ghost use Rattle.rs_store.specs.declared.running.Ack.{Ack};
 ghost use Rattle.rs_store.specs.Runs.{StandsForPrefix};
 ghost use Rattle.rs_store.specs.Laws.{TurnsGoOn};
 ghost use Rattle.rs_recovery.specs.Below.{Below};
-ghost use Rattle.rs_recovery.specs.AnyDisk.{state_of_any};
 ghost use Rattle.rs_recovery.specs.Turns.{CommandsAreTurns, ReadingsIdle, CutPutsIdle};
-ghost use Rattle.rs_recovery.specs.Prefixes.{RunsRecover, IdleIsRun, CommandIsRun, RunsJoin};
-ghost use Rattle.rs_recovery.specs.Sessions.{OneStanding, OpeningsStopToo, CopiesBeginSessions};
-ghost use Rattle.rs_recovery.specs.AsSessions.{HoldsTheSame, OpenedOnTheSame, AnswersTheSame, RunsAreSessions, AskedAreSessions};
+ghost use Rattle.rs_recovery.specs.Prefixes.{RunsRecover, RunsHaveAnswered, IdleIsRun, CommandIsRun, RunsJoin};
+ghost use Rattle.rs_recovery.specs.Replies.{IdleHasNoReply, CommandHasReply, RepliesJoin, RepliesAreSeen};
+ghost use Rattle.rs_recovery.specs.Sessions.{OneStanding, OpeningsStopToo, AnswersMayBeMissing};
 ghost use Rattle.rs_recovery.specs.Served.{SessionsStand};
-ghost use Rattle.rs_recovery.specs.Seen.{RunsAreSeen, CountedAreMade, SessionsAreSeen, FoldsAreMade};
 ghost use Rattle.rs_recovery.specs.Recovered.{YieldsHeld};
 ghost use Rattle.rs_recovery.specs.Documents.{DocumentsAreOfTheState};
 
@@ -25,7 +23,10 @@ use rs_caps::laws::served::blocks_are_not_shown;
 use rs_disk::Disk;
 use rs_image::laws::stands_once;
 use rs_model::fold_is_regular;
-use rs_store::laws::{closed_sources_stay, held_sources_rest, runs_leave_prefixes, turns_go_on};
+use rs_store::laws::{
+    answers_leave_prefixes, closed_sources_stay, held_sources_rest, runs_are_answered,
+    runs_leave_prefixes, turns_go_on,
+};
 
 /// All requests to a source join into runs. One run and then another are one run. One command is a run of its own. A
 /// source idles while it only reads, as for a body or for the list of damaged ones, and when the body of a put does not
@@ -41,11 +42,13 @@ pub fn runs_go_on<D: Disk>()
 }
 
 /// Requests to a source one by one are a run: each command by itself, reads between them, and one run after another.
-/// Whenever a stop comes, it leaves what the first counted commands make: all that were answered by then, and perhaps
-/// one more, which had begun. At the end an open source holds what all of them make. A closed source may lack the last
-/// one, in which the device failed.
+/// The disk sees the commands answered in their order, so they are commands of a session. Whenever a stop comes, it
+/// leaves what the first counted commands make: all that were answered by then, and perhaps one more, which had begun.
+/// At the end an open source holds what all of them make. A closed source may lack the last one, in which the device
+/// failed.
 pub fn runs_recover<D: Disk>()
     ensures recover { RunsRecover D.state }
+    ensures answered { RunsHaveAnswered D.state }
     ensures idle { IdleIsRun D.state }
     ensures command { CommandIsRun D.state }
     ensures join { RunsJoin D.state }
@@ -55,69 +58,53 @@ pub fn runs_recover<D: Disk>()
     runs_go_on::<D>();
 }
 
-/// The laws of the crates below that sessions rest on.
+/// The replies of a source to the commands that it accepts, turn by turn. The disk sees these commands answered, with these
+/// replies. So what a front tells of accepted commands is what a session has.
+pub fn replies_are_seen<D: Disk>()
+    ensures idle { IdleHasNoReply D.state }
+    ensures command { CommandHasReply D.state }
+    ensures join { RepliesJoin D.state }
+    ensures seen { RepliesAreSeen D.state }
+{
+    laws_below::<D>();
+    turns_go_on::<D>();
+    runs_go_on::<D>();
+}
+
+/// The laws of the crates below that runs rest on.
 fn laws_below<D: Disk>()
     ensures { Below D.state }
 {
     stands_once();
     closed_sources_stay::<D>();
+    runs_are_answered::<D>();
     runs_leave_prefixes::<D>();
 }
 
-/// The same for sources on any disk.
-pub(crate) fn laws_of_any()
-    ensures { Below state_of_any }
-{
-    stands_once();
-}
-
-/// A source on a disk of any type is also a source on `AnyDisk`, of which sessions are made. It holds the same state,
-/// was opened on the same bytes, and gives the same answers in turn. So each run of it, with any stop, is a session. So
-/// are commands that come one by one, as from a script or from requests.
-pub fn runs_are_sessions<D: Disk>()
-    ensures holds { HoldsTheSame D.state }
-    ensures opened { OpenedOnTheSame D.state }
-    ensures answers { AnswersTheSame D.state }
-    ensures runs { RunsAreSessions D.state }
-    ensures asked { AskedAreSessions D.state }
-{}
-
-/// What the disks saw of sessions. They saw the commands answered in turn. The model accepts each command that counts.
-/// What commands make of a state, the accepted ones among them make.
-pub fn sessions_are_seen<D: Disk>()
-    ensures runs { RunsAreSeen D.state }
-    ensures counted { CountedAreMade D.state }
-    ensures sessions { SessionsAreSeen }
-    ensures folds { FoldsAreMade }
-{
-    laws_below::<D>();
-    laws_of_any();
-}
-
-/// Whatever the stops, commands of each session stand, and those behind a source that could be asked are the first of
+/// Whatever the stops, commands of each session survive, and those behind a source that could be asked are the first of
 /// those behind every later one. The sessions may be on disks of several types.
 pub fn sessions_stand()
     ensures { SessionsStand }
 {
-    laws_of_any();
+    stands_once();
+    answers_leave_prefixes();
 }
 
-/// What the stops left determines how many commands of each session stand.
+/// What the stops left determines how many commands of each session survive.
 pub fn one_standing()
     ensures { OneStanding }
 {
-    laws_of_any();
+    stands_once();
 }
+
+/// A session may lack its last answer. A machine that stops within a command never answers it.
+pub fn answers_may_be_missing()
+    ensures { AnswersMayBeMissing }
+{}
 
 /// A stop within an opening is a stop of the session before it.
 pub fn openings_stop_too()
     ensures { OpeningsStopToo }
-{}
-
-/// Sessions begin on a copy as on a formatting. Where a source that held a state was copied with the answer Ok, and its
-/// device had followed the model, the copy holds that state.
-pub fn copies_begin_sessions<D: Disk, E: Disk>()
-    ensures { CopiesBeginSessions D.state E.state }
 {}
 
 /// A document that a source's lists show is the document of the state in these lists.

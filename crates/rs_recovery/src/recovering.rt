@@ -5,10 +5,9 @@ ghost use Rattle.rs_disk.specs.Runs.{WritesNothing};
 ghost use Rattle.rs_model.specs.State.{Source as State};
 ghost use Rattle.rs_image.specs.StateOfImage.{StandsFor};
 ghost use Rattle.rs_store.specs.Opening.{disk_of, IsOpened, IsNotOpened, ArePagesPlaced};
-ghost use Rattle.rs_recovery.specs.Sessions.{IsOpenedOn};
-ghost use Rattle.rs_recovery.specs.Recovered.{HandsBack, GivesBackRun, GivesBackSessions, Headline};
+ghost use Rattle.rs_recovery.specs.Recovered.{HandsBack, IsOpenedOn, GivesBackRun, Headline, GivesBackServed};
 
-use crate::laws::{laws_of_any, sessions_stand};
+use crate::laws::sessions_stand;
 use rs_disk::Disk;
 use rs_image::laws::stands_once;
 use rs_model::{fold_is_regular, start_is_regular};
@@ -22,11 +21,12 @@ use std::alloc::Global;
 /// state the latest Resource List, followed by the changes recorded after its at-moment in their order, yields exactly
 /// the resources held, with their lengths, hashes and types.*
 ///
-/// The clause `headline` says it for sessions as their disks saw them, and `sessions` for sessions whose sources may be
-/// asked meanwhile. The premises: the source was formatted with the answer Ok, or is a copy of such a source by
-/// [`Source::copy_to`] with that answer; the disk follows the model of rs_disk, and nobody else writes it; the moments
-/// are those that the caller gave; and a read now gives what the last stop left. Two more premises exclude a refusal:
-/// no growth of memory is refused, and the device does not fail.
+/// The clause `headline` says it, and `served` adds that what was served before a stop is behind what is recovered. A
+/// session is what its disk sees of a source that was formatted with the answer Ok, or that [`Source::copy_to`] made
+/// with that answer, or that this function opened: `Source::run`, scripts and requests conclude it (`answered`). Of the
+/// other premises each is trusted: the disk follows the model of rs_disk, and nobody else writes it; a stop leaves one
+/// of the images of its moment; and a read now gives what the last stop left. Two more exclude a refusal: no growth of
+/// memory is refused, and the device does not fail.
 ///
 /// # Errors
 ///
@@ -43,7 +43,7 @@ pub fn recover<D: Disk>(alloc: Global, disk: D) -> Result<Source<D>, (D, OpenFau
     // After a stop of one run, and after those of any number of sessions.
     ensures after_a_run { GivesBackRun D.state disk result }
     ensures headline { Headline D.state disk result }
-    ensures sessions { GivesBackSessions D.state disk result }
+    ensures served { GivesBackServed D.state disk result }
 
     // Why no source was opened, whatever the disk held.
     ensures refused { IfErr result (λ e. IsNotOpened (D.state disk) (D.state e.0) e.1) }
@@ -57,7 +57,6 @@ pub fn recover<D: Disk>(alloc: Global, disk: D) -> Result<Source<D>, (D, OpenFau
     ensures runs { WritesNothing (IsErrAnd result (λ e. e.1 ≡ OpenFault.Device))
         (D.state disk) (D.state (disk_of result)) }
 {
-    laws_of_any();
     sessions_stand();
     start_is_regular();
     fold_is_regular();

@@ -1,16 +1,17 @@
 //! A source whose disk is opened anew after each stop, as one of another type.
 
 ghost use Rattle.std.specs.Prelude.{ℕ, List, IfOk, IfErr, IsTrue};
+ghost use Rattle.rs_disk.specs.Medium.{DiskState};
 ghost use Rattle.rs_image.specs.StateOfImage.{StandsFor};
 ghost use Rattle.rs_model.specs.State.{Source as State, start_of};
 ghost use Rattle.rs_recovery.specs.Surviving.{IsLost, MayFormat, HasHalted};
-ghost use Rattle.rs_recovery.specs.Reopened.{three_disks, run_of, HasRunOn, SurvivesTwice, LosesNone};
+ghost use Rattle.rs_recovery.specs.Reopened.{three_disks, run_of, IsRunOn, SurvivesTwice, LosesNone};
 
 use crate::recover;
 use crate::surviving::{Halt, format_and_run};
 use rs_disk::Disk;
 use rs_model::Command;
-use rs_store::laws::runs_leave_prefixes;
+use rs_store::laws::answers_leave_prefixes;
 use rs_store::{Ack, Source};
 use rs_time::Moment;
 use std::alloc::Global;
@@ -21,8 +22,8 @@ fn recover_and_run<D: Disk + Drop>(
     disk: D,
     commands: &[(Command, Moment)],
 ) -> Result<(Vec<Ack>, D), (D, Halt)>
-    ensures ran { IfOk result
-        (λ x. HasRunOn D.state (D.state disk).now.seen commands.now x.0.items x.1) }
+    ensures ran { IfOk result (λ x. (opened : DiskState) × IsRunOn
+        (D.state disk).now.seen opened (run_of commands.now x.0.items) (D.state x.1)) }
     ensures found { IfErr result (λ e. IsTrue (D.state e.0).honest
         → (s : State) → StandsFor (D.state disk).now.seen s → ¬ IsLost e.1) }
     ensures halted { IfErr result (λ e. (base : List ℕ) (limit size : ℕ)
@@ -43,7 +44,7 @@ fn recover_and_run<D: Disk + Drop>(
 /// file before it opens it again.
 ///
 /// Gives the answers of both runs, and the recovered source. The three disks may be of three types. Where the bytes of
-/// each are an image that a stop of the run before may have left, the source is what the clause `sessions` of
+/// each are an image that a stop of the run before may have left, the source is what the clause `headline` of
 /// [`recover`] promises.
 ///
 /// # Errors
@@ -78,7 +79,7 @@ where
         (start_of base.now limit now) commands.now more.now) }
     ensures halted { IfErr result (HasHalted base.now limit (A.state disk).size) }
 {
-    runs_leave_prefixes::<A>();
+    answers_leave_prefixes();
     let (acks, left) = format_and_run(alloc, disk, base, limit, now, commands)?;
     let Some(disk) = second(left) else {
         return Err(Halt::Imaging);

@@ -4,12 +4,11 @@ ghost use Rattle.std.specs.Prelude.{◌≡◌, IfOk, IfErr, OnOk};
 ghost use Rattle.rs_disk.specs.Medium.{IsImage, image_of, resting};
 ghost use Rattle.rs_disk.specs.Memory.{memory_state};
 ghost use Rattle.rs_model.specs.State.{start_of};
-ghost use Rattle.rs_recovery.specs.Surviving.{Survives, HasRun, MayFormat, IsLost, HasHalted};
+ghost use Rattle.rs_recovery.specs.Surviving.{Survives, IsRunFrom, MayFormat, IsLost, HasHalted};
 
 use crate::recover;
 use rs_disk::{Disk, MemoryDisk};
 use rs_model::Command;
-use rs_store::laws::turns_go_on;
 use rs_store::{Ack, FormatFault, OpenFault, Refusal, Source};
 use rs_time::Moment;
 use std::alloc::{AllocError, Global};
@@ -47,7 +46,7 @@ pub(crate) fn format_and_run<D: Disk + Drop>(
     commands: &[(Command, Moment)],
 ) -> Result<(Vec<Ack>, D), Halt>
     ensures ran { IfOk result
-        (λ x. HasRun D.state (start_of base.now limit now) commands.now x.0.items x.1) }
+        (λ x. IsRunFrom (start_of base.now limit now) commands.now x.0.items (D.state x.1)) }
     ensures may { OnOk result (MayFormat base.now limit (D.state disk).size) }
     ensures found { IfErr result (λ halt. ¬ IsLost halt) }
     ensures halted { IfErr result (HasHalted base.now limit (D.state disk).size) }
@@ -84,7 +83,6 @@ pub fn format_run_recover(
     ensures found { IfErr result (λ halt. ¬ IsLost halt) }
     ensures halted { IfErr result (HasHalted base.now limit (memory_state disk).size) }
 {
-    turns_go_on::<MemoryDisk>();
     let (acks, left) = format_and_run(alloc, disk, base, limit, now, commands)?;
     let Ok(disk) = image_disk(alloc, &left, choice) else {
         return Err(Halt::Imaging);

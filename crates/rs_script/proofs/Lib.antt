@@ -15,6 +15,7 @@ pub mod Models
 pub mod Chains
 pub mod Transcripts
 pub mod Runs
+pub mod Replies
 pub mod NamedDocuments
 pub mod Walks
 pub mod WalkedLines

@@ -1,16 +1,20 @@
 -- The turns of a script: each reads once, and takes what came.
-use Rattle.std.proofs.Common.{◌≡◌, ℕ, ◌+◌, ◌*◌, ◌≤◌, ◌^◌, List, ◌++◌, length, take, Option, IsTrue, false, ap, ◌∙◌, arith, subst, inl, inr}
-use Rattle.std.proofs.KnownBytes.{Consumes-trans}
-use Rattle.std.specs.Io.KnownBytes.{Consumes, Keeps as KnownKeeps}
+use Rattle.std.proofs.Common.{◌≡◌, ℕ, ◌+◌, ◌*◌, ◌≤◌, ◌^◌, List, [], ◌∷◌, ◌++◌, length, take, Option, IsTrue, false, sym, ap, ◌∙◌, append_assoc, append-nil, arith, subst, inl, inr}
+use Rattle.std.proofs.KnownBytes.{Consumes-trans, Appends-kept}
+use Rattle.std.proofs.lemmas.Grind.{flat_map-append}
+use Rattle.std.specs.Io.KnownBytes.{Consumes, Appends, Keeps as KnownKeeps}
 use Rattle.rs_disk.specs.Medium.{DiskState}
 use Rattle.rs_io.specs.declared.watch.Watched.{Watched}
 use Rattle.rs_io.specs.Watch.{watched, calls, failures, is_broken, seen_by, IsCalledOnce, Took, FlushFailed, ends_of}
 use Rattle.rs_store.specs.Source.{Stored}
+use Rattle.rs_model.specs.declared.command.Command.{Command}
+use Rattle.rs_script.specs.Answers.{outcome_text, output_of}
 use Rattle.rs_script.specs.Broken.{BreaksWithin}
 use Rattle.rs_script.specs.Finished.{bytes_of, StopsReading, StopsWriting, ReadsWithin}
 use Rattle.rs_script.specs.Progress.{IsCalled, Beginning, Stand, Progress, Answered, Came, ReadsNoMore}
-use Rattle.rs_script.specs.Script.{ScriptsRecover, ScriptsMakeWalks}
+use Rattle.rs_script.specs.Script.{ScriptGives, ScriptsRecover, ScriptsMakeWalks}
 use Rattle.rs_script.specs.Session.{script_state, LineOutcome}
+use Rattle.rs_script.specs.Told.{ScriptsTellReplies, TellsReplies}
 use Rattle.rs_script.proofs.ReaderCalls.{one_more, calls_more}
 use Rattle.rs_script.proofs.Steps.{Progress-whole, ran_of, broke_after, no_more}
 
@@ -109,6 +113,48 @@ module _ {D R W : Type 0} (device : D → DiskState) (remaining : R → Option (
   stops_within (outcomes, commands, gives, breaks) came sound read = record {
     ran = ran_of device laws start here.source input outcomes commands here.pending.now gives;
     came = came;
-    breaks = inl (sound, seen_within contents before here.writer outcomes breaks);
+    breaks = inl (record { sound = sound; within = seen_within contents before here.writer outcomes breaks });
     read = read;
   }
+
+-- what was told of the commands that were accepted
+module _ {D W : Type 0} (device : D → DiskState) (contents : W → Option (List ℕ)) (laws : ScriptsRecover device × ScriptsMakeWalks device) (telling : ScriptsTellReplies device)
+    (start : Stored D) (before after : Watched W) where
+  module _ (new : Stored D) (last : ℕ) (input : List ℕ) (outcomes : List LineOutcome) (commands : List (Command × ℕ))
+      (gives : ScriptGives device (script_state start 0) input outcomes commands (script_state new last)) where
+    -- all answers are written
+    pub tells_all : Appends (contents (watched before)) (contents (watched after)) (output_of outcomes) → TellsReplies device start new (seen_by contents before) (seen_by contents after)
+    tells_all took = record {
+      outcomes = outcomes;
+      replied = telling (script_state start 0) (script_state new last) input outcomes commands gives;
+      part = output_of outcomes;
+      left_out = [];
+      bytes_are = append-nil (output_of outcomes);
+      took = took;
+    }
+
+    -- the last one is written in part
+    pub tells_part : BreaksWithin contents before after outcomes → TellsReplies device start new (seen_by contents before) (seen_by contents after)
+    tells_part breaks =
+        let first = output_of breaks.whole in
+        let text = outcome_text breaks.last in
+        let last_one : output_of (breaks.last ∷ []) ≡ text = append-nil text in
+        let all : output_of outcomes ≡ first ++ text =
+        ap output_of breaks.outcomes_are ∙ flat_map-append outcome_text breaks.whole (breaks.last ∷ []) ∙ ap (λ l. first ++ l) last_one in
+        record {
+          outcomes = outcomes;
+          replied = telling (script_state start 0) (script_state new last) input outcomes commands gives;
+          part = first ++ breaks.failed.part;
+          left_out = breaks.failed.left_out;
+          bytes_are = append_assoc first breaks.failed.part breaks.failed.left_out ∙ ap (λ l. first ++ l) breaks.failed.bytes_are ∙ sym all;
+          took = breaks.failed.took;
+        }
+
+  -- between two reads
+  pub tells_so_far : (here : Stand D W) (input : List ℕ) → Progress device contents (from_start start before) input here
+      → KnownKeeps (contents (watched here.writer)) (contents (watched after)) → TellsReplies device start here.source (seen_by contents before) (seen_by contents after)
+  tells_so_far here input progress kept =
+      let whole = Progress-whole device contents laws start before input here progress in
+      let ran = whole.0 in
+      tells_all here.source ran.last ran.input ran.outcomes ran.commands ran.gives
+      (Appends-kept (contents (watched before)) (contents (watched here.writer)) (contents (watched after)) (output_of ran.outcomes) whole.5.0 kept)

@@ -13,14 +13,18 @@ pub record BreaksWithin {W : Type 0} (contents : W → Option (List ℕ)) (old n
   pub outcomes_are : outcomes ≡ whole ++ last ∷ []
   pub failed : FailedAfter contents old new (output_of whole) (outcome_text last)
 
+-- A writer that had not failed before failed within the last answer.
+pub record BreaksAnswer {W : Type 0} (contents : W → Option (List ℕ)) (old new : Watched W) (outcomes : List LineOutcome) : Type 0 where
+  pub sound : is_broken old ≡ false
+  pub within : BreaksWithin contents old new outcomes
+
 -- A flush failed, and no other call. The writer took each answer whole.
 pub record BreaksAfter {W : Type 0} (contents : W → Option (List ℕ)) (old new : Watched W) (outcomes : List LineOutcome) : Type 0 where
   pub took : Appends (contents (watched old)) (contents (watched new)) (output_of outcomes)
   pub failed : FlushFailed old new
   pub once : (failures new).all ≤ (failures old).all + 1
 
--- A writer that had not failed before failed within the last answer, or in a flush after it. A failed writer takes no
--- more bytes, so no statement was begun after the fault.
+-- A writer failed within the last answer, or in a flush behind all of them. A failed writer takes no more bytes, so no
+-- statement was begun after the fault.
 abbrev pub BreaksOff : {W : Type 0} → (W → Option (List ℕ)) → Watched W → Watched W → List LineOutcome → Type 0
-BreaksOff contents old new outcomes =
-    ((is_broken old ≡ false) × BreaksWithin contents old new outcomes) ⊎ BreaksAfter contents old new outcomes
+BreaksOff contents old new outcomes = BreaksAnswer contents old new outcomes ⊎ BreaksAfter contents old new outcomes

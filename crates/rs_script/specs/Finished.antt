@@ -1,14 +1,14 @@
 -- How a script ends, for its reader and its writer.
-use Rattle.std.specs.Prelude.{◌≡◌, ◌⊎◌, ◌≤◌, ◌+◌, ◌*◌, ℕ, true, List, [], ◌∷◌, ◌++◌, length, Option}
+use Rattle.std.specs.Prelude.{◌≡◌, ◌⊎◌, ◌≤◌, ◌+◌, ◌*◌, ℕ, true, List, [], ◌++◌, length, Option}
 use Rattle.std.specs.Io.KnownBytes.{Consumes}
 use Rattle.rs_disk.specs.Medium.{DiskState}
+use Rattle.rs_io.specs.declared.watch.Watched.{Watched}
 use Rattle.rs_io.specs.Watch.{watched, calls, failures, is_flushed, End, Ends, Wrote}
 use Rattle.rs_store.specs.Source.{Stored}
 use Rattle.rs_script.specs.Answers.{output_of}
-use Rattle.rs_script.specs.Broken.{BreaksOff}
+use Rattle.rs_script.specs.Broken.{BreaksWithin, BreaksOff}
 use Rattle.rs_script.specs.Progress.{Came, TookAll, GaveStatements, ReadsNoMore}
 use Rattle.rs_script.specs.Script.{Ran}
-use Rattle.rs_script.specs.Session.{LineOutcome}
 use Rattle.rs_script.specs.Statements.{AreWholeStatements}
 
 -- the bytes of an end that is seen by its bytes
@@ -47,13 +47,11 @@ pub record ReadsWithin (turns size : ℕ) (left rest : End) : Type 0 where
   pub reads : calls rest ≤ calls left + turns
   pub once : (failures rest).all ≤ (failures left).all + 1
 
--- The statements of a beginning of this input are done, up to one whose answer is not whole. They came whole, or the
--- input had ended.
-pub record StopsWithin {D : Type 0} (device : D → DiskState) (old new : Stored D) (input : List ℕ) : Type 0 where
+-- The statements of a beginning of this input are done, up to one, and a write failed within its answer: the writer took
+-- each answer before it whole. The statements came whole, or the input had ended.
+pub record StopsWithin {D W : Type 0} (device : D → DiskState) (contents : W → Option (List ℕ)) (old new : Stored D) (before after : Watched W) (input : List ℕ) : Type 0 where
   pub ran : Ran device old new
   pub tail : List ℕ
   pub input_is : input ≡ ran.input ++ tail
   pub come : AreWholeStatements ran.input ⊎ (tail ≡ [])
-  pub before : List LineOutcome
-  pub last : LineOutcome
-  pub outcomes_are : ran.outcomes ≡ before ++ last ∷ []
+  pub breaks : BreaksWithin contents before after ran.outcomes

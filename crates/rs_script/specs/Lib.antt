@@ -13,3 +13,4 @@ pub mod Broken
 pub mod Progress
 pub mod Finished
 pub mod Walked
+pub mod Told

@@ -3,8 +3,9 @@
 ghost use Rattle.std.specs.Prelude.{◌≡◌, ◌^◌, OnOk, IsErr, IsErrOf, IsTrue};
 ghost use Rattle.rs_io.specs.Watch.{watched, is_broken, seen_by, IsRefused, ends_of};
 ghost use Rattle.rs_script.specs.Finished.{EndsWell, StopsReading, StopsWriting, ReadsWithin};
+ghost use Rattle.rs_script.specs.Told.{TellsReplies};
 
-use crate::laws::{scripts_make_walks, scripts_recover};
+use crate::laws::{scripts_make_walks, scripts_recover, scripts_tell_replies};
 use crate::pending::Pending;
 use rs_disk::Disk;
 use rs_io::{ReadFault, Watched, WriteFault};
@@ -87,6 +88,11 @@ pub fn script<D: Disk, R: Read, W: Write>(
     ensures write { IsErrOf result ScriptFault.Write → StopsWriting D.state source.old source.new
         (ends_of R.remaining reader.old reader.new W.contents writer.old writer.new) }
 
+    // Whatever the result, where the source held a state, its disk saw commands answered from that state
+    // on. The replies that the writer took are those to the accepted ones of these commands.
+    ensures answered { TellsReplies D.state source.old source.new
+        (seen_by W.contents writer.old) (seen_by W.contents writer.new) }
+
     // Whatever the result, it made at most 2^40 reads of at most 65,536 bytes each, and none after one
     // that failed.
     ensures reads { ReadsWithin (2 ^ 40) 65536 (seen_by R.remaining reader.old)
@@ -102,6 +108,7 @@ pub fn script<D: Disk, R: Read, W: Write>(
         × (watched reader.new ≡ watched reader.old) × (source.new ≡ source.old) }
 {
     scripts_recover::<D>();
+    scripts_tell_replies::<D>();
     scripts_make_walks::<D>();
     let mut pending = Pending::new(alloc);
     let mut buf = [0u8; PIECE];

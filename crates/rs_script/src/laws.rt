@@ -5,10 +5,11 @@ ghost use Rattle.std.specs.Prelude.{◌≡◌, ℕ, List};
 ghost use Rattle.rs_script.specs.Lines.{Splits};
 ghost use Rattle.rs_script.specs.Script.{ScriptsAreRuns, ScriptsRecover, ScriptsMakeWalks, ScriptsFollowTheModel, ScriptsTellTheFold, ScriptsHoldTheFold};
 ghost use Rattle.rs_script.specs.Statements.{Statement, IsScript};
+ghost use Rattle.rs_script.specs.Told.{ScriptsTellReplies};
 
 use rs_caps::laws::answered::paths_are_answered;
 use rs_disk::Disk;
-use rs_recovery::laws::{runs_go_on, runs_recover};
+use rs_recovery::laws::{replies_are_seen, runs_go_on, runs_recover};
 use rs_recovery::walking::commands_make_walks;
 use rs_store::laws::held_sources_rest;
 
@@ -54,6 +55,16 @@ pub fn scripts_recover<D: Disk>()
 {
     scripts_are_runs::<D>();
     runs_recover::<D>();
+}
+
+/// A script tells the replies to the commands that its source accepted. Where the source held a state, its disk saw these
+/// commands answered from that state on.
+pub fn scripts_tell_replies<D: Disk>()
+    ensures { ScriptsTellReplies D.state }
+{
+    held_sources_rest::<D>();
+    runs_go_on::<D>();
+    replies_are_seen::<D>();
 }
 
 /// A script makes a walk. A command is tried where the model decides the answer, refused where the machine does, and

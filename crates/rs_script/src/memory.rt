@@ -1,6 +1,7 @@
 //! Scripts in memory.
 
-ghost use Rattle.std.specs.Prelude.{◌≡◌, IfOk, OnErr, IsOkUnless};
+ghost use Rattle.std.specs.Prelude.{◌≡◌, OnOk, OnErr, IsOkUnless};
+ghost use Rattle.rs_io.specs.Watch.{EndFailed, Wrote};
 ghost use Rattle.rs_script.specs.Answers.{output_of};
 ghost use Rattle.rs_script.specs.Finished.{StopsWithin};
 ghost use Rattle.rs_script.specs.Script.{Ran};
@@ -12,31 +13,36 @@ use rs_disk::Disk;
 use rs_io::Watched;
 use rs_store::Source;
 use std::alloc::Global;
+use std::io::Write;
 
-/// Runs the script `input` on `source`, and gives its answers.
+/// Runs the script `input` on `source`, and writes its answers to `writer`, which may be a `Vec<u8>`. It does not flush
+/// it.
 ///
 /// # Errors
 ///
-/// [`ScriptFault::Write`] where there is no memory for an answer. Its statement and those before it are done, and no
-/// other was begun.
-pub fn script_bytes<D: Disk>(
+/// [`ScriptFault::Write`] where a write failed within an answer, as for want of memory. Its statement and those before
+/// it are done, and no other was begun.
+pub fn script_bytes<D: Disk, W: Write>(
     alloc: Global,
     source: &mut Source<D>,
     input: &[u8],
-) -> Result<Vec<u8>, ScriptFault>
-    ensures ok { IfOk result (λ output. (ran : Ran D.state source.old source.new)
-        × (ran.input ≡ input.now) × (output.items ≡ output_of ran.outcomes)) }
+    writer: &mut Watched<W>,
+) -> Result<(), ScriptFault>
+    ensures ok { OnOk result ((ran : Ran D.state source.old source.new)
+        × (ran.input ≡ input.now)
+        × Wrote W.contents writer.old writer.new (output_of ran.outcomes)) }
 
-    // The statements up to one are done, and the answer to that one is not whole.
-    ensures err { OnErr result (StopsWithin D.state source.old source.new input.now) }
+    // The statements up to one are done, and a write failed within the answer to that one.
+    ensures err { OnErr result (StopsWithin D.state W.contents source.old source.new
+        writer.old writer.new input.now) }
+    ensures failed { OnErr result (EndFailed writer.old writer.new) }
 
     ensures fault { IsOkUnless result ScriptFault.Write }
 {
     scripts_recover::<D>();
     scripts_make_walks::<D>();
     let mut pending = Pending::new(alloc);
-    let mut writer = Watched::new(Vec::new(alloc));
-    pending.take_piece(alloc, source, input, &mut writer)?;
-    pending.take_end(alloc, source, &mut writer)?;
-    Ok(writer.into_inner())
+    pending.take_piece(alloc, source, input, writer)?;
+    pending.take_end(alloc, source, writer)?;
+    Ok(())
 }

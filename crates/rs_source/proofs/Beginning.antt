@@ -1,6 +1,7 @@
 -- When a source can be made.
-use Rattle.std.proofs.Common.{◌≡◌, ◌<◌, ℕ, Bool, true, false, List, refl, arith, inl, inr, IsTrue}
+use Rattle.std.proofs.Common.{◌≡◌, ◌<◌, ℕ, Bool, true, false, List, Some, refl, arith, inl, inr, subst, IsTrue}
 use Rattle.std.proofs.lemmas.Bool.{cases_lt}
+use Rattle.rs_disk.specs.Medium.{DiskState}
 use Rattle.rs_record.specs.Base.{is_base}
 use Rattle.rs_directory.specs.Limit.{IsLimit}
 use Rattle.rs_image.specs.Reach.{blocks_of_disk}
@@ -8,7 +9,8 @@ use Rattle.rs_store.specs.declared.formatting.FormatFault.{FormatFault}
 use Rattle.rs_store.specs.declared.formatting.FormatFault.TheVariants as formattings
 use Rattle.rs_source.specs.declared.program.ProgramError.TheVariants as errors
 use Rattle.rs_source.specs.Arguments.{error_of_format}
-use Rattle.rs_source.specs.Files.{MayBegin}
+use Rattle.rs_source.specs.declared.file.NoSource.{NoSource}
+use Rattle.rs_source.specs.Files.{MayBegin, RefusesFormat, IsUnformatted}
 
 true_or_not : (b : Bool) → (b ≡ false → ⊥) → IsTrue b
 true_or_not true not_false = refl
@@ -47,3 +49,10 @@ device_alone formattings.BadLimit is = absurd cc
 device_alone formattings.TooSmall is = absurd cc
 device_alone formattings.Device is = (λ bad. absurd cc, λ bad. absurd cc, λ bad. absurd cc)
 device_alone formattings.NoMemory is = absurd cc
+
+-- the file was made, and no source on it
+pub unformatted : {D : Type 0} (device : D → DiskState) (base : List ℕ) (limit : ℕ) (start : DiskState) (lack : NoSource D) (disk to : D) (fault : FormatFault)
+    → lack.disk ≡ Some disk → lack.error ≡ error_of_format fault → device to ≡ start → RefusesFormat base limit (device to) (device disk) fault
+    → IsUnformatted device base limit start lack
+unformatted device base limit start lack disk to fault is error state refuses =
+    rw is (fault, error, subst (λ (s : DiskState). RefusesFormat base limit s (device disk) fault) state refuses)

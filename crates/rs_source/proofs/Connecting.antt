@@ -11,22 +11,23 @@ use Rattle.rs_http.specs.declared.fault.FrontFault.{FrontFault}
 use Rattle.rs_http.specs.declared.fault.FrontFault.TheVariants.{Read, Write}
 use Rattle.rs_http.specs.declared.serve.Served.{Served}
 use Rattle.rs_store.specs.Advancing.{GoesOnBy, GoesOnOnce}
-use Rattle.rs_http.specs.Turn.{turn}
+use Rattle.rs_store.specs.Laws.{RestIsIdle}
+use Rattle.rs_recovery.specs.Prefixes.{IsRunOf, IdleIsRun, RunsJoin}
+use Rattle.rs_http.specs.Counted.{RunsAtMost}
+use Rattle.rs_http.specs.Turn.{Turn}
 use Rattle.rs_http.specs.Serving.{Serves, Breaks, Halts}
-use Rattle.rs_source.specs.Serving.{Connects, Connections}
+use Rattle.rs_source.specs.Serving.{Requests, MayConnect, Connections}
 
 fold_of-append : (s : Source) (commands more : List (Command × ℕ)) → fold_of s (commands ++ more) ≡ fold_of (fold_of s commands) more
 fold_of-append s [] more = refl
 fold_of-append s (c ∷ commands) more = fold_of-append (state_after s (step s c.0 c.1)) commands more
 
-module _ {D : Type 0} (device : D → DiskState) (old new : Stored D) where
-  -- each outcome of a request
-  pub request_connects : (now : ℕ) (ends : Ends) (result : Result Served FrontFault) → IfOk result (Serves (turn device old now new) ends)
-      → (IsErrOf result Read → Breaks (turn device old now new) ends) → (IsErrOf result Write → Halts (turn device old now new) ends)
-      → GoesOnOnce device old now new → Connects device old new
-  request_connects now ends (Ok served) ok read write on = inr (now, ends, inl (served, ok), on)
-  request_connects now ends (Err Read) ok read write on = inr (now, ends, inr (inl (read refl)), on)
-  request_connects now ends (Err Write) ok read write on = inr (now, ends, inr (inr (write refl)), on)
+-- each outcome of a request
+pub request_is : {D : Type 0} {device : D → DiskState} (turn : Turn device) (ends : Ends) (result : Result Served FrontFault) → IfOk result (Serves turn ends)
+    → (IsErrOf result Read → Breaks turn ends) → (IsErrOf result Write → Halts turn ends) → Requests turn ends
+request_is turn ends (Ok served) ok read write = inl (served, ok)
+request_is turn ends (Err Read) ok read write = inr (inl (read refl))
+request_is turn ends (Err Write) ok read write = inr (inr (write refl))
 
 module _ {D : Type 0} (device : D → DiskState) where
   -- a source that got no request
@@ -46,9 +47,9 @@ module _ {D : Type 0} (device : D → DiskState) where
     holds = λ s held free. subst (Holds device new) (sym (fold_of-append s first second)) (b.holds (fold_of s first) (a.holds s held (b.opened free)) free);
   }
 
-  connection_goes : (old new : Stored D) → Connects device old new → (commands : List (Command × ℕ)) × (length commands ≤ 1) × GoesOnBy device old new commands
+  connection_goes : (old new : Stored D) → MayConnect device old new → (commands : List (Command × ℕ)) × (length commands ≤ 1) × GoesOnBy device old new commands
   connection_goes old new (inl same) = ([], omega arith, stays old new same)
-  connection_goes old new (inr came) = (came.3.commands, came.3.few, came.3.goes_on)
+  connection_goes old new (inr came) = (came.once.commands, came.once.few, came.once.goes_on)
 
   -- at most one command a connection makes the state that is held after the connections
   pub connections_go : (count : ℕ) (old new : Stored D) → Connections device old count new
@@ -58,3 +59,19 @@ module _ {D : Type 0} (device : D → DiskState) where
       let before = connections_go count old c.0 c.1 in
       let last = connection_goes c.0 new c.2 in
       (before.0 ++ last.0, omega (arith, length-append before.0 last.0, before.1, last.1), follows old c.0 new before.0 last.0 before.2 last.2)
+
+module _ {D : Type 0} (device : D → DiskState) (rest : RestIsIdle device) (idle : IdleIsRun device) (join : RunsJoin device) where
+  nothing_runs : (old new : Stored D) → new ≡ old → IsRunOf device old [] new
+  nothing_runs old new same = subst (λ (x : Stored D). IsRunOf device old [] x) (sym same) (idle old old (rest old))
+
+  connection_runs : (old new : Stored D) → MayConnect device old new → RunsAtMost device old 1 new
+  connection_runs old new (inl same) = ([], omega arith, nothing_runs old new same)
+  connection_runs old new (inr came) = came.run
+
+  -- the runs of the connections, one after another, are a run
+  pub connections_run : (count : ℕ) (old new : Stored D) → Connections device old count new → RunsAtMost device old count new
+  connections_run zero old new same = ([], omega arith, nothing_runs old new same)
+  connections_run (suc count) old new c =
+      let before = connections_run count old c.0 c.1 in
+      let last = connection_runs c.0 new c.2 in
+      (before.0 ++ last.0, omega (arith, length-append before.0 last.0, before.1, last.1), join old c.0 new before.0 last.0 before.2 last.2)

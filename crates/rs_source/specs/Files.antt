@@ -1,17 +1,21 @@
 -- Why there is no source on a file.
 use Rattle.std.specs.Prelude.{◌≡◌, ◌⊎◌, ◌≤◌, ℕ, List, Err, MatchOption, IsTrue}
 use Rattle.rs_disk.specs.Medium.{DiskState}
+use Rattle.rs_disk.specs.Runs.{RunsWriting}
 use Rattle.rs_record.specs.Base.{is_base}
 use Rattle.rs_directory.specs.Limit.{IsLimit}
 use Rattle.rs_file.specs.Replay.{opened}
+use Rattle.rs_store.specs.Formatting.{HasCauses}
 use Rattle.rs_store.specs.Opening.{IsNotOpened}
 use Rattle.rs_store.specs.Copied.{AnswersCopy}
 use Rattle.rs_store.specs.Source.{Stored}
+use Rattle.rs_store.specs.declared.formatting.FormatFault.{FormatFault}
+use Rattle.rs_store.specs.declared.formatting.FormatFault.TheVariants as formatting
 use Rattle.rs_store.specs.declared.opening.OpenFault.{OpenFault}
 use Rattle.rs_store.specs.declared.copying.CopyRefusal.{CopyRefusal}
 use Rattle.rs_source.specs.declared.file.NoSource.{NoSource}
 use Rattle.rs_source.specs.declared.program.ProgramError.TheVariants.{Exists, Device}
-use Rattle.rs_source.specs.Arguments.{error_of_opening, error_of_copy}
+use Rattle.rs_source.specs.Arguments.{error_of_format, error_of_opening, error_of_copy}
 
 -- a source can be made so: the base and the limit are lawful, and the disk has room
 pub record MayBegin (base : List ℕ) (limit size : ℕ) : Type 0 where
@@ -29,6 +33,20 @@ IsUnopened device first lack =
 -- a new file could not be made as a disk: its name is taken, or the system failed
 abbrev pub IsUnmade : {D : Type 0} → NoSource D → Type 0
 IsUnmade lack = MatchOption lack.disk ((lack.error ≡ Exists) ⊎ (lack.error ≡ Device)) (λ _. ¬ (lack.error ≡ Exists))
+
+-- A formatting of a disk was refused with this fault. BadBase, BadLimit and TooSmall come exactly where their cause is
+-- there, in this order; Device only where a call failed; and any other fault leaves the disk as it was.
+pub record RefusesFormat (base : List ℕ) (limit : ℕ) (old new : DiskState) (fault : FormatFault) : Type 0 where
+  pub causes : HasCauses old.size base limit (λ cause. fault ≡ cause)
+  pub untouched : ¬ (fault ≡ formatting.Device) → new ≡ old
+  pub runs : RunsWriting (fault ≡ formatting.Device) old new
+
+-- No source was made on a new file, which would be this disk at first. The file could not be made as a disk; or it was,
+-- and its formatting was refused with the fault that this error names.
+abbrev pub IsUnformatted : {D : Type 0} → (D → DiskState) → List ℕ → ℕ → DiskState → NoSource D → Type 0
+IsUnformatted device base limit start lack =
+    MatchOption lack.disk ((lack.error ≡ Exists) ⊎ (lack.error ≡ Device))
+    (λ disk. (fault : FormatFault) × (lack.error ≡ error_of_format fault) × RefusesFormat base limit start (device disk) fault)
 
 -- No source was copied to a new file, which would be this disk at first. The file could not be made as a disk; or it was,
 -- and the source answers so.

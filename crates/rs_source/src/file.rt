@@ -10,7 +10,7 @@ ghost use Rattle.rs_file.specs.File.{state_of as device_of};
 ghost use Rattle.rs_store.specs.OnlyReads.{OnlyReads};
 ghost use Rattle.rs_store.specs.Source.{Holds, state_of};
 ghost use Rattle.rs_source.specs.Arguments.{error_of_file, IsOfCopy, IsOfFormat, IsOfOpen};
-ghost use Rattle.rs_source.specs.Files.{MayBegin, IsUncopied, IsUnmade, IsUnopened};
+ghost use Rattle.rs_source.specs.Files.{MayBegin, IsUncopied, IsUnformatted, IsUnmade, IsUnopened};
 
 use crate::command::SourceArguments;
 use crate::program::ProgramError;
@@ -70,8 +70,8 @@ impl<D: Drop> From<NoSource<D>> for ProgramError {
 ///
 /// [`ProgramError::Exists`] where the name is taken, and [`ProgramError::Device`] where the file cannot
 /// be made. Then [`ProgramError::BadBase`], [`ProgramError::BadLimit`] and [`ProgramError::TooSmall`],
-/// in this order; [`ProgramError::Device`] where a call on the file fails; and
-/// [`ProgramError::NoMemory`]. After each of these the file stays.
+/// in this order, exactly where their cause is there; [`ProgramError::Device`] where a call on the file
+/// fails; and [`ProgramError::NoMemory`]. After each of these the file stays.
 pub fn format_file<R: Files<File = File>, S: Start>(
     rt: &R,
     alloc: Global,
@@ -95,6 +95,10 @@ pub fn format_file<R: Files<File = File>, S: Start>(
         (MayBegin made.now.base.now made.now.limit made.now.size) }
     ensures err { IfErr result (λ lack. IsOfFormat lack.error) }
     ensures unmade { IfErr result IsUnmade }
+
+    // The file could not be made, or the error names the fault of the formatting.
+    ensures unformatted { IfErr result (IsUnformatted (device_of S.Start) made.now.base.now
+        made.now.limit (opened S.Start.first made.now.size)) }
 {
     let disk = FileDisk::create(rt, file, made.size, start)?;
     match Source::format(alloc, disk, made.base, made.limit, Moment::first()) {

@@ -3,13 +3,19 @@
 ghost use Rattle.std.specs.Prelude.{◌≡◌, ◌≤◌, ◌/◌, ℕ, List, IfOk, OnErr, length, min};
 ghost use Rattle.std.specs.Duration.{as_nanos};
 ghost use Rattle.rs_model.specs.declared.command.Command.{Command};
-ghost use Rattle.rs_store.specs.Advancing.{GoesOnBy};
-ghost use Rattle.rs_source.specs.Serving.{Connects, Connections};
+ghost use Rattle.rs_io.specs.Watch.{ends_of};
+ghost use Rattle.rs_store.specs.Advancing.{GoesOnBy, GoesOnOnce};
+ghost use Rattle.rs_recovery.specs.Prefixes.{HasAnswered};
+ghost use Rattle.rs_http.specs.Counted.{RunsAtMost};
+ghost use Rattle.rs_http.specs.Turn.{turn};
+ghost use Rattle.rs_source.specs.Serving.{Requests, MayConnect, Connections};
 
 use rs_disk::Disk;
 use rs_http::{FrontFault, Served, serve_one};
 use rs_io::Watched;
+use rs_recovery::laws::runs_recover;
 use rs_store::Source;
+use rs_store::laws::held_sources_rest;
 use rs_time::Moment;
 use std::alloc::Global;
 use std::io::{self, BufReader, BufWriter, Read, Write};
@@ -51,7 +57,7 @@ pub fn moment_of(since_1970: io::Result<Duration>) -> Moment
     }
 }
 
-/// Serves one request at the moment `now`.
+/// Serves one request at the moment `now`, between any two ends.
 fn serve_request<D: Disk, R: Read, W: Write>(
     alloc: Global,
     source: &mut Source<D>,
@@ -59,7 +65,12 @@ fn serve_request<D: Disk, R: Read, W: Write>(
     writer: &mut Watched<W>,
     now: Moment,
 ) -> Result<Served, FrontFault>
-    ensures { Connects D.state source.old source.new }
+    // What these two ends gave and took is one request, whatever the result.
+    ensures request { Requests (turn D.state source.old now source.new)
+        (ends_of R.remaining reader.old reader.new W.contents writer.old writer.new) }
+
+    ensures once { GoesOnOnce D.state source.old now source.new }
+    ensures run { RunsAtMost D.state source.old 1 source.new }
 {
     serve_one(alloc, source, reader, writer, now)
 }
@@ -76,7 +87,7 @@ fn serve_stream<D: Disk>(
     stream: &TcpStream,
     now: Moment,
 ) -> bool
-    ensures { Connects D.state source.old source.new }
+    ensures { MayConnect D.state source.old source.new }
 {
     let Ok(input) = BufReader::with_capacity(alloc, READ_AHEAD, stream) else {
         return false;
@@ -131,7 +142,7 @@ fn serve_next<D: Disk, C: Clock>(
     listener: &TcpListener,
     clock: &C,
 )
-    ensures { Connects D.state source.old source.new }
+    ensures { MayConnect D.state source.old source.new }
 {
     let Ok((stream, _)) = listener.accept() else {
         return;
@@ -146,8 +157,11 @@ fn serve_next<D: Disk, C: Clock>(
 /// shows when the connection is accepted.
 ///
 /// A fault of a connection ends only that connection. A connection that cannot be accepted, or for which there is no
-/// memory, counts too. At most one command a connection makes the state that the source holds then, unless the device
-/// failed in a command and closed the source.
+/// memory, counts too, and leaves the source as it was. At most one command a connection makes the state that the source
+/// holds then, unless the device failed in a command and closed the source.
+///
+/// Whether a connection is accepted, and what its client sends and gets, no clause says, since sockets have no contract:
+/// that is tested. The clauses say what the source did meanwhile.
 pub fn serve_connections<D: Disk, C: Clock>(
     alloc: Global,
     source: &mut Source<D>,
@@ -158,7 +172,16 @@ pub fn serve_connections<D: Disk, C: Clock>(
     ensures connections { Connections D.state source.old count source.new }
     ensures goes_on { (commands : List (Command × ℕ)) × (length commands ≤ count)
         × GoesOnBy D.state source.old source.new commands }
+
+    // The connections together are a run of at most one counted command each. So whenever the disk
+    // stops, it holds the state after the first of these commands.
+    ensures run { RunsAtMost D.state source.old count source.new }
+
+    // Where the source held a state, its disk saw commands answered from that state on.
+    ensures answered { HasAnswered D.state source.old source.new }
 {
+    held_sources_rest::<D>();
+    runs_recover::<D>();
     for _ in 0..count {
         serve_next(alloc, source, listener, clock);
     }

@@ -12,7 +12,7 @@ pub mod Started
 pub mod Received
 pub mod Turns
 pub mod Moments
-pub mod Replies
+pub mod Answering
 pub mod Early
 pub mod UsedBlocks
 pub mod Finished

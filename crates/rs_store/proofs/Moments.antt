@@ -1,11 +1,9 @@
--- Each moment of a run of commands.
+-- Each moment of commands that are answered, and what a run leaves at its end.
 use Rattle.std.proofs.Common.{◌≡◌, ◌⊎◌, inl, inr, ⊎_elim, ℕ, suc, ◌+◌, ◌<◌, ◌≤◌, Bool, true, false, ◌&&◌, List, [], ◌∷◌, ◌++◌, take, refl, sym, ◌∙◌, ap, subst, arith, cond, Result, Ok, Err, true≢false}
 use Rattle.std.specs.Prelude.{nat_le}
-use Rattle.std.specs.List.{AllByRecursion}
-use Rattle.rs_disk.specs.Medium.{DiskState, IsMedium, IsImage}
+use Rattle.rs_disk.specs.Medium.{DiskState}
 use Rattle.rs_disk.specs.Leaves.{Leaves}
-use Rattle.rs_disk.specs.Runs.{Rests}
-use Rattle.rs_store.proofs.FromBelow.{goes_on, goes_further, weaker, exit_images}
+use Rattle.rs_store.proofs.FromBelow.{goes_further, weaker}
 use Rattle.rs_model.specs.State.{Source}
 use Rattle.rs_model.specs.Step.{step, state_after, fold_of}
 use Rattle.rs_model.specs.declared.command.Command.{Command}
@@ -18,8 +16,9 @@ use Rattle.rs_store.specs.Commands.{Leads}
 use Rattle.rs_store.specs.Answered.{Answers}
 use Rattle.rs_store.specs.declared.running.Ack.{Ack}
 use Rattle.rs_store.specs.Counted.{is_accepted, is_device, is_in_doubt, answered, counted_commands, acknowledged, begun}
-use Rattle.rs_store.specs.Runs.{InTurn, StandsForPrefix}
-use Rattle.rs_store.proofs.Turns.{idle_at, Commands, Acks, IsClosed, one, one_at_most, and_false, not_yet, by_then, none_yet, acknowledged_cons, closed_run, none_counts, none_acknowledged, closed_is_no_ok, closed_is_no_device}
+use Rattle.rs_store.specs.Runs.{InTurn, StandsForPrefix, Condition, Holding, InDoubt, StandsIn, condition_after, AreAnswered}
+use Rattle.rs_store.specs.Laws.{AreClosed}
+use Rattle.rs_store.proofs.Turns.{Commands, Acks, one, one_at_most, and_false, not_yet, by_then, acknowledged_cons, closed_run, none_counts, none_acknowledged, closed_is_no_ok, closed_is_no_device}
 
 -- What a command with any refusal but Device leaves.
 pub not_done : {D : Type 0} (device : D → DiskState) (old new : Stored D) (s : Source) (command : Command) (now : ℕ) (refusal : Refusal)
@@ -33,135 +32,150 @@ pub is_device_or_not : (refusal : Refusal) → (refusal ≡ Device) ⊎ (is_devi
 is_device_or_not Device = inl refl
 is_device_or_not refusal = inr refl
 
-module _ {D : Type 0} (device : D → DiskState) (sound : (disk : D) → IsMedium (device disk).size (device disk).now) where
-  abbrev ack : Result Reply Refusal → ℕ → Ack
-  ack reply n = record { reply = reply; at_call = n }
+abbrev ack : Result Reply Refusal → ℕ → Ack
+ack reply n = record { reply = reply; at_call = n }
 
-  module _ (s : Source) (old mid new : Stored D) (c : Command × ℕ) (cs : Commands) (acks : Acks) (n : ℕ) (at : n ≡ (device mid.disk).calls) (turn : InTurn device mid cs acks new)
-      (later : (device old.disk).calls ≤ (device mid.disk).calls) where
-    abbrev Before : Result Reply Refusal → ℕ → List ℕ → Type 0
-    Before reply = StandsForPrefix s (c ∷ cs) (ack reply n ∷ acks)
+-- the calls do not fall
+pub answered_rise : (old : DiskState) (is : Condition) (cs : Commands) (acks : Acks) (new : DiskState) → AreAnswered old is cs acks new → old.calls ≤ new.calls
+answered_rise old is [] [] new all = all.later
+answered_rise old is (c ∷ cs) (a ∷ acks) new all =
+    omega (arith, all.1.idle.later, all.1.within.later, answered_rise all.0 (condition_after is c a.reply) cs acks new all.2)
+answered_rise old is cs acks new all = absurd all
 
-    -- the commands after an accepted one
-    more : (t : Source) (reply : Reply) → step s c.0 c.1 ≡ Ok (t, reply) → (m : ℕ) (image : List ℕ) → n ≤ m → StandsForPrefix t cs acks m image → Before (Ok reply) m image
-    more t reply steps m image le p = record {
-      j = suc p.j;
-      least = omega (arith, p.least, one_at_most (nat_le n m), acknowledged_cons m (ack (Ok reply) n) acks);
-      most = (let all : begun m (ack (Ok reply) n ∷ acks) ≡ 1 + begun m acks = ap (λ (b : Bool). 1 + cond b (begun m acks) 0) (by_then m n le) in omega (arith, all, p.most));
-      stands = subst (λ (x : Source). StandsFor image (fold_of x (take p.j (counted_commands cs acks)))) (sym (ap (state_after s) steps)) p.stands;
-    }
+-- before the first call nothing was acknowledged
+none_before : (m : ℕ) (old : DiskState) (is : Condition) (cs : Commands) (acks : Acks) (new : DiskState) → AreAnswered old is cs acks new → m < old.calls → acknowledged m acks ≡ 0
+none_before m old is [] [] new all lt = refl
+none_before m old is (c ∷ cs) (a ∷ acks) new all lt =
+    let mid : DiskState = all.0 in
+    let early : m < mid.calls = omega (arith, lt, all.1.idle.later, all.1.within.later) in
+    let at : a.at_call ≡ mid.calls = all.1.counted in
+    let here : one (is_accepted a && nat_le a.at_call m) ≡ 0 = ap (λ (b : Bool). one (is_accepted a && b)) (not_yet m a.at_call (omega (arith, early, at))) ∙ and_false (is_accepted a) in
+    omega (arith, here, none_before m mid (condition_after is c a.reply) cs acks new all.2 early, acknowledged_cons m a acks)
+none_before m old is cs acks new all lt = absurd all
 
-    -- the old state, while nothing is acknowledged
-    at_first : (reply : Result Reply Refusal) (m : ℕ) (image : List ℕ) → acknowledged m (ack reply n ∷ acks) ≡ 0 → StandsFor image s → Before reply m image
-    at_first reply m image none stands = record { j = 0; least = omega (arith, none); most = omega arith; stands = stands }
+-- a closed source answers Closed to all, and the command in doubt stays in doubt
+pub all_closed : (old : DiskState) (s t : Source) (cs : Commands) (acks : Acks) (new : DiskState) → AreAnswered old (InDoubt s t) cs acks new → AreClosed acks
+all_closed old s t [] [] new all = tt
+all_closed old s t (c ∷ cs) (a ∷ acks) new all = (all.1.reply, all_closed all.0 s t cs acks new all.2)
+all_closed old s t cs acks new all = absurd all
 
-    unanswered : (reply : Result Reply Refusal) (m : ℕ) → m < n → acknowledged m (ack reply n ∷ acks) ≡ 0
-    unanswered reply m lt =
-        let here : one (is_accepted (ack reply n) && nat_le n m) ≡ 0 = ap (λ (b : Bool). one (is_accepted (ack reply n) && b)) (not_yet m n lt) ∙ and_false (is_accepted (ack reply n)) in
-        let rest : acknowledged m acks ≡ 0 = none_yet device mid cs acks new m turn (omega (arith, lt, at)) in
-        omega (arith, here, rest, acknowledged_cons m (ack reply n) acks)
+stays_in_doubt : (old : DiskState) (s t : Source) (cs : Commands) (acks : Acks) (new : DiskState) → AreAnswered old (InDoubt s t) cs acks new
+    → Leaves old new (λ _. StandsIn (InDoubt s t))
+stays_in_doubt old s t [] [] new all = all
+stays_in_doubt old s t (c ∷ cs) (a ∷ acks) new all =
+    let P : ℕ → List ℕ → Type 0 = λ _. StandsIn (InDoubt s t) in
+    let Either : ℕ → List ℕ → Type 0 = λ m image. P m image ⊎ P m image in
+    goes_further old all.1.ready new P P all.1.idle (λ m image lt stands. stands)
+    (goes_further all.1.ready all.0 new Either P all.1.within (λ m image lt either. ⊎_elim (λ x. x) (λ x. x) either) (stays_in_doubt all.0 s t cs acks new all.2))
+stays_in_doubt old s t cs acks new all = absurd all
 
-    -- the next state, before an accepted command is answered
-    at_next : (t : Source) (reply : Reply) → step s c.0 c.1 ≡ Ok (t, reply) → (m : ℕ) (image : List ℕ) → m < n → StandsFor image t → Before (Ok reply) m image
-    at_next t reply steps m image lt stands = record {
-      j = 1;
-      least = omega (arith, unanswered (Ok reply) m lt);
-      most = omega arith;
-      stands = subst (λ (x : Source). StandsFor image x) (sym (ap (state_after s) steps)) stands;
-    }
+module _ (s : Source) (old mid new : DiskState) (c : Command × ℕ) (cs : Commands) (acks : Acks) (n : ℕ) (at : n ≡ mid.calls)
+    (none_yet : (m : ℕ) → m < mid.calls → acknowledged m acks ≡ 0) where
+  abbrev next : Source
+  next = state_after s (step s c.0 c.1)
 
-    accepted : (t : Source) (reply : Reply) → step s c.0 c.1 ≡ Ok (t, reply) → Leaves (device old.disk) (device mid.disk) (λ _ image. StandsFor image s ⊎ StandsFor image t)
-        → Leaves (device mid.disk) (device new.disk) (StandsForPrefix t cs acks) → Leaves (device old.disk) (device new.disk) (Before (Ok reply))
-    accepted t reply steps within rest =
-        goes_further (device old.disk) (device mid.disk) (device new.disk) (λ _ image. StandsFor image s ⊎ StandsFor image t) (Before (Ok reply)) within
-        (λ m image lt either.
-        let early : m < n = omega (arith, lt, at) in
-        ⊎_elim (at_first (Ok reply) m image (unanswered (Ok reply) m early)) (at_next t reply steps m image early) either)
-        (record { later = rest.later; before = rest.before; each = λ m image ge le left. more t reply steps m image (omega (arith, ge, at)) (rest.each m image ge le left) })
+  abbrev Before : Result Reply Refusal → ℕ → List ℕ → Type 0
+  Before reply = StandsForPrefix s (c ∷ cs) (ack reply n ∷ acks)
 
-    -- the commands after a refused one
-    still : (refusal : Refusal) → is_device (Err refusal) ≡ false → (m : ℕ) (image : List ℕ) → n ≤ m → StandsForPrefix s cs acks m image → Before (Err refusal) m image
-    still refusal other m image le p = record {
-      j = p.j;
-      least = omega (arith, p.least, acknowledged_cons m (ack (Err refusal) n) acks);
-      most = (let all : begun m (ack (Err refusal) n ∷ acks) ≡ 0 + begun m acks = (λ i. one (other i) + cond (by_then m n le i) (begun m acks) 0) in omega (arith, all, p.most));
-      stands = subst (λ (l : Commands). StandsFor image (fold_of s (take p.j (answered is_accepted cs acks ++ l)))) (sym (ap (λ (b : Bool). cond b (c ∷ answered is_in_doubt cs acks) (answered is_in_doubt cs acks)) other)) p.stands;
-    }
+  unanswered : (reply : Result Reply Refusal) (m : ℕ) → m < mid.calls → acknowledged m (ack reply n ∷ acks) ≡ 0
+  unanswered reply m lt =
+      let here : one (is_accepted (ack reply n) && nat_le n m) ≡ 0 = ap (λ (b : Bool). one (is_accepted (ack reply n) && b)) (not_yet m n (omega (arith, lt, at))) ∙ and_false (is_accepted (ack reply n)) in
+      omega (arith, here, none_yet m lt, acknowledged_cons m (ack reply n) acks)
 
-    refused : (refusal : Refusal) → is_device (Err refusal) ≡ false → Leaves (device old.disk) (device mid.disk) (λ _ image. StandsFor image s)
-        → Leaves (device mid.disk) (device new.disk) (StandsForPrefix s cs acks) → Leaves (device old.disk) (device new.disk) (Before (Err refusal))
-    refused refusal other within rest =
-        goes_further (device old.disk) (device mid.disk) (device new.disk) (λ _ image. StandsFor image s) (Before (Err refusal)) within
-        (λ m image lt stands. at_first (Err refusal) m image (unanswered (Err refusal) m (omega (arith, lt, at))) stands)
-        (record { later = rest.later; before = rest.before; each = λ m image ge le left. still refusal other m image (omega (arith, ge, at)) (rest.each m image ge le left) })
+  -- the old state, while nothing is acknowledged
+  at_first : (reply : Result Reply Refusal) (m : ℕ) (image : List ℕ) → acknowledged m (ack reply n ∷ acks) ≡ 0 → StandsFor image s → Before reply m image
+  at_first reply m image none stands = record { j = 0; least = omega (arith, none); most = omega arith; stands = stands }
 
-    -- the device failed, and each later answer is Closed
-    in_doubt : Rests (device mid.disk) (device new.disk) → AllByRecursion IsClosed acks → Leaves (device old.disk) (device mid.disk) (λ _ image. StandsFor image s ⊎ StandsFor image (state_after s (step s c.0 c.1)))
-        → Leaves (device old.disk) (device new.disk) (Before (Err Device))
-    in_doubt rest closed within =
-        goes_on (device old.disk) (device mid.disk) (device new.disk) (Before (Err Device))
-        (weaker (device old.disk) (device mid.disk) Either (Before (Err Device)) both within)
-        (weaker (device mid.disk) (device new.disk) (λ _. IsImage (device mid.disk).now) (Before (Err Device))
-        (λ m image is. both m image (exit_images (device old.disk) (device mid.disk) Either within image is)) rest.leaves)
-      where
-        Either : ℕ → List ℕ → Type 0
-        Either m image = StandsFor image s ⊎ StandsFor image (state_after s (step s c.0 c.1))
+  -- the next state, before an accepted command is answered
+  at_next : (reply : Reply) (m : ℕ) (image : List ℕ) → m < mid.calls → StandsFor image next → Before (Ok reply) m image
+  at_next reply m image lt stands = record { j = 1; least = omega (arith, unanswered (Ok reply) m lt); most = omega arith; stands = stands }
 
-        none : (m : ℕ) → acknowledged m (ack (Err Device) n ∷ acks) ≡ 0
-        none m = omega (arith, acknowledged_cons m (ack (Err Device) n) acks, none_acknowledged m acks closed)
+  -- the commands after an accepted one
+  more : (reply : Reply) (m : ℕ) (image : List ℕ) → n ≤ m → StandsForPrefix next cs acks m image → Before (Ok reply) m image
+  more reply m image le p = record {
+    j = suc p.j;
+    least = omega (arith, p.least, one_at_most (nat_le n m), acknowledged_cons m (ack (Ok reply) n) acks);
+    most = (let all : begun m (ack (Ok reply) n ∷ acks) ≡ 1 + begun m acks = ap (λ (b : Bool). 1 + cond b (begun m acks) 0) (by_then m n le) in omega (arith, all, p.most));
+    stands = p.stands;
+  }
 
-        alone : counted_commands (c ∷ cs) (ack (Err Device) n ∷ acks) ≡ c ∷ []
-        alone = λ i. none_counts is_accepted closed_is_no_ok cs acks closed i ++ c ∷ none_counts is_in_doubt closed_is_no_device cs acks closed i
+  accepted : (reply : Reply) → Leaves old mid (λ _ image. StandsFor image s ⊎ StandsFor image next)
+      → Leaves mid new (StandsForPrefix next cs acks) → Leaves old new (Before (Ok reply))
+  accepted reply within rest =
+      goes_further old mid new (λ _ image. StandsFor image s ⊎ StandsFor image next) (Before (Ok reply)) within
+      (λ m image lt either. ⊎_elim (at_first (Ok reply) m image (unanswered (Ok reply) m lt)) (at_next reply m image lt) either)
+      (record { later = rest.later; before = rest.before; each = λ m image ge le left. more reply m image (omega (arith, ge, at)) (rest.each m image ge le left) })
 
-        next : (m : ℕ) (image : List ℕ) → StandsFor image (state_after s (step s c.0 c.1)) → Before (Err Device) m image
-        next m image stands = record {
-          j = 1;
-          least = omega (arith, none m);
-          most = omega arith;
-          stands = subst (λ (l : Commands). StandsFor image (fold_of s (take 1 l))) (sym alone) stands;
-        }
+  -- the commands after a refused one whose answer is not Device
+  still : (refusal : Refusal) → is_device (Err refusal) ≡ false → (m : ℕ) (image : List ℕ) → n ≤ m → StandsForPrefix s cs acks m image → Before (Err refusal) m image
+  still refusal other m image le p = record {
+    j = p.j;
+    least = omega (arith, p.least, acknowledged_cons m (ack (Err refusal) n) acks);
+    most = (let all : begun m (ack (Err refusal) n ∷ acks) ≡ 0 + begun m acks = (λ i. one (other i) + cond (by_then m n le i) (begun m acks) 0) in omega (arith, all, p.most));
+    stands = subst (λ (l : Commands). StandsFor image (fold_of s (take p.j (answered is_accepted cs acks ++ l)))) (sym (ap (λ (b : Bool). cond b (c ∷ answered is_in_doubt cs acks) (answered is_in_doubt cs acks)) other)) p.stands;
+  }
 
-        both : (m : ℕ) (image : List ℕ) → StandsFor image s ⊎ StandsFor image (state_after s (step s c.0 c.1)) → Before (Err Device) m image
-        both m image either = ⊎_elim (at_first (Err Device) m image (none m)) (next m image) either
+  refused : (refusal : Refusal) → is_device (Err refusal) ≡ false → Leaves old mid (λ _ image. StandsFor image s ⊎ StandsFor image s)
+      → Leaves mid new (StandsForPrefix s cs acks) → Leaves old new (Before (Err refusal))
+  refused refusal other within rest =
+      goes_further old mid new (λ _ image. StandsFor image s ⊎ StandsFor image s) (Before (Err refusal)) within
+      (λ m image lt either. at_first (Err refusal) m image (unanswered (Err refusal) m lt) (⊎_elim (λ x. x) (λ x. x) either))
+      (record { later = rest.later; before = rest.before; each = λ m image ge le left. still refusal other m image (omega (arith, ge, at)) (rest.each m image ge le left) })
 
-  failed : (s : Source) (old mid new : Stored D) (c : Command × ℕ) (cs : Commands) (acks : Acks) (n : ℕ) (refusal : Refusal) → refusal ≡ Device → n ≡ (device mid.disk).calls
-      → Holds device old s → Answers device old mid c.0 c.1 (Err refusal) → InTurn device mid cs acks new
-      → Leaves (device old.disk) (device new.disk) (StandsForPrefix s (c ∷ cs) (ack (Err refusal) n ∷ acks))
-  failed s old mid new c cs acks n refusal is at holds answers turn =
-      subst (λ (r : Refusal). Leaves (device old.disk) (device new.disk) (StandsForPrefix s (c ∷ cs) (ack (Err r) n ∷ acks))) (sym is)
-      (let here : Answers device old mid c.0 c.1 (Err Device) = subst (λ (r : Refusal). Answers device old mid c.0 c.1 (Err r)) is answers in
-      let after = closed_run device mid cs acks new (here.closes refl) turn in
-      in_doubt s old mid new c cs acks n at turn here.runs.runs.calls after.1 after.2 (here.leads s holds))
+  -- the device failed, and each later answer is Closed
+  failed : Leaves old mid (λ _ image. StandsFor image s ⊎ StandsIn (InDoubt s next) image) → AreAnswered mid (InDoubt s next) cs acks new
+      → Leaves old new (Before (Err Device))
+  failed within rest =
+      goes_further old mid new (λ _ image. StandsFor image s ⊎ StandsIn (InDoubt s next) image) (Before (Err Device)) within
+      (λ m image lt either. ⊎_elim (at_first (Err Device) m image (none m)) (both m image) either)
+      (weaker mid new (λ _. StandsIn (InDoubt s next)) (Before (Err Device)) both (stays_in_doubt mid s next cs acks new rest))
+    where
+      closed : AreClosed acks
+      closed = all_closed mid s next cs acks new rest
 
-  answer_then : (s : Source) (old mid new : Stored D) (c : Command × ℕ) (cs : Commands) (acks : Acks) (n : ℕ) (reply : Result Reply Refusal) → n ≡ (device mid.disk).calls
-      → Holds device old s → Answers device old mid c.0 c.1 reply → InTurn device mid cs acks new
-      → ((t : Source) → Holds device mid t → Leaves (device mid.disk) (device new.disk) (StandsForPrefix t cs acks))
-      → Leaves (device old.disk) (device new.disk) (StandsForPrefix s (c ∷ cs) (ack reply n ∷ acks))
-  answer_then s old mid new c cs acks n (Ok reply) at holds answers turn rest =
-      let lead = answers.leads s holds in
-      accepted s old mid new c cs acks n at turn answers.runs.runs.calls lead.0 reply lead.1 lead.3 (rest lead.0 lead.2)
-  answer_then s old mid new c cs acks n (Err refusal) at holds answers turn rest = ⊎_elim
-      (λ is. failed s old mid new c cs acks n refusal is at holds answers turn)
-      (λ other. let lead = not_done device old mid s c.0 c.1 refusal other (answers.leads s holds) in
-      refused s old mid new c cs acks n at turn answers.runs.runs.calls refusal other lead.1 (rest s lead.0))
-      (is_device_or_not refusal)
+      none : (m : ℕ) → acknowledged m (ack (Err Device) n ∷ acks) ≡ 0
+      none m = omega (arith, acknowledged_cons m (ack (Err Device) n) acks, none_acknowledged m acks closed)
 
-  -- at each moment of a run each image represents a prefix of the counted commands
-  pub each_moment : (s : Source) (old : Stored D) (cs : Commands) (acks : Acks) (new : Stored D) → Holds device old s → InTurn device old cs acks new
-      → Leaves (device old.disk) (device new.disk) (StandsForPrefix s cs acks)
-  each_moment s old [] [] new holds turn =
-      weaker (device old.disk) (device new.disk) (λ _ image. StandsFor image s) (StandsForPrefix s [] [])
-      (λ m image stands. record { j = 0; least = omega arith; most = omega arith; stands = stands }) (turn.holds s holds).1
-  each_moment s old (c ∷ cs) (a ∷ acks) new holds turn =
-      let ready = turn.0 in
-      let kept = turn.1.holds s holds in
-      let from_here : InTurn device ready (c ∷ cs) (a ∷ acks) new = (ready, idle_at device sound ready, turn.2, turn.3, turn.4, turn.5) in
-      goes_further (device old.disk) (device ready.disk) (device new.disk) (λ _ image. StandsFor image s) (StandsForPrefix s (c ∷ cs) (a ∷ acks)) kept.1
-      (λ m image lt stands. record { j = 0; least = omega (arith, none_yet device ready (c ∷ cs) (a ∷ acks) new m from_here lt); most = omega arith; stands = stands })
-      (answer_then s ready turn.2 new c cs acks a.at_call a.reply turn.4 kept.0 turn.3 turn.5 (λ t held. each_moment t turn.2 cs acks new held turn.5))
-  each_moment s old [] (a ∷ acks) new holds turn = absurd turn
-  each_moment s old (c ∷ cs) [] new holds turn = absurd turn
+      alone : counted_commands (c ∷ cs) (ack (Err Device) n ∷ acks) ≡ c ∷ []
+      alone = λ i. none_counts is_accepted closed_is_no_ok cs acks closed i ++ c ∷ none_counts is_in_doubt closed_is_no_device cs acks closed i
 
+      both : (m : ℕ) (image : List ℕ) → StandsIn (InDoubt s next) image → Before (Err Device) m image
+      both m image (inl stands) = at_first (Err Device) m image (none m) stands
+      both m image (inr stands) = record {
+        j = 1;
+        least = omega (arith, none m);
+        most = omega arith;
+        stands = subst (λ (l : Commands). StandsFor image (fold_of s (take 1 l))) (sym alone) stands;
+      }
+
+-- each image at each moment represents a prefix of the counted commands
+pub answered_leave_prefixes : (s : Source) (old : DiskState) (cs : Commands) (acks : Acks) (new : DiskState) → AreAnswered old (Holding s) cs acks new
+    → Leaves old new (StandsForPrefix s cs acks)
+answered_leave_prefixes s old [] [] new all =
+    weaker old new (λ _. StandsIn (Holding s)) (StandsForPrefix s [] []) (λ m image stands. record { j = 0; least = omega arith; most = omega arith; stands = stands }) all
+answered_leave_prefixes s old (c ∷ cs) (a ∷ acks) new all =
+    by a.reply all.1.within all.2 (λ t rest. answered_leave_prefixes t mid cs acks new rest) (λ m lt. none_before m mid (condition_after (Holding s) c a.reply) cs acks new all.2 lt)
+  where
+    ready : DiskState
+    ready = all.1.ready
+
+    mid : DiskState
+    mid = all.0
+
+    within : (k : Condition) → Leaves ready mid (λ _ image. StandsFor image s ⊎ StandsIn k image) → Leaves old mid (λ _ image. StandsFor image s ⊎ StandsIn k image)
+    within k meanwhile = goes_further old ready mid (λ _. StandsIn (Holding s)) (λ _ image. StandsFor image s ⊎ StandsIn k image) all.1.idle (λ m image lt stands. inl stands) meanwhile
+
+    by : (reply : Result Reply Refusal) → Leaves ready mid (λ _ image. StandsFor image s ⊎ StandsIn (condition_after (Holding s) c reply) image)
+        → AreAnswered mid (condition_after (Holding s) c reply) cs acks new
+        → ((t : Source) → AreAnswered mid (Holding t) cs acks new → Leaves mid new (StandsForPrefix t cs acks))
+        → ((m : ℕ) → m < mid.calls → acknowledged m acks ≡ 0)
+        → Leaves old new (StandsForPrefix s (c ∷ cs) (ack reply a.at_call ∷ acks))
+    by (Ok reply) meanwhile rest on none = accepted s old mid new c cs acks a.at_call all.1.counted none reply (within (condition_after (Holding s) c (Ok reply)) meanwhile) (on (state_after s (step s c.0 c.1)) rest)
+    by (Err Device) meanwhile rest on none = failed s old mid new c cs acks a.at_call all.1.counted none (within (condition_after (Holding s) c (Err Device)) meanwhile) rest
+    by (Err refusal) meanwhile rest on none = refused s old mid new c cs acks a.at_call all.1.counted none refusal refl (within (Holding s) meanwhile) (on s rest)
+answered_leave_prefixes s old cs acks new all = absurd all
+
+module _ {D : Type 0} (device : D → DiskState) where
   -- a source that is open at the end holds the state after the counted commands
   pub holds_all : (s : Source) (old : Stored D) (cs : Commands) (acks : Acks) (new : Stored D) → Holds device old s → InTurn device old cs acks new → new.is_closed ≡ false
       → Holds device new (fold_of s (counted_commands cs acks))

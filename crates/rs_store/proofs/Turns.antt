@@ -100,18 +100,6 @@ one_at_most false = omega arith
 pub acknowledged_cons : (m : ℕ) (a : Ack) (acks : Acks) → acknowledged m (a ∷ acks) ≡ one (is_accepted a && nat_le a.at_call m) + acknowledged m acks
 acknowledged_cons m a acks = refl
 
--- before its first call nothing of a run is acknowledged
-pub none_yet : {D : Type 0} (device : D → DiskState) (old : Stored D) (cs : Commands) (acks : Acks) (new : Stored D) (m : ℕ)
-    → InTurn device old cs acks new → m < (device old.disk).calls → acknowledged m acks ≡ 0
-none_yet {D} device old [] [] new m turn lt = refl
-none_yet {D} device old (c ∷ cs) (a ∷ acks) new m turn lt =
-    let late : m < a.at_call = omega (arith, lt, turn.4, turn.3.runs.runs.calls, turn.1.calls) in
-    let here : one (is_accepted a && nat_le a.at_call m) ≡ 0 = ap (λ (b : Bool). one (is_accepted a && b)) (not_yet m a.at_call late) ∙ and_false (is_accepted a) in
-    let rest : acknowledged m acks ≡ 0 = none_yet device turn.2 cs acks new m turn.5 (omega (arith, lt, turn.3.runs.runs.calls, turn.1.calls)) in
-    omega (arith, here, rest, acknowledged_cons m a acks)
-none_yet {D} device old [] (a ∷ acks) new m turn lt = absurd turn
-none_yet {D} device old (c ∷ cs) [] new m turn lt = absurd turn
-
 abbrev pub IsClosed : Ack → Type 0
 IsClosed a = a.reply ≡ Err Closed
 

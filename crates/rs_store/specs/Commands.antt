@@ -4,7 +4,7 @@ use Rattle.rs_disk.specs.Medium.{DiskState}
 use Rattle.rs_disk.specs.Leaves.{Leaves}
 use Rattle.rs_disk.specs.Runs.{HasFailed}
 use Rattle.rs_model.specs.State.{Source}
-use Rattle.rs_model.specs.Step.{step, state_after, moment_at}
+use Rattle.rs_model.specs.Step.{state_after, moment_at}
 use Rattle.rs_model.specs.declared.command.Command.{Command}
 use Rattle.rs_model.specs.declared.command.Refusal as model
 use Rattle.rs_model.specs.declared.command.Reply.{Reply}

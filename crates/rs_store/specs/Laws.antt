@@ -15,7 +15,7 @@ use Rattle.rs_store.specs.Source.{Stored, Holds}
 use Rattle.rs_store.specs.Commands.{Leads}
 use Rattle.rs_store.specs.Counted.{is_accepted, is_device, is_in_doubt, answered, counted_commands}
 use Rattle.rs_store.specs.Received.{AnswersFrom, coming_put}
-use Rattle.rs_store.specs.Runs.{IsIdle, InTurn, StandsForPrefix}
+use Rattle.rs_store.specs.Runs.{IsIdle, InTurn, StandsForPrefix, Holding, condition_behind, AreAnswered}
 
 -- If a put ends in Device before all of its body came, and the source held a state, each image of a crash meanwhile represents that
 -- state.
@@ -64,6 +64,22 @@ abbrev pub RefusedIsNotDone : {D : Type 0} → (D → DiskState) → Type 0
 RefusedIsNotDone {D} device = (old new : Stored D) (s : Source) (command : Command) (now : ℕ) (refusal : Refusal)
     → is_device (Err refusal) ≡ false → Leads device old new s (step s command now) (Err refusal)
     → Holds device new s × Leaves (device old.disk) (device new.disk) (λ _ image. StandsFor image s)
+
+-- The disk of a source that holds a state sees the commands of a run answered.
+abbrev pub RunsAreAnswered : {D : Type 0} → (D → DiskState) → Type 0
+RunsAreAnswered {D} device = (s : Source) (old : Stored D) (commands : List (Command × ℕ)) (acks : List Ack) (new : Stored D)
+    → Holds device old s → InTurn device old commands acks new
+    → AreAnswered (device old.disk) (Holding s) commands acks (device new.disk)
+
+-- Where the answers of a run leave no doubt, the source holds the state that they leave.
+abbrev pub OpenHoldsAnswered : {D : Type 0} → (D → DiskState) → Type 0
+OpenHoldsAnswered {D} device = (s t : Source) (old : Stored D) (commands : List (Command × ℕ)) (acks : List Ack) (new : Stored D)
+    → Holds device old s → InTurn device old commands acks new → condition_behind (Holding s) commands acks ≡ Holding t → Holds device new t
+
+-- When commands are answered, at each moment each image represents what a prefix of the counted ones makes.
+abbrev pub AnswersLeavePrefixes : Type 0
+AnswersLeavePrefixes = (s : Source) (old : DiskState) (commands : List (Command × ℕ)) (acks : List Ack) (new : DiskState)
+    → AreAnswered old (Holding s) commands acks new → Leaves old new (StandsForPrefix s commands acks)
 
 -- At each moment of a run, each image represents what a prefix of the counted commands makes of the state that the source held.
 abbrev pub RunsLeavePrefixes : {D : Type 0} → (D → DiskState) → Type 0

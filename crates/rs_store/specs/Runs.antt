@@ -1,7 +1,5 @@
 -- What a run of commands does to a source, and what a stop during it leaves.
-use Rattle.std.specs.Prelude.{◌≡◌, ℕ, ◌≤◌, true, List, [], ◌∷◌, take, Result, Ok, Err, MatchOption, if◌then◌else◌}
-use Rattle.std.specs.Bool.{MatchBool}
-use Rattle.std.specs.List.{AllByRecursion}
+use Rattle.std.specs.Prelude.{◌≡◌, ◌⊎◌, ℕ, ◌≤◌, true, List, [], ◌∷◌, take, Result, Ok, Err, MatchOption}
 use Rattle.rs_disk.specs.Medium.{DiskState}
 use Rattle.rs_disk.specs.Leaves.{Leaves}
 use Rattle.rs_disk.specs.Runs.{Rests}
@@ -16,7 +14,7 @@ use Rattle.rs_store.specs.declared.running.Ack.{Ack}
 use Rattle.rs_store.specs.Source.{Stored, Holds}
 use Rattle.rs_store.specs.Refusals.{named_as}
 use Rattle.rs_store.specs.Answered.{Answers}
-use Rattle.rs_store.specs.Counted.{counted_commands, acknowledged, begun, is_accepted, is_in_doubt}
+use Rattle.rs_store.specs.Counted.{counted_commands, acknowledged, begun}
 
 -- The source does no command: it may only have been read, or have met a put whose body did not come whole. It is as open or closed
 -- as it was, still holds the state that it held, and each image of a crash meanwhile represents it. While it is closed, only the
@@ -59,15 +57,50 @@ abbrev pub MayAnswer : Source → Command → ℕ → Result Reply Refusal → T
 MayAnswer s command now (Ok reply) = (t : Source) × (step s command now ≡ Ok (t, reply))
 MayAnswer s command now (Err refusal) = MatchOption (refusal_of s command now) (IsBeyondModel refusal) (λ r. refusal ≡ named_as r)
 
--- the state after a command with this answer
-abbrev pub state_then : Source → Command × ℕ → Ack → Source
-state_then s c a = if is_accepted a then state_after s (step s c.0 c.1) else s
+-- A source between two commands: it holds this state; or the device failed in a command that leads from the one state to the other, and
+-- the source is closed.
+pub data Condition : Type 0 where
+  Holding : Source → Condition
+  InDoubt : Source → Source → Condition
 
--- The answers to commands of a source that holds a state: those of the model, and after Device only Closed.
-abbrev pub AreReplies : Source → List (Command × ℕ) → List Ack → Type 0
-AreReplies s [] [] = Unit {0}
-AreReplies s (c ∷ commands) (a ∷ acks) =
-    MayAnswer s c.0 c.1 a.reply
-    × MatchBool (is_in_doubt a) (AllByRecursion (λ next. next.reply ≡ Err Closed) acks) (AreReplies (state_then s c a) commands acks)
-AreReplies s [] (a ∷ acks) = ⊥
-AreReplies s (c ∷ commands) [] = ⊥
+-- what an image of its disk represents then
+abbrev pub StandsIn : Condition → List ℕ → Type 0
+StandsIn (Holding s) image = StandsFor image s
+StandsIn (InDoubt s t) image = StandsFor image s ⊎ StandsFor image t
+
+-- What the source may answer to a command. A closed source answers only Closed.
+abbrev pub MayReply : Condition → Command × ℕ → Result Reply Refusal → Type 0
+MayReply (Holding s) c reply = MayAnswer s c.0 c.1 reply
+MayReply (InDoubt s t) c reply = reply ≡ Err Closed
+
+-- The source after a command, by the answer. After Ok it holds the model's next state. Device leaves a doubt whether the command was done.
+-- Any other refusal changes nothing.
+abbrev pub condition_after : Condition → Command × ℕ → Result Reply Refusal → Condition
+condition_after (Holding s) c (Ok reply) = Holding (state_after s (step s c.0 c.1))
+condition_after (Holding s) c (Err Device) = InDoubt s (state_after s (step s c.0 c.1))
+condition_after (Holding s) c (Err refusal) = Holding s
+condition_after (InDoubt s t) c reply = InDoubt s t
+
+-- the source after commands with these answers
+abbrev pub condition_behind : Condition → List (Command × ℕ) → List Ack → Condition
+condition_behind is (c ∷ commands) (a ∷ acks) = condition_behind (condition_after is c a.reply) commands acks
+condition_behind is commands acks = is
+
+-- One command is answered, as the disk sees it.
+-- `idle`: until it comes, the source may be read, and each image of a crash is of the source as it is.
+-- `within`: within the command, each image is of the source before the command or after it.
+-- `reply`: the source may answer so.
+-- `counted`: `at_call` is the disk's count of calls at the answer.
+pub record AnswersOne (old : DiskState) (is : Condition) (c : Command × ℕ) (a : Ack) (new : DiskState) : Type 0 where
+  pub ready : DiskState
+  pub idle : Leaves old ready (λ _. StandsIn is)
+  pub within : Leaves ready new (λ _ image. StandsIn is image ⊎ StandsIn (condition_after is c a.reply) image)
+  pub reply : MayReply is c a.reply
+  pub counted : a.at_call ≡ new.calls
+
+-- Commands are answered in their order, as the disk sees it. After the last one, too, the source may be read.
+abbrev pub AreAnswered : DiskState → Condition → List (Command × ℕ) → List Ack → DiskState → Type 0
+AreAnswered old is [] [] new = Leaves old new (λ _. StandsIn is)
+AreAnswered old is (c ∷ commands) (a ∷ acks) new =
+    (mid : DiskState) × AnswersOne old is c a mid × AreAnswered mid (condition_after is c a.reply) commands acks new
+AreAnswered old is commands acks new = ⊥

@@ -2,7 +2,7 @@
 //!
 //! Each function here does nothing. Its contract is a law that the check proves.
 
-ghost use Rattle.rs_store.specs.Laws.{EarlyFaultsLeave, HeldStands, RestIsIdle, TurnsGoOn, CallsRise, ClosedStays, ClosedCountNone, DeviceOrNoDoubt, RefusedIsNotDone, RunsLeavePrefixes, OpenHoldsAll};
+ghost use Rattle.rs_store.specs.Laws.{EarlyFaultsLeave, HeldStands, RestIsIdle, TurnsGoOn, CallsRise, ClosedStays, ClosedCountNone, DeviceOrNoDoubt, RefusedIsNotDone, RunsAreAnswered, OpenHoldsAnswered, AnswersLeavePrefixes, RunsLeavePrefixes, OpenHoldsAll};
 
 use rs_disk::Disk;
 
@@ -40,6 +40,18 @@ pub fn closed_sources_stay<D: Disk>()
 pub fn refused_is_not_done<D: Disk>()
     ensures kinds { DeviceOrNoDoubt }
     ensures kept { RefusedIsNotDone D.state }
+{}
+
+/// The disk of a source that holds a state sees the commands of a run answered, and the source then holds
+/// the state that the answers leave.
+pub fn runs_are_answered<D: Disk>()
+    ensures answered { RunsAreAnswered D.state }
+    ensures holds { OpenHoldsAnswered D.state }
+{}
+
+/// When commands are answered, a stop at any moment leaves a prefix of the counted ones.
+pub fn answers_leave_prefixes()
+    ensures { AnswersLeavePrefixes }
 {}
 
 /// A stop at any moment of a run leaves a prefix of its counted commands. At the end an open source holds

@@ -6,7 +6,7 @@ ghost use Rattle.rs_model.specs.State.{Source as State};
 ghost use Rattle.rs_model.specs.Step.{fold_of};
 ghost use Rattle.rs_store.specs.Source.{Holds};
 ghost use Rattle.rs_store.specs.Counted.{counted_commands};
-ghost use Rattle.rs_store.specs.Runs.{InTurn, StandsForPrefix, AreReplies};
+ghost use Rattle.rs_store.specs.Runs.{InTurn, StandsForPrefix, Holding, AreAnswered};
 
 use crate::{Refusal, Source};
 use rs_disk::Disk;
@@ -38,18 +38,22 @@ impl<D: Disk> Source<D> {
         ensures in_turn { IfOk result
             (λ acks. InTurn D.state self.old commands.now acks.items self.new) }
 
-        // If the source holds a state: a crash at any moment leaves a prefix of the counted commands
-        // that has each acknowledged one; at the end an open source holds them all; and the replies are
-        // those of the model.
+        // If the source holds a state, its disk sees these commands answered from that state on: the
+        // model accepts each that is answered Ok, with that reply and that next state; after Device each
+        // answer is Closed; and within a command each image of a crash represents the state before it or
+        // after it.
+        ensures answered { IfOk result (λ acks. (s : State) → Holds D.state self.old s
+            → AreAnswered (D.state self.old.disk) (Holding s) commands.now acks.items
+            (D.state self.new.disk)) }
+
+        // So a crash at any moment leaves a prefix of the counted commands that has each acknowledged
+        // one, and at the end an open source holds them all.
         ensures any_moment { IfOk result (λ acks. (s : State) → Holds D.state self.old s
             → Leaves (D.state self.old.disk) (D.state self.new.disk)
             (StandsForPrefix s commands.now acks.items)) }
         ensures at_exit { IfOk result (λ acks. (s : State) → Holds D.state self.old s
             → self.new.is_closed ≡ false
             → Holds D.state self.new (fold_of s (counted_commands commands.now acks.items))) }
-        ensures replies { IfOk result (λ acks. (s : State)
-            → Holds D.state self.old s
-            → AreReplies s commands.now acks.items) }
 
         ensures only { IfErr result (λ refusal. refusal ≡ Refusal.NoMemory) }
         ensures untouched { OnErr result (self.new ≡ self.old) }

@@ -14,6 +14,8 @@ mod failing;
 #[cfg(test)]
 mod filling;
 #[cfg(test)]
+mod many;
+#[cfg(test)]
 mod paging;
 #[cfg(test)]
 mod reading;

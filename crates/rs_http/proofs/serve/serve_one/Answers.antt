@@ -1,9 +1,12 @@
 -- The head, and then the answer.
-use Rattle.std.proofs.Common.{◌≡◌, Ok, Err, take}
+use Rattle.std.proofs.Common.{◌≡◌, Ok, Err, take, refl}
 use Rattle.rs_io.specs.Watch.{seen_by, ends_of}
 use Rattle.rs_http.specs.declared.fault.FrontFault.TheVariants.{Read, Write}
 use Rattle.rs_http.proofs.Endings.{served, broken, halted, passes}
+use Rattle.rs_http.specs.Turn.{turn}
 use Rattle.rs_http.proofs.Going.{request_goes}
+use Rattle.rs_http.proofs.Replying.{silent_tells, ends_tell}
+use Rattle.rs_http.proofs.Running.{still_runs, request_runs}
 use Rattle.rs_http.proofs.serve.serve_one.Goals as goal
 
 pub returns-clause-ok : goal.returns-clause-ok
@@ -36,3 +39,27 @@ returns-clause-goes_on g c = request_goes _ c.in-Some.request _ (Ok c.in_ok-stat
 
 pub returns-in_err-status-clause-goes_on : goal.returns-in_err-status-clause-goes_on
 returns-in_err-status-clause-goes_on g c = request_goes _ c.in-Some.request _ (Err c.in_err-status.field-0.0) c.in_err-status.ensures.ends
+
+pub returns-in_default-clause-run : goal.returns-in_default-clause-run
+returns-in_default-clause-run g c = still_runs c.requests_are_runs.ensures.answered c.requests_are_runs.ensures.broken (turn g.D.Disk.state c.args.source.now c.args.now c.args.source.now) refl
+
+pub returns-in_default-clause-answered : goal.returns-in_default-clause-answered
+returns-in_default-clause-answered g c = silent_tells c.replies_are_seen.ensures.seen c.requests_reply.ensures.answered c.requests_reply.ensures.broken (turn g.D.Disk.state c.args.source.now c.args.now c.args.source.now) (seen_by g.W.Write.contents c.args.writer.now) refl
+
+pub returns-in_default-read_request-clause-run : goal.returns-in_default-read_request-clause-run
+returns-in_default-read_request-clause-run g c = still_runs c.requests_are_runs.ensures.answered c.requests_are_runs.ensures.broken (turn g.D.Disk.state c.args.source.now c.args.now c.args.source.now) refl
+
+pub returns-in_default-read_request-clause-answered : goal.returns-in_default-read_request-clause-answered
+returns-in_default-read_request-clause-answered g c = silent_tells c.replies_are_seen.ensures.seen c.requests_reply.ensures.answered c.requests_reply.ensures.broken (turn g.D.Disk.state c.args.source.now c.args.now c.args.source.now) (seen_by g.W.Write.contents c.args.writer.now) refl
+
+pub returns-clause-run : goal.returns-clause-run
+returns-clause-run g c = request_runs c.requests_are_runs.ensures.answered c.requests_are_runs.ensures.broken (turn g.D.Disk.state c.args.source.now c.args.now c.answer.new.source) c.in-Some.request _ (Ok c.in_ok-status.status) c.in_ok-status.ensures.ends
+
+pub returns-clause-answered : goal.returns-clause-answered
+returns-clause-answered g c = ends_tell c.replies_are_seen.ensures.seen c.requests_reply.ensures.answered c.requests_reply.ensures.broken (turn g.D.Disk.state c.args.source.now c.args.now c.answer.new.source) c.in-Some.request _ (Ok c.in_ok-status.status) c.in_ok-status.ensures.ends
+
+pub returns-in_err-status-clause-run : goal.returns-in_err-status-clause-run
+returns-in_err-status-clause-run g c = request_runs c.requests_are_runs.ensures.answered c.requests_are_runs.ensures.broken (turn g.D.Disk.state c.args.source.now c.args.now c.answer.new.source) c.in-Some.request _ (Err c.in_err-status.field-0.0) c.in_err-status.ensures.ends
+
+pub returns-in_err-status-clause-answered : goal.returns-in_err-status-clause-answered
+returns-in_err-status-clause-answered g c = ends_tell c.replies_are_seen.ensures.seen c.requests_reply.ensures.answered c.requests_reply.ensures.broken (turn g.D.Disk.state c.args.source.now c.args.now c.answer.new.source) c.in-Some.request _ (Err c.in_err-status.field-0.0) c.in_err-status.ensures.ends

@@ -5,6 +5,7 @@ returns g c = record {
   stands_once = c.stands_once.ensures;
   closed = c.closed_sources_stay.ensures.stays;
   none_counts = c.closed_sources_stay.ensures.counts;
+  answered = c.runs_are_answered.ensures.answered;
   moments = c.runs_leave_prefixes.ensures.moments;
   end = c.runs_leave_prefixes.ensures.end;
 }

@@ -1,15 +1,16 @@
-use Rattle.std.proofs.Common.{sym}
+use Rattle.std.proofs.Common.{sym, subst}
+use Rattle.rs_store.specs.Runs.{Holding, AreAnswered}
 use Rattle.rs_recovery.proofs.Reopened.{not_lost}
 use Rattle.rs_recovery.proofs.reopening.recover_and_run.Goals as goal
 
 pub returns-in-Ok-run-clause-ran : goal.returns-in-Ok-run-clause-ran
-returns-in-Ok-run-clause-ran g c = record {
-  first = c.in-Ok.source;
-  last = c.run.new.self;
-  began = c.in-Ok.ensures.opened;
-  turn = c.in-Ok-run.ensures.in_turn;
-  left_by = sym c.into_disk.ensures;
-}
+returns-in-Ok-run-clause-ran g c = (
+  g.D.Disk.state c.in-Ok.source.disk,
+  λ honest.
+      let opened = c.in-Ok.ensures.opened honest in
+      let run = c.in-Ok-run.ensures.answered opened.0 opened.2 in
+      (opened.0, opened.1, subst (λ (left : g.row.D.Denot). AreAnswered (g.D.Disk.state c.in-Ok.source.disk) (Holding opened.0) c.args.commands.now c.in-Ok-run.acks.items (g.D.Disk.state left)) (sym c.into_disk.ensures) run),
+)
 
 pub returns-in-Err-clause-found : goal.returns-in-Err-clause-found
 returns-in-Err-clause-found g c = λ honest s stands.

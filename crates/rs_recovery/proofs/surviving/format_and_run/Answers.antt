@@ -1,15 +1,16 @@
-use Rattle.std.proofs.Common.{sym, Ok}
+use Rattle.std.proofs.Common.{sym, subst, Ok}
+use Rattle.rs_model.specs.State.{Source, start_of}
+use Rattle.rs_store.specs.Runs.{Holding, AreAnswered}
 use Rattle.rs_recovery.proofs.Halted.{may_format, format_halted}
 use Rattle.rs_recovery.proofs.surviving.format_and_run.Goals as goal
 
 pub returns-in-Ok-run-clause-ran : goal.returns-in-Ok-run-clause-ran
-returns-in-Ok-run-clause-ran g c = record {
-  first = c.in-Ok.source;
-  last = c.run.new.self;
-  began = c.in-Ok.ensures.holds;
-  turn = c.in-Ok-run.ensures.in_turn;
-  left_by = sym c.into_disk.ensures;
-}
+returns-in-Ok-run-clause-ran g c =
+    let start : Source = start_of c.args.base.now c.args.limit c.args.now in
+    let run = c.in-Ok-run.ensures.answered start c.in-Ok.ensures.holds in (
+      g.D.Disk.state c.in-Ok.source.disk,
+      subst (λ (left : g.row.D.Denot). AreAnswered (g.D.Disk.state c.in-Ok.source.disk) (Holding start) c.args.commands.now c.in-Ok-run.acks.items (g.D.Disk.state left)) (sym c.into_disk.ensures) run,
+    )
 
 pub returns-in-Ok-run-clause-may : goal.returns-in-Ok-run-clause-may
 returns-in-Ok-run-clause-may g c =

@@ -1,6 +1,6 @@
 -- Each exit, by the bytes that came before it.
 use Rattle.std.proofs.Common.{rules, ℕ, [], ◌++◌, take, arith, inl, inr, refl, subst, ◌∙◌}
-use Rattle.std.proofs.KnownBytes.{Consumes-nil, Consumes-kept, Appends-kept}
+use Rattle.std.proofs.KnownBytes.{Consumes-nil, Consumes-kept, Appends-kept, Keeps-refl}
 use Rattle.rs_io.specs.Watch.{watched, seen_by}
 use Rattle.rs_script.proofs.FromBelow.{later_fault}
 use Rattle.rs_script.specs.Answers.{output_of}
@@ -8,7 +8,7 @@ use Rattle.rs_script.specs.Finished.{bytes_of}
 use Rattle.rs_script.specs.Progress.{IsCalled, stand}
 use Rattle.rs_script.proofs.ReaderCalls.{answers, was_sound, not_broken}
 use Rattle.rs_script.proofs.Steps.{Progress-none, Progress-kept, ran_of, broke_after, Consumes-end, Gave-front, count_more}
-use Rattle.rs_script.proofs.Turns.{read_more, reads_within, stops_reading, stops_flushing, stops_within}
+use Rattle.rs_script.proofs.Turns.{read_more, reads_within, stops_reading, stops_flushing, stops_within, tells_all, tells_part, tells_so_far}
 use Rattle.rs_script.proofs.engine.script.Goals as goal
 
 pub loop-init : goal.loop-init
@@ -124,3 +124,55 @@ loop-preserved g c =
       writer_still = not_broken c.args.writer.now (was_sound c.args.writer.now c.loop.writer inv.progress.written.1 (answers c.flush.result c.in_ok-flush.field-0 c.loop.writer c.flush.new.self c.in_ok-flush.was c.flush.ensures.broken));
       reader_still = not_broken c.args.reader.now (was_sound c.args.reader.now c.loop.reader inv.reads.took.1 sound);
     }
+
+pub returns-in_err-flush-clause-answered : goal.returns-in_err-flush-clause-answered
+returns-in_err-flush-clause-answered g c =
+    tells_so_far g.D.Disk.state g.W.Write.contents (c.scripts_recover.ensures, c.scripts_make_walks.ensures) c.scripts_tell_replies.ensures c.args.source.now c.args.writer.now c.flush.new.self
+    (stand c.loop.pending c.loop.source c.loop.writer) c.loop.invariant.input c.loop.invariant.progress c.flush.ensures.bytes
+
+pub returns-in_err-count-clause-answered : goal.returns-in_err-count-clause-answered
+returns-in_err-count-clause-answered g c =
+    tells_so_far g.D.Disk.state g.W.Write.contents (c.scripts_recover.ensures, c.scripts_make_walks.ensures) c.scripts_tell_replies.ensures c.args.source.now c.args.writer.now c.flush.new.self
+    (stand c.loop.pending c.loop.source c.loop.writer) c.loop.invariant.input c.loop.invariant.progress c.flush.ensures.bytes
+
+pub returns-clause-answered : goal.returns-clause-answered
+returns-clause-answered g c =
+    tells_so_far g.D.Disk.state g.W.Write.contents (c.scripts_recover.ensures, c.scripts_make_walks.ensures) c.scripts_tell_replies.ensures c.args.source.now c.args.writer.now c.loop.writer
+    (stand c.loop.pending c.loop.source c.loop.writer) c.loop.invariant.input c.loop.invariant.progress (Keeps-refl (g.W.Write.contents (watched c.loop.writer)))
+
+pub returns-in_err-take_end-clause-answered : goal.returns-in_err-take_end-clause-answered
+returns-in_err-take_end-clause-answered g c =
+    let inv = c.loop.invariant in
+    let p = Progress-kept g.D.Disk.state g.W.Write.contents _ inv.input _ c.flush.new.self c.flush.ensures.bytes c.in_ok-flush.ensures.sound inv.progress in
+    let end = c.in_err-take_end.ensures.err _ inv.input p in
+    tells_part g.D.Disk.state g.W.Write.contents (c.scripts_recover.ensures, c.scripts_make_walks.ensures) c.scripts_tell_replies.ensures c.args.source.now c.args.writer.now c.take_end.new.writer
+    c.take_end.new.source c.take_end.new.self.now inv.input end.0 end.1 end.2 end.3
+
+pub returns-in_err-flush-2-clause-answered : goal.returns-in_err-flush-2-clause-answered
+returns-in_err-flush-2-clause-answered g c =
+    let inv = c.loop.invariant in
+    let p = Progress-kept g.D.Disk.state g.W.Write.contents _ inv.input _ c.flush.new.self c.flush.ensures.bytes c.in_ok-flush.ensures.sound inv.progress in
+    let end = c.in_ok-take_end.ensures.ok _ inv.input p in
+    tells_all g.D.Disk.state g.W.Write.contents (c.scripts_recover.ensures, c.scripts_make_walks.ensures) c.scripts_tell_replies.ensures c.args.source.now c.args.writer.now c.flush-then-count-eq0.new.self
+    c.take_end.new.source c.take_end.new.self.now inv.input end.0 end.1 end.2
+    (Appends-kept (g.W.Write.contents (watched c.args.writer.now)) (g.W.Write.contents (watched c.take_end.new.writer))
+    (g.W.Write.contents (watched c.flush-then-count-eq0.new.self)) (output_of end.0) end.3.0 c.flush-then-count-eq0.ensures.bytes)
+
+pub returns-then-count-eq0-clause-answered : goal.returns-then-count-eq0-clause-answered
+returns-then-count-eq0-clause-answered g c =
+    let inv = c.loop.invariant in
+    let p = Progress-kept g.D.Disk.state g.W.Write.contents _ inv.input _ c.flush.new.self c.flush.ensures.bytes c.in_ok-flush.ensures.sound inv.progress in
+    let end = c.in_ok-take_end.ensures.ok _ inv.input p in
+    tells_all g.D.Disk.state g.W.Write.contents (c.scripts_recover.ensures, c.scripts_make_walks.ensures) c.scripts_tell_replies.ensures c.args.source.now c.args.writer.now c.flush-then-count-eq0.new.self
+    c.take_end.new.source c.take_end.new.self.now inv.input end.0 end.1 end.2
+    (Appends-kept (g.W.Write.contents (watched c.args.writer.now)) (g.W.Write.contents (watched c.take_end.new.writer))
+    (g.W.Write.contents (watched c.flush-then-count-eq0.new.self)) (output_of end.0) end.3.0 c.flush-then-count-eq0.ensures.bytes)
+
+pub returns-in_err-take_piece-clause-answered : goal.returns-in_err-take_piece-clause-answered
+returns-in_err-take_piece-clause-answered g c =
+    let inv = c.loop.invariant in
+    let p = Progress-kept g.D.Disk.state g.W.Write.contents _ inv.input _ c.flush.new.self c.flush.ensures.bytes c.in_ok-flush.ensures.sound inv.progress in
+    let e = c.in_err-take_piece.ensures.err in
+    let stops = e.3 _ inv.input p in
+    tells_part g.D.Disk.state g.W.Write.contents (c.scripts_recover.ensures, c.scripts_make_walks.ensures) c.scripts_tell_replies.ensures c.args.source.now c.args.writer.now c.take_piece.new.writer
+    c.take_piece.new.source c.take_piece.new.self.now (inv.input ++ e.0) stops.0.0 stops.0.1 stops.0.2 stops.0.3

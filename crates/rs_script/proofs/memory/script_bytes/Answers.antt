@@ -1,16 +1,13 @@
 -- The input is one piece, and then it ends.
-use Rattle.std.proofs.Common.{[], ℕ, List, Vec, Global, Option, Some, inl, inr, refl, rules, sym, append-nil}
+use Rattle.std.proofs.Common.{[], inl, inr, refl, sym, append-nil}
 use Rattle.rs_script.specs.Progress.{stand}
+use Rattle.rs_script.proofs.FromBelow.{later_fault}
 use Rattle.rs_script.proofs.Steps.{Progress-none, on_err, ran_of}
 use Rattle.rs_script.proofs.memory.script_bytes.Goals as goal
 
--- the bytes of a vector as a writer
-abbrev held : Vec ℕ Global → Option (List ℕ)
-held bytes = Some bytes.items
-
 pub returns-in_err-take_piece-clause-err : goal.returns-in_err-take_piece-clause-err
 returns-in_err-take_piece-clause-err g c =
-    let begun = Progress-none g.D.Disk.state held (stand c.new-pending.result c.args.source.now c.new-writer.result) c.args.source.now refl c.new-pending.ensures.now c.new-pending.ensures.group c.new-pending.ensures.line in
+    let begun = Progress-none g.D.Disk.state g.W.Write.contents (stand c.new-pending.result c.args.source.now c.args.writer.now) c.args.source.now refl c.new-pending.ensures.now c.new-pending.ensures.group c.new-pending.ensures.line in
     let e = c.in_err-take_piece.ensures.err in
     let stops = e.3 _ [] begun in
     on_err c.from_residual.result (record {
@@ -18,14 +15,12 @@ returns-in_err-take_piece-clause-err g c =
       tail = e.1;
       input_is = e.2;
       come = inl stops.1;
-      before = stops.0.3.whole;
-      last = stops.0.3.last;
-      outcomes_are = stops.0.3.outcomes_are;
+      breaks = stops.0.3;
     })
 
 pub returns-in_err-take_end-clause-err : goal.returns-in_err-take_end-clause-err
 returns-in_err-take_end-clause-err g c =
-    let begun = Progress-none g.D.Disk.state held (stand c.new-pending.result c.args.source.now c.new-writer.result) c.args.source.now refl c.new-pending.ensures.now c.new-pending.ensures.group c.new-pending.ensures.line in
+    let begun = Progress-none g.D.Disk.state g.W.Write.contents (stand c.new-pending.result c.args.source.now c.args.writer.now) c.args.source.now refl c.new-pending.ensures.now c.new-pending.ensures.group c.new-pending.ensures.line in
     let input = c.args.input.now in
     let end = c.in_err-take_end.ensures.err _ input (c.in_ok-take_piece.ensures.ok _ [] begun) in
     on_err c.from_residual-in_err-take_end.result (record {
@@ -33,17 +28,22 @@ returns-in_err-take_end-clause-err g c =
       tail = [];
       input_is = sym (append-nil input);
       come = inr refl;
-      before = end.3.whole;
-      last = end.3.last;
-      outcomes_are = end.3.outcomes_are;
+      breaks = end.3;
     })
 
 pub returns-clause-ok : goal.returns-clause-ok
 returns-clause-ok g c =
-    let begun = Progress-none g.D.Disk.state held (stand c.new-pending.result c.args.source.now c.new-writer.result) c.args.source.now refl c.new-pending.ensures.now c.new-pending.ensures.group c.new-pending.ensures.line in
+    let begun = Progress-none g.D.Disk.state g.W.Write.contents (stand c.new-pending.result c.args.source.now c.args.writer.now) c.args.source.now refl c.new-pending.ensures.now c.new-pending.ensures.group c.new-pending.ensures.line in
     let input = c.args.input.now in
     let end = c.in_ok-take_end.ensures.ok _ input (c.in_ok-take_piece.ensures.ok _ [] begun) in (
       ran_of g.D.Disk.state (c.scripts_recover.ensures, c.scripts_make_walks.ensures) c.args.source.now c.take_end.new.source input end.0 end.1 c.take_end.new.self.now end.2,
       refl,
-      search rules,
+      end.3,
     )
+
+pub returns-in_err-take_end-clause-failed : goal.returns-in_err-take_end-clause-failed
+returns-in_err-take_end-clause-failed g c =
+    let begun = Progress-none g.D.Disk.state g.W.Write.contents (stand c.new-pending.result c.args.source.now c.args.writer.now) c.args.source.now refl c.new-pending.ensures.now c.new-pending.ensures.group c.new-pending.ensures.line in
+    let come = c.in_ok-take_piece.ensures.ok _ [] begun in
+    on_err c.from_residual-in_err-take_end.result
+    (later_fault c.args.writer.now c.take_piece.new.writer c.take_end.new.writer come.written.1 c.in_err-take_end.ensures.failed)

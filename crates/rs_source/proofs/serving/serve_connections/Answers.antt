@@ -1,7 +1,7 @@
--- One more connection, and the state after all of them.
-use Rattle.std.proofs.Common.{◌≡◌, add-one, arith, subst}
+-- One more connection, and the state and the run after all of them.
+use Rattle.std.proofs.Common.{◌≡◌, ℕ, add-one, arith, subst}
 use Rattle.rs_source.specs.Serving.{Connections}
-use Rattle.rs_source.proofs.Connecting.{connections_go}
+use Rattle.rs_source.proofs.Connecting.{connections_go, connections_run}
 use Rattle.rs_source.proofs.serving.serve_connections.Goals as goal
 
 pub loop-preserved : goal.loop-preserved
@@ -11,4 +11,16 @@ pub returns-clause-goes_on : goal.returns-clause-goes_on
 returns-clause-goes_on g c =
     let all : c.loop.counter ≡ c.args.count = omega arith in
     connections_go g.D.Disk.state c.args.count c.args.source.now c.loop.source
-    (subst (λ n. Connections g.D.Disk.state c.args.source.now n c.loop.source) all c.loop.invariant)
+    (subst (λ (n : ℕ). Connections g.D.Disk.state c.args.source.now n c.loop.source) all c.loop.invariant)
+
+pub returns-clause-run : goal.returns-clause-run
+returns-clause-run g c =
+    let all : c.loop.counter ≡ c.args.count = omega arith in
+    connections_run g.D.Disk.state c.held_sources_rest.ensures.idle c.runs_recover.ensures.idle c.runs_recover.ensures.join c.args.count c.args.source.now c.loop.source
+    (subst (λ (n : ℕ). Connections g.D.Disk.state c.args.source.now n c.loop.source) all c.loop.invariant)
+
+pub returns-clause-answered : goal.returns-clause-answered
+returns-clause-answered g c =
+    let run = connections_run g.D.Disk.state c.held_sources_rest.ensures.idle c.runs_recover.ensures.idle c.runs_recover.ensures.join c.loop.counter
+    c.args.source.now c.loop.source c.loop.invariant in
+    c.runs_recover.ensures.answered c.args.source.now c.loop.source run.0 run.2

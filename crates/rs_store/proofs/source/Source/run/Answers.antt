@@ -6,8 +6,8 @@ use Rattle.rs_model.specs.declared.command.Command.{Command}
 use Rattle.rs_store.specs.declared.running.Ack.{Ack}
 use Rattle.rs_store.specs.Runs.{InTurn}
 use Rattle.rs_store.proofs.Turns.{idle_at, in_turn_push}
-use Rattle.rs_store.proofs.Moments.{each_moment, holds_all}
-use Rattle.rs_store.proofs.Replies.{are_replies}
+use Rattle.rs_store.proofs.Moments.{holds_all}
+use Rattle.rs_store.proofs.Answering.{are_answered, each_moment}
 use Rattle.rs_store.proofs.source.Source.run.Goals as goal
 
 pub loop-command-preserved : goal.loop-command-preserved
@@ -44,11 +44,11 @@ returns-clause-any_moment g c = λ s holds.
 
 pub returns-clause-at_exit : goal.returns-clause-at_exit
 returns-clause-at_exit g c = λ s holds open_then.
-    holds_all g.D.Disk.state g.met.D.Disk.holds s c.args.self.now c.args.commands.now c.loop-command.acks.items c.loop-command.self holds (returns-clause-in_turn g c) open_then
+    holds_all g.D.Disk.state s c.args.self.now c.args.commands.now c.loop-command.acks.items c.loop-command.self holds (returns-clause-in_turn g c) open_then
 
-pub returns-clause-replies : goal.returns-clause-replies
-returns-clause-replies g c = λ s holds.
-    are_replies g.D.Disk.state g.met.D.Disk.holds s c.args.self.now c.args.commands.now c.loop-command.acks.items c.loop-command.self holds (returns-clause-in_turn g c)
+pub returns-clause-answered : goal.returns-clause-answered
+returns-clause-answered g c = λ s holds.
+    are_answered g.D.Disk.state g.met.D.Disk.holds s c.args.self.now c.args.commands.now c.loop-command.acks.items c.loop-command.self holds (returns-clause-in_turn g c)
 
 pub loop-command-init : goal.loop-command-init
 loop-command-init g c = record {

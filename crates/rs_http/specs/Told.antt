@@ -1,0 +1,50 @@
+-- What a request tells of the command that the source accepted.
+use Rattle.std.specs.Prelude.{◌≡◌, ◌⊎◌, ℕ, List, [], ◌∷◌, ◌++◌, flat_map, Option, Result}
+use Rattle.std.specs.Io.KnownBytes.{Appends}
+use Rattle.rs_disk.specs.Medium.{DiskState}
+use Rattle.rs_io.specs.Watch.{watched, End}
+use Rattle.rs_model.specs.declared.command.Reply.{Reply}
+use Rattle.rs_store.specs.Source.{Stored}
+use Rattle.rs_recovery.specs.Replies.{RepliesInTurn, HasReplied}
+use Rattle.rs_http.specs.declared.request.RequestPlan.{RequestPlan}
+use Rattle.rs_http.specs.declared.request.NoPlan.{NoPlan}
+use Rattle.rs_http.specs.declared.response.Framing.{Framing}
+use Rattle.rs_http.specs.Turn.{Turn}
+use Rattle.rs_http.specs.Outcomes.{RequestGives}
+use Rattle.rs_http.specs.Responses.{RequestOutcome, replied, response_text, go_on}
+use Rattle.rs_http.specs.Serving.{IsBroken}
+
+-- the reply that an outcome tells, where a command was accepted
+abbrev pub told_by : RequestOutcome → List Reply
+told_by (replied reply) = reply ∷ []
+told_by outcome = []
+
+-- the text of no response, or of one
+abbrev pub IsTextOf : List RequestOutcome → List ℕ → Type 0
+IsTextOf [] text = text ≡ []
+IsTextOf (outcome ∷ []) text = (framing : Framing) × (text ≡ response_text framing outcome)
+IsTextOf outcomes text = ⊥
+
+-- One response was written, or a beginning of it, or none; the word to go on may come first. The reply in it is that to the
+-- command that the source accepted, and where it held a state, its disk saw this command answered from that state on.
+pub record TellsReply {D : Type 0} (device : D → DiskState) (old new : Stored D) (before after : End) : Type 0 where
+  pub outcomes : List RequestOutcome
+  pub replied : HasReplied device old (flat_map told_by outcomes) new
+  pub first : List ℕ
+  pub first_is : (first ≡ []) ⊎ (first ≡ go_on)
+  pub text : List ℕ
+  pub text_is : IsTextOf outcomes text
+  pub part : List ℕ
+  pub left_out : List ℕ
+  pub bytes_are : part ++ left_out ≡ first ++ text
+  pub took : Appends (watched before) (watched after) part
+
+-- the reply to the command that was accepted is the one that the outcome tells
+abbrev pub RequestsReply : {D : Type 0} → (D → DiskState) → Type 0
+RequestsReply device = (turn : Turn device) (plan : Result RequestPlan NoPlan) (more : List ℕ) (rest : Option (List ℕ)) (outcome : RequestOutcome)
+    → RequestGives turn plan more rest outcome → RepliesInTurn device turn.old (told_by outcome) turn.new
+
+-- a put or a group whose reader failed has no reply
+abbrev pub BrokenBodiesReplyNothing : {D : Type 0} → (D → DiskState) → Type 0
+BrokenBodiesReplyNothing device = (turn : Turn device) (plan : Result RequestPlan NoPlan) (more : List ℕ)
+    → IsBroken turn plan more → RepliesInTurn device turn.old [] turn.new

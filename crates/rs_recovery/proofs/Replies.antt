@@ -1,0 +1,31 @@
+-- Replies, turn by turn.
+use Rattle.std.proofs.Common.{[], ◌∷◌, ◌++◌, refl, ap, ◌∙◌, append-nil}
+use Rattle.std.proofs.lemmas.Grind.{flat_map-append}
+use Rattle.rs_disk.specs.Medium.{DiskState}
+use Rattle.rs_store.specs.Laws.{TurnsGoOn}
+use Rattle.rs_recovery.specs.Below.{Below}
+use Rattle.rs_recovery.specs.Turns.{CommandsAreTurns}
+use Rattle.rs_recovery.specs.Replies.{reply_in, replies_in, IdleHasNoReply, CommandHasReply, RepliesJoin, RepliesAreSeen}
+
+module _ {D : Type 0} (device : D → DiskState) where
+  pub idle_has_none : IdleHasNoReply device
+  idle_has_none old new idle = ([], [], refl, idle)
+
+  pub command_has_reply : CommandsAreTurns device → CommandHasReply device
+  command_has_reply turns old new command now result answers = (
+    (command, now) ∷ [],
+    record { reply = result; at_call = (device new.disk).calls } ∷ [],
+    append-nil (reply_in result),
+    turns old new command now result answers,
+  )
+
+  pub replies_join : TurnsGoOn device → RepliesJoin device
+  replies_join on old mid new first then a b = (
+    a.0 ++ b.0,
+    a.1 ++ b.1,
+    flat_map-append (λ ack. reply_in ack.reply) a.1 b.1 ∙ ap (λ l. l ++ replies_in b.1) a.2 ∙ ap (λ l. first ++ l) b.2,
+    on old mid new a.0 b.0 a.1 b.1 a.3 b.3,
+  )
+
+  pub replies_are_seen : Below device → RepliesAreSeen device
+  replies_are_seen below old new replies turn s held = (turn.0, turn.1, turn.2, below.answered s old turn.0 turn.1 new held turn.3)

@@ -1,0 +1,202 @@
+-- Two sessions, computed: a machine stops in a put that it never answers, and a destination asks for the Resource List in
+-- the first session and for the Change List in the second.
+use Rattle.std.proofs.Common.{◌≡◌, inl, inr, ℕ, sym, ap, subst, ◌∙◌, arith, List, [], ◌∷◌, ◌++◌, refl, Option, Some, None, Bool, true, false, Ok}
+use Rattle.std.specs.Prelude.{codes, is_some, IsTrue}
+use Rattle.std.specs.List.{AllByRecursion}
+use Rattle.std.specs.Fmt.{digits}
+use Rattle.hex.specs.Hex.{encode_with, decode_pairs}
+use Rattle.md5.specs.Md5.{block_words, rounds, compress, hash_after, digest_bytes, md5}
+use Rattle.sha2.specs.Sha256.{first_words, schedule, rounds as rounds_256, compress as compress_256, hash_after as hash_after_256, digest_bytes as digest_bytes_256, sha256}
+use Rattle.rs_disk.specs.Medium.{DiskState}
+use Rattle.rs_time.specs.Calendar.{date_of, period_of, days_of}
+use Rattle.rs_time.specs.Moment.{moment_text}
+use Rattle.rs_time.specs.ReadMoment.{read_moment, moment_digits, same_bytes}
+use Rattle.rs_fixity.specs.ReadHash.{read_hash}
+use Rattle.rs_record.specs.Changes.{bound, deleted}
+use Rattle.rs_record.specs.declared.change.Change.{Change}
+use Rattle.rs_record.specs.declared.facts.Facts.{Facts}
+use Rattle.rs_model.specs.State.{Source, start_of, facts_of}
+use Rattle.rs_model.specs.Step.{fold_of}
+use Rattle.rs_model.specs.declared.command.Command.{Command}
+use Rattle.rs_model.specs.Lawful.{IsLawfulItem, IsLawfulCommand}
+use Rattle.rs_model.specs.declared.command.Item.TheVariants as single
+use Rattle.rs_model.specs.declared.command.Command.TheVariants.{Put, Delete, Publish, Group}
+use Rattle.rs_model.specs.declared.command.Reply.{Reply}
+use Rattle.rs_model.specs.declared.command.Reply.TheVariants.{Created, Deleted, Published}
+use Rattle.rs_image.specs.StateOfImage.{StandsFor}
+use Rattle.rs_lists.specs.Text.{list_text}
+use Rattle.rs_caps.specs.Cut.{◌>>=◌, strip, cut, lines_of, characters, read_number}
+use Rattle.rs_caps.specs.Paths.{doc_of, read_count, last_part, resource_part, change_part}
+use Rattle.rs_caps.specs.DocumentTexts.{document_text}
+use Rattle.rs_caps.specs.Readings.{ChangeEntry, Document, Listed}
+use Rattle.rs_caps.specs.Readings.Document.{ResourceList, ChangeListIndex}
+use Rattle.rs_caps.specs.ReadLines.{read_facts, read_resource, read_bound, read_deleted, read_end, read_resource_entry, read_change_entry, before_end, read_up, read_resource_md, read_change_md}
+use Rattle.rs_caps.specs.Reads.{reads, read_list, read_index, read_children, read_resource_list, read_change_list, read_resource_index, read_change_index}
+use Rattle.rs_caps.specs.Gather.{parts_at, gather_resources, gather_changes}
+use Rattle.rs_caps.specs.Destination.{part_paths}
+use Rattle.rs_store.specs.declared.running.Ack.{Ack}
+use Rattle.rs_store.specs.Runs.{Holding, AreAnswered}
+use Rattle.rs_recovery.specs.Sessions.{Session, IsStop, AreSessions}
+use Rattle.rs_recovery.specs.Served.{Asking, CouldServe, HasServed, IsNoLater}
+use Rattle.rs_recovery.specs.Mirrored.{AreLawfulSessions, list_head, changes_head, Asked, answered_by, IsAskedPart, AsksBoth}
+use Rattle.rs_recovery.proofs.Below.{Commands, Acks}
+use Rattle.rs_recovery.proofs.Missing.{answers_may_be_missing}
+
+-- a source of item limit 2, formatted at the first moment
+abbrev start : Source
+start = start_of (codes "http://127.0.0.1:8080") 2 0
+
+abbrev put : List ℕ → Command × ℕ
+put name = (Put name (codes "text/plain") [], 0)
+
+-- In the first session `a` is put and published, and the machine stops in the put of `c`. In the second one `b` is put
+-- and `a` deleted.
+abbrev first_commands : Commands
+first_commands = put (codes "a") ∷ (Publish, 0) ∷ []
+
+abbrev second_commands : Commands
+second_commands = put (codes "b") ∷ (Delete (codes "a"), 0) ∷ []
+
+abbrev published : Source
+published = fold_of start first_commands
+
+abbrev changed : Source
+changed = fold_of published second_commands
+
+abbrev answer_ok : Reply → ℕ → Ack
+answer_ok reply call = record { reply = Ok reply; at_call = call }
+
+abbrev first_acks : Acks
+first_acks = answer_ok (Created 1) 15 ∷ answer_ok (Published 1 2) 22 ∷ []
+
+abbrev second_acks : Acks
+second_acks = answer_ok (Created 3) 30 ∷ answer_ok (Deleted 4) 38 ∷ []
+
+-- the first session, by its disk before and after it, and the image that its stop leaves; and the second one
+abbrev first : DiskState → DiskState → List ℕ → Session
+first d e image = record { first = d; commands = first_commands; acks = first_acks; unanswered = Some (put (codes "c")); last = e; stop = 27; image = image }
+
+abbrev second : DiskState → DiskState → List ℕ → Session
+second f g image = record { first = f; commands = second_commands; acks = second_acks; unanswered = None; last = g; stop = 38; image = image }
+
+abbrev two : (d e f g : DiskState) (image other : List ℕ) → List Session
+two d e f g image other = second f g other ∷ first d e image ∷ []
+
+-- They are sessions, where the disks saw the commands answered, and the first stop left the image of a source without
+-- `c`.
+pub are_sessions : (d e f g : DiskState) (image other : List ℕ) (a : Ack)
+    → AreAnswered d (Holding start) (first_commands ++ put (codes "c") ∷ []) (first_acks ++ a ∷ []) e → IsStop d e 27 image
+    → StandsFor image published → AreAnswered f (Holding published) second_commands second_acks g → IsStop f g 38 other
+    → AreSessions start (two d e f g image other)
+are_sessions d e f g image other a one is_stop left then is_later = (
+  published,
+  left,
+  record { answered = then; stopped = is_later },
+  answers_may_be_missing d start published first_commands first_acks (put (codes "c")) a e 27 image one refl refl is_stop,
+)
+
+pub are_lawful : (d e f g : DiskState) (image other : List ℕ) → AreLawfulSessions (two d e f g image other)
+are_lawful d e f g image other = (
+  (((refl, refl), omega arith), ((refl, omega arith), tt)),
+  ((((refl, refl), omega arith), ((tt, omega arith), (((refl, refl), omega arith), tt))), tt),
+)
+
+-- an item of a lawful name, and a group of such items
+pub item_is_lawful : IsLawfulItem (single.Delete (codes "b"))
+item_is_lawful = refl
+
+pub group_is_lawful : IsLawfulCommand (Group (single.Put (codes "a") (codes "text/plain") [] ∷ single.Delete (codes "b") ∷ []))
+group_is_lawful = ((refl, refl), (item_is_lawful, tt))
+
+-- Of each session two commands survive.
+abbrev standing : List ℕ
+standing = 2 ∷ 2 ∷ []
+
+-- The source could be asked behind the two answers of each session.
+pub could_serve_first : (d e : DiskState) (image : List ℕ) → CouldServe start (first d e image) 2 published
+could_serve_first d e image = record { before = (omega arith, (omega arith, tt)); held = refl }
+
+pub could_serve_second : (f g : DiskState) (image : List ℕ) → CouldServe published (second f g image) 2 changed
+could_serve_second f g image = record { before = (omega arith, (omega arith, tt)); held = refl }
+
+abbrev asking_in : Bool → Asking
+asking_in true = record { sessions = 0; commands = 2; state = published }
+asking_in false = record { sessions = 1; commands = 2; state = changed }
+
+abbrev behind_in : Bool → Commands
+behind_in true = first_commands
+behind_in false = first_commands ++ second_commands
+
+served_in : (d e f g : DiskState) (image other : List ℕ) (is_first : Bool) → HasServed start (two d e f g image other) standing (asking_in is_first) (behind_in is_first)
+served_in d e f g image other true = inr (inl (refl, could_serve_first d e image, refl))
+served_in d e f g image other false = inl (refl, could_serve_second f g other, refl)
+
+-- The Resource List is asked for in the first session, all else in the second.
+abbrev asking : List ℕ → Asking
+asking path = asking_in (same_bytes path list_head)
+
+pub both : (d e f g : DiskState) (image other : List ℕ) → Asked start (two d e f g image other) standing
+both d e f g image other = record {
+  asking = asking;
+  behind = λ path. behind_in (same_bytes path list_head);
+  served = λ path. served_in d e f g image other (same_bytes path list_head);
+  last = asking_in false;
+  behind_last = behind_in false;
+  last_served = served_in d e f g image other false;
+}
+
+abbrev no_bytes : Facts
+no_bytes = facts_of (codes "text/plain") []
+
+abbrev listed : List Listed
+listed = record { name = codes "a"; facts = no_bytes; moment = 1 } ∷ []
+
+abbrev changes : List Change
+changes = bound (codes "a") false 1 no_bytes ∷ bound (codes "b") false 3 no_bytes ∷ deleted (codes "a") 4 ∷ []
+
+abbrev between : List ℕ → ℕ → Option ℕ → ChangeEntry
+between path from until = record { path = path; start = from; until = until }
+
+abbrev index : Document
+index = ChangeListIndex 0 None (between (codes "/changelist/0.xml") 0 (Some 3) ∷ between (codes "/changelist/1.xml") 3 None ∷ [])
+
+-- the documents that the destination gets, and what it gathers
+pub documents :
+    ((answered_by asking list_head >>= reads) ≡ Some (ResourceList 2 listed))
+    × ((answered_by asking changes_head >>= reads) ≡ Some index)
+    × (gather_resources (answered_by asking) ≡ Some (2, listed))
+    × (gather_changes (answered_by asking) ≡ Some (0, changes))
+unfolding digits encode_with decode_pairs block_words rounds compress hash_after digest_bytes md5 first_words schedule rounds_256 compress_256 hash_after_256 digest_bytes_256 sha256 date_of period_of days_of moment_text read_moment moment_digits read_hash list_text strip cut lines_of characters read_number doc_of read_count last_part resource_part change_part document_text read_facts read_resource read_bound read_deleted read_end read_resource_entry read_change_entry before_end read_up read_resource_md read_change_md reads read_list read_index read_children read_resource_list read_change_list read_resource_index read_change_index parts_at
+documents = (refl, refl, refl, refl)
+
+same_document : (head text : List ℕ) (known document : Document) → (answered_by asking head >>= reads) ≡ Some known → answered_by asking head ≡ Some text
+    → reads text ≡ Some document → known ≡ document
+same_document head text known document k h r =
+    let same : Some known ≡ Some document = sym k ∙ ap (λ (o : Option (List ℕ)). o >>= reads) h ∙ r in
+    cc
+
+same_moment : {A : Type 0} (a b : ℕ × A) → Some a ≡ Some b → a.0 ≡ b.0
+same_moment a b h = let same : a ≡ b = cc in ap (λ p. p.0) same
+
+-- the two parts of the Change List
+part_asked : (path : List ℕ) → same_bytes path list_head ≡ false → IsTrue (is_some (answered_by asking path)) → IsAskedPart asking changes_head path
+part_asked path other there = record { after_head = subst (λ (b : Bool). IsNoLater (asking changes_head) (asking_in b)) (sym other) (inr (refl, omega arith)); answered = there }
+
+pub asks_both : AsksBoth asking (asking_in false)
+unfolding digits encode_with decode_pairs block_words rounds compress hash_after digest_bytes md5 first_words schedule rounds_256 compress_256 hash_after_256 digest_bytes_256 sha256 date_of period_of days_of moment_text read_moment moment_digits read_hash list_text strip cut lines_of characters read_number doc_of read_count last_part resource_part change_part document_text read_facts read_resource read_bound read_deleted read_end read_resource_entry read_change_entry before_end read_up read_resource_md read_change_md reads read_list read_index read_children read_resource_list read_change_list read_resource_index read_change_index parts_at
+asks_both = record {
+  resources = λ text document h r.
+      subst (λ d. AllByRecursion (IsAskedPart asking list_head) (part_paths d)) (same_document list_head text (ResourceList 2 listed) document documents.0 h r) tt;
+  order = inl (omega arith);
+  changes = λ text document h r.
+      subst (λ d. AllByRecursion (IsAskedPart asking changes_head) (part_paths d)) (same_document changes_head text index document documents.1 h r)
+      (part_asked (codes "/changelist/0.xml") refl refl, (part_asked (codes "/changelist/1.xml") refl refl, tt));
+  head_by_last = inr (refl, omega arith);
+  parts_by_last = λ text document h r.
+      subst (λ d. AllByRecursion (λ path. IsNoLater (asking path) (asking_in false)) (part_paths d)) (same_document changes_head text index document documents.1 h r)
+      (inr (refl, omega arith), (inr (refl, omega arith), tt));
+  no_gap = λ at from all these h g.
+      let resources : 2 ≡ at = same_moment (2, listed) (at, all) (sym documents.2 ∙ h) in
+      let followed : 0 ≡ from = same_moment (0, changes) (from, these) (sym documents.3 ∙ g) in
+      omega (arith, resources, followed);
+}
