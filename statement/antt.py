@@ -1,7 +1,7 @@
 """Reads a file of specs (*.antt): what it brings in, and its definitions with the comments above them.
 
-It knows how the files are laid out, and no more of the language: a definition begins at the left edge (or one step in, in a
-`module _`), and goes on with its indented lines and with its equations, which begin with its name or with a pattern.
+It knows how the files are laid out, and no more of the language: a definition begins at the left edge (or a step in for
+each `module _` around it), and goes on with its indented lines and with its equations, which begin with its name or with a pattern.
 """
 
 import re
@@ -37,6 +37,8 @@ class Definition:
     comment: list
     lines: list
     section: str = ""
+    # The one field of a record that stands here, where a promise names no other.
+    part: str = ""
 
     @property
     def crate(self):
@@ -88,18 +90,21 @@ class Reading:
 
     def __init__(self, module, path):
         self.specs, self.path = Specs(module), path
-        self.comment, self.current, self.section = [], None, ""
+        self.comment, self.current = [], None
+        # What each `module _` that stands around takes, the outer ones first.
+        self.sections = []
 
     def take(self, number, line):
         """Takes a line, with its number in the file."""
-        section = SECTION.match(line)
-        if section:
-            self.section, self.current = section[1], None
-            return
-        if self.section and line.startswith("  "):
-            line = line[2:]
         if not line.strip():
             self.comment = []
+            return
+        depth = (len(line) - len(line.lstrip(" "))) // 2
+        self.sections = self.sections[:depth]
+        line = line[2 * len(self.sections) :]
+        section = SECTION.match(line)
+        if section:
+            self.sections, self.current = [*self.sections, section[1]], None
         elif line.startswith("--"):
             self.comment.append(line)
         elif USE.match(line):
@@ -124,7 +129,7 @@ class Reading:
         head = HEAD.match(line) or STATEMENT.match(line)
         if head:
             kind = kind_of(line[: head.start(1)].split())
-            self.current = Definition(self.specs.module, head[1], kind, self.path, number, self.comment, [line], self.section)
+            self.current = Definition(self.specs.module, head[1], kind, self.path, number, self.comment, [line], " ".join(self.sections))
             self.specs.definitions[head[1]] = self.current
         else:
             self.go_on([*self.comment, line])

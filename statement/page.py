@@ -7,6 +7,7 @@ in the chapter of its crate, behind the promises.
 import html
 import re
 
+import givens
 import tables
 from antt import Definition
 from evidence import KINDS
@@ -33,7 +34,8 @@ def anchor(item):
     if isinstance(item, Promise):
         return "promise-" + re.sub(r"\W+", "-", item.title)
     front = "" if isinstance(item, (Definition, Type)) else "kit-"
-    return front + "".join(it if it.isalnum() or it in "._:" else f"-{ord(it):x}" for it in item.label)
+    part = f".{item.part}" if isinstance(item, Definition) and item.part else ""
+    return front + "".join(it if it.isalnum() or it in "._:" else f"-{ord(it):x}" for it in item.label) + part
 
 
 def linked(word, item):
@@ -98,13 +100,21 @@ class Page:
             self.say(f'<p>Carried by <code>{html.escape(each.function.label)}</code> <span class="at">{place}</span></p>')
             for clause in each.clauses:
                 self.code(clause.lines, self.world.links_of_clause(each.function, clause))
+        self.premises(it)
         for chapter in it.reach.chapters:
             names = ", ".join(linked(each.name, each) for each in [*chapter.definitions, *chapter.types])
             self.say(f"<p><b>{chapter.crate}</b> ({counted(len(chapter.definitions), 'definition')}): {names}</p>")
         self.say(f"<p><b>the kit</b>: {', '.join(linked(each.name, each) for each in it.reach.kit)}</p>")
 
+    def premises(self, it):
+        """The premises of a promise, with what gives each."""
+        spoken = givens.in_order(it.chain.spoken) if it.chain else []
+        self.say("<p>Its premises, and what gives each:</p><ul>" if spoken else "<p>It has no premise.</p><ul>")
+        self.say(*(f"<li>{html.escape(givens.told(line, names))}</li>" for line, names in spoken), "</ul>")
+
     def definition(self, it):
-        self.say(f'<h4 id="{anchor(it)}">{html.escape(it.name)} <span class="at">{it.path}:{it.line}</span></h4>')
+        part = f", its field {it.part} alone" if it.part else ""
+        self.say(f'<h4 id="{anchor(it)}">{html.escape(it.name + part)} <span class="at">{it.path}:{it.line}</span></h4>')
         self.code([*it.comment, *it.lines], self.world.links(it))
         pieces = [html.escape(each.label) for each in self.evidence.get(it.label, [])]
         self.say(f'<div class="evidence">{"<br>".join(pieces) or "<span class=bare>no evidence of its own</span>"}</div>')

@@ -3,9 +3,14 @@
 import re
 from dataclasses import dataclass, field
 from pathlib import Path
+from typing import TYPE_CHECKING
 
+import givens
 from reach import reach
 from world import unique
+
+if TYPE_CHECKING:
+    from premises import Chain
 
 HERE = Path(__file__).resolve().parent
 HEAD = "== "
@@ -28,6 +33,10 @@ class Promise:
     title: str
     fields: dict = field(default_factory=dict)
     carriers: list = field(default_factory=list)
+    # What gives its premises: its own lines, and those that stand before all promises.
+    premises: list = field(default_factory=list)
+    # Its premises, each with the line that gives it, once they are followed.
+    chain: "Chain" = None
     reach: object = None
 
     @property
@@ -40,8 +49,8 @@ class Wrong(Exception):
 
 
 def sections(text):
-    """The sections of the table: the title of each, and its pairs of a word and what follows it."""
-    found = []
+    """The sections of the table: the title of each, and its pairs of a word and what follows it. The first has no title."""
+    found = [("", [])]
     for line in text.splitlines():
         if line.startswith(HEAD):
             found.append((line.removeprefix(HEAD), []))
@@ -63,11 +72,28 @@ def carrier(world, said):
     """What a line `by: CRATE FUNCTION CLAUSE ..` names."""
     crate, label, *names = said.split()
     function = world.function(crate, label)
-    every = {it.name for it in function.clauses}
-    for name in set(names) - every:
+    required = [it for it in function.clauses if it.kind == "requires"]
+    if not names:
+        return Carrier(function, function.clauses)
+    return Carrier(function, required + [clause_named(world, function, it) for it in names])
+
+
+def clause_named(world, function, name):
+    """The clause of this name, or the one that says a record, with the field of it that is named."""
+    ensured = [it for it in function.clauses if it.kind == "ensures"]
+    parts = (world.part_of(function, it, name) for it in ensured if "." in name)
+    found = next((it for it in [*(it for it in ensured if it.name == name), *parts] if it), None)
+    if found is None:
         raise Wrong(f"{function.label} has no clause {name}")
-    chosen = [it for it in function.clauses if it.kind == "requires" or not names or it.name in names]
-    return Carrier(function, chosen)
+    return found
+
+
+def lines_of(pairs):
+    """The lines of a section that speak of premises."""
+    try:
+        return [givens.parsed(said) for word, said in pairs if word == "premise"]
+    except ValueError as fault:
+        raise Wrong(str(fault)) from None
 
 
 def first_of(world, carriers):
@@ -78,8 +104,11 @@ def first_of(world, carriers):
 def promises(world, table=None):
     """The promises in their order, each with what it reaches."""
     found = []
-    for title, pairs in sections(table or (HERE / "promises.txt").read_text()):
-        promise = Promise(title, {word: said for word, said in pairs if word != "by"})
+    (_, shared), *each = sections(table or (HERE / "promises.txt").read_text())
+    every = lines_of(shared)
+    for title, pairs in each:
+        promise = Promise(title, {word: said for word, said in pairs if word not in ("by", "premise")})
+        promise.premises = [*lines_of(pairs), *every]
         promise.carriers = [carrier(world, said) for word, said in pairs if word == "by"]
         promise.reach = reach(world, first_of(world, promise.carriers))
         if plain(promise.sentence) not in plain((world.root / promise.fields["in"]).read_text()):

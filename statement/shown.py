@@ -3,6 +3,7 @@
 import re
 
 import evidence
+import givens
 import tables
 
 WIDTH = 110
@@ -59,10 +60,13 @@ class Text:
     def head(self, promises):
         """What the statement is, and how to read it."""
         self.say("# What has to be believed", "")
-        self.say(*folded(f"{counted(len(promises), 'promise')}. Of each: its sentence; the clauses that carry it; each definition that these"
-                         " reach, and no other, the highest crate first, and in a crate each behind the first one that uses it; the"
-                         " types of the code; the words of the kit. Under a definition stands what it was held against:"))  # fmt: skip
-        self.say(*(f"  {kind}: {said}" for kind, (said, _) in evidence.KINDS.items()), "", "The language:")
+        self.say(*folded(f"{counted(len(promises), 'promise')}. Of each: its sentence; the clauses that carry it; its premises, which"
+                         " stand left of an arrow there, and which clause concludes each, or that it is trusted; each definition that"
+                         " the clauses reach, and no other, the highest crate first, and in a crate each behind the first one that"
+                         " uses it; the types of the code; the words of the kit. Under a definition stands what it was held"
+                         " against:"))  # fmt: skip
+        self.say(*(f"  {kind}: {said}" for kind, (said, _) in evidence.KINDS.items()), "", "How much there is to read:")
+        self.say(*(f"  {it.title}: {told(it.reach.counts)}" for it in promises), "", "The language:")
         words = {it: said for it, said in self.meanings.items() if it.startswith(tables.LANGUAGE)}
         self.say(*(f"  {it.removeprefix(tables.LANGUAGE)}  {said}" for it, said in words.items()), "")
 
@@ -75,11 +79,21 @@ class Text:
             for clause in it.clauses:
                 self.say(*indented(clause.lines))
             self.say("")
+        self.premises(promise)
         self.say(f"It reaches {told(promise.reach.counts)}.", "")
         for chapter in promise.reach.chapters:
             self.chapter(chapter)
         self.kit(promise)
         self.without(promise)
+
+    def premises(self, promise):
+        """The premises of a promise, with what gives each."""
+        spoken = givens.in_order(promise.chain.spoken) if promise.chain else []
+        self.say("Its premises, and what gives each:" if spoken else "It has no premise.", "")
+        for line, names in spoken:
+            first, *more = folded(givens.told(line, names))
+            self.say(f"    {first}", *indented(more, " " * 8))
+        self.say("")
 
     def chapter(self, chapter):
         lines = sum(len(it.code) for it in chapter.definitions)
@@ -90,7 +104,8 @@ class Text:
             self.type(it)
 
     def definition(self, it):
-        self.say(f"[{it.name}] {it.path}:{it.line}", *indented([*it.comment, *it.lines]))
+        part = f", its field {it.part} alone" if it.part else ""
+        self.say(f"[{it.name}{part}] {it.path}:{it.line}", *indented([*it.comment, *it.lines]))
         self.say(*(f"    = {piece.label}" for piece in self.evidence.get(it.label, [])), "")
 
     def type(self, it):

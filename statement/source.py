@@ -34,6 +34,8 @@ class Clause:
     inner: str
     lines: list
     line: int
+    # The record that it names, of which one field alone stands, where a promise names no other.
+    part: antt.Definition | None = None
 
 
 @dataclass(eq=False)

@@ -7,7 +7,6 @@ import unittest
 from pathlib import Path
 
 import antt
-import counts
 import evidence
 import page
 import promises
@@ -16,7 +15,10 @@ import source
 import tables
 import words
 from reach import reach
+from test_premises import Given, Planted, Terms
 from world import Unknown, World
+
+__all__ = ["Given", "Planted", "Reached", "Readers", "Repository", "Terms"]
 
 ROOT = Path(__file__).resolve().parent.parent
 
@@ -111,6 +113,20 @@ impl Boxed {
 }
 '''
 
+NESTED = """module _ (d e : N) where
+  abbrev one : N
+  one = d
+
+  module _ {S : Type 0} where
+    pub two : S
+    two = e
+
+  three : N
+  three = d
+
+abbrev four : N
+four = 4
+"""
 ITEM = "/// An item.\npub enum Item {\n    /// Put.\n    Put(u8),\n    Delete,\n}\n"
 README = "> It is *lawful*\n> at once.\n\n| opening | lawful |\n"
 PROMISES = "== Opening\nrow: opening\nin: README.md\nsays: It is *lawful*\n  at once.\nby: high Boxed::open lawful\n"
@@ -127,13 +143,6 @@ def made(room, **other):
     return World(room)
 
 
-def unlike(world, name, change):
-    """A change of the text of a definition, in what was read of its file."""
-    old = next(it for specs in world.specs.values() for it in specs.definitions.values() if it.label == name)
-    text = (world.root / old.path).read_text()
-    return old.module, antt.read(old.module, old.path, change(text, "\n".join(old.lines)))
-
-
 class Readers(unittest.TestCase):
     def setUp(self):
         self.low = antt.read("Rattle.low.specs.Numbers", "Numbers.antt", LOW)
@@ -147,6 +156,12 @@ class Readers(unittest.TestCase):
         self.assertEqual((past.comment, len(past.code), past.lines[2]), ([], 3, "-- any other"))
         self.assertEqual(self.low.definitions["kind_of"].section, "{S : Type 0}")
         self.assertEqual(set(self.low.constructors), {"point", "line"})
+
+    def test_modules_stand_in_modules(self):
+        read = antt.read("Rattle.low.proofs.Nested", "Nested.antt", NESTED)
+        self.assertEqual([(it.name, it.section, len(it.lines)) for it in read.definitions.values()],
+                         [("one", "(d e : N)", 2), ("two", "(d e : N) {S : Type 0}", 2), ("three", "(d e : N)", 2), ("four", "", 2)])  # fmt: skip
+        self.assertEqual(self.words_of(read, "one"), ["N"])
 
     def words_of(self, specs, name):
         return [head for head, _ in words.words_of(specs.definitions[name], lambda token: token in {"zero", "suc", "point"} or "." in token)]
@@ -195,6 +210,17 @@ class Reached(unittest.TestCase):
         world = made(self.room)
         self.assertEqual([it.label for it in world.uses(world.type_of("high", "Hidden"))], ["std.List", "std.ℕ"])
 
+    def test_a_field_of_a_record_stands_alone(self):
+        code = CODE.replace("ensures value {", "ensures { IsPair 1 shape }\n        ensures value {")
+        code = code.replace("{next, Shape}", "{next, Shape, IsPair}")
+        world = made(self.room, **{"crates/high/src/open.rt": code})
+        found = promises.promises(world, PROMISES.replace("open lawful", "open IsPair.high"))[0]
+        pair = next(it for it in found.reach.definitions if it.name == "IsPair")
+        self.assertEqual((pair.part, pair.lines[1:]), ("high", ["  pub high : IsPast high", "      next"]))
+        for wrong in ("IsPair.middle", "IsPast.high", "lawful.high"):
+            with self.assertRaises(promises.Wrong):
+                promises.promises(world, PROMISES.replace("open lawful", f"open {wrong}"))
+
     def test_a_word_that_nothing_brings_in_is_told(self):
         world = made(self.room, **{"crates/low/specs/Numbers.antt": LOW.replace("next n = n + 1", "next n = more n")})
         with self.assertRaisesRegex(Unknown, "next uses more"):
@@ -205,14 +231,6 @@ class Reached(unittest.TestCase):
         for words, others in (("at once", "later"), ("open lawful", "open awful"), ("row: opening", "row: closing")):
             with self.assertRaises(promises.Wrong):
                 promises.promises(world, PROMISES.replace(words, others))
-
-    def test_counts_that_rise_or_fall_are_told(self):
-        every = promises.promises(made(self.room), PROMISES)
-        text = f"{counts.HEADING}\n\n{counts.table(every)}\n\n## Next\n"
-        self.assertEqual(counts.faults(every, text), [])
-        self.assertEqual(counts.faults(every, text.replace("| 7 |", "| 6 |")), ["Opening: docs/RECOVERY.md says 6 definitions, and there are 7"])
-        self.assertEqual(len(counts.faults(every, "")), 1)
-        self.assertEqual(len(counts.faults([], text)), 1)
 
     def test_pointers_that_lead_nowhere_are_told(self):
         world = made(self.room, **{"tests/one.py": "def next_of():\n    pass\n", "tests/rows/a.in": ""})
@@ -249,17 +267,6 @@ class Reached(unittest.TestCase):
 
 class Repository(unittest.TestCase):
     """The statement of this repository."""
-
-    def test_one_definition_more_is_told(self):
-        world, said = World(ROOT), (ROOT / "docs" / "RECOVERY.md").read_text()
-        before = len(counts.faults(promises.promises(world), said))
-        more = "abbrev pub IsMore : Source → Type 0\nIsMore s = Unit {0}\n\n"
-        module, specs = unlike(world, "rs_model.Regular.IsRegular", lambda text, old: text.replace(old, f"{more}{old}\n  pub more : IsMore s"))
-        world = World(ROOT)
-        world.specs[module] = specs
-        found = counts.faults(promises.promises(world), said)
-        self.assertGreater(len(found), before)
-        self.assertTrue(any(it.startswith("What was served: docs/RECOVERY.md says ") and "definitions" in it for it in found), found)
 
     def test_laws_and_examples_speak_of_what_they_are_held_against(self):
         world, law = World(ROOT), "crates/rs_time/src/laws.rt: moment_texts_read_back"

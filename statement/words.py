@@ -6,6 +6,7 @@ value (`record { at = t }`).
 """
 
 import re
+from dataclasses import replace
 
 TOKEN = re.compile(r'"(?:[^"\\]|\\.)*"|\[\]|[(){}\[\];,]|[^\s(){}\[\];,"]+')
 # What a type has by a trait of Rust, `⟦<PageRef as Ord>⟧`.
@@ -216,6 +217,14 @@ def fields(head):
     return found
 
 
+def with_field(definition, name):
+    """A record of which this field alone stands, or nothing where it has no such field."""
+    head, *_ = pieces(definition.code)
+    begin = len(head) - sum(map(len, fields(head)))
+    chosen = [it for it in fields(head) if name in tokens_of(it[:1])[: tokens_of(it[:1]).index(":")]]
+    return replace(definition, lines=[*head[:begin], *chosen[0]], part=name) if chosen else None
+
+
 def words_of(definition, is_constructor):
     """The words of a definition in their order, each once: the name, and what follows it behind dots."""
     head, *equations = pieces(definition.code)
@@ -224,7 +233,7 @@ def words_of(definition, is_constructor):
     own = {definition.name, *definition.name.split("◌")}
     for lines in [] if definition.kind == "proof" else equations:
         left, right = equation(tokens_of(lines))
-        walk = Walk(re.findall(r"[({](\w+) :", definition.section))
+        walk = Walk(name for names in re.findall(r"[({]([\w ]+) :", definition.section) for name in names.split())
         walk.patterns([it for it in left if it not in own], is_constructor)
         walk.expression(right)
         told += walk.told

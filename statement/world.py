@@ -6,7 +6,7 @@ another value in its place (`impl Model`), by that value alone; and a trait by t
 """
 
 import re
-from dataclasses import dataclass
+from dataclasses import dataclass, replace
 from pathlib import Path
 
 import antt
@@ -45,7 +45,7 @@ class World:
         # The crates, the lowest first.
         listed = (self.root / "crates.txt").read_text().splitlines()
         self.crates = [it.split(":")[0] for it in listed if it.strip() and not it.startswith("#")]
-        self.specs, self.code, self.kept = {}, {}, {}
+        self.specs, self.code, self.kept, self.parts = {}, {}, {}, {}
         for crate in self.crates:
             self.load(crate)
 
@@ -195,7 +195,17 @@ class World:
     def links_of_clause(self, function, clause):
         """What the words of a clause mean, and those of the signature that it belongs to."""
         found = self.ghost_words(function.path, function.brought, function.bounds, function.local, clause.inner)
-        return dict([*found, *self.rust_types(function.path, function.signature)])
+        links = dict([*found, *self.rust_types(function.path, function.signature)])
+        return links | ({clause.part.name: clause.part} if clause.part else {})
+
+    def part_of(self, function, clause, name):
+        """The clause as one that says a field of its record alone: `IsMade.ready`. Nothing where it has none of that name."""
+        record, _, field = name.partition(".")
+        definition = self.links_of_clause(function, clause).get(record)
+        if not isinstance(definition, antt.Definition) or definition.kind != "record" or clause.inner.split()[0] != record:
+            return None
+        part = self.parts.setdefault((definition, field), words.with_field(definition, field))
+        return replace(clause, part=part) if part else None
 
     def uses_of_clause(self, function, clause):
         """What a clause reaches at once."""

@@ -1,0 +1,206 @@
+"""What a promise takes for granted, and what gives it: a clause of the promise concludes each premise, or it is trusted.
+
+A premise stands left of an arrow in a clause of the promise, or in what it ends in (`Reader.left_of`). It is taken
+apart until a line of promises.txt speaks of it: a relation into the relations of its cases, a record into its fields.
+What is left is a condition, as an equation is.
+
+What a function requires needs no line, since the prover checks it at each call. A relation that stands left of arrows
+alone has to be there in an example (`uninhabited`), as a promise that takes what nothing has would say nothing.
+"""
+
+from dataclasses import dataclass
+
+from antt import Definition
+from evidence import Evidence
+from givens import Line
+from promises import Promise
+from relations import Node, Reader, cases, is_of_values, is_type
+from source import Clause, Function
+from terms import Relation
+from world import World
+
+
+@dataclass
+class Said:
+    """A printed clause: its name, `rs_store Source::run answered`, its types, and what they end in."""
+
+    name: str
+    nodes: list[Node]
+    ends: dict[Definition, None]
+
+    def is_called(self, name: str) -> bool:
+        """Whether a line means this clause: a function's name alone means each of its printed clauses."""
+        return name in (self.name, self.name.rpartition(" ")[0])
+
+
+def name_of(function: Function, clause: Clause) -> str:
+    """The name of a clause, as promises.txt has it."""
+    owner = f"{function.owner}::" if function.owner else ""
+    part = f"{clause.part.name}.{clause.part.part}" if clause.part else clause.name
+    return f"{function.crate} {owner}{function.name} {part}".rstrip()
+
+
+def clauses_of(reader: Reader, promise: Promise) -> list[Said]:
+    """The printed clauses of a promise that say what a function ensures."""
+    pairs = [(carrier.function, clause) for carrier in promise.carriers for clause in carrier.clauses]
+    said = [(name_of(*it), reader.clause(*it)) for it in pairs if it[1].kind == "ensures"]
+    return [Said(name, nodes, reader.ends(nodes)) for name, nodes in said]
+
+
+class Chain:
+    """The premises of a promise, with what gives each."""
+
+    def __init__(self, reader: Reader, title: str, clauses: list[Said], lines: list[Line]) -> None:
+        self.reader, self.title, self.clauses, self.lines = reader, title, clauses, lines
+        self.faults: list[str] = []
+        # The premises that each line speaks of, by their names, in their order.
+        self.spoken: dict[Line, dict[str, Node]] = {}
+        # The relations that stand left of an arrow, and that no clause is said to conclude there.
+        self.left: dict[Definition, None] = {}
+        # The lines that the premises of each clause have, and the relations of it that were taken apart.
+        self.needed: dict[str, dict[Line, None]] = {}
+        self.opened: set[Definition] = set()
+
+    def follow(self) -> None:
+        """Takes each premise apart until a line speaks of it."""
+        for clause in self.clauses:
+            self.opened = set()
+            needed = self.needed.setdefault(clause.name, {})
+            for node in clause.nodes:
+                for each in self.reader.left_of(node):
+                    self.give(each, needed)
+        for name in self.ungrounded():
+            self.fault(f"{name} takes what no other clause gives it first")
+
+    def ungrounded(self) -> list[str]:
+        """The clauses whose premises are given by one another alone, and by none that takes nothing from them."""
+        grounded: list[Said] = []
+        left = self.clauses
+        while left:
+            more = [it for it in left if all(self.is_given(line, grounded) for line in self.needed[it.name])]
+            if not more:
+                break
+            grounded += more
+            left = [it for it in left if it not in more]
+        return [it.name for it in left]
+
+    def is_given(self, line: Line, grounded: list[Said]) -> bool:
+        """Whether one of these clauses gives what a line speaks of, or it is trusted."""
+        return line.kind != "from" or any(it.is_called(name) for it in grounded for name in line.clauses)
+
+    def give(self, node: Node, needed: dict[Line, None]) -> None:
+        """Finds what gives a premise, or what its parts are given by."""
+        definition = self.reader.definition(node)
+        line = next((it for it in self.lines if it.named(node, definition)), None)
+        if line:
+            needed[line] = None
+            self.speak(line, node, definition)
+        elif definition and definition not in self.opened:
+            self.opened.add(definition)
+            self.stand(definition)
+            for each in [*self.reader.opened(definition), *self.reader.within(node)]:
+                self.give(each, needed)
+        elif self.reader.is_condition(node):
+            self.fault(f"nothing gives the premise '{text_of(node)}' of {node.place}")
+        else:
+            for each in self.reader.parts(node):
+                self.give(each, needed)
+
+    def stand(self, definition: Definition) -> None:
+        if not is_of_values(definition):
+            self.left[definition] = None
+
+    def fault(self, said: str) -> None:
+        self.faults.append(f"{self.title}: {said}")
+
+    def speak(self, line: Line, node: Node, definition: Definition | None) -> None:
+        """A line speaks of a premise: looks whether it may."""
+        name = line.named(node, definition)
+        self.spoken.setdefault(line, {}).setdefault(name, node)
+        if line.kind == "from":
+            for clause in line.clauses:
+                self.conclude(name, clause, node)
+            return
+        beneath = self.reader.beneath([node])
+        for it in beneath:
+            if is_type(it):
+                self.stand(it)
+        if definition and definition.kind == "record":
+            fields = [it for it, _ in cases(definition)]
+            if line.names[name] != fields:
+                self.fault(f"{name} is trusted by other fields than it has: {name} {{{' '.join(fields)}}}")
+        elif records := [it.name for it in beneath if it.kind == "record" and not is_of_values(it)]:
+            self.fault(f"{name} is trusted without the fields of what it is made of: {' '.join(records)}")
+
+    def conclude(self, name: str, clause: str, node: Node) -> None:
+        """Looks whether a clause is printed, and has a premise on its right side."""
+        ends = {found for it in self.clauses if it.is_called(clause) for found in it.ends}
+        if not any(it.is_called(clause) for it in self.clauses):
+            self.fault(f"{name} is said to come from {clause}, which the promise does not print")
+            return
+        words = [it for each in self.reader.last(node) for it in self.reader.words_of(each)]
+        missing = [it.name for it in words if it not in ends]
+        if missing or not words:
+            end = " and ".join(missing) or text_of(node)
+            self.fault(f"{name} is said to come from {clause}, which does not end in {end}")
+
+
+def text_of(node: Node) -> str:
+    """A premise as it is written."""
+    return node.term.text if isinstance(node.term, Relation) else node.place
+
+
+def follow(world: World, promises: list[Promise]) -> None:
+    """Follows the premises of each promise to what gives them."""
+    reader = Reader(world)
+    for promise in promises:
+        promise.chain = Chain(reader, promise.title, clauses_of(reader, promise), promise.premises)
+        promise.chain.follow()
+
+
+def unspoken(found: list[Chain]) -> list[str]:
+    """The lines for premises that are not there any more."""
+    spoken: dict[Line, set[str]] = {}
+    titles: dict[Line, set[str]] = {}
+    for chain in found:
+        for line in chain.lines:
+            spoken.setdefault(line, set()).update(chain.spoken.get(line, {}))
+            titles.setdefault(line, set()).add(chain.title)
+    return [
+        f"{min(titles[line]) if len(titles[line]) == 1 else 'every promise'}: no premise is {name}"
+        for line, names in spoken.items()
+        for name in line.names
+        if name not in names
+    ]
+
+
+def shown_by(reader: Reader, pieces: dict[str, list[Evidence]]) -> set[Definition]:
+    """The relations that a computed example has: it ends in them, and takes none of them."""
+    named: dict[Evidence, set[str]] = {}
+    for known, each in pieces.items():
+        for piece in each:
+            if piece.kind == "example":
+                named.setdefault(piece, set()).add(known)
+    found: set[Definition] = set()
+    for piece, labels in named.items():
+        nodes = reader.said(piece.path, piece.name)
+        taken = {reader.definition(it) for node in nodes for it in reader.left_of(node)}
+        found |= {it for it in reader.shown(nodes) if it.label in labels and it not in taken}
+    return found
+
+
+def uninhabited(reader: Reader, found: list[Chain], shown: set[Definition]) -> list[str]:
+    """The relations that stand left of an arrow alone, and that no example has."""
+    known = shown | {it for chain in found for clause in chain.clauses for it in clause.ends}
+    left = {it: None for chain in found for it in chain.left}
+    return [it.label for it in left if it not in known and not any(each in known for each in reader.same_as(it))]
+
+
+def faults(world: World, promises: list[Promise], pieces: dict[str, list[Evidence]]) -> list[str]:
+    """The premises that nothing gives, the lines that speak of none, and the relations that nothing is known to have."""
+    reader, found = Reader(world), [it.chain for it in promises]
+    wrong = [f"statement/promises.txt: {it}" for chain in found for it in chain.faults]
+    wrong += [f"statement/promises.txt: {it}" for it in unspoken(found)]
+    empty = uninhabited(reader, found, shown_by(reader, pieces))
+    wrong += [f"statement/evidence.txt: {it} stands only left of an arrow, and no example has it" for it in empty]
+    return list(dict.fromkeys(wrong))

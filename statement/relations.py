@@ -1,0 +1,260 @@
+"""Takes relations apart: what a definition's type is made of, what stands left of its arrows, and what it ends in."""
+
+from collections.abc import Callable, Iterator
+from dataclasses import dataclass, field
+
+import terms
+import words
+from antt import Definition
+from source import Clause, Function
+from terms import Arrow, Joined, Relation, Term
+from world import KitWord, Unknown, World
+
+# What a word means where it stands: something of the repository or of the kit, or nothing that is known by name.
+Scope = Callable[[str], object]
+# The parts of a type, and the types that a definition is made of.
+Parts = Callable[["Node"], list["Node"]]
+Opening = Callable[[Definition], list["Node"]]
+# Words of the kit that say no more than the relations in them.
+PASSING = {"All", "AllByRecursion", "AllZip", "IfOk", "IfErr", "IfSome", "IsErrAnd", "MatchOption", "OnErr", "OnOk"}
+# Types of values, which say nothing.
+VALUES = {"ℕ", "ℤ", "List", "Bool", "Option", "Result", "Type", "Vec", "Unit"}
+NAMELESS = (*terms.BETWEEN, "¬", "⊥")
+
+
+@dataclass(frozen=True)
+class Node:
+    """A type where it stands: its tree, what words mean there, the place in words, and the field that it is the type of.
+
+    The field is '' where there is none."""
+
+    term: Term
+    scope: Scope = field(compare=False, repr=False)
+    place: str = ""
+    name: str = ""
+
+    def at(self, term: Term) -> "Node":
+        """A type that stands within this one."""
+        return Node(term, self.scope, self.place)
+
+
+def cases(definition: Definition) -> list[tuple[str, Term]]:
+    """The types of a definition: those of a record with the names of its fields, of a `data` with those of its cases."""
+    head, *equations = words.pieces(definition.code)
+    if definition.kind == "proof":
+        tokens = words.tokens_of(head)
+        pairs = [("", tokens[tokens.index(":") + 1 :])]
+    elif definition.kind == "function":
+        pairs = [("", words.equation(words.tokens_of(it))[1]) for it in equations]
+    else:
+        each = [words.tokens_of(it) for it in words.fields(head)]
+        pairs = [(it[it.index(":") - 1], it[it.index(":") + 1 :]) for it in each]
+    return [(name, made) for name, tokens in pairs if (made := terms.term(tokens))]
+
+
+def head_of(definition: Definition) -> list[str]:
+    """What stands behind the name of a definition, up to its equations, its fields or its cases."""
+    tokens: list[str] = words.tokens_of(words.pieces(definition.code)[0])
+    tokens = tokens[tokens.index(definition.name) + 1 :]
+    return tokens[: tokens.index("where")] if "where" in tokens else tokens
+
+
+def is_type(definition: Definition) -> bool:
+    """Whether a definition is a type, and not a value."""
+    return definition.kind != "function" or "Type" in head_of(definition)[-2:]
+
+
+def is_of_values(definition: Definition) -> bool:
+    """Whether a definition is a type of values, as a session is: it takes no value, so it relates none."""
+    return definition.kind in ("record", "data") and head_of(definition)[:1] == [":"]
+
+
+class Reader:
+    """Reads the types of a repository."""
+
+    def __init__(self, world: World) -> None:
+        self.world = world
+        self.kept: dict[Definition, list[Node]] = {}
+
+    def scope_of(self, definition: Definition) -> Scope:
+        """What words mean in a definition."""
+        specs = self.world.specs[definition.module]
+        own = {**specs.constructors, **specs.definitions}
+        return lambda word: self.meant(specs.brought, specs.aliases, own, word)
+
+    def scope_in(self, function: Function) -> Scope:
+        """What words mean in the clauses of a function."""
+        code = self.world.code[function.path]
+        return lambda word: self.meant({**code.brought, **function.brought}, code.aliases, {}, word)
+
+    def meant(self, brought: dict, aliases: dict, own: dict, word: str) -> object:  # type: ignore[type-arg]
+        """What a word means where these names are brought in."""
+        head, *path = word.split(".")
+        try:
+            found: object = self.world.meant(brought, aliases, own, head, path)
+        except Unknown:
+            return None
+        return found
+
+    def clause(self, function: Function, clause: Clause) -> list[Node]:
+        """What a clause says: its type, or that of the field which a promise names."""
+        if clause.part:
+            return self.opened(clause.part)
+        term = terms.term(words.tokens_of(clause.inner.splitlines()))
+        place = f"{function.owner}::{function.name}" if function.owner else function.name
+        return [Node(term, self.scope_in(function), f"{place} {clause.name}".rstrip())] if term else []
+
+    def said(self, path: str, name: str) -> list[Node]:
+        """What a law or a statement with its proof says, by its file and its name."""
+        if path.endswith(".rt"):
+            laws = [it for it in self.world.code[path].functions if it.name == name]
+            return [node for it in laws for clause in it.clauses for node in self.clause(it, clause)]
+        module = path.removeprefix("crates/").removesuffix(".antt").replace("/", ".")
+        return self.opened(self.world.target(f"Rattle.{module}", name))
+
+    def same_as(self, definition: Definition) -> list[Definition]:
+        """The relations of which each is enough for this one: the one that it is another name of, or those of a sum."""
+        nodes = self.opened(definition) if definition.kind == "function" and len(cases(definition)) == 1 else []
+        return [found for node in nodes for it in self.either(node) if (found := self.definition(it))]
+
+    def either(self, node: Node) -> list[Node]:
+        """The types of a sum, or the type alone."""
+        if isinstance(node.term, Joined) and node.term.sign == "⊎":
+            return [it for each in self.parts(node) for it in self.either(each)]
+        return [node]
+
+    def definition(self, node: Node) -> Definition | None:
+        """The definition that a relation is of, if it is one of ours."""
+        if not isinstance(node.term, Relation) or node.term.head in NAMELESS:
+            return None
+        found = node.scope(node.term.head)
+        return found if isinstance(found, Definition) and is_type(found) else None
+
+    def opened(self, definition: Definition) -> list[Node]:
+        """The types that a definition is made of."""
+        if definition not in self.kept:
+            self.kept[definition] = self.parted(definition)
+        return self.kept[definition]
+
+    def parted(self, definition: Definition) -> list[Node]:
+        scope = self.scope_of(definition)
+        named = [(f"{definition.name}.{name}" if name else "", it) for name, it in cases(definition)]
+        # A case of several that is there never, as lists of two lengths are paired, says nothing.
+        said = [(name, it) for name, it in named if name or len(named) == 1 or it != terms.NEVER]
+        return [Node(it, scope, name or definition.name, name) for name, it in said]
+
+    def within(self, node: Node) -> list[Node]:
+        """The arguments of a relation that may be relations."""
+        return [node.at(it) for it in node.term.inner] if isinstance(node.term, Relation) else []
+
+    def is_condition(self, node: Node) -> bool:
+        """Whether a type is a relation of the kit or of the language: an equation, a comparison, that there is none."""
+        if not isinstance(node.term, Relation):
+            return False
+        found = None if node.term.head in NAMELESS else node.scope(node.term.head)
+        is_of_kit = isinstance(found, KitWord) and found.name[0].isupper() and found.name not in PASSING | VALUES
+        return node.term.head in NAMELESS or is_of_kit
+
+    def values_in(self, node: Node) -> list[Definition]:
+        """The definitions of ours that a condition names, as `is_name` in `IsTrue (is_name text)`."""
+        tokens = words.tokens_of([node.term.text]) if isinstance(node.term, Relation) else []
+        found = [node.scope(it) for it in tokens if words.is_name(it) and it not in NAMELESS]
+        return [it for it in found if isinstance(it, Definition) and not is_type(it)]
+
+    def is_passing(self, node: Node) -> bool:
+        """Whether a type says no more than its arguments do."""
+        if not isinstance(node.term, Relation) or node.term.head in NAMELESS:
+            return False
+        found = node.scope(node.term.head)
+        return isinstance(found, KitWord) and found.name in PASSING | VALUES
+
+    def parts(self, node: Node) -> list[Node]:
+        """What stands in a type that is no relation of ours: its parts, what it ends in, what it passes on."""
+        if isinstance(node.term, Joined):
+            return [node.at(it) for it in node.term.parts]
+        if isinstance(node.term, Arrow):
+            return [node.at(node.term.right)]
+        return self.within(node) if self.is_passing(node) else []
+
+    def last(self, node: Node) -> list[Node]:
+        """The relations that a type ends in, none of them opened."""
+        parts = self.parts(node)
+        return [it for each in parts for it in self.last(each)] if parts else [node]
+
+    def words_of(self, node: Node) -> list[Definition]:
+        """The relation that a type is, or the words of ours that a condition names."""
+        definition = self.definition(node)
+        return [definition] if definition else self.values_in(node) if self.is_condition(node) else []
+
+    def left_of(self, node: Node, records: int = 1, seen: frozenset[Definition] = frozenset()) -> Iterator[Node]:
+        """What stands left of arrows in a type, in definitions that it ends in, and in the fields of records that it ends in.
+
+        In records within records only relations of ours count: a condition there is a bound, as of a place in a list."""
+        term, definition = node.term, self.definition(node)
+        if isinstance(term, Arrow):
+            left = [node.at(it) for it in term.left]
+            yield from (it for it in left if records >= 0 or self.definition(it) or it.term == terms.NEVER)
+            yield from self.left_of(node.at(term.right), records, seen)
+        elif isinstance(term, Joined):
+            if term.sign == "↔":
+                yield from (node.at(it) for it in term.parts)
+            for it in term.parts:
+                yield from self.left_of(node.at(it), records, seen)
+        elif definition and definition not in seen:
+            fewer = records - (definition.kind in ("record", "data"))
+            for each in self.opened(definition):
+                yield from self.left_of(each, fewer, seen | {definition})
+            for each in self.within(node):
+                yield from self.left_of(each, min(records, 0), seen)
+        elif self.is_passing(node):
+            for each in self.within(node):
+                yield from self.left_of(each, records, seen)
+
+    def ends(self, nodes: list[Node]) -> dict[Definition, None]:
+        """The relations that types end in, and those that these are made of at their own ends."""
+        found: dict[Definition, None] = {}
+        self.collect(nodes, found, self.parts, self.opened)
+        return found
+
+    def shown(self, nodes: list[Node]) -> dict[Definition, None]:
+        """The relations that are there where types are: none that stands in one part of a sum, or in one case of several."""
+        found: dict[Definition, None] = {}
+
+        def certain(node: Node) -> list[Node]:
+            # A sum of one type and of the relation itself comes to that type in the end.
+            either = [it for it in self.either(node) if self.definition(it) not in found]
+            return self.parts(node) if len(self.either(node)) == 1 else either * (len(either) == 1)
+
+        self.collect(nodes, found, certain, self.whole)
+        return found
+
+    def beneath(self, nodes: list[Node]) -> dict[Definition, None]:
+        """The relations that types are made of, those among the arguments of others too."""
+        found: dict[Definition, None] = {}
+
+        def opened(definition: Definition) -> list[Node]:
+            return [each for it in self.opened(definition) for each in (it, *self.arguments(it))]
+
+        self.collect([each for it in nodes for each in (it, *self.arguments(it))], found, self.parts, opened)
+        return found
+
+    def arguments(self, node: Node) -> list[Node]:
+        """The arguments of the relations that a type ends in."""
+        return [each for it in self.last(node) if not self.is_condition(it) for each in self.within(it)]
+
+    def whole(self, definition: Definition) -> list[Node]:
+        """The types that a definition is always made of."""
+        opened = self.opened(definition)
+        return opened if definition.kind == "record" or len(opened) == 1 else []
+
+    def collect(self, nodes: list[Node], found: dict[Definition, None], parts: Parts, opened: Opening) -> None:
+        """Puts together the relations that types end in, by what is a part of a type, and what of a definition."""
+        for node in nodes:
+            definition = self.definition(node)
+            if definition and definition not in found:
+                found[definition] = None
+                self.collect(opened(definition), found, parts, opened)
+            elif self.is_condition(node):
+                found.update(dict.fromkeys(self.values_in(node)))
+            elif not definition:
+                self.collect(parts(node), found, parts, opened)

@@ -1,0 +1,116 @@
+"""Reads the type of a clause or of a definition as a tree: what stands left of its arrows, and what it ends in."""
+
+from dataclasses import dataclass
+
+import words
+
+# Signs between types, the weakest first: each of two gives the other; one is there; both are.
+JOINED = ("↔", "⊎", "×")
+# Signs between two values.
+BETWEEN = ("≡", "≢", "≤", "<")
+
+
+@dataclass(frozen=True)
+class Relation:
+    """A relation of values: its head or the sign between two values, its text, and its arguments that may be relations."""
+
+    head: str
+    text: str
+    inner: tuple["Term", ...] = ()
+
+
+@dataclass(frozen=True)
+class Joined:
+    """Two types or more with a sign between them."""
+
+    sign: str
+    parts: tuple["Term", ...]
+
+
+@dataclass(frozen=True)
+class Arrow:
+    """What stands left of arrows, one after another, and what stands at the end."""
+
+    left: tuple["Term", ...]
+    right: "Term"
+
+
+Term = Relation | Joined | Arrow
+# The type that nothing has.
+NEVER = Relation("⊥", "⊥")
+
+
+def spelled(tokens: list[str]) -> str:
+    """The text of tokens, as a person writes it."""
+    text = " ".join(tokens)
+    for wide, close in (("( ", "("), (" )", ")"), (") .", ")."), (" ,", ","), (" ;", ";"), (" . ", ". ")):
+        text = text.replace(wide, close)
+    return text
+
+
+def unbound(tokens: list[str]) -> list[str]:
+    """The tokens behind `let x = e in` at the front."""
+    while tokens[:1] == ["let"]:
+        tokens = tokens[tokens.index("in") + 1 :]
+    return tokens
+
+
+def groups(tokens: list[str]) -> list[list[str]]:
+    """The brackets and the single tokens of an application."""
+    found, at = [], 0
+    while at < len(tokens):
+        end = words.closing(tokens, at) + 1 if tokens[at] in words.OPEN else at + 1
+        found.append(tokens[at:end])
+        at = end
+    return found
+
+
+def bound_types(tokens: list[str]) -> list[list[str]]:
+    """The types of binders, `(x : A) (y : B)`, or the one type that stands there."""
+    found, at = [], 0
+    while at < len(tokens) and tokens[at] in "({" and words.binder(tokens, at)[0]:
+        colon, end = words.binder(tokens, at)[1], words.closing(tokens, at)
+        found.append(tokens[colon + 1 : end])
+        at = end + 1
+    return found if at == len(tokens) else [tokens]
+
+
+def term(tokens: list[str]) -> Term | None:
+    """The tree of a type, or nothing where there is no type."""
+    tokens = unbound(tokens)
+    if tokens[:1] == ["λ"]:
+        return term(tokens[tokens.index(".") + 1 :])
+    *left, right = (unbound(it) for it in words.parted(tokens, "→"))
+    if not left:
+        return joined(tokens)
+    made = tuple(it for part in left for each in bound_types(part) if (it := joined(each)))
+    end = term(right)
+    # What leads to nothing is denied.
+    return Relation("¬", spelled(tokens)) if end == NEVER else Arrow(made, end) if end else None
+
+
+def joined(tokens: list[str]) -> Term | None:
+    """A type without an arrow of its own."""
+    for sign in JOINED:
+        parts = words.parted(tokens, sign)
+        if len(parts) > 1:
+            return Joined(sign, tuple(it for part in parts for each in bound_types(part) if (it := term(each))))
+    return relation(tokens)
+
+
+def relation(tokens: list[str]) -> Term | None:
+    """A relation, or what stands in brackets."""
+    each = groups(tokens)
+    sign = next((it[0] for it in each if it[0] in BETWEEN), None)
+    if sign:
+        return Relation(sign, spelled(tokens))
+    if len(each) == 1 and each[0][0] == "(":
+        return term(each[0][1:-1])
+    if not each or each[0][0] in words.OPEN:
+        return None
+    return Relation(each[0][0], spelled(tokens), tuple(it for it in map(argument, each[1:]) if it))
+
+
+def argument(group: list[str]) -> Term | None:
+    """An argument that may be a relation."""
+    return term(group[1:-1]) if group[0] == "(" else Relation(group[0], group[0]) if words.is_name(group[0]) else None
