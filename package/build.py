@@ -19,7 +19,8 @@ SYSUSERS = "systemd | systemd-standalone-sysusers | systemd-sysusers"
 ARCHITECTURES = {SOURCE: "amd64", TOOLS: "all"}
 # The fields of each package. The first line of a description is its summary.
 FIELDS = {
-    SOURCE: {"Depends": SYSUSERS, "Recommends": f"{TOOLS}, nginx", "Description": """proved source for the ResourceSync Framework
+    SOURCE: {"Depends": SYSUSERS, "Recommends": f"{TOOLS}, nginx", "Suggests": "nftables",
+             "Description": """proved source for the ResourceSync Framework
  Publishes a collection by the ResourceSync Framework (ANSI/NISO Z39.99-2017),
  so that other sites mirror it and stay in step. It takes deposits over HTTP,
  keeps them in one file, and serves the lists that mirrors read.

@@ -64,6 +64,8 @@ def places(program, prefix, install=ROOT / "install"):
     yield of(install / "ropepeach.sysusers", "lib/sysusers.d/ropepeach.conf")
     yield of(install / "ropepeach-mirror.sysusers", "lib/sysusers.d/ropepeach-mirror.conf", package=TOOLS)
     yield of(install / "until-it-listens", "lib/ropepeach/until-it-listens", 0o755)
+    yield of(install / "guard", "lib/ropepeach/guard", 0o755)
+    yield of(install / "guard.conf", "share/ropepeach/guard.conf")
     yield of(install / "closed", "lib/ropepeach/closed", 0o755, TOOLS)
     yield of(install / "ropepeach.nginx", "share/ropepeach/ropepeach.nginx")
     for file in sorted(it for it in (install / "site").rglob("*") if it.is_file()):
@@ -76,6 +78,7 @@ def places(program, prefix, install=ROOT / "install"):
     # (packages say the licence in their file `copyright`)
     for name in ("LICENSE-MIT", "LICENSE-APACHE"):
         yield Place(f"share/doc/ropepeach/{name}", (ROOT / name).read_bytes(), package=None)
+    yield of(ROOT / "tools/ropepeach/site.nginx", "lib/ropepeach/ropepeach/site.nginx", package=TOOLS)
     yield from command()
 
 

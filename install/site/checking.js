@@ -2,7 +2,7 @@
 
 import { Trouble, asked } from "./documents.js";
 
-// How many bodies are asked for side by side.
+// How many bodies are asked for side by side: fewer than the site sends to one visitor.
 const LANES = 3;
 
 /** Whether this browser can check at all: WebCrypto is there over HTTPS and on this machine alone. */

@@ -5,6 +5,8 @@ import { given, made, tell } from "./elements.js";
 import { count, counted, size } from "./formats.js";
 
 const SOME = 100;
+// A check of many fetches at most these bytes, and offers the others: each byte is work for the source.
+const MOST_BYTES = 64 * 1_048_576;
 // This many of the resources that differ are named.
 const NAMED = 20;
 // The site serves lists that are up to two seconds old (install/ropepeach.nginx).
@@ -13,8 +15,9 @@ const OLDEST = 2_500;
 export class Checks {
   /** `checked` is called with each resource that was checked; `ended` after the last, and reads the lists anew where one differs. */
   constructor(parts, say, checked, ended) {
-    Object.assign(this, { parts, say, checked, ended, outcomes: new Map() });
+    Object.assign(this, { parts, say, checked, ended, outcomes: new Map(), rest: [] });
     parts.stop.addEventListener("click", () => this.stopping?.abort());
+    parts["check-rest"].addEventListener("click", () => this.all(this.rest));
     if (!canCheck) {
       parts["check-some"].disabled = true;
       tell(parts.checked, "A browser checks over HTTPS alone.");
@@ -60,11 +63,19 @@ export class Checks {
     this.say(`${resource.name}: ${kind}. ${why}`);
   }
 
-  /** Checks some at random. */
+  /** Checks some at random, and leaves out those that are beyond the limit of bytes. */
   async some(resources) {
-    const { stop, bar } = this.parts;
-    if (this.stopping || !resources.length) return;
+    if (this.stopping) return;
     const chosen = someOf(resources, SOME);
+    const first = withinBytes(chosen, MOST_BYTES);
+    await this.all(chosen.slice(0, first), chosen.slice(first));
+  }
+
+  /** Checks these; `rest` are offered afterwards. */
+  async all(chosen, rest = []) {
+    const { stop, bar } = this.parts;
+    if (this.stopping || !chosen.length) return;
+    this.offer([]);
     const found = { agrees: 0, differs: 0, unasked: 0, changed: 0, bytes: 0 };
     const begun = performance.now();
     this.stopping = new AbortController();
@@ -87,7 +98,16 @@ export class Checks {
     const left = chosen.filter((it) => differing.has(it.name)).length;
     const all = summary({ ...found, differs: left, changed: found.differs - left });
     tell(this.parts.checked, `${all}; ${size(found.bytes)} in ${seconds.toFixed(1)} s.`);
+    this.offer(rest);
     this.say(this.parts.checked.textContent);
+  }
+
+  /** Offers to check what was left out. */
+  offer(rest) {
+    const button = this.parts["check-rest"];
+    this.rest = rest;
+    button.hidden = !rest.length;
+    button.textContent = `Check the other ${count(rest.length)} (${size(rest.reduce((sum, it) => sum + it.length, 0))})`;
   }
 
   /** Names what differs. */
@@ -98,6 +118,16 @@ export class Checks {
     this.parts.differing.hidden = !rows.length;
     this.parts.differing.replaceChildren(...rows);
   }
+}
+
+/** How many of these, from the first on, have at most so many bytes together. */
+function withinBytes(resources, most) {
+  let bytes = 0;
+  for (const [at, it] of resources.entries()) {
+    bytes += it.length;
+    if (bytes > most) return at;
+  }
+  return resources.length;
 }
 
 /** What came of many checks. */

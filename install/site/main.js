@@ -21,8 +21,9 @@ function say(text) {
 function show(bases) {
   const isCollection = bases.length > 1;
   let sums = null;
-  // A source alone is asked at its own address, and not at another one that leads to it.
-  const panels = bases.map((it) => new Panel(it, { here, isElsewhere: !isCollection && it !== here, say, changed: () => sums?.show() }));
+  // A source alone is asked at its own address, which may lie below the page's, and not at another one that leads to it.
+  const isElsewhere = !isCollection && !`${bases[0]}/`.startsWith(`${here}/`);
+  const panels = bases.map((it) => new Panel(it, { here, isElsewhere, say, changed: () => sums?.show() }));
   tell(place("kind"), isCollection ? "ResourceSync collection" : "ResourceSync source");
   tell(place("title"), hostOf(isCollection ? here : bases[0]));
   tell(place("lead"), isCollection ? `A collection of ${bases.length} sources. All that they hold can be mirrored.` : LEAD);

@@ -24,6 +24,7 @@ from tests.collection.killing import killing
 from tests.collection.measuring import Meter, most_memory, size_of
 from tests.collection.rates import tell_rates
 from tests.program import PROGRAM, Differs
+from tests.skipped import skipped
 from tests.tools.running import same
 
 BODY, TENTH = 1_024, 10
@@ -165,8 +166,7 @@ def main():
     words.add_argument("--rates", action="store_true")
     given = words.parse_args()
     if missing():
-        print(f"collection: NOT TRIED, as there is no {missing()} here")
-        return 0
+        return skipped("collection", f"there is no {missing()} here")
     started = time.monotonic()
     with tempfile.TemporaryDirectory(prefix="collection-", dir=given.folder) as room, contextlib.chdir(room):
         try:

@@ -20,6 +20,8 @@ from tests.tools import running
 from tests.tools.running import SECONDS, Server, files_of, same
 
 SETTINGS = "collection.toml"
+# Where a site looks for the page once it is installed.
+INSTALLED_PAGE = "/usr/local/share/ropepeach/site"
 # No run takes longer than this, also where the machine has much else to do.
 LONGEST = 300
 PART = re.compile(r"/((?:resourcelist/\d+|changelist)/\d+\.xml)<")
@@ -28,11 +30,11 @@ PART = re.compile(r"/((?:resourcelist/\d+|changelist)/\d+\.xml)<")
 class Host:
     """A host of several sources, in the folder that a check is in. `with` starts it, and ends all that it started."""
 
-    def __init__(self, program, room, names, size=8 << 20, limit=100):
-        self.program, self.room, self.size, self.limit = program, pathlib.Path(room).resolve(), size, limit
+    def __init__(self, program, room, names, size=8 << 20, limit=100, address="", page=""):
+        self.page, self.program, self.room, self.size, self.limit = page, program, pathlib.Path(room).resolve(), size, limit
         # The seconds of a processor that sources used which have ended.
         self.port, self.nginx, self.ended = free_port(), None, 0.0
-        self.address, self.sources = f"https://127.0.0.1:{self.port}", {}
+        self.address, self.sources = address or f"https://127.0.0.1:{self.port}", {}
         certify(self.room)
         self.environment = os.environ | DIRECT | {"SSL_CERT_FILE": f"{self.room}/server.crt"}
         for it in names:
@@ -82,15 +84,11 @@ class Host:
         """The site on loopback alone, with its cache in this folder."""
         site = pathlib.Path("site/collection.nginx").read_text()
         site = re.sub(r"(?m)^ *listen \[.*\n", "", site)
-        for old, new in [(f"listen {self.port} ", f"listen 127.0.0.1:{self.port} "), ("/var/cache/ropepeach levels", f"{self.room}/cache levels")]:
+        for old, new in [(f"listen {self.port} ", f"listen 127.0.0.1:{self.port} "),
+                         ("/var/cache/ropepeach-collection levels", f"{self.room}/cache levels")]:
             same(f"places of {old!r}", 1, site.count(old))
             site = site.replace(old, new)
-        folders = re.findall(r"--http-([a-z-]+)-temp-path", told_by("nginx", "-V")[0])
-        # (a master that is root gives its workers another user, who cannot write here)
-        user = f"user {pwd.getpwuid(os.getuid()).pw_name};" if os.getuid() == 0 else ""
-        temporary = "".join(f"{it.replace('-', '_')}_temp_path {self.room}/{it};\n" for it in folders)
-        return f"daemon off; worker_processes 2; {user} pid {self.room}/pid; error_log {self.room}/errors;\nevents {{ worker_connections 4096; }}\n" \
-               f"http {{\naccess_log {self.room}/access;\n{temporary}{site}}}\n"
+        return nginx_settings(self.room, site.replace(INSTALLED_PAGE, str(self.page)) if self.page else site)
 
     def begin(self, *words):
         """A run of the command that has begun, which trusts the host."""
@@ -158,6 +156,16 @@ class Host:
         self.sources[name].start()
 
 
+def nginx_settings(room, sites):
+    """The settings of nginx with some sites, with all its files in a folder."""
+    folders = re.findall(r"--http-([a-z-]+)-temp-path", told_by("nginx", "-V")[0])
+    # (a master that is root gives its workers another user, who cannot write here)
+    user = f"user {pwd.getpwuid(os.getuid()).pw_name};" if os.getuid() == 0 else ""
+    temporary = "".join(f"{it.replace('-', '_')}_temp_path {room}/{it};\n" for it in folders)
+    return f"daemon off; worker_processes 2; {user} pid {room}/pid; error_log {room}/errors;\nevents {{ worker_connections 4096; }}\n" \
+           f"http {{\naccess_log {room}/access;\n{temporary}{sites}}}\n"
+
+
 def certify(room):
     """Makes a certificate with its key, which vouches for itself."""
     words = ["-x509", "-newkey", "ec", "-pkeyopt", "ec_paramgen_curve:prime256v1", "-nodes", "-days", "2", "-subj", "/CN=server"]
@@ -198,7 +206,7 @@ def asked(url, target, method="GET", sent=b"", context=None):
         if context:
             connection = context.wrap_socket(connection, server_hostname=place.hostname)
         length = f"Content-Length: {len(sent)}\r\n" if method == "PUT" else ""
-        connection.sendall(f"{method} {target} HTTP/1.1\r\nHost: a\r\nConnection: close\r\n{length}\r\n".encode("latin-1") + sent)
+        connection.sendall(f"{method} {target} HTTP/1.1\r\nHost: {place.netloc}\r\nConnection: close\r\n{length}\r\n".encode("latin-1") + sent)
         found = b""
         while piece := connection.recv(65_536):
             found += piece

@@ -5,8 +5,10 @@ import re
 import shutil
 import ssl
 import time
+from unittest import mock
 
 from tests.collection.host import SETTINGS, Host, asked, commanded, copied, disks_stay, same_files, waited
+from tests.program import interposed
 from tests.system import install_looks
 from tests.tools import running
 from tests.tools.running import files_of, has, ropepeach, same, written
@@ -27,6 +29,22 @@ DOCUMENTS = """
 /resourcelist/1/..%2F1%2F0.xml /.well-known/resourcesync /%2Ewell-known/resourcesync /resourcelist.xml?x /resourcelist/1//0.xml
 """.split()
 KEPT = install_looks.HEAD
+# A C library by which nobody may list a folder of this name.
+UNLISTED = r"""
+#include <errno.h>
+#include <fcntl.h>
+#include <stdarg.h>
+#include <string.h>
+#include <sys/syscall.h>
+#include <unistd.h>
+static int opened(int at, const char *path, int flags, int mode) {
+    if (strlen(path) >= 8 && !strcmp(path + strlen(path) - 8, "unlisted")) return errno = EACCES, -1;
+    return syscall(SYS_openat, at, path, flags, mode);
+}
+#define MODE(after) va_list more; va_start(more, after); int mode = va_arg(more, int); va_end(more)
+int openat(int at, const char *path, int flags, ...) { MODE(flags); return opened(at, path, flags, mode); }
+int openat64(int at, const char *path, int flags, ...) { MODE(flags); return opened(at, path, flags, mode); }
+"""
 # A lawful name that nginx refuses.
 ZERO = "/resource/%00"
 # Targets that lead to no source.
@@ -118,8 +136,13 @@ def fill_refuses_before_anything(program, room):
         host.settle()
         refused("no types", "s1: none: cannot be read", "--types", "none", status=2)
         same("a wrong word", 2, host.run("fill", folder, "collection.tom")[0])
+        os.makedirs("folder/a/unlisted")
+        with mock.patch.object(host, "environment", host.environment | {"LD_PRELOAD": interposed(room, "unlisted", UNLISTED)["LD_PRELOAD"]}):
+            refused("it can't be listed", "ropepeach fill: a folder cannot be listed: folder/a/unlisted: Permission denied")
+        shutil.rmtree("folder/a")
         too_deep(folder)
-        refused("too deep", "ropepeach fill: a folder cannot be listed: folder/deep/")
+        status, _, said = host.run("fill", folder, SETTINGS)
+        same(f"too deep: {said}", (3, 1), (status, said.count("left out deep/")))
         shutil.rmtree("folder/deep")
         host.well("fill", folder, SETTINGS)
         shutil.rmtree("folder")
@@ -130,7 +153,7 @@ def fill_refuses_before_anything(program, room):
 
 
 def too_deep(folder):
-    """Makes folders below a folder, the innermost of which can't be listed: its path has more than 4,096 bytes."""
+    """Makes folders below a folder, the innermost of which has a path of more than 4,096 bytes."""
     above = os.open(folder, os.O_RDONLY)
     for name in ["deep", *["d" * 250] * 17]:
         os.mkdir(name, dir_fd=above)

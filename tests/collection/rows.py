@@ -8,6 +8,7 @@ Exit status 1 if one does not hold.
 import os
 import sys
 
+from tests.collection.doors import DOORS
 from tests.collection.host import missing
 from tests.collection.refused import REFUSED
 from tests.collection.rows_wrong import noticed
@@ -22,7 +23,7 @@ def main():
     lacking = missing()
     if lacking:
         print(f"collection: NOT TRIED, as there is no {lacking} here: the site, and what is mirrored through it")
-    checks = SETTINGS + ([] if lacking else REFUSED + WHOLE)
+    checks = SETTINGS + ([] if lacking else REFUSED + DOORS + WHOLE)
     given = sys.argv[1:]
     program = os.path.abspath(given[0] if given and os.path.isfile(given[0]) else PROGRAM)
     is_all = not [it for it in given if not os.path.isfile(it)]

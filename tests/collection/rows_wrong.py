@@ -4,9 +4,12 @@ import os
 import pathlib
 import subprocess
 
+from tests.collection.doors import (bodies_are_counted_by_source, both_kinds_of_site_send_the_same_fields,
+                                    many_sites_stand_together, strangers_change_nothing_of_a_collection,
+                                    two_sources_and_a_collection_stand_behind_one_nginx)
 from tests.collection.host import commanded, copied
 from tests.collection.refused import fill_refuses_before_anything, grow_refuses_before_anything, names_pass_to_the_right_source_or_are_refused
-from tests.collection.settings import files_are_made_of_settings, names_live_where_the_table_says
+from tests.collection.settings import a_site_is_made_of_words, files_are_made_of_settings, names_live_where_the_table_says
 from tests.collection.whole import a_moved_name_is_never_gone, fill_and_mirror_are_exact, grow_moves_to_the_new_source_alone, killed_runs_go_on
 from tests.program import Differs, room_in_memory
 
@@ -16,8 +19,27 @@ WRONG = [
     ("the least weight wins", names_live_where_the_table_says, "rendezvous.py", "if weight > greatest", "if not home or weight < greatest"),
     ("a source is left out", files_are_made_of_settings, "collection_texts.py",
      "format(base=it.base) for it in collection.members.values())", "format(base=it.base) for it in list(collection.members.values())[1:])"),
-    ("nginx decodes names", names_pass_to_the_right_source_or_are_refused, "collection_texts.py",
-     "map $request_uri $ropepeach", "map $uri $ropepeach"),
+    ("nginx decodes names", names_pass_to_the_right_source_or_are_refused, "site.nginx",
+     "map $request_uri $rp_@word@_asked", "map $uri $rp_@word@_asked"),
+    ("a page of another host is let in", strangers_change_nothing_of_a_collection, "site.nginx", "        return 403;", "        set $nothing 1;"),
+    ("a part is let in", strangers_change_nothing_of_a_collection, "site.nginx", "        return 400;", "        set $nothing 1;"),
+    ("bodies of all sources are counted together", bodies_are_counted_by_source, "site.nginx",
+     "$binary_remote_addr $rp_of", "$binary_remote_addr"),
+    ("names in patterns are too long", many_sites_stand_together, "site.nginx",
+     "(?<rp_of>[^/]+)/resource/", "(?<rp_@word@_of>[^/]+)/resource/"),
+    ("the caches have one folder", two_sources_and_a_collection_stand_behind_one_nginx, "site_text.py", '"name": self.name', '"name": "source"'),
+    ("the upstreams have one name", two_sources_and_a_collection_stand_behind_one_nginx, "site.py",
+     'f"ropepeach_{given.name}"', '"ropepeach_source"'),
+    ("variables have one name", two_sources_and_a_collection_stand_behind_one_nginx, "site_text.py",
+     'return self.name.replace("-", "_")', 'return "source"'),
+    ("any name is led to TLS", two_sources_and_a_collection_stand_behind_one_nginx, "site_text.py",
+     "        return 421;\n    }}\n    return 301 https://$server_name", "        set $nothing 1;\n    }}\n    return 301 https://$host"),
+    ("bodies are not kept still", both_kinds_of_site_send_the_same_fields, "site.nginx",
+     "    add_header Content-Security-Policy $rp_@word@_sandbox always;\n", ""),
+    ("the type of the description may be guessed", both_kinds_of_site_send_the_same_fields, "site_text.py",
+     "{strict}        add_header X-Content-Type-Options nosniff always;\n", "{strict}"),
+    ("this machine is always near", a_site_is_made_of_words, "site.py",
+     'for it in texts if it != "none")', 'for it in texts if it != "none") + LOOPBACK'),
     ("strays are not looked for", fill_refuses_before_anything, "collection_fill.py", "        if astray:\n", "        if False:\n"),
     ("a share of the names is passed over", fill_and_mirror_are_exact, "collection_fill.py", "for it in shares:", "for it in list(shares)[1:]:"),
     ("a folder that can't be listed is passed over", fill_refuses_before_anything, "side_by_side.py", "raise said.fault()", "return {}"),

@@ -1,5 +1,6 @@
 """Rows of settings: what a file of a collection may be, what is made of it, and where names live. They need no server."""
 import pathlib
+import re
 import subprocess
 import xml.etree.ElementTree as ElementTree
 
@@ -50,6 +51,9 @@ WRONG = [
     ('address = "https://archive.example.org"', "address = 1", "address: 1: an address is"),
     (HEAD, HEAD + 'near = "127.0.0.1"\n', "near: wants a list"),
     (HEAD, HEAD + 'near = ["127.0.0.1/8; }"]\n', "is no address, and no network"),
+    (HEAD, HEAD + 'name = "a b"\n', "name: 'a b': a name is 1 to 32 of"),
+    ("archive.example.org/s2", "archive.example.org/site", "source.s2.base: https://archive.example.org/site: the page has its files below"),
+    ("archive.example.org/s2", "archive.example.org/site/s2", "the page has its files below /site/"),
     (HEAD, HEAD + 'key = "/a b"\n', "key: '/a b': a file is a whole path"),
     (HEAD, HEAD + "address =\n", "is no TOML"),
 ]
@@ -85,7 +89,7 @@ def files_are_made_of_settings(program, room):
     same("made", 0, ropepeach("collection", "c.toml", "--into", "site")[0])
     same("files", ["collection.nginx", "resourcesync.xml", "s1.env", "s2.env", "s3.env"], sorted(it.name for it in pathlib.Path("site").iterdir()))
     lines = [it for it in pathlib.Path("site/s2.env").read_text().splitlines() if not it.startswith("#")]
-    same("the settings of a unit", ["FILE=/var/lib/ropepeach/s2.disk", "ADDRESS=127.0.0.1", "PORT=8082", "COUNT=1000000000"], lines)
+    same("the settings of a unit", ["FILE=/var/lib/ropepeach/s2.disk", "PORT=8082", "COUNT=1000000000"], lines)
     root = ElementTree.fromstring(pathlib.Path("site/resourcesync.xml").read_bytes())
     same("the root", SITEMAP + "urlset", root.tag)
     same("the capability", "description", root.find(RS + "md").get("capability"))
@@ -94,6 +98,68 @@ def files_are_made_of_settings(program, room):
     before = {it.name: it.read_bytes() for it in pathlib.Path("site").iterdir()}
     same("made again", 0, ropepeach("collection", "c.toml", "--into", "site")[0])
     same("the same", before, {it.name: it.read_bytes() for it in pathlib.Path("site").iterdir()})
+
+
+# Words of `ropepeach site` that are refused, and why.
+WRONG_SITES = [
+    (["http://"], "an address is"), (["https://a.example/s1"], "an address is"), (["https://a.example;}"], "an address is"),
+    (["a.example"], "an address is"), (["https://a.example:0"], "a port is"), (["https://a.example:99999"], "a port is"),
+    (["https://a.example", "--port", "0"], "a port is"), (["https://a.example", "--port", "65536"], "a port is"),
+    (["https://a.example", "--port", "x"], "invalid int value"), (["https://a.example", "--name", "a b"], "a name is 1 to 32"),
+    (["https://a.example", "--name", "a_b"], "a name is 1 to 32"), (["https://a.example", "--name", ""], "a name is 1 to 32"),
+    (["https://a.example", "--near", "1.2.3.4/8; }"], "no network"), (["https://a.example", "--near", ""], "no network"),
+    (["https://a.example", "--key", "a b"], "a file is a whole path"), (["https://a.example", "--depositors", "/a;b"], "a file is a whole path"),
+    (["https://a.example", "--certificate", ""], "a file is a whole path"), ([], "arguments are required"),
+]
+
+
+def a_site_is_made_of_words(program, room):
+    """`ropepeach site` writes what it is given in its places, and nothing else; what nginx would read otherwise is refused by a line and status 2."""
+    for words, why in WRONG_SITES:
+        status, told, said = ropepeach("site", *words)
+        same(f"{words}: {said}", (2, ""), (status, told))
+        has(f"{words}", why, said)
+    base = "http://A.example:8088"
+    told = ropepeach("site", base, "--name", "a-b", "--port", 99, "--near", "192.0.2.0/24", "--near", "2001:db8::/32")[1]
+    same("near", ["default", "0;", "192.0.2.0/24", "1;", "2001:db8::/32", "1;"], near_in(told, "a_b"))
+    for words, count in [("server 127.0.0.1:99 max_fails=0;", 1), ("listen 8088;", 1), ("server_name a.example;", 1), ("ssl_certificate", 0),
+                         ("Strict-Transport-Security", 0), ("http://$rp_a_b_asked;", 3), ("upstream ropepeach_a-b {", 1), ("rp_source", 0),
+                         ("/var/cache/ropepeach-a-b ", 1), ("Sitemap: http://a.example:8088/resourcelist.xml\\n", 1)]:
+        same(f"places of {words}", count, told.count(words))
+    files = ["--certificate", "/c.pem", "--key", "/k.pem", "--depositors", "/d.pem"]
+    told = ropepeach("site", "https://a.example", *files, "--near", "none")[1]
+    for words in ("    ssl_certificate     /c.pem;", "    ssl_certificate_key /k.pem;", "    ssl_client_certificate /d.pem;",
+                  "    ssl_verify_client      optional;", "return 301 https://$server_name$request_uri;"):
+        same(f"places of {words}", 1, told.count(f"{words}\n"))
+    same("nobody is near", ["default", "0;"], near_in(told, "source"))
+    told = ropepeach("site", "http://a.example", "--port", 65_535)[1]
+    for words in ("listen 80;", "server 127.0.0.1:65535 max_fails=0;", "Sitemap: http://a.example/resourcelist.xml\\n"):
+        same(f"places of {words}", 1, told.count(words))
+    told = ropepeach("site", "https://a.example:65535", "--port", 1)[1]
+    for words, count in [("server 127.0.0.1:1 ", 1), ("listen 65535 ssl;", 1), ("return 301", 0), ("Sitemap: https://a.example:65535/", 1)]:
+        same(f"places of {words}", count, told.count(words))
+
+
+def near_in(site, name):
+    """The near addresses of a site."""
+    return re.search(rf"geo \$rp_{name}_near {{\n(.*?)}}", site, re.DOTALL)[1].split()
+
+
+def the_site_of_a_collection_is_made_of_settings(program, room):
+    """It has the name and the near addresses of its file, or those of this machine where it names none; a base stands for itself in it."""
+    odd = settings(2).replace("archive.example.org/s2", "archive.example.org/s.2-a")
+    tries = [(odd, "collection", ["127.0.0.0/8", "1;", "::1", "1;"]), (f"near = []\n{odd}", "collection", []),
+             (f'name = "all-of-it"\nnear = ["192.0.2.7"]\n{odd}', "all_of_it", ["192.0.2.7/32", "1;"])]
+    for text, name, near in tries:
+        pathlib.Path("c.toml").write_text(text)
+        same("made", 0, ropepeach("collection", "c.toml", "--into", "site")[0])
+        site = pathlib.Path("site/collection.nginx").read_text()
+        same(f"near, {name}", ["default", "0;", *near], near_in(site, name))
+        upstream = name.replace("_", "-")
+        same("its sources", 1, site.count(f'"~^/s\\.2-a(?<rp_at>/.*)$" ropepeach_{upstream}.s2$rp_at;\n'))
+        for words in (f"upstream ropepeach_{upstream}.s2 {{", f"/var/cache/ropepeach-{upstream} ", "Sitemap: https://archive.example.org/s.2-a/",
+                      f"alias                 {pathlib.Path('site').resolve()}/resourcesync.xml;"):
+            same(f"places of {words}", 1, site.count(words))
 
 
 def spelled(names, count):
@@ -131,9 +197,9 @@ def names_live_where_the_table_says(program, room):
 
 def the_pages_say_what_the_commands_are(program, room):
     """The pages of the manual have the options and the exit statuses of the commands."""
-    for name in ("collection", "grow"):
+    for name in ("site", "collection", "grow"):
         page_of(name)
 
 
-SETTINGS = [wrong_settings_are_refused_before_anything, files_are_made_of_settings, names_live_where_the_table_says,
-            the_pages_say_what_the_commands_are]
+SETTINGS = [wrong_settings_are_refused_before_anything, files_are_made_of_settings, a_site_is_made_of_words,
+            the_site_of_a_collection_is_made_of_settings, names_live_where_the_table_says, the_pages_say_what_the_commands_are]

@@ -1,9 +1,9 @@
 """Boots a whole machine with the Debian packages of the program, and looks at what has to hold of it (`make machine`).
 
 A small Debian is made by debootstrap from the registry that apt uses here, and kept for the next run; systemd-nspawn boots it. The packages
-are built of the program that is given, installed by apt, and used by the commands that docs/OPERATING.md prints. Each function of rows.py and
-edge_rows.py is one thing that has to hold; they go in this order, since each stands on the ones before. At the end units that are wrong are
-made up (wrong.py), and have to be noticed.
+are built of the program that is given, installed by apt, and used by the commands that docs/OPERATING.md prints. Each function of rows.py,
+door_rows.py and edge_rows.py is one thing that has to hold; they go in this order, since each stands on the ones before. At the end units that
+are wrong are made up (wrong.py), and have to be noticed.
 
 It needs root, debootstrap, systemd-nspawn, a registry that answers if no Debian is kept, and a kernel that lets a machine boot. Where one of
 these is missing it says NOT TRIED, and what is missing.
@@ -25,10 +25,11 @@ from types import SimpleNamespace
 
 from package.build import build
 from package.program_facts import Unfit
-from tests.machine import debian, edge_rows, rows, wrong
+from tests.machine import debian, door_rows, edge_rows, rows, wrong
 from tests.machine.debian import Missing
 from tests.machine.machine import Machine
 from tests.program import PROGRAM, ROOT, Differs
+from tests.skipped import skipped
 
 # What has to be here, and which packages bring it.
 TOOLS = {"debootstrap": "debootstrap", "systemd-nspawn": "systemd-container", "nsenter": "util-linux", "dpkg-deb": "dpkg", "strip": "binutils",
@@ -73,7 +74,7 @@ def tried(row, machine, packages):
 
 def looked_at(machine, packages):
     """Tries all rows, and the wrong units before the last two, which take the packages away."""
-    every, blind, count, held = [*rows.ROWS, *edge_rows.ROWS], [], 0, 0
+    every, blind, count, held = [*rows.ROWS, *door_rows.ROWS, *edge_rows.ROWS], [], 0, 0
     for row in every:
         if row is edge_rows.an_upgrade_keeps_the_source:
             blind, count = wrong.look(machine, packages)
@@ -105,8 +106,7 @@ def main():
             machine = ending.enter_context(Machine(f"{room}/root"))
             begin(machine)
         except Missing as what:
-            print(f"machine: NOT TRIED, as this machine has not {what}")
-            return 0
+            return skipped("machine", f"this machine has not {what}")
         except (Unfit, *FAULTS) as fault:
             print(f"machine: {type(fault).__name__} {fault}")
             return 1

@@ -18,7 +18,7 @@ REGISTRY = "http://deb.debian.org/debian"
 SUITE = "bookworm"
 # What the packages depend on, so that they are installed without a network; what a site needs; what the checks look with.
 PACKAGES = ["systemd", "systemd-sysv", "dbus", "init-system-helpers", "python3", "python3-defusedxml", "python3-tqdm", "python3-urllib3", "curl",
-            "nginx", "openssl", "ca-certificates"]
+            "nginx", "openssl", "ca-certificates", "nftables"]
 # No registry is waited for longer than this, in seconds, and no Debian is made for longer than that.
 ANSWER, MAKING = 15, 240
 # How many bytes a machine takes at most.

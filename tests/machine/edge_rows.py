@@ -101,7 +101,7 @@ def a_copy_of_a_source_that_is_held_still_opens(machine, packages):
         puts.wait_for(1) if ran.returncode == 0 else None
         puts.stop()
         if "does not support free" in ran.stdout or "not supported" in ran.stdout.lower():
-            print(f"NOT TRIED: {words}, which this kernel does not offer to systemd: {ran.stdout.strip()}")
+            print(f"machine: NOT TRIED: {words}, which this kernel does not offer to systemd: {ran.stdout.strip()}")
             continue
         same(f"{words}: {ran.stdout}", 0, ran.returncode)
         look_at_copy(machine, puts, answered)

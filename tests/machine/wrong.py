@@ -2,17 +2,25 @@
 import contextlib
 import subprocess
 
+from tests.machine.door_rows import other_users_are_kept_out, units_have_limits
 from tests.machine.edge_rows import a_full_file_system_heals
 from tests.machine.rows import a_damaged_body_is_told, drop_in, it_is_up_when_it_listens
 from tests.program import Differs
 
-WAITING = "/usr/lib/ropepeach/until-it-listens"
+WAITING, GUARD = "/usr/lib/ropepeach/until-it-listens", "/usr/lib/ropepeach/guard"
 # The row, the unit, and what stands in it last.
 WRONG = [
     (it_is_up_when_it_listens, "ropepeach.service", "[Service]\nExecStartPost=\n"),
     (it_is_up_when_it_listens, "ropepeach.service", f"[Service]\nExecStartPost=\nExecStartPost={WAITING} 22 $MAINPID\nTimeoutStartSec=3\n"),
     (a_damaged_body_is_told, "ropepeach-again.service", "[Service]\nExecStart=\nExecStart=/bin/true\n"),
     (a_damaged_body_is_told, "ropepeach-verify.service", "[Service]\nSuccessExitStatus=1\n"),
+    (other_users_are_kept_out, "ropepeach.service", "[Service]\nExecStartPre=\n"),
+    (other_users_are_kept_out, "ropepeach.service", f"[Service]\nExecStartPre=\nExecStartPre=+{GUARD} 8080 nobody ropepeach\n"),
+    (other_users_are_kept_out, "ropepeach.service", f"[Service]\nExecStartPre=\nExecStartPre=+{GUARD} 8080 www-data ropepeach nobody\n"),
+    (other_users_are_kept_out, "ropepeach.service", f"[Service]\nExecStartPre=\nExecStartPre=-+{GUARD} 8080 www-data ropepeach\n"),
+    (other_users_are_kept_out, "ropepeach-publish.service", "[Service]\nUser=nobody\n"),
+    (units_have_limits, "ropepeach-mirror@copy.service", "[Service]\nTimeoutStartSec=infinity\n"),
+    (units_have_limits, "ropepeach-mirror@copy.service", "[Service]\nMemoryMax=infinity\n"),
     (a_full_file_system_heals, "ropepeach-heal@small.service", "[Service]\nExecStart=\nExecStart=/bin/true\n"),
     (a_full_file_system_heals, "ropepeach-heal@small.service", "[Service]\nExecStart=\nExecStart=/usr/bin/systemctl try-restart ropepeach@small\n"),
 ]

@@ -16,6 +16,7 @@ import sys
 
 from tests.page import LIMIT
 from tests.program import PROGRAM, ROOT, SECONDS
+from tests.skipped import skipped
 
 PYTHONS = [sys.executable, "/usr/bin/python3"]
 INSIDE = "--inside"
@@ -35,8 +36,7 @@ def outside(given):
     python = python_with_selenium()
     missing = [it for it in ("chromium", "chromedriver", "nginx") if not shutil.which(it)] + ["python3-selenium"] * (not python)
     if missing:
-        print(f"page: NOT TRIED, as there is no {', '.join(missing)} here")
-        return 0
+        return skipped("page", f"there is no {', '.join(missing)} here")
     words = [python, "-m", "tests.page", INSIDE, *given]
     with subprocess.Popen(words, cwd=ROOT, start_new_session=True) as run:
         try:

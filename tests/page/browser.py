@@ -25,7 +25,7 @@ addEventListener("unhandledrejection", (it) => window.faults.push(String(it.reas
 """
 OPTIONS = ["--headless=new", "--no-sandbox", "--disable-gpu", "--disable-dev-shm-usage", "--no-first-run", "--disable-extensions",
            "--hide-scrollbars", "--disable-background-networking", "--disable-component-update", "--no-proxy-server", "--force-device-scale-factor=1",
-           "--ignore-certificate-errors"]
+           "--ignore-certificate-errors", "--host-resolver-rules=MAP rebound.example 127.0.0.1"]
 
 
 class Browser:

@@ -116,7 +116,8 @@ def bodies_are_kept_still(look):
             status, fields, _ = asked(port, "GET", path)
             same(path, (200, None, "nosniff"), (status, fields["Content-Security-Policy"], fields["X-Content-Type-Options"]))
         page = asked(port, "GET", "/")[1]
-        for words in ("default-src 'none'; script-src 'self'; style-src 'self'", "base-uri 'none'", "form-action 'none'", "frame-ancestors 'none'"):
+        own = f"default-src 'none'; script-src {base}/site/; style-src {base}/site/;"
+        for words in (own, "base-uri 'none'", "form-action 'none'", "frame-ancestors 'none'"):
             same(f"the page's policy has {words}", True, words in (page["Content-Security-Policy"] or ""))
         same("the page's policy lets nothing run that is within", False, "unsafe" in page["Content-Security-Policy"])
 

@@ -4,7 +4,7 @@ import shutil
 import statistics
 
 from tests.page import fake as fakes, scripts
-from tests.page.looked import has, same
+from tests.page.looked import exchanged, has, same
 from tests.program import Differs
 from tests.served_source import free_port
 from tests.system import install_looks
@@ -21,7 +21,7 @@ HOSTILE = [
     ("\"'><script>window.ran.push('script')</script>", "text/html\"><script>window.ran.push('type')</script>"),
     ("a&amp;lt;b&lt;c", "text/x;a=\"'&amp;\""), ("\u202egpj.exe", "text/\u202eplain"), ("\u05e9\u05dc\u05d5\u05dd/\u05e2", "text/\u200fplain"),
     ("l" * 2_000, "text/" + "t" * 2_000), ("javascript:window.ran.push('url')", "javascript:window.ran.push('url')"), ("../../up", "a/b"),
-    ("\U0001f600\u00e9", "a/\u00e9"),
+    ("\U0001f600\u00e9", "a/\u00e9"), ("__proto__", "__proto__"), ("constructor", "toString"), ("hasOwnProperty", "valueOf"),
 ]
 
 
@@ -253,7 +253,8 @@ def a_collection_has_tabs_and_sums(look):
     browser = look.browser
 
     def setting(name, value):
-        return lambda settings: settings.replace(f'map $host ${name} {{ default ""; }}', f'map $host ${name} {{ default "{value}"; }}')
+        line = f'map $host $rp_source_{name} {{{{ default "{{}}"; }}}}'
+        return lambda settings: exchanged(settings, line.format(""), line.format(value))
 
     port = free_port()
     base = f"http://127.0.0.1:{port}"
@@ -261,7 +262,7 @@ def a_collection_has_tabs_and_sums(look):
     with look.fake(lambda base: fakes.archive(base, 40), allowing) as one, look.fake(lambda base: fakes.archive(base, 25, 2), allowing) as other:
         text = fakes.description(one.base, other.base).encode()
         answer = lambda path: (200, "application/xml", text) if path == "/.well-known/resourcesync" else (404, "text/plain", b"NoSuchDocument\n")
-        with serving(answer) as server, look.site(int(server.url.rpartition(":")[2]), port, setting("page_sources", f"{one.base} {other.base}")):
+        with serving(answer) as server, look.site(int(server.url.rpartition(":")[2]), port, setting("sources", f"{one.base} {other.base}")):
             browser.open(f"{base}/")
             browser.until("return document.querySelectorAll('.sums .tone[data-tone=good]').length === 2", "both are open")
             tabs = browser.run("return [...document.querySelectorAll('[role=tab]')].map((it) => it.textContent)")

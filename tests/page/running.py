@@ -6,12 +6,13 @@ import time
 import urllib3
 from selenium.common.exceptions import WebDriverException
 
-from tests.page import LIMIT, looks_program, looks_reader, looks_states, wrong
+from tests.page import LIMIT, looks_doors, looks_program, looks_reader, looks_states, wrong
 from tests.page.browser import Browser
 from tests.page.looked import Looked
 from tests.program import Differs, room_in_memory
+from tests.skipped import skipped
 
-LOOKS = looks_program.LOOKS + looks_states.LOOKS + looks_reader.LOOKS
+LOOKS = looks_program.LOOKS + looks_doors.LOOKS + looks_states.LOOKS + looks_reader.LOOKS
 FAULTS = (Differs, OSError, ValueError, LookupError, subprocess.SubprocessError, http.client.HTTPException, urllib3.exceptions.HTTPError,
           WebDriverException)
 # Where no look is named, and this many seconds have gone, no wrong page is begun but for the first few: a slow machine tries fewer.
@@ -34,8 +35,7 @@ def look(program, names):
         try:
             browser = Browser(room)
         except WebDriverException as fault:
-            print(f"page: NOT TRIED, as Chromium does not begin here: {str(fault)[:300]}")
-            return 0
+            return skipped("page", f"Chromium does not begin here: {str(fault)[:300]}")
         try:
             looked = Looked(program, room, browser)
             held = [check for check in chosen if holds(check, looked)]

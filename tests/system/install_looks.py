@@ -161,7 +161,7 @@ def site_on(room, port, source):
     site = re.sub(r"(?ms)^server \{\n    listen 80;.*?^\}\n", "", site)
     site = re.sub(r"(?m)^ *listen \[.*\n", "", site)
     for old, new in [("listen 443 ", f"listen 127.0.0.1:{port} "), ("server 127.0.0.1:8080 ", f"server 127.0.0.1:{source} "),
-                     ("/var/cache/ropepeach levels", f"{room}/cache levels")]:
+                     ("server_name source.example.org;", "server_name 127.0.0.1;"), ("/var/cache/ropepeach-source levels", f"{room}/cache levels")]:
         compare(f"places of {old!r}", b"1", b"%d" % site.count(old))
         site = site.replace(old, new)
     return site
@@ -228,12 +228,12 @@ def compare_answers(what, wanted, found):
 
 def a_slow_client_holds_nobody(program, room):
     """While one client sends its body a byte at a time, and another reads nothing of its response, others are answered; without nginx they wait."""
-    head = b"PUT /resource/slow HTTP/1.1\r\nHost: a\r\nConnection: close\r\nContent-Length: 20\r\n\r\n"
+    head = b"PUT /resource/slow HTTP/1.1\r\nHost: 127.0.0.1\r\nConnection: close\r\nContent-Length: 20\r\n\r\n"
     slowest = 0.0
     with proxied(program, room) as (port, _, behind):
         compare_answers("a long body", 201, asked(port, "PUT", "/resource/long", bytes(LONGEST_BODY))[0])
         with connected(port) as reader, connected(port) as slow:
-            reader.sendall(b"GET /resource/long HTTP/1.1\r\nHost: a\r\n\r\n")
+            reader.sendall(b"GET /resource/long HTTP/1.1\r\nHost: 127.0.0.1\r\n\r\n")
             slow.sendall(head)
             for _ in range(20):
                 slow.sendall(b"x")

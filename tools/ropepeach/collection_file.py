@@ -1,7 +1,8 @@
 """The settings of a collection: a file in TOML, which names the address of the whole and each source.
 
     address = "https://archive.example.org"          where all are served: a host, whose description names each source
-    near = ["127.0.0.0/8"]                           who may change them through the site, beside this machine
+    name = "archive"                                 the name of the whole in the site, where it is not `collection`
+    near = ["192.0.2.0/24"]                          who may change them through the site, where it is not this machine alone
     certificate = "/etc/ssl/certs/archive.pem"       the files of TLS, if the site's own names do not do
     key = "/etc/ssl/private/archive.key"
     depositors = "/etc/ssl/certs/depositors.pem"     who vouches for clients that may change them, if there are such
@@ -19,8 +20,9 @@ from urllib.parse import urlsplit
 
 from ropepeach.faults import Misused
 from ropepeach.rendezvous import Homes
+from ropepeach.site_text import LOOPBACK
 
-KEYS, NEEDED = {"address", "near", "certificate", "key", "depositors", "source"}, {"address", "source"}
+KEYS, NEEDED = {"address", "name", "near", "certificate", "key", "depositors", "source"}, {"address", "source"}
 SOURCE_KEYS = {"address", "base", "file"}
 SOURCE_NAME = re.compile(r"[a-z0-9][a-z0-9-]{0,31}")
 HOST = r"[A-Za-z0-9.-]+(?::\d{1,5})?"
@@ -29,6 +31,8 @@ LISTENS = re.compile(r"http://([A-Za-z0-9.-]+):(\d{1,5})")
 # A base ends in a path of plain segments (docs/SCRIPT.md has what a base may be).
 PATH = re.compile(r"(?:/[A-Za-z0-9_~-][A-Za-z0-9._~-]*)+")
 LONGEST_BASE, MOST_PORT = 128, 65_535
+# Where the site has the scripts of its page: what a browser lets run.
+PAGE = "/site/"
 # What systemd and nginx take as it stands.
 FILE = re.compile(r"/[A-Za-z0-9._~+@/-]+")
 
@@ -54,7 +58,8 @@ class Collection:
         self.path, said = path, read(path)
         self.check_keys("", said, KEYS, NEEDED)
         self.address = self.text("address", said["address"], WHOLE, "an address is http:// or https:// and a host, without a path")
-        self.near = [self.network(it) for it in self.list_of("near", said.get("near", []))]
+        self.name = self.text("name", said.get("name", "collection"), SOURCE_NAME, "a name is 1 to 32 of a-z, 0-9 and -")
+        self.near = [self.network(it) for it in self.list_of("near", said["near"])] if "near" in said else list(LOOPBACK)
         self.files = {it: self.text(it, said[it], FILE, "a file is a whole path") for it in ("certificate", "key", "depositors") if it in said}
         if not isinstance(said["source"], dict) or not said["source"]:
             raise self.wrong("source", "a collection has a table [source.NAME] for each source")
@@ -105,6 +110,8 @@ class Collection:
         if path == base or not PATH.fullmatch(path) or len(base) > LONGEST_BASE:
             why = f"{base!r}: a base is {self.address} and a path, as {self.address}/{name}, of {LONGEST_BASE} bytes at most"
             raise self.wrong(where + "base", why)
+        if f"{path}/".startswith(PAGE):
+            raise self.wrong(where + "base", f"{base}: the page has its files below {PAGE}")
         return Member(name, address, base, self.text(where + "file", said["file"], FILE, "a file is a whole path, of letters, digits and ._~+@/-"))
 
     def check_apart(self):
