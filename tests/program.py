@@ -7,7 +7,9 @@ import subprocess
 import tempfile
 
 ROOT = pathlib.Path(__file__).resolve().parent.parent
-PROGRAM = ROOT / "crates/rs_source/out/rs_source"
+# The program that is tested: the proved one, or that which the environment names.
+PROGRAM = pathlib.Path(os.environ.get("PROGRAM") or "crates/rs_source/out/rs_source")
+PROGRAM = PROGRAM if PROGRAM.is_absolute() else ROOT / PROGRAM
 # The commands that are installed beside it.
 TOOLS = ROOT / "tools"
 # A source in memory, of 64 KiB and an item limit of 2.

@@ -197,7 +197,7 @@ class Round:
     def mirror(self):
         """A run of the destination in a process of its own, with commands beside it, and a kill by chance."""
         least, started, told = len(self.changes), time.monotonic(), self.folder.with_name("told")
-        words = [self.server.base, str(self.folder), *self.rng.choice([[], [], [], ["--baseline"]])]
+        words = [self.server.base, str(self.folder), "--yes", *self.rng.choice([[], [], [], ["--baseline"]])]
         lasting = self.rng.uniform(0, self.usual) if self.rng.random() < 0.5 else SECONDS
         process = multiprocessing.get_context("fork").Process(target=destined, args=(words, told))
         process.start()

@@ -8,7 +8,7 @@ the moment that it prints.
 import shutil
 
 from ropepeach import lists, mirror
-from ropepeach.connections import LONGEST_DOCUMENT, Answer
+from ropepeach.connections import LONGEST_DOCUMENT, PATIENCE, Answer
 from ropepeach.mirror_folder import Folder
 from tests.program import Differs
 from tests.reading import crash_model
@@ -29,6 +29,7 @@ class Moving:
     def __init__(self, lines, at):
         self.state, self.held, self.requests = crash_model.State(BASE, LIMIT), {}, 0
         self.lines, self.at, self.begun, self.address, self.longest = lines, at, 0, BASE, LONGEST_DOCUMENT
+        self.patience = PATIENCE
         self.does(BEFORE)
 
     def does(self, lines):

@@ -1,7 +1,7 @@
 """Folders of mirrors that are stopped at each of their calls, and opened again.
 
 A stop by `kill -9` seldom meets the calls that move files and folders. So here the calls of
-mirror_folder.py that change a folder are counted, and each in turn is the one at which a run ends.
+mirror_folder.py and mirror_tree.py that change a folder are counted, and each in turn is the one at which a run ends.
 """
 import contextlib
 import hashlib
@@ -10,10 +10,12 @@ import math
 import os
 import shutil
 
-from ropepeach import mirror_folder
+from ropepeach import mirror_folder, mirror_tree
 from ropepeach.facts import packed
 from tests.program import Differs
 
+# Any moment.
+MOMENT = "2000-02-29T00:00:00.000Z"
 CALLS = {"replace", "mkdir", "rmdir", "remove"}
 NAMES = ["a", "a/b", "a/b/c", "a/d", "b", "b/b"]
 
@@ -32,11 +34,11 @@ class Stopping:
         return self.call(name) if name in CALLS else getattr(os, name)
 
     def call(self, name):
-        def counted(*words):
+        def counted(*words, **named):
             if self.left == 0:
                 raise Stop
             self.left -= 1
-            return getattr(os, name)(*words)
+            return getattr(os, name)(*words, **named)
 
         return counted
 
@@ -46,11 +48,11 @@ def opened(path, calls):
     """A folder that is opened as it is, and then may make this many calls."""
     folder = mirror_folder.Folder(path, "source")
     folder.begin()
-    mirror_folder.os = Stopping(calls)
+    mirror_folder.os = mirror_tree.os = Stopping(calls)
     try:
         yield folder
     finally:
-        mirror_folder.os = os
+        mirror_folder.os = mirror_tree.os = os
         folder.close()
 
 
@@ -63,7 +65,7 @@ def bring(folder, wanted):
             if not folder.has(name, packed({"length": str(len(body)), "hash": f"sha-256:{hashlib.sha256(body).hexdigest()}"})):
                 folder.write(name, body)
     folder.settle()
-    folder.remember("", "")
+    folder.remember(MOMENT, MOMENT)
 
 
 def at_random(rng, number):

@@ -27,6 +27,8 @@ from tests.tools.running import has, same
 
 # What a run may take at most: bytes that the source could send, seconds of a processor and on the clock, bytes of memory (its address space).
 SENT, PROCESSOR, SECONDS, MEMORY = 16 << 20, 10, 60, 700 << 20
+# How often one path is asked at most, in half a second of patience.
+ASKED = 12
 BOMB = '<!DOCTYPE a [<!ENTITY a "aaaaaaaaaa">' + "".join(f'<!ENTITY {b} "{f"&{a};" * 10}">' for a, b in zip("abcdefgh", "bcdefghi")) + "]>"
 RESOURCES, DESCRIPTION = "/resourcelist.xml", "/.well-known/resourcesync"
 
@@ -143,6 +145,21 @@ ROWS = {
     "words for a terminal": (at("/resource/a", answered(b"", "404 \x1b[2J\x9b31m")), "/resource/a: 404 ?[2J?31m"),
     "a name for a terminal": (escaping("\x9b31m"), "resource/?31m: refused"),
     "an odd moment": (document(RESOURCES, lambda it: it.replace(MOMENT.encode(), b"2000-02-30")), "refused, as it is no moment"),
+    "a name twice": (resource_list(lambda base: [entry(f"{base}/resource/a"), entry(f"{base}/resource/b"), entry(f"{base}/resource/a", b"other")]),
+                     "refused, as its Resource List has a twice"),
+    "a name twice alike": (resource_list(lambda base: [entry(f"{base}/resource/a"), entry(f"{base}/resource/a")]), "has a twice"),
+    "a name that is no ASCII": (escaping("\xe9"), "resource/\xe9: refused, as it is no resource"),
+    "a list that is no ASCII": (document("/capabilitylist.xml", lambda it: it.replace(b"/changelist.xml", "/changelist\xe9".encode())),
+                                "visible ASCII characters alone"),
+    "a list with a tab": (document("/capabilitylist.xml", lambda it: it.replace(b"/changelist.xml", b"/change&#9;list")),
+                          "/change?list: refused, as an address has visible"),
+    "a list with a space": (document("/capabilitylist.xml", lambda it: it.replace(b"/changelist.xml", b"/change list")), "visible ASCII"),
+    "a line of ours": (escaping("a\nropepeach mirror: all is well"), "resource/a?ropepeach mirror: all is well: refused"),
+    "a line of ours in an answer": (at("/resource/a", answered(b"", "302 Found", "Location: a\x85\x0bb\r\n")),
+                                    "redirects are not followed, to"),
+    "a list that is gone": (lambda liar: liar.answers.pop("/changelist.xml"), "times, and each time lost a part"),
+    "a list that is another's": (document("/changelist.xml", lambda it: it.replace(MOMENT.encode(), b"2000-02-29T00:00:00.002Z")),
+                                 "times, and each time too early"),
     "many sources": (document(DESCRIPTION, lambda it: it.replace(b"</urlset>", it.split(b"\n")[3] + b"</urlset>")), "names 2 sources"),
 }
 # These have nothing to refuse: `%` is never decoded, so such a name is a file within the folder.
@@ -189,6 +206,8 @@ def look(name, room):
         same("what acts on a terminal", [], [it for it in said if not (it.isprintable() or it == "\n")])
         same("what is left", set(), set(below(room)) - allowed)
         same("paths below the source that were asked", [], [it for it in liar.asked if not it.startswith("/") or "elsewhere" in it])
+        most = max((liar.asked.count(it) for it in liar.asked), default=0)
+        same("how often one path was asked", True, most <= ASKED)
         if liar.sent > SENT:
             raise Differs(f"it took {liar.sent:,} bytes")
 

@@ -15,11 +15,16 @@ def listed(capability, entries, root="urlset", said=""):
     return f'{HEAD.format(root)}<rs:md capability="{capability}"{said}/>\n{"".join(entries)}</{root}>\n'.encode()
 
 
-def entry(loc, body=b"body", length=None, hashes=None):
-    """An entry of a Resource List."""
+def entry(loc, body=b"body", length=None, hashes=None, moment=MOMENT):
+    """An entry of a Resource List, or of a Change List for a change at a moment."""
     hashes = f"md5:{hashlib.md5(body).hexdigest()} sha-256:{hashlib.sha256(body).hexdigest()}" if hashes is None else hashes
     length = len(body) if length is None else length
-    return f'<url><loc>{loc}</loc><lastmod>{MOMENT}</lastmod><rs:md hash="{hashes}" length="{length}" type="a/b"/></url>\n'
+    return f'<url><loc>{loc}</loc><lastmod>{moment}</lastmod><rs:md hash="{hashes}" length="{length}" type="a/b"/></url>\n'
+
+
+def gone(loc, moment):
+    """An entry of a Change List for a deletion."""
+    return f'<url><loc>{loc}</loc><rs:md change="deleted" datetime="{moment}"/></url>\n'
 
 
 def answered(body, status="200 OK", fields="", length=None):
@@ -81,6 +86,36 @@ def in_parts(liar, entries, most=5_000):
     names = [f"/resourcelist/1/{number}.xml" for number in range(len(parts))]
     liar.resources([f'<sitemap><loc>{liar.base}{it}</loc><rs:md at="{MOMENT}"/></sitemap>\n' for it in names], "sitemapindex")
     liar.documents({name: listed("resourcelist", it, said=f' at="{MOMENT}"') for name, it in zip(names, parts)})
+
+
+def changed(liar, *parts, start=MOMENT, bounds=None):
+    """Gives the Change List of a source these entries; where bounds are given, as parts that say them."""
+    names = [f"/changelist/{number}.xml" for number in range(len(bounds or []))]
+    pointers = []
+    for name, (first, last) in zip(names, bounds or []):
+        said = "".join(f' {word}="{it}"' for word, it in (("from", first), ("until", last)) if it is not None)
+        pointers.append(f'<sitemap><loc>{liar.base}{name}</loc><rs:md{said}/></sitemap>\n')
+    head = listed("changelist", pointers or parts[0], "sitemapindex" if bounds else "urlset", f' from="{start}"')
+    liar.documents({"/changelist.xml": head} | {name: listed("changelist", it, said=f' from="{MOMENT}"') for name, it in zip(names, parts)})
+
+
+def collected(liar, sources):
+    """Lets an address be that of a collection, whose sources hold these files each."""
+    texts = {}
+    for name in sources:
+        base, files = f"{liar.base}/{name}", sources[name] if isinstance(sources, dict) else {"a": b"body"}
+        pointer = lambda path, capability, base=base: f'<url><loc>{base}/{path}</loc><rs:md capability="{capability}"/></url>\n'
+        texts |= {
+            f"/{name}/.well-known/resourcesync": listed("description", [pointer("capabilitylist.xml", "capabilitylist")]),
+            f"/{name}/capabilitylist.xml": listed(
+                "capabilitylist", [pointer("resourcelist.xml", "resourcelist"), pointer("changelist.xml", "changelist")]
+            ),
+            f"/{name}/changelist.xml": listed("changelist", [], said=f' from="{MOMENT}"'),
+            f"/{name}/resourcelist.xml": listed("resourcelist", [entry(f"{base}/resource/{it}", body) for it, body in files.items()],
+                                                said=f' at="{MOMENT}"')}
+        texts |= {f"/{name}/resource/{it}": body for it, body in files.items()}
+    whole = [f'<url><loc>{liar.base}/{name}/capabilitylist.xml</loc><rs:md capability="capabilitylist"/></url>\n' for name in sources]
+    liar.documents(texts | {"/.well-known/resourcesync": listed("description", whole)})
 
 
 @contextlib.contextmanager

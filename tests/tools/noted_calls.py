@@ -48,10 +48,17 @@ static int fails(const char *call, const char *path, const char *to) {
     errno = error;
     return is_failing;
 }
+/* The whole path of one below an open folder. */
+static const char *whole(int at, const char *path, char *into) {
+    if (at == AT_FDCWD || path[0] == '/') return path;
+    strcat(strcat((char *) path_of(at, into), "/"), path);
+    return into;
+}
 #define ON_FILE(call, fd, made) char path[4096]; return ours(path_of(fd, path)) && fails(call, path, "") ? -1 : (made)
 #define ON_PATH(call, path, to, made) return ours(path) && fails(call, path, to) ? -1 : (made)
 static int opened(int at, const char *path, int flags, int mode) {
-    if (ours(path) && flags & (O_CREAT | O_TRUNC) && fails("make", path, "")) return -1;
+    char from[9000];
+    if (flags & (O_CREAT | O_TRUNC) && ours(whole(at, path, from)) && fails("make", whole(at, path, from), "")) return -1;
     return syscall(SYS_openat, at, path, flags, mode);
 }
 #define MODE(after) va_list more; va_start(more, after); int mode = va_arg(more, int); va_end(more)
@@ -76,10 +83,22 @@ int syncfs(int fd) {
     fails("synced", path, "");
     return result;
 }
-int rename(const char *from, const char *to) { ON_PATH("rename", from, to, syscall(SYS_renameat, AT_FDCWD, from, AT_FDCWD, to)); }
-int mkdir(const char *path, mode_t mode) { ON_PATH("mkdir", path, "", syscall(SYS_mkdirat, AT_FDCWD, path, mode)); }
-int rmdir(const char *path) { ON_PATH("rmdir", path, "", syscall(SYS_unlinkat, AT_FDCWD, path, AT_REMOVEDIR)); }
-int unlink(const char *path) { ON_PATH("unlink", path, "", syscall(SYS_unlinkat, AT_FDCWD, path, 0)); }
+int renameat(int at, const char *from, int beside, const char *to) {
+    char one[9000], two[9000];
+    ON_PATH("rename", whole(at, from, one), whole(beside, to, two), syscall(SYS_renameat, at, from, beside, to));
+}
+int rename(const char *from, const char *to) { return renameat(AT_FDCWD, from, AT_FDCWD, to); }
+int mkdirat(int at, const char *path, mode_t mode) {
+    char one[9000];
+    ON_PATH("mkdir", whole(at, path, one), "", syscall(SYS_mkdirat, at, path, mode));
+}
+int mkdir(const char *path, mode_t mode) { return mkdirat(AT_FDCWD, path, mode); }
+int unlinkat(int at, const char *path, int flags) {
+    char one[9000];
+    ON_PATH(flags & AT_REMOVEDIR ? "rmdir" : "unlink", whole(at, path, one), "", syscall(SYS_unlinkat, at, path, flags));
+}
+int rmdir(const char *path) { return unlinkat(AT_FDCWD, path, AT_REMOVEDIR); }
+int unlink(const char *path) { return unlinkat(AT_FDCWD, path, 0); }
 """
 # A call: its name, whether it was let fail, the path and the other one, below the folder; the folder itself is ``.
 Call = collections.namedtuple("Call", "name failed path to")

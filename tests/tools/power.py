@@ -127,13 +127,16 @@ FOLDER = "mirror_folder.py"
 WRONG = {
     "a batch is not synced": (FOLDER, "self.worker.submit(sync_all, self.lock)", "self.worker.submit(int)"),
     "a sync is not waited for": (FOLDER, "            self.synced.result()\n", "            pass\n"),
-    "files are written in their places": (FOLDER, 'path = self.at(f"{INCOMING}/{self.count}")', "self.make_way(name); path = self.place(name)"),
+    "files are written in their places": (FOLDER, "        path = str(self.number)\n", "        self.make_way(name)\n"
+                                          "        self.incoming, path = os.dup(self.tree.parted(name)[0]), self.tree.parted(name)[1]\n"),
     "a short write is taken for a whole one": (FOLDER, "            file.write(body)\n", "            os.write(file.fileno(), body)\n"),
-    "a moment is remembered before folders are synced": (FOLDER, "        sync_all(self.lock)\n        state", "        state"),
+    "a moment is remembered before folders are synced": (FOLDER, "        sync_all(self.lock)\n        state =", "        state ="),
     "the state is not synced": (FOLDER, "            os.fsync(file.fileno())\n", "            pass\n"),
     "the state's name is not synced": (FOLDER, "        os.fsync(self.lock)\n", ""),
-    "the state is written in its place": (FOLDER, "        state, path = {", "        path = self.at(STATE)\n        state, _ = {"),
-    "a moment is remembered before files are in their places": ("mirror.py", "        self.folder.settle()\n        return left",
+    "the state is written in its place": (FOLDER, "        with open(self.tree.made(INCOMING), ",
+                                          "        INCOMING, flags = STATE, os.O_WRONLY | os.O_CREAT | os.O_TRUNC\n"
+                                          "        with open(os.open(STATE, flags, 0o666, dir_fd=self.lock), "),
+    "a moment is remembered before files are in their places": ("mirror_run.py", "        self.folder.settle()\n        return left",
                                                                 "        return left"),
 }
 PASSED_OVER = "a sync that failed is passed over", FOLDER, "    if LIBRARY.syncfs(opened):\n", "    if LIBRARY.syncfs(opened) and False:\n"
@@ -161,7 +164,8 @@ def wrong_programs_are_noticed(program, room):
         shutil.rmtree("m", ignore_errors=True)
         tools = edited(room, *PASSED_OVER[1:])
         number = next(number for number, it in enumerate(run(room, liar, FIRST, tools)[3], 1) if it.name == "syncfs")
-        same(f"{PASSED_OVER[0]}: the status is another one", 0, run(room, liar, LATER, tools, FAILS=number)[0])
+        shutil.rmtree("m")
+        same(f"{PASSED_OVER[0]}: the status is another one", 0, run(room, liar, FIRST, tools, FAILS=number)[0])
 
 
 CHECKS = [what_is_in_its_place_is_synced, a_call_that_fails_ends_a_run, wrong_programs_are_noticed]

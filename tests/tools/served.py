@@ -20,6 +20,7 @@ import time
 from tests.mirror.mirrors import DIRECT
 
 from tests.served_source import free_port
+from tests.skipped import skipped
 from tests.system import install_looks
 from tests.tools.running import SECONDS, begun, ended, files_of, has, rows, same, wait_until, written
 
@@ -184,8 +185,7 @@ def main():
     os.environ["PATH"] += ":/usr/sbin:/sbin"
     missing = [tool for tool in ("nginx", "openssl") if not shutil.which(tool)]
     if missing:
-        print(f"served: NOT TRIED, as there is no {', '.join(missing)} here")
-        return 0
+        return skipped("served", f"there is no {', '.join(missing)} here")
     return rows("served", CHECKS)
 
 

@@ -117,12 +117,15 @@ def what_cannot_be_a_resource(room, program):
     os.symlink(folder / "gone", folder / "gone-link")
     it = ran("size", str(folder))
     status_of(it, 3, "left out large: it has more than 16,777,216 bytes", f"left out {'n' * 241}: its name has 241 bytes",
-              "left out pipe: it is no regular file", f"left out {chr(252) * 41}: its name has 246 bytes", "left out link: it is no regular file",
-              "left out gone-link: it cannot be read")
+              "left out pipe: it is no regular file", f"left out {chr(252) * 41}: its name has 246 bytes",
+              "left out link: it is a link, and is not followed",
+              "left out gone-link: it is a link, and is not followed")
     wanted(it.stdout == f"{alone}\n" and it.stderr.count("left out") == 6, f"{it.stdout!r} {it.stderr!r}")
     os.symlink(folder / f"{0:040d}", folder / f"{2:040d}")
-    wanted(size_of(folder)[0] > 0 and "3 files of 16,777,416 bytes" in ran("size", str(folder)).stderr, "a link to a file is no file")
-    return "six kinds, and a link to a file that counts"
+    wanted(size_of(folder)[0] > 0 and "2 files of 16,777,316 bytes" in ran("size", str(folder)).stderr, "a link to a file counts")
+    it = ran("size", str(folder), "--links")
+    status_of(it, 3, "3 files of 16,777,416 bytes", "left out link: it is a link that leads out of FOLDER", "left out gone-link: it cannot be read")
+    return "six kinds, and a link to a file that counts with --links"
 
 
 def too_much_for_one_source(room, program):

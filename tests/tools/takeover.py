@@ -7,12 +7,9 @@ usage: python3 -m tests.tools.takeover [PROGRAM]     the built program, if none 
 A line for each row; exit status 1 if one does not hold.
 """
 import contextlib
-import copy
 import datetime
 import io
-import json
 import os
-import shutil
 import signal
 import subprocess
 import sys
@@ -21,94 +18,13 @@ from pathlib import Path
 from unittest import mock
 
 from ropepeach import command, takeover, takeover_store
-from tests.disks import disks
 from tests.program import PROGRAM
+from tests.tools.made_up_store import OTHER, MadeUp, group, session, until
 from tests.tools.rows import page_of, ran, status_of, tell, wanted
 
-OTHER, HERE = "10.78.0.1", "10.78.0.2"
-# A command that answers with the file of its words, and does not end well where there is none.
-ANSWERS = """#!/bin/sh
-while [ $# -gt 0 ]; do case $1 in --connect-timeout|--format) shift 2;; *) break;; esac; done
-echo "$*" >> "${0%/*}/asked"
-if [ -e "${0%/*}/slow" ]; then rm "${0%/*}/slow"; echo "not yet" >&2; exit 1; fi
-exec cat "${0%/*}/answers/${0##*/}-$*"
-"""
 
-
-def until(**more):
-    """A moment from now on, as the store writes it."""
-    return (datetime.datetime.now(datetime.timezone.utc) + datetime.timedelta(**more)).strftime("%Y-%m-%dT%H:%M:%S.%f+0000")
-
-
-def session(address, number):
-    return {"id": number, "state": "open", "entity": {"addr": {"type": "v1", "addr": f"{address}:0", "nonce": 7}}}
-
-
-def group(number, state="active+clean"):
-    return {"pgid": number, "state": state, "up": [0, 1, 2], "acting": [0, 1, 2]}
-
-
-class Store:
-    """What a store answers, which a row changes: at first all is done, and OTHER was lost."""
-
-    def __init__(self, room):
-        self.room, self.bin = Path(room), Path(room, "bin")
-        self.bin.mkdir()
-        (self.room / "run").mkdir()
-        self.socket = self.room / "run" / "ceph-client.admin.7.8.asok"
-        self.socket.touch()
-        self.file = self.room / "a.disk"
-        disks.disk(room, "empty", "a.disk")
-        # (a mount that was killed has left its socket, and a copy's process has one)
-        for it in ("ceph-client.admin.3.4.asok", "ceph-osd.1.5.6.asok"):
-            (self.room / "run" / it).touch()
-        pool = {"type": 1, "size": 3, "min_size": 2}
-        self.answers = {
-            "mount": {"filesystems": [{"target": str(self.room), "fstype": "fuse.ceph-fuse", "options": "rw,nosuid,nodev"}]},
-            "daemon": {"metadata": {"mount_point": str(self.room)}, "inst": {"addr": {"addr": f"{HERE}:0", "nonce": 9}},
-                       "blocklisted": False, "fs_name": "fs"},
-            "config": {"client_force_lazyio": "false", "fuse_use_invalidate_cb": "true", "client_reconnect_stale": "false", "client_oc": "true"},
-            "sessions": [session(HERE, 5), session("10.78.0.11", 6)],
-            "status": {"health": {"status": "HEALTH_WARN", "checks": {"OSD_DOWN": {}}}, "mgrmap": {"available": True}},
-            "systems": [{"name": "fs", "metadata_pool": "meta", "data_pools": ["data"]}],
-            "dump": {"blocklist": {f"{OTHER}:0/0": until(days=365), "10.78.0.9:6801/22": until(hours=1)},
-                     "pools": [{"pool": 2, "pool_name": "data", "application_metadata": {"cephfs": {"data": "fs"}}, **pool},
-                               {"pool": 3, "pool_name": "meta", "application_metadata": {"cephfs": {"metadata": "fs"}}, **pool},
-                               {"pool": 4, "pool_name": "other", "application_metadata": {"rbd": {}}, **pool, "min_size": 1},
-                               {"pool": 5, "pool_name": "b", "application_metadata": {"cephfs": {"data": "b"}}, **pool, "size": 1}]},
-            "groups": {"pg_ready": True, "pg_stats": [group("2.0", "active+undersized+degraded"), group("3.1"), group("4.0", "down")]},
-        }
-
-    def places(self):
-        """The file in which the made-up command finds each answer."""
-        target = f"--json --target {self.room.resolve()}/a.disk --output TARGET,FSTYPE,OPTIONS"
-        return {"mount": f"findmnt-{target}", "daemon": f"ceph-daemon {self.socket} status", "config": f"ceph-daemon {self.socket} config show",
-                "sessions": "ceph-tell mds.fs:0 session ls", "status": "ceph-status", "systems": "ceph-fs ls",
-                "dump": "ceph-osd dump", "groups": "ceph-pg dump pgs_brief"}
-
-    def write(self):
-        shutil.rmtree(self.bin)
-        self.bin.mkdir()
-        for name in ("ceph", "findmnt"):
-            (self.bin / name).write_text(ANSWERS)
-            (self.bin / name).chmod(0o755)
-        for name, place in self.places().items():
-            if self.answers[name] is not None:
-                path = Path(f"{self.bin}/answers/{place}")
-                path.parent.mkdir(parents=True, exist_ok=True)
-                path.write_text(json.dumps(self.answers[name]))
-
-    def fence(self, fences):
-        """The store's list of fences."""
-        self.answers["dump"]["blocklist"] = fences
-
-    @contextlib.contextmanager
-    def changed(self, name, change):
-        """The store with one answer changed in place, or by another one."""
-        kept = copy.deepcopy(self.answers)
-        self.answers[name] = change(self.answers[name]) or self.answers[name]
-        yield
-        self.answers = kept
+class Store(MadeUp):
+    """A store that is made up, and runs of the command on it."""
 
     def takes(self, program, *words, status=0, phrases=(), wait="0", other=OTHER):
         """Runs the command, which ends with this status and these phrases."""
@@ -313,6 +229,60 @@ def a_copy_that_differs(room, program):
     return "two of them"
 
 
+# What may be done to the copy in the folder of the program's user, while root takes over: `made` is the copy, `file` the file of the source.
+SWAPS = {
+    "a link": ('rm "$made"; ln -s "$victim" "$made"', "is not the copy that was made"),
+    "a hard link": ('rm "$made"; ln "$victim" "$made"', "is not the copy that was made"),
+    "a pipe": ('rm "$made"; mkfifo "$made"', "is not the copy that was made"),
+    "another's file": ('rm "$made"; cp "$file" "$made"; chown 65534 "$made"', "is not the copy that was made"),
+    "nothing": ('rm "$made"', "is not the copy that was made"),
+}
+
+
+def a_copy_that_is_swapped(room, program):
+    """Root gives no other file to the program's user, whatever is put in the place of the copy, or of the file."""
+    if os.geteuid():
+        return "NOT TRIED: only root gives files away"
+    store = Store(room)
+    victim = room / "victim"
+    victim.write_bytes(b"root's")
+    victim.chmod(0o600)
+    os.chown(store.file, 65_534, 65_534)
+    before = store.file.read_bytes()
+    for what, (swap, phrase) in SWAPS.items():
+        swapping = room / "swapping"
+        copying = f'file=$2 made=$3; cp "$file" "$made"; {swap}'
+        swapping.write_text(f"#!/bin/sh\nvictim={victim}\ncase $1 in run) echo 'resources 0';; copy) {copying};; esac\n")
+        swapping.chmod(0o755)
+        store.takes(swapping, "--copy", status=1, phrases=[phrase])
+        (room / "a.disk.taken-over").unlink(missing_ok=True)
+        found = victim.stat()
+        wanted((found.st_uid, found.st_mode & 0o777, found.st_nlink, victim.read_bytes()) == (0, 0o600, 1, b"root's"), f"{what}: {found}")
+        wanted(store.file.read_bytes() == before and not list(room.glob("a.disk.before-*")), f"{what}: the old file was moved")
+    real = room / "real.disk"
+    store.file.rename(real)
+    store.file.symlink_to(real)
+    places = store.places() | {"mount": store.places()["mount"].replace("/a.disk ", "/real.disk ")}
+    with mock.patch.object(store, "places", lambda: places):
+        store.takes(swapping, "--copy", status=1, phrases=["is a link, or no regular file"])
+    wanted(real.read_bytes() == before and not list(room.glob("*.taken-over")), "a link was copied")
+    return f"{len(SWAPS)} things in the place of the copy, and a link in that of the file"
+
+
+def answers_of_another_form(room, program):
+    """A store that answers in another form is told in one line, by status 1 to 3."""
+    store = Store(room)
+    for name in [it for it in store.answers if it != "systems"]:
+        for answer in ([], {}, [[]], "text", 7, {"pg_stats": [{}], "filesystems": [{}], "blocklist": {"a": "soon"}, "health": 1}):
+            with store.changed(name, lambda _, answer=answer: None):
+                store.answers[name] = answer
+                store.write()
+                with mock.patch.dict(os.environ, PATH=f"{store.bin}:{os.environ['PATH']}"):
+                    it = ran("takeover", str(store.file), OTHER, "--sockets", str(room / "run"), "--wait", "0", "--program", "true")
+                wanted(it.returncode in (1, 2, 3) and it.stderr.count("\n") == 1, f"{name}: {answer}: status {it.returncode}, {it.stderr[-300:]}")
+    return "six forms of each answer"
+
+
 def wrong_arguments(room, program):
     store = Store(room)
     store.takes(program, status=2, phrases=["--wait"], wait="-1")
@@ -331,7 +301,7 @@ def the_page_of_the_manual(room, program):
 
 
 ROWS = [the_page_of_the_manual, all_is_done, what_is_planned, the_fence, the_copies, the_mount, the_mount_of_the_kernel, a_store_that_does_not_answer,
-        no_command_of_the_store, the_file, a_copy, a_copy_that_differs, wrong_arguments]
+        no_command_of_the_store, the_file, a_copy, a_copy_that_differs, a_copy_that_is_swapped, answers_of_another_form, wrong_arguments]
 
 
 def ran_here(*words):
@@ -366,8 +336,9 @@ WRONG = {
     "a mount of the kernel may have any option": (wrong(takeover_store, "OPTIONS", {}), the_mount_of_the_kernel),
     "any file system is one of Ceph": (wrong(takeover_store, "FUSE", "fuse.glusterfs"), the_mount),
     "nothing is waited for": (wrong(takeover, "waited", lambda step, _: step()), a_store_that_does_not_answer),
-    "the old file is not kept": (wrong(takeover.os, "link", lambda *_: None), a_copy),
-    "the copy does not take the file's place": (wrong(takeover.os, "rename", lambda *_: None), a_copy),
+    "the old file is not kept": (wrong(takeover.os, "link", lambda *_, **__: None), a_copy),
+    "the copy does not take the file's place": (wrong(takeover.os, "rename", lambda *_, **__: None), a_copy),
+    "a link gets the owner": (wrong(takeover.os, "O_NOFOLLOW", 0), a_copy_that_is_swapped),
     "a copy is never compared": (wrong(takeover, "held", lambda *_: "resources 0"), a_copy_that_differs),
 }
 

@@ -14,7 +14,7 @@ from ropepeach.collection_file import Collection
 from ropepeach.collection_sources import Held, astray_in, told_of_astray
 from ropepeach.collection_texts import DESCRIPTION_FILE, SITE_FILE, description_of, settings_of, site_of
 from ropepeach.connections import add_options
-from ropepeach.faults import Fault
+from ropepeach.faults import Fault, say
 from ropepeach.fill_files import lines_of
 from ropepeach.health import write_whole
 from ropepeach.side_by_side import Sides, check
@@ -44,7 +44,7 @@ def write(collection, folder):
         write_whole(os.path.join(folder, f"{it.name}.env"), settings_of(it))
     write_whole(os.path.join(folder, DESCRIPTION_FILE), description_of(collection))
     write_whole(os.path.join(folder, SITE_FILE), site_of(collection, os.path.abspath(folder)))
-    print(f"{len(collection.members):,} sources: their settings, {SITE_FILE} and {DESCRIPTION_FILE} are in {folder}")
+    say(f"{len(collection.members):,} sources: their settings, {SITE_FILE} and {DESCRIPTION_FILE} are in {folder}")
 
 
 def look(collection, given):
@@ -57,18 +57,18 @@ def look(collection, given):
     with Sides(collection.members, work) as sides:
         found = check({name: sides.heard(name) for name in collection.members})
     for name, (told, _) in found.items():
-        print(f"{name}: {told}")
-    print(f"{len(found):,} sources of {room.MOST_RESOURCES:,} resources at most each")
+        say(f"{name}: {told}")
+    say(f"{len(found):,} sources of {room.MOST_RESOURCES:,} resources at most each")
     astray = astray_in({name: it[1] for name, it in found.items()})
     if astray:
-        raise Fault(told_of_astray(collection, astray, given))
+        raise Fault(*told_of_astray(collection, astray, given))
 
 
 def run(given):
     collection = Collection(given.file)
     if given.names:
         for it in lines_of("/dev/stdin" if given.names == "-" else given.names):
-            print(f"{collection.homes.of(it)} {it}")
+            say(f"{collection.homes.of(it)} {it}")
     elif given.into:
         write(collection, given.into)
     else:

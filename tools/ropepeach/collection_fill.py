@@ -11,12 +11,12 @@ import types
 from ropepeach import room
 from ropepeach.collection_file import Collection
 from ropepeach.collection_sources import Astray, asked_source, astray_in, told_of_astray
-from ropepeach.faults import Fault
+from ropepeach.faults import Fault, say
 from ropepeach.fill import Plan, held_by, published
-from ropepeach.fill_files import Kinds, entries_of, names_in
+from ropepeach.fill_files import Files, Kinds
 from ropepeach.fill_sending import Sending
 from ropepeach.progress import tell
-from ropepeach.side_by_side import Sides, check, failures
+from ropepeach.side_by_side import Sides, check, failures, told_of
 
 
 class PartPlan(Plan):
@@ -36,7 +36,7 @@ class PartPlan(Plan):
 def placed(folder, collection):
     """A file of names for each source, of all that lives there. Each processor takes a share of what lies at the top of the folder."""
     files, counts = {it: tempfile.TemporaryFile("w+", encoding="ascii") for it in collection.members}, dict.fromkeys(collection.members, 0)
-    entries, processors = list(entries_of(folder)), len(os.sched_getaffinity(0))
+    entries, processors = list(folder.entries()), len(os.sched_getaffinity(0))
     shares = {it: entries[it::processors] for it in range(processors)}
     with Sides(shares, lambda it, link: link.send(lines_by_home(folder, shares[it], collection.homes))) as sides:
         for it in shares:
@@ -55,7 +55,7 @@ def placed(folder, collection):
 def lines_by_home(folder, entries, homes):
     """The names of all that some entries of the folder are or hold: a text of lines for each source in which some of them live."""
     found = collections.defaultdict(list)
-    for name in names_in(folder, entries, iter):
+    for name in folder.names_of(entries, iter):
         found[homes.of(name)].append(f"{name}\n")
     return {home: "".join(lines) for home, lines in found.items()}
 
@@ -65,7 +65,7 @@ class Part:
 
     def __init__(self, collection, name, given, listed):
         self.collection, self.name, self.given = collection, name, given
-        self.member, self.plan = collection.members[name], PartPlan(os.fsencode(given.folder), Kinds(given.types), listed)
+        self.member, self.plan = collection.members[name], PartPlan(Files(given.folder, given.links), Kinds(given.types), listed)
 
     def compare(self):
         """What has to be done. Nothing is changed."""
@@ -88,7 +88,7 @@ class Part:
 
     def told(self):
         """What the run would do, a line for each change."""
-        return "".join([f"delete {self.name} {it}\n" for it in self.plan.gone] + [f"put {self.name} {it}\n" for it in self.plan.changed])
+        return [*(f"delete {self.name} {it}" for it in self.plan.gone), *(f"put {self.name} {it}" for it in self.plan.changed)]
 
     def change(self):
         """Does it, and gives the words of its end, whether something was left out, and why it ended early."""
@@ -118,12 +118,12 @@ def check_file(member, it, changes):
 def run(given):
     """Fills all, and gives the exit status."""
     collection = Collection(given.url)
-    files = placed(os.fsencode(given.folder), collection)
+    files = placed(Files(given.folder, given.links), collection)
     with Sides(collection.members, lambda name, link: Part(collection, name, given, files[name]).work(link)) as sides:
         found = check({name: sides.heard(name) for name in collection.members})
         astray = astray_in({name: it["astray"] for name, it in found.items()})
         if astray:
-            raise Fault(told_of_astray(collection, astray, given) + "\nnothing was changed")
+            raise Fault(*told_of_astray(collection, astray, given), "nothing was changed")
         check_deletions(given, found)
         if given.dry_run:
             return told(sides.asked(dict.fromkeys(found, "tell")))
@@ -138,8 +138,9 @@ def check_deletions(given, found):
 
 def told(answers):
     """Prints what would be done, and gives the exit status."""
-    for text, _ in check(answers).values():
-        print(text, end="")
+    for lines, _ in check(answers).values():
+        for it in lines:
+            say(it)
     return 3 if any(it[1] for it in answers.values()) else 0
 
 
@@ -148,10 +149,11 @@ def changed(answers):
     failed = failures(answers)
     for name, it in answers.items():
         if name in failed:
-            tell(f"{name}: {it.text}")
+            for line in told_of({name: it}):
+                tell(line)
             continue
         summary, _, why = it
-        print(f"{name}: {summary}")
+        say(f"{name}: {summary}")
         if why:
             tell(f"{name}: {why}")
     if failed or any(it[2] for it in answers.values()):

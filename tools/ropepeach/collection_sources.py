@@ -45,7 +45,7 @@ def astray_in(found):
 
 
 def told_of_astray(collection, astray, given):
-    """Which names are where they do not live, and what to do. A few of them are looked for in the source in which they live."""
+    """Which names are where they do not live, and what to do, in lines. A few of them are looked for in the source in which they live."""
     lines = []
     for it in astray[:NAMED]:
         home = Connections(collection.members[it.home].address, given.patience, given.certificate, given.max_time)
@@ -54,4 +54,4 @@ def told_of_astray(collection, astray, given):
             holders.add(it.home)
         lines.append(f"{it.name}: is held by {' and '.join(sorted(holders))}, and lives in {it.home}")
     more = [f"and {len(astray) - NAMED:,} more"] if len(astray) > NAMED else []
-    return "\n".join([f"{len(astray):,} names are where they do not live; `ropepeach grow {collection.path}` moves them", *lines, *more])
+    return [f"{len(astray):,} names are where they do not live; `ropepeach grow {collection.path}` moves them", *lines, *more]

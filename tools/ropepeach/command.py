@@ -5,13 +5,14 @@ status; its docstring is the text of --help. It may have EPILOG, which stands be
 """
 import argparse
 import importlib
+import io
 import os
 import signal
 import sys
 
-from ropepeach.faults import Fault, plain
+from ropepeach.faults import Fault, lines_of, printable
 
-COMMANDS = ["fill", "mirror", "look", "size", "why", "health", "collection", "grow", "takeover"]
+COMMANDS = ["fill", "mirror", "look", "size", "why", "health", "site", "collection", "grow", "takeover"]
 # Two names that the program had before; they work for one version more.
 OLD_NAMES = {"publish_folder": "fill", "destination": "mirror"}
 INTERRUPTED = 130
@@ -25,7 +26,7 @@ def modules():
 
 def parser_of(subcommands):
     """The parser of all words."""
-    words = argparse.ArgumentParser(prog="ropepeach", description=DESCRIPTION)
+    words = Words(prog="ropepeach", description=DESCRIPTION)
     places = words.add_subparsers(dest="command", required=True, metavar="COMMAND")
     for it in subcommands:
         form = argparse.RawDescriptionHelpFormatter
@@ -35,9 +36,16 @@ def parser_of(subcommands):
     return words
 
 
-def tell(name, why):
-    """Writes one line on standard error."""
-    print(f"{name}: {plain(why)}", file=sys.stderr, flush=True)
+class Words(argparse.ArgumentParser):
+    """A parser whose complaints are lines of printable text."""
+
+    def error(self, message):
+        super().error(printable(message))
+
+
+def tell(name, *lines):
+    """Writes lines on standard error, the first behind a name."""
+    print(f"{name}: " + "\n".join(lines), file=sys.stderr, flush=True)
 
 
 def guarded(given):
@@ -52,19 +60,23 @@ def guarded(given):
         tell(name, given.stopped)
         return INTERRUPTED
     except Fault as fault:
-        tell(name, fault)
+        tell(name, *lines_of(fault))
         return fault.status
     except BrokenPipeError:
         # The reader of standard output has left; Python must not try to flush it once more.
         os.dup2(os.open(os.devnull, os.O_WRONLY), sys.stdout.fileno())
         return Fault.status
     except OSError as fault:
-        tell(name, fault)
+        tell(name, *lines_of(fault))
         return 3
 
 
 def main(words=None):
     """Runs the command, and gives the exit status. Two old names of the program are subcommands."""
     words = sys.argv[1:] if words is None else words
+    # (what a terminal's character set has not, or what is no text, is shown by its number)
+    for it in (sys.stdout, sys.stderr):
+        if isinstance(it, io.TextIOWrapper):
+            it.reconfigure(errors="backslashreplace")
     old = OLD_NAMES.get(os.path.basename(sys.argv[0]))
     return guarded(parser_of(modules()).parse_args(([old] if old else []) + list(words)))

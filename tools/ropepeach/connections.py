@@ -5,7 +5,8 @@ A source over plain HTTP is asked on urllib3's connection itself, which costs ha
 An answer is taken whole, or the asking ends by a Fault. A source that does not answer, or whose proxy says that it is away (502, 503,
 504), is asked again for some seconds. Redirects are not followed.
 """
-import argparse
+from __future__ import annotations
+
 import contextlib
 import http.client
 import re
@@ -23,7 +24,9 @@ from urllib3.util.connection import is_connection_dropped
 from urllib3.util.retry import Retry
 from urllib3.util.ssl_match_hostname import CertificateError
 
+from ropepeach.arguments import seconds_given
 from ropepeach.faults import Fault, Long, Misused, Silent, Slow
+from ropepeach.limits import Limits
 from ropepeach.progress import tell
 
 # A connection is tried for CONNECT seconds, an answer may stand still for STILL seconds, and takes WHOLE seconds at most.
@@ -32,6 +35,8 @@ CONNECT, STILL, WHOLE, PATIENCE = 10, 60, 600, 30
 LONGEST_DOCUMENT = 10_485_760
 PIECE = 65_536
 AWAY = {502, 503, 504}
+# What an address is made of.
+VISIBLE = re.compile(r"[!-~]+")
 Answer = namedtuple("Answer", "status reason fields body")
 FIELDS = {"User-Agent": "ropepeach"}
 # How urllib3 asks once: the caller has the patience, and takes the bytes as they are sent.
@@ -60,7 +65,7 @@ class Patience(Retry):
         return min(super().get_backoff_time(), max(1, self.seconds / 100))
 
 
-def told_by(answer):
+def told_by(answer: Answer) -> str:
     """What an answer that is no success says: its status, and the source's word if it has one."""
     word = answer.body[:80].decode("ascii", "replace").strip()
     is_word = answer.fields.get("Content-Type", "").startswith("text/plain") and word.isalpha()
@@ -71,11 +76,11 @@ def told_by(answer):
 
 
 @contextlib.contextmanager
-def within(seconds, what):
-    """Ends the block by Slow after some seconds, wherever it waits. It works in the main thread alone."""
+def within(seconds, fault):
+    """Ends the block by a fault after some seconds, wherever it waits. It works in the main thread alone."""
 
     def end(*_):
-        raise Slow(f"{what}: the answer took longer than {seconds:g} seconds")
+        raise fault
 
     before = signal.signal(signal.SIGALRM, end)
     # (0 would set no timer)
@@ -102,8 +107,10 @@ class Connections:
     sent by it (`sent`) before the answer to this one is read, so that the source works meanwhile.
     """
 
-    def __init__(self, address, patience=PATIENCE, certificate=None, whole=WHOLE):
+    def __init__(self, address: str, patience: float = PATIENCE, certificate: str | None = None, whole: float = WHOLE,
+                 limits: Limits | None = None) -> None:
         self.address, self.patience, self.whole, self.target = address.rstrip("/"), patience, whole, ""
+        self.limits = limits or Limits()
         self.longest, self.plain, self.spare = LONGEST_DOCUMENT, None, None
         self.expected, self.sent, self.is_closing = "", "", False
         try:
@@ -114,7 +121,7 @@ class Connections:
 
     def pool_to(self, parts, certificate):
         """The pool of one connection, and what stands before the path in a request."""
-        if parts.scheme not in ("http", "https") or not parts.hostname or parts.query or parts.fragment or not self.address.isascii():
+        if parts.scheme not in ("http", "https") or not parts.hostname or parts.query or parts.fragment or not VISIBLE.fullmatch(self.address):
             raise ValueError(self.address)
         words = {"maxsize": 1, "timeout": urllib3.Timeout(connect=CONNECT, read=STILL)}
         if parts.scheme == "https":
@@ -138,7 +145,8 @@ class Connections:
 
         return Exact
 
-    def ask(self, method, path, body=None, kind=None, most=LONGEST_DOCUMENT, is_safe=True):
+    def ask(self, method: str, path: str, body: bytes | None = None, kind: str | None = None, most: int = LONGEST_DOCUMENT,
+            is_safe: bool = True) -> Answer:
         """The answer to one request, with `most` bytes at most.
 
         A request that is not safe to repeat is sent again only where the source cannot have seen it.
@@ -179,8 +187,22 @@ class Connections:
     def asked(self, what, method, path, body, fields, most):
         """One answer to one request that is sent once."""
         ask = self.asked_plainly if self.plain else self.asked_of_pool
-        with within(self.whole, what):
-            return ask(what, method, self.front + path, body, fields, most)
+        remaining = self.limits.remaining()
+        if remaining < self.whole:
+            seconds, fault = remaining, self.limits.overdue()
+        else:
+            seconds, fault = self.whole, Slow(f"{what}: the answer took longer than {self.whole:g} seconds")
+        with within(seconds, fault):
+            answer = ask(what, method, self.front + path, body, fields, most)
+        self.limits.take(len(answer.body))
+        return answer
+
+    def rest(self) -> None:
+        """Closes what is open; the next request opens it again."""
+        for it in (self.plain, self.spare):
+            if it:
+                it.close()
+        self.sent = self.expected = ""
 
     def asked_of_pool(self, what, method, target, body, fields, most):
         self.target = target
@@ -262,13 +284,6 @@ def add_options(parser):
                         help="how long to ask a source that does not answer (30)")
     parser.add_argument("--max-time", type=seconds_given, default=WHOLE, metavar="SECONDS", help="how long one answer may take (600)")
     parser.add_argument("--certificate", metavar="FILE", help="a client's certificate and key, in PEM")
-
-
-def seconds_given(text):
-    """A time that is given by a word: 0 to a million seconds."""
-    if not re.fullmatch(r"\d{1,6}(\.\d{1,6})?", text):
-        raise argparse.ArgumentTypeError(f"{text!r} is no number of seconds")
-    return float(text)
 
 
 def usable(certificate):

@@ -1,6 +1,7 @@
 """Names, and what a list says of a body, in few bytes of memory."""
 import hashlib
 import re
+from collections.abc import Mapping
 
 from ropepeach.room import LONGEST_BODY, LONGEST_NAME
 
@@ -11,14 +12,14 @@ MD5, SHA_256 = "md5", "sha-256"
 SIZES = {MD5: 16, SHA_256: 32}
 
 
-def is_name(text):
+def is_name(text: str) -> bool:
     """Whether a text is a lawful name, which leads to no place outside a folder."""
     return len(text) <= LONGEST_NAME and NAME.fullmatch(text) is not None
 
 
-def digests_in(hashes):
+def digests_in(hashes: str) -> dict[str, bytes]:
     """The known digests of an attribute `hash`, or none where one cannot be read or stands there twice."""
-    found = {}
+    found: dict[str, bytes] = {}
     for kind, _, text in (it.partition(":") for it in hashes.split()):
         if kind in SIZES:
             if kind in found or not re.fullmatch(r"[0-9A-Fa-f]*", text) or len(text) != 2 * SIZES[kind]:
@@ -27,7 +28,7 @@ def digests_in(hashes):
     return found
 
 
-def packed(said):
+def packed(said: Mapping[str, str]) -> bytes | None:
     """What the attributes of an `rs:md` say of a body, in few bytes, or None if they say too little.
 
     Which digests are there, 4 bytes of length, MD5, SHA-256, the media type.
@@ -40,15 +41,17 @@ def packed(said):
     return which + int(length).to_bytes(4, "big") + both + said.get("type", "").encode()
 
 
-def length_of(facts):
+def length_of(facts: bytes) -> int:
+    """The bytes of a body."""
     return int.from_bytes(facts[1:5], "big")
 
 
-def kind_of(facts):
+def kind_of(facts: bytes) -> str:
+    """The media type."""
     return facts[53:].decode()
 
 
-def fit(facts, body):
+def fit(facts: bytes, body: bytes) -> bool:
     """Whether a body has the length of these facts and each digest that is there."""
     is_md5 = not facts[0] & 1 or hashlib.md5(body, usedforsecurity=False).digest() == facts[5:21]
     return len(body) == length_of(facts) and is_md5 and (not facts[0] & 2 or hashlib.sha256(body).digest() == facts[21:53])

@@ -1,15 +1,22 @@
-"""Why a command ends before its work is done: one sentence for the user, and the exit status."""
+"""Why a command ends before its work is done: lines for the user, and the exit status."""
 
 
-def plain(text):
-    """A text without what a terminal would act on: much of it comes from elsewhere."""
-    return "".join(it if it.isprintable() or it == "\n" else "?" for it in str(text))
+def printable(text: object) -> str:
+    """A text as one line of printable characters: what a terminal would act on, a line feed too, is a `?`."""
+    return "".join(it if it.isprintable() else "?" for it in str(text))
 
 
 class Fault(Exception):
-    """A run that ends early: what it did so far stands."""
+    """A run that ends early: what it did so far stands. Each argument is a line."""
 
     status = 1
+
+    def __str__(self) -> str:
+        return "\n".join(self.lines())
+
+    def lines(self) -> list[str]:
+        """What the user reads: much of it comes from elsewhere."""
+        return [printable(it) for it in self.args]
 
 
 class Misused(Fault):
@@ -34,3 +41,13 @@ class Slow(Fault):
 
 class Long(Fault):
     """An answer with more bytes than the caller wants."""
+
+
+def lines_of(why: BaseException) -> list[str]:
+    """The lines that tell why a run ended."""
+    return why.lines() if isinstance(why, Fault) else [printable(why)]
+
+
+def say(text: str) -> None:
+    """Writes a line on standard output."""
+    print(printable(text), flush=True)

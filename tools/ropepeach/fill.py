@@ -6,22 +6,22 @@ media type is that of the first pattern in --types that fits its name; then it i
 publication is made if the Resource List is not what is held, and where the source's history is full.
 
 What cannot be a resource is named and left out: a name of more than 240 bytes, a file of more than 16,777,216 bytes, one that cannot be
-read or changes while it is read, what is no regular file, a link to a folder. What the source holds by such a name, or below it, stays.
+read or changes while it is read, what is no regular file, a link. What the source holds by such a name, or below it, stays. With --links a
+link counts as the file that it leads to, if that lies inside FOLDER.
 
 Changes go in groups of 16, and each group is whole or absent: a run that was stopped anywhere is begun again by the same words. Nobody
 else should change the source meanwhile.
 """
 import argparse
-import os
-import re
 from array import array
 
 from ropepeach import room
+from ropepeach.arguments import UNITS, number_given, size_given
 from ropepeach.collection_file import is_collection
 from ropepeach.connections import Connections, add_options
 from ropepeach.facts import fit, kind_of, length_of
-from ropepeach.faults import Fault
-from ropepeach.fill_files import Kinds, Unfit, body_of, names_below, path_of, read_once, shown, size_of
+from ropepeach.faults import Fault, say
+from ropepeach.fill_files import Files, Kinds, Unfit, path_of, shown
 from ropepeach.fill_sending import Change, Sending
 from ropepeach.lists import Source
 from ropepeach.progress import Progress, tell
@@ -34,7 +34,6 @@ EPILOG = """exit status:
   3    all was done, but something was left out
   130  stopped by Ctrl-C; the next run goes on
 """
-UNITS = {"": 1, "KiB": 1 << 10, "MiB": 1 << 20, "GiB": 1 << 30}
 
 
 def in_units(size):
@@ -55,17 +54,17 @@ class Plan:
 
     def all_names(self, order=sorted):
         """The names of all files, in an order."""
-        return names_below(self.folder, order)
+        return self.folder.names(order)
 
     def leave_out(self, name, why):
         self.left_out[name] = True
-        tell(f"left out {shown(path_of(self.folder, name)[len(self.folder):].lstrip(b'/'))}: {why}")
+        tell(f"left out {shown(path_of(name))}: {why}")
 
     def measure(self):
         """Counts what can be resources, before anything is read."""
         for name in self.all_names(iter):
             try:
-                size = size_of(path_of(self.folder, name), name)
+                size = self.folder.size(name)
             except Unfit:
                 continue
             self.files, self.bytes, self.blocks = self.files + 1, self.bytes + size, self.blocks + room.blocks(size)
@@ -77,10 +76,10 @@ class Plan:
         self.held = len(held)
         with Progress("comparing", self.files, self.bytes) as bar:
             for name in self.all_names():
-                facts, path = held.pop(name, None), path_of(self.folder, name)
+                facts = held.pop(name, None)
                 try:
-                    size = size_of(path, name)
-                    if facts is None or self.differs(path, name, size, facts):
+                    size = self.folder.size(name)
+                    if facts is None or self.differs(name, size, facts):
                         self.changed.append(name)
                         self.sizes.append(size)
                     else:
@@ -91,10 +90,10 @@ class Plan:
         below = tuple(f"{it}/" for it in self.left_out)
         self.gone = sorted(it for it in held if not it.startswith(below))
 
-    def differs(self, path, name, size, facts):
+    def differs(self, name, size, facts):
         """Whether a file is not what is held by its name."""
         kind = self.kinds.given_to(name)
-        return size != length_of(facts) or (kind and kind != kind_of(facts)) or not fit(facts, read_once(path)[0])
+        return size != length_of(facts) or (kind and kind != kind_of(facts)) or not fit(facts, self.folder.read(name)[0])
 
     def check_room(self, base, size):
         """Refuses a folder that a source cannot hold, or a disk of this size, if one is given."""
@@ -124,7 +123,7 @@ class Plan:
             sending.flush()
             for name, size in zip(self.changed, self.sizes):
                 try:
-                    sending.add(Change(name, body_of(path_of(self.folder, name)), self.kinds.of(name)))
+                    sending.add(Change(name, self.folder.body(name), self.kinds.of(name)))
                 except Unfit as why:
                     self.leave_out(name, why)
                 bar.add(1, size)
@@ -147,20 +146,6 @@ def held_by(source):
     return held, at, all(held.get(name) == facts for name, facts in before.items())
 
 
-def size_given(text):
-    """A number of bytes that is given by a word, as 879MiB."""
-    found = re.fullmatch(r"(\d{1,18})([KMG]iB)?", text)
-    if not found:
-        raise argparse.ArgumentTypeError(f"{text!r} is no size, as 921698304 or 879MiB")
-    return int(found[1]) * UNITS[found[2] or ""]
-
-
-def number_given(text):
-    if not re.fullmatch(r"\d{1,9}", text):
-        raise argparse.ArgumentTypeError(f"{text!r} is no number")
-    return int(text)
-
-
 def add_arguments(parser):
     parser.add_argument("folder", metavar="FOLDER")
     parser.add_argument("url", metavar="URL", help="where the source is served, as http://127.0.0.1:8080, or the file of a collection")
@@ -169,6 +154,7 @@ def add_arguments(parser):
     parser.add_argument("--max-delete", type=number_given, metavar="N", help="delete nothing if more than N would be deleted (half of what is held)")
     parser.add_argument("--yes", action="store_true", help="delete also more than half of what is held")
     parser.add_argument("--allow-empty", action="store_true", help=argparse.SUPPRESS)
+    parser.add_argument("--links", action="store_true", help="follow links to files that lie inside FOLDER")
     parser.add_argument("--types", metavar="FILE", help="media types by name: lines of a pattern and a type, as data/* text/csv")
     parser.add_argument("--room", type=size_given, metavar="SIZE", help="refuse a folder that a disk of this size cannot hold")
     add_options(parser)
@@ -180,7 +166,7 @@ def run(given):
         from ropepeach import collection_fill
 
         return collection_fill.run(given)
-    plan = Plan(os.fsencode(given.folder), Kinds(given.types))
+    plan = Plan(Files(given.folder, given.links), Kinds(given.types))
     connections = Connections(given.url, given.patience, given.certificate, given.max_time)
     plan.measure()
     if plan.files > room.MOST_RESOURCES:
@@ -190,8 +176,9 @@ def run(given):
     plan.compare(held)
     sending = Sending(source, at, given.publish)
     if given.dry_run:
-        print("".join([f"delete {it}\n" for it in plan.gone] + [f"put {it}\n" for it in plan.changed]), end="")
-        print(plan.summary(sending, f"{len(plan.changed):,} to put, {len(plan.gone):,} to delete"), flush=True)
+        for it in [*(f"delete {it}" for it in plan.gone), *(f"put {it}" for it in plan.changed)]:
+            say(it)
+        say(plan.summary(sending, f"{len(plan.changed):,} to put, {len(plan.gone):,} to delete"))
     plan.check_room(source.base, given.room)
     plan.check_deletions(given)
     if given.dry_run:
@@ -201,9 +188,9 @@ def run(given):
         plan.send(sending)
         end = published(given, plan, sending, is_published)
     except Fault:
-        print(plan.summary(sending, end), flush=True)
+        say(plan.summary(sending, end))
         raise
-    print(plan.summary(sending, end))
+    say(plan.summary(sending, end))
     return 3 if plan.left_out else 0
 
 

@@ -17,7 +17,7 @@ from ropepeach.collection_fill import check_file
 from ropepeach.collection_sources import Held, asked_source, astray_in
 from ropepeach.connections import Connections, add_options
 from ropepeach.facts import kind_of, length_of
-from ropepeach.faults import Fault
+from ropepeach.faults import Fault, say
 from ropepeach.fill_sending import Change, Sending
 from ropepeach.lists import DESCRIPTION
 from ropepeach.mirror_collection import bases_at
@@ -143,13 +143,14 @@ def run(given):
         found = check({name: sides.heard(name) for name in collection.members})
         astray = astray_in({name: it[1] for name, it in found.items()})
         left = check(sides.asked(coming_to(collection, astray)))
-        print(f"{len(astray):,} of {sum(it[0] for it in found.values()):,} are where they do not live; {sum(left.values()):,} have to be put")
+        say(f"{len(astray):,} of {sum(it[0] for it in found.values()):,} are where they do not live; {sum(left.values()):,} have to be put")
         if given.dry_run:
-            print("".join(f"move {it.holder} {it.home} {it.name}\n" for it in astray), end="")
+            for it in astray:
+                say(f"move {it.holder} {it.home} {it.name}")
             return 0
         put = check(sides.asked(dict.fromkeys(found, "take")))
         deleted = check(sides.asked({name: [it.name for it in found[name][1]] for name in found}))
     for name in found:
         if put[name] or deleted[name]:
-            print(f"{name}: {put[name]:,} put, {deleted[name]:,} deleted")
+            say(f"{name}: {put[name]:,} put, {deleted[name]:,} deleted")
     return 0

@@ -11,10 +11,11 @@ import os
 import tempfile
 import time
 
+from ropepeach.arguments import number_given, seconds_given
 from ropepeach.connections import Connections
-from ropepeach.faults import Fault, Silent
+from ropepeach.faults import Fault, Silent, say
 from ropepeach.lists import SITEMAP, Source, Unheld, described_by, moment_of, named, pointers, text_of
-from ropepeach.moments import milliseconds
+from ropepeach.moments import NEVER, milliseconds
 from ropepeach.room import MOST_CHANGES
 
 NAME, HELP = "health", "tell in one line and by the exit status how well a source is"
@@ -29,13 +30,11 @@ WORDS = {GOOD: "OK", WARNING: "WARNING", CRITICAL: "CRITICAL"}
 DAY, SECOND = 86_400_000, 1_000
 # The clocks of two machines may differ by this many milliseconds. A list is read again this often, if a publication drops a part of it.
 SKEW, READINGS = 60 * SECOND, 3
-# The lists of a source that was never published, or never changed, have the moment of its formatting, which is this one.
-NEVER = "1970-01-01T00:00:00.000Z"
 UNITS = ((DAY, "day"), (3_600_000, "hour"), (60_000, "minute"), (SECOND, "second"))
 
 
 def positive(text):
-    value = float(text)
+    value = seconds_given(text)
     if not value > 0:
         raise argparse.ArgumentTypeError("wants a number above 0")
     return value
@@ -43,12 +42,12 @@ def positive(text):
 
 def add_arguments(parser):
     parser.add_argument("url", metavar="URL", help="where the source is served, such as http://127.0.0.1:8080")
-    parser.add_argument("--changes-warning", type=int, default=45_000, metavar="N", help="warn from this many changes kept (45,000)")
-    parser.add_argument("--changes-critical", type=int, default=49_000, metavar="N", help="critical from this many changes kept (49,000)")
+    parser.add_argument("--changes-warning", type=number_given, default=45_000, metavar="N", help="warn from this many changes kept (45,000)")
+    parser.add_argument("--changes-critical", type=number_given, default=49_000, metavar="N", help="critical from this many changes kept (49,000)")
     parser.add_argument("--change-age", type=positive, metavar="DAYS", help="warn if the last change is older")
     parser.add_argument("--publication-age", type=positive, metavar="DAYS", help="warn if the last publication is older")
     parser.add_argument("--max-time", type=positive, default=10, metavar="SECONDS", help="how long one answer may take (10)")
-    parser.add_argument("--patience", type=float, default=0, metavar="SECONDS", help="how long to ask a source that does not answer (0)")
+    parser.add_argument("--patience", type=seconds_given, default=0, metavar="SECONDS", help="how long to ask a source that does not answer (0)")
     parser.add_argument("--certificate", metavar="FILE", help="a client's certificate and key, in PEM")
     parser.add_argument("--prometheus", metavar="FILE", help="write the figures into this file, for a text file collector")
 
@@ -99,7 +98,7 @@ def counted(source, head):
 
 
 def age_of(moment, now):
-    """The milliseconds since a moment, or None if nothing happened since the formatting."""
+    """The milliseconds since a moment, or None if nothing happened since the formatting, which has the first moment."""
     return None if moment == NEVER else now - milliseconds(moment)
 
 
@@ -181,7 +180,7 @@ def run(given):
     now = time.time_ns() // 1_000_000
     ages = [age_of(it, now) for it in (found.changed, found.published)] if found.is_up else [None, None]
     status, line = line_of(found, given, ages, list(troubles(found, given, ages)))
-    print(line)
+    say(line)
     if given.prometheus:
         write_whole(given.prometheus, metrics_of(found, given, status))
     return status

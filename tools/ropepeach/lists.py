@@ -4,31 +4,49 @@ All documents are found from the Source Description, and all addresses in them b
 document is taken whole or not at all, and has limits on its bytes, its elements and its entries. Python's own XML parser would expand
 entities, so defusedxml reads the documents.
 """
-import collections
+from __future__ import annotations
+
 import re
-from xml.etree.ElementTree import TreeBuilder
+import time
+from collections.abc import Callable
+from typing import NamedTuple, TypeVar
+from xml.etree.ElementTree import Element, TreeBuilder
 
 import defusedxml
 from defusedxml.ElementTree import ParseError, XMLParser
 
-from ropepeach.connections import told_by
+from ropepeach.connections import Connections, told_by
 from ropepeach.facts import fit, is_name, length_of, packed
 from ropepeach.faults import Fault, Long
+from ropepeach.moments import LAST, is_moment
 from ropepeach.room import MOST_CHANGES, MOST_RESOURCES
 
 DESCRIPTION, CAPABILITIES = "/.well-known/resourcesync", "/capabilitylist.xml"
 SITEMAP = "{http://www.sitemaps.org/schemas/sitemap/0.9}"
 RS = "{http://www.openarchives.org/rs/terms/}"
-MOMENT = re.compile(r"\d{4}-\d\d-\d\dT\d\d:\d\d:\d\d\.\d{3}Z")
+# What an address is: visible ASCII.
+ADDRESS = re.compile(r"[!-~]+")
 # An entry has three elements below it at most; Sitemap 0.9 allows 50,000 entries a document.
 MOST_ENTRIES = 50_000
 MOST_ELEMENTS = 4 * MOST_ENTRIES + 100
-# How often a list is read anew, if a publication comes meanwhile.
-READINGS = 50
-# What a list says of a name; `facts` is None where it is deleted.
-Entry = collections.namedtuple("Entry", "name moment facts")
-# What a Change List has: the moment of the newest change, and the entries after the moment that was asked for.
-Changes = collections.namedtuple("Changes", "newest entries")
+# How often a list is read again, if a publication comes meanwhile; the pauses before the third reading and later ones, in seconds.
+READINGS, PAUSE, LONGEST_PAUSE = 50, 0.1, 1.0
+Read = TypeVar("Read")
+
+
+class Entry(NamedTuple):
+    """What a list says of a name; `facts` is None where it is deleted."""
+
+    name: str
+    moment: str
+    facts: bytes | None
+
+
+class Changes(NamedTuple):
+    """What a Change List has: the moment of the newest change, and the entries after the moment that was asked for."""
+
+    newest: str
+    entries: list[Entry]
 
 
 class Unheld(Fault):
@@ -42,17 +60,25 @@ class Dropped(Fault):
 class Several(Fault):
     """A Source Description that names several sources, or one that lies below it."""
 
-    def __init__(self, address, bases):
+    def __init__(self, address: str, bases: list[str]) -> None:
         super().__init__(f"{address}: the Source Description names {len(bases):,} sources; take each by its own base: {' '.join(bases[:10])}")
         self.bases = bases
+
+
+def pointers(head: Element) -> list[Element]:
+    """The parts that an index names; a list of its own has none."""
+    return head.findall(SITEMAP + "sitemap")
 
 
 class Source:
     """A source that is asked at an address, and calls itself by its base."""
 
-    def __init__(self, connections, is_at_base=False):
-        """Reads the Source Description. A source that is asked at its base has to call itself by that address."""
-        self.connections, self.base, self.documents = connections, connections.address, 0
+    def __init__(self, connections: Connections, is_at_base: bool = False, latest: str = LAST) -> None:
+        """Reads the Source Description. A source that is asked at its base has to call itself by that address.
+
+        No moment is taken that is later than the latest one.
+        """
+        self.connections, self.base, self.documents, self.latest = connections, connections.address, 0, latest
         named_ones = addresses(self.document(self.base + DESCRIPTION), "capabilitylist")
         bases = [it.removesuffix(CAPABILITIES) for it in named_ones]
         # (one below the address is a collection of one)
@@ -63,27 +89,38 @@ class Source:
         self.base = bases[0]
         self.lists = self.document(named_ones[0])
 
-    def asked(self, address, most):
+    def asked(self, address: str, most: int) -> bytes:
         """What an address below the base answers to GET."""
         if not address.startswith(self.base + "/"):
             raise Fault(f"{address[:300]}: refused, as it is not below the base {self.base}")
+        if not ADDRESS.fullmatch(address):
+            raise Fault(f"{address[:300]}: refused, as an address has visible ASCII characters alone")
         answer = self.connections.ask("GET", address.removeprefix(self.base), most=most)
         if answer.status != 200:
             raise Unheld(f"{address}: {told_by(answer)}")
-        return answer.body
+        body: bytes = answer.body
+        return body
 
-    def document(self, address, take=None):
+    def document(self, address: str, take: Callable[[Entry], None] | None = None) -> Element:
         """The root of a document; `take` gets each entry of a list, which the root has not then."""
         text = self.asked(address, self.connections.longest)
         self.documents += 1
-        parser = XMLParser(target=Builder(address, take and (lambda url: take(self.entry(url)))), forbid_dtd=True)
+        parser = XMLParser(target=Builder(address, self.taker(take)), forbid_dtd=True)
         try:
             parser.feed(text)
-            return parser.close()
+            root: Element = parser.close()
+            return root
         except (ParseError, defusedxml.DefusedXmlException, ValueError) as fault:
             raise Fault(f"{address}: refused, as it is no document: {type(fault).__name__}") from None
 
-    def resource(self, name, facts, following=None):
+    def taker(self, take: Callable[[Entry], None] | None) -> Callable[[Element], None] | None:
+        """What takes the element of an entry, where the entry is to be taken."""
+        if take is None:
+            return None
+        wanted = take
+        return lambda url: wanted(self.entry(url))
+
+    def resource(self, name: str, facts: bytes, following: str | None = None) -> bytes:
         """The bytes of a resource, if they are the ones that are listed. Another one may follow."""
         self.connections.expected = f"/resource/{following}" if following else ""
         address = f"{self.base}/resource/{name}"
@@ -95,13 +132,13 @@ class Source:
             raise Unheld(f"{address}: has other bytes than listed")
         return body
 
-    def entry(self, url):
+    def entry(self, url: Element) -> Entry:
         """An entry of a list."""
         front, place, said = self.base + "/resource/", text_of(url, "loc"), described_by(url)
         name = place.removeprefix(front)
         if name == place or not is_name(name):
             raise Fault(f"{place[:300]}: refused, as it is no resource below {front}")
-        moment = moment_of(said.get("datetime") or text_of(url, "lastmod"))
+        moment = self.moment(said.get("datetime") or text_of(url, "lastmod"))
         if said.get("change") == "deleted":
             return Entry(name, moment, None)
         facts = packed(said)
@@ -109,14 +146,22 @@ class Source:
             raise Fault(f"{place}: refused, as it is listed with no length of 16 MiB at most or no digest that is known: {dict(said)}"[:600])
         return Entry(name, moment, facts)
 
-    def list_of(self, capability, most, take, check=lambda said: None, is_wanted=lambda pointer: True):
-        """Reads a list, part by part if it is an index, and gives each entry to `take`. Gives its head, which `check` may refuse.
+    def moment(self, text: str | None) -> str:
+        """A moment of a document, which is not later than the latest one."""
+        moment = moment_of(text)
+        if moment > self.latest:
+            raise Fault(f"{self.base}: refused, as its lists have the moment {moment}, later than {self.latest}: "
+                        "one of the two clocks is wrong, this machine's or the source's")
+        return moment
 
-        Only those parts are read that are wanted.
+    def list_of(self, capability: str, most: int, take: Callable[[Entry], None],
+                parts_of: Callable[[Element], list[Element]] = pointers) -> Element:
+        """Reads a list, part by part if it is an index, and gives each entry to `take`. Gives its head, of which `parts_of` says
+        which parts are read.
         """
         counted = 0
 
-        def count(entry):
+        def count(entry: Entry) -> None:
             nonlocal counted
             counted += 1
             if counted > most:
@@ -124,74 +169,81 @@ class Source:
             take(entry)
 
         head = self.document(named(self.lists, capability), count)
-        check(described_by(head))
-        for it in pointers(head):
-            if is_wanted(it):
-                self.document(text_of(it, "loc"), count)
+        for it in parts_of(head):
+            self.document(text_of(it, "loc"), count)
         return head
 
-    def resource_list(self):
-        """The moment of the latest publication, and the facts of each name in it."""
-        for _ in range(READINGS):
-            found = {}
+    def read_again(self, read: Callable[[], Read], lost: type[Fault], what: str) -> Read:
+        """Reads lists until they are not lost to a later publication: twice at once, then with pauses that grow, as long as the patience."""
+        end, pause = time.monotonic() + self.connections.patience, 0.0
+        for turn in range(1, READINGS + 1):
             try:
-                head = self.list_of("resourcelist", MOST_RESOURCES, lambda it: found.update({it.name: it.facts}))
-                return moment_of(described_by(head).get("at")), found
-            except Unheld as fault:
+                return read()
+            except lost as fault:
                 # A later publication has taken the place of this one, and has other parts.
                 why = fault
-        raise Fault(f"the Resource List was read {READINGS} times, and each time lost a part: {why}")
+            if turn > 1 and time.monotonic() > end:
+                break
+            time.sleep(pause)
+            pause = min(2 * pause or PAUSE, LONGEST_PAUSE)
+        raise Fault(f"the {what.format(turn)}: {why}")
 
-    def published_at(self):
+    def resource_list(self) -> tuple[str, dict[str, bytes | None]]:
+        """The moment of the latest publication, and the facts of each name in it."""
+
+        def read() -> tuple[str, dict[str, bytes | None]]:
+            found: dict[str, bytes | None] = {}
+
+            def take(entry: Entry) -> None:
+                if entry.name in found:
+                    raise Fault(f"{self.base}: refused, as its Resource List has {entry.name} twice")
+                found[entry.name] = entry.facts
+
+            head = self.list_of("resourcelist", MOST_RESOURCES, take)
+            return self.moment(described_by(head).get("at")), found
+
+        return self.read_again(read, Unheld, "Resource List was read {} times, and each time lost a part")
+
+    def published_at(self) -> str:
         """The moment of the latest publication."""
         return moment_of(described_by(self.document(named(self.lists, "resourcelist"))).get("at"))
 
-    def changes(self, after):
+    def changes(self, after: str) -> Changes:
         """What the Change List has after a moment; earlier parts are not read."""
 
-        def check(said):
-            start = moment_of(said.get("from"))
-            if start > after:
-                raise Dropped(f"the Change List begins at {start}, and not at {after} or before")
+        def read() -> Changes:
+            bounds, found = Bounds(self, after), list[Entry]()
+            self.list_of("changelist", MOST_CHANGES, found.append, bounds.wanted)
+            return changes_in(bounds, found)
 
-        is_wanted = lambda it: (described_by(it).get("until") or "~") > after
-        for _ in range(READINGS):
-            found = []
-            try:
-                head = self.list_of("changelist", MOST_CHANGES, found.append, check, is_wanted)
-                return changes_in(head, found, after)
-            except Unheld as fault:
-                # A publication has dropped this part. The head tells by now where the changes begin.
-                why = fault
-        raise Fault(f"the Change List was read {READINGS} times, and each time lost a part: {why}")
+        return self.read_again(read, Unheld, "Change List was read {} times, and each time lost a part")
 
-    def lists_that_meet(self):
+    def lists_that_meet(self) -> tuple[str, dict[str, bytes | None], Changes]:
         """The moment of a publication, the facts in it, and what the Change List has after it."""
-        for _ in range(READINGS):
+
+        def read() -> tuple[str, dict[str, bytes | None], Changes]:
             at, listed = self.resource_list()
-            try:
-                return at, listed, self.changes(at)
-            except Dropped as fault:
-                # Two publications came since the Resource List was read, and there is a later one.
-                why = fault
-        raise Fault(f"the Resource List was read {READINGS} times, and each time too early: {why}")
+            return at, listed, self.changes(at)
+
+        # (Dropped: two publications came since the Resource List was read, and there is a later one)
+        return self.read_again(read, Dropped, "Resource List was read {} times, and each time too early")
 
 
 class Builder(TreeBuilder):
     """Builds the tree of a document, which has no more elements than a list may have; entries are taken out of it."""
 
-    def __init__(self, address, take):
+    def __init__(self, address: str, take: Callable[[Element], None] | None) -> None:
         super().__init__()
         self.address, self.take, self.elements, self.entries = address, take, 0, 0
 
-    def start(self, tag, attributes):
+    def start(self, tag: str, attributes: dict[str, str]) -> Element:
         self.elements += 1
         self.entries += tag in (SITEMAP + "url", SITEMAP + "sitemap")
         if self.elements > MOST_ELEMENTS or self.entries > MOST_ENTRIES:
             raise Fault(f"{self.address}: refused, as it has more than {MOST_ENTRIES:,} entries")
         return super().start(tag, attributes)
 
-    def end(self, tag):
+    def end(self, tag: str) -> Element:
         element = super().end(tag)
         if self.take and tag == SITEMAP + "url":
             self.take(element)
@@ -199,18 +251,42 @@ class Builder(TreeBuilder):
         return element
 
 
-def changes_in(head, entries, after):
-    """What a Change List has, of which these parts were read."""
-    untils = [described_by(it).get("until") for it in pointers(head)]
-    start, moments = moment_of(described_by(head).get("from")), [it.moment for it in entries]
-    if any(first >= then for first, then in zip([start, *moments], moments)):
+class Bounds:
+    """The moments between which the parts of a Change List lie, and which parts have changes after a moment."""
+
+    def __init__(self, source: Source, after: str) -> None:
+        self.source, self.after, self.start, self.latest = source, after, "", ""
+
+    def wanted(self, head: Element) -> list[Element]:
+        """The parts that have changes after the moment. A list that begins later, or whose parts are not in order, is refused."""
+        self.start = self.latest = self.source.moment(described_by(head).get("from"))
+        if self.start > self.after:
+            raise Dropped(f"the Change List begins at {self.start}, and not at {self.after} or before")
+        parts = pointers(head)
+        untils = [self.until_of(it, is_last=it is parts[-1]) for it in parts]
+        return [it for it, until in zip(parts, untils) if until > self.after]
+
+    def until_of(self, part: Element, is_last: bool) -> str:
+        """The moment of the last change that a part may have. The last part may be open, and have changes of any later moment."""
+        said = described_by(part)
+        start, until = self.source.moment(said.get("from")), said.get("until")
+        if start < self.latest or (until is None and not is_last) or (until is not None and self.source.moment(until) <= start):
+            raise Fault(f"{self.source.base}: refused, as the parts of its Change List are not in the order of their moments")
+        self.latest = start if until is None else until
+        return LAST if until is None else until
+
+
+def changes_in(bounds: Bounds, entries: list[Entry]) -> Changes:
+    """What a Change List has, of which the wanted parts were read."""
+    moments = [it.moment for it in entries]
+    if any(first >= then for first, then in zip([bounds.start, *moments], moments)):
         raise Fault("the Change List is not in the order of its moments")
     # The last change that was dropped has the moment at which the list begins.
-    newest = max([start, *filter(None, untils), *moments])
-    return Changes(newest, [it for it in entries if it.moment > after])
+    newest = max([bounds.start, bounds.latest, *moments])
+    return Changes(newest, [it for it in entries if it.moment > bounds.after])
 
 
-def text_of(element, tag):
+def text_of(element: Element, tag: str) -> str:
     """The text of a child."""
     found = element.find(SITEMAP + tag)
     if found is None or not found.text:
@@ -218,25 +294,20 @@ def text_of(element, tag):
     return found.text
 
 
-def described_by(element):
+def described_by(element: Element) -> dict[str, str]:
     """The attributes of an element's `rs:md`."""
     found = element.find(RS + "md")
     return {} if found is None else found.attrib
 
 
-def pointers(head):
-    """The parts that an index names; a list of its own has none."""
-    return head.findall(SITEMAP + "sitemap")
-
-
-def moment_of(text):
+def moment_of(text: str | None) -> str:
     """A moment as this source writes it: texts of 24 bytes, in the order of time."""
-    if not text or not MOMENT.fullmatch(text):
+    if text is None or not is_moment(text):
         raise Fault(f"{str(text)[:100]!r}: refused, as it is no moment as 2000-02-29T00:00:00.000Z is one")
     return text
 
 
-def addresses(document, capability):
+def addresses(document: Element, capability: str) -> list[str]:
     """The addresses at which a document names lists of this kind."""
     found = [text_of(it, "loc") for it in document.findall(SITEMAP + "url") if described_by(it).get("capability") == capability]
     if not found:
@@ -244,6 +315,6 @@ def addresses(document, capability):
     return found
 
 
-def named(document, capability):
+def named(document: Element, capability: str) -> str:
     """The address at which a document names a list."""
     return addresses(document, capability)[0]

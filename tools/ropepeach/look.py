@@ -10,7 +10,7 @@ import os
 from ropepeach import disk_file, disk_picture, disk_room
 from ropepeach.disk_formats import BLOCK, LONGEST_BODY, MOST_ITEMS, Broken
 from ropepeach.disk_rules import KINDS, items_of
-from ropepeach.faults import Unusable
+from ropepeach.faults import Unusable, say
 from ropepeach.moments import moment_text
 
 NAME, HELP = "look", "tell how full a source's file is, also while it is served"
@@ -112,5 +112,9 @@ def run(given):
     facts = facts_of(given.file, source, given.put)
     if given.picture:
         write_picture(given.picture, given.file, source, facts)
-    print(json.dumps(facts, indent=2) if given.json else "\n".join(lines_of(facts)))
+    if given.json:
+        print(json.dumps(facts, indent=2))
+    else:
+        for it in lines_of(facts):
+            say(it)
     return 0

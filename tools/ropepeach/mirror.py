@@ -9,137 +9,32 @@ the last one. A run is a baseline again if the Change List begins after what the
 or drops changes that the run needs.
 
 A resource NAME lies in FOLDER/NAME, byte for byte, with folders for its `/` and each `%` as it stands; while another name lies below it,
-in FOLDER/NAME#. Media types are not kept. A baseline removes every other file, so the first one wants a new or an empty folder.
+in FOLDER/NAME#. Media types are not kept. A baseline removes every other file, but for what begins with `#`, so the first one wants a new
+or an empty folder. No link below FOLDER is followed.
 """
+import math
 import time
 
+from ropepeach import mirror_collection
+from ropepeach.arguments import count_given, number_given, seconds_given, size_given
 from ropepeach.connections import Connections, add_options
-from ropepeach.facts import length_of
-from ropepeach.faults import Fault, Silent
-from ropepeach.lists import DESCRIPTION, Dropped, Several, Source, Unheld
+from ropepeach.faults import Fault, say
+from ropepeach.limits import Limits
+from ropepeach.lists import DESCRIPTION, Several, Source
 from ropepeach.mirror_folder import Folder
-from ropepeach.progress import Progress
+from ropepeach.mirror_run import Forecast, Run
+from ropepeach.moments import latest_now
 
 NAME, HELP = "mirror", "keep a folder that is what a source held"
 EPILOG = """exit status:
   0    the folder is what the source held at the moment that is printed
-  1    the source does not answer, or not as its lists say; the next run goes on
+  1    the source does not answer, or not as its lists say, or a limit is reached; the next run goes on
   2    wrong arguments
-  3    the folder can't be used: another run has it, it is no mirror of this source, a disk is full
+  3    the folder can't be used: another run has it, it is no mirror of this source, its disk has no room
   130  stopped by Ctrl-C; the next run goes on
 """
-# How often a run reads the changes that came while it fetched, and how often it begins anew.
-PASSES, RUNS = 50, 10
-# This many of the resources that could not be had are named.
-NAMED = 20
-
-
-class Run:
-    """Brings a folder to a point of its source's history."""
-
-    def __init__(self, source, folder):
-        self.source, self.folder, self.started = source, folder, time.monotonic()
-        self.fetched = self.bytes = self.removed = self.again = 0
-
-    def begin(self, is_baseline):
-        """Which way the run goes, what is wanted of each name, since when, and the changes."""
-        if not is_baseline:
-            changes = self.source.changes(self.folder.until)
-            if self.folder.newest <= changes.newest:
-                return "incremental", facts_of(changes.entries), self.folder.until, changes
-        # A stop from here on leaves a folder that has a baseline before it.
-        self.folder.remember(None, None)
-        at, wanted, changes = self.source.lists_that_meet()
-        wanted.update(facts_of(changes.entries))
-        for name in self.folder.names():
-            wanted.setdefault(name)
-        return "baseline", wanted, at, changes
-
-    def go(self, is_baseline):
-        """Does the run, anew where changes were dropped that it needs, and describes it in one line."""
-        for _ in range(RUNS):
-            try:
-                return self.once(is_baseline)
-            except Dropped as fault:
-                is_baseline, why = True, fault
-        raise Fault(f"the source drops changes faster than they can be read: {why}")
-
-    def once(self, is_baseline):
-        """Does the run as far as the Change List has what it needs."""
-        way, wanted, until, changes = self.begin(is_baseline)
-        until, wrong = last_of(changes, until), {}
-        for _ in range(PASSES):
-            left = self.done(wanted)
-            if not left:
-                break
-            # What could not be had was changed before it was asked for. The list has that by now.
-            changes = self.source.changes(until)
-            wanted, until = facts_of(changes.entries), last_of(changes, until)
-            wrong = {name: why for name, why in (wrong | left).items() if name not in wanted}
-            self.again += sum(name in wanted for name in left)
-        else:
-            raise Fault("the source changes faster than it can be fetched")
-        if wrong:
-            more = [f"and {len(wrong) - NAMED:,} more"] if len(wrong) > NAMED else []
-            raise Fault("\n".join([*map(str, list(wrong.values())[:NAMED]), *more]))
-        self.folder.remember(until, changes.newest)
-        return self.told(way, until)
-
-    def done(self, wanted):
-        """Removes what is no more, and fetches. Gives what could not be had, and why."""
-        for name in [name for name, facts in wanted.items() if facts is None]:
-            self.removed += self.folder.remove(name)
-            del wanted[name]
-        left = {}
-        with Progress("fetching", len(wanted), sum(map(length_of, wanted.values()))) as bar:
-            due = ((name, facts) for name, facts in wanted.items() if not self.is_had(name, facts, bar))
-            following = next(due, None)
-            while following:
-                (name, facts), following = following, next(due, None)
-                try:
-                    self.fetch(name, facts, following)
-                except Unheld as why:
-                    left[name] = why
-                bar.add(1, length_of(facts))
-        self.folder.settle()
-        return left
-
-    def is_had(self, name, facts, bar):
-        """Whether a file needs no fetching."""
-        is_had = self.folder.has(name, facts)
-        if is_had:
-            bar.add(1, length_of(facts))
-        return is_had
-
-    def fetch(self, name, facts, following):
-        """Fetches one resource, and lets the source work on the one behind it meanwhile."""
-        try:
-            body = self.source.resource(name, facts, following and following[0])
-        except Silent:
-            # What was fetched before is kept.
-            self.folder.settle()
-            raise
-        self.folder.write(name, body)
-        self.fetched += 1
-        self.bytes += len(body)
-
-    def told(self, way, until):
-        """What the run did."""
-        seconds = max(time.monotonic() - self.started, 0.001)
-        again = f", {self.again:,} anew" if self.again else ""
-        rate = f"{self.bytes / 1_000_000 / seconds:.1f} MB a second"
-        done = f"fetched {self.fetched:,}{again} ({self.bytes:,} bytes, {rate}), removed {self.removed:,}"
-        return f"{way}: {done}, read {self.source.documents:,} documents, {seconds:.1f} seconds; as of {until}"
-
-
-def facts_of(entries):
-    """What is wanted of each name after these entries: facts, or None where it is deleted."""
-    return {it.name: it.facts for it in entries}
-
-
-def last_of(changes, until):
-    """The moment after which no entry was read."""
-    return changes.entries[-1].moment if changes.entries else until
+# How long a run may take, in seconds, and how many sources of a collection it reads side by side.
+DURATION, JOBS = 86_400, 32
 
 
 def add_arguments(parser):
@@ -148,24 +43,48 @@ def add_arguments(parser):
     way = parser.add_mutually_exclusive_group()
     way.add_argument("--baseline", action="store_true", help="read the Resource List, and all files")
     way.add_argument("--incremental", action="store_true", help="refuse to begin with a baseline")
+    parser.add_argument("--dry-run", action="store_true", help="tell what would be done, and do nothing")
+    parser.add_argument("--max-delete", type=number_given, metavar="N", help="remove nothing if more than N would be removed (half of the mirror)")
+    parser.add_argument("--yes", action="store_true", help="remove also more than half of the mirror")
+    parser.add_argument("--max-bytes", type=size_given, default=math.inf, metavar="SIZE", help="take no more than this from sources, as 10GiB")
+    parser.add_argument("--max-duration", type=seconds_given, default=DURATION, metavar="SECONDS",
+                        help=f"how long the run may take ({DURATION:,})")
     parser.add_argument("--elsewhere", action="store_true", help="mirror also the sources of other hosts that a Source Description of several names")
+    parser.add_argument("--jobs", type=count_given, default=JOBS, metavar="N", help=f"read this many of several sources side by side ({JOBS})")
     add_options(parser)
 
 
 def run(given):
-    # (it imports from here)
-    from ropepeach import mirror_collection
-
-    connections = Connections(given.url.rstrip("/").removesuffix(DESCRIPTION), given.patience, given.certificate, given.max_time)
+    limits = Limits(time.monotonic() + given.max_duration, given.max_bytes, given.max_delete, given.yes)
+    address = given.url.rstrip("/").removesuffix(DESCRIPTION)
+    connections = Connections(address, given.patience, given.certificate, given.max_time, limits)
     if mirror_collection.is_whole(given.folder):
         return mirror_collection.run(given, connections)
     folder = Folder(given.folder, connections.address)
-    if given.incremental and folder.until is None:
-        raise Fault("there is no earlier run to go on from")
     try:
-        source = Source(connections, is_at_base=True)
-    except Several:
-        return mirror_collection.begin(given, connections, folder)
-    folder.begin()
-    print(Run(source, folder).go(given.baseline or folder.until is None))
+        if given.incremental and folder.until is None:
+            raise Fault("there is no earlier run to go on from")
+        try:
+            source = Source(connections, is_at_base=True, latest=latest_now())
+        except Several:
+            return mirror_collection.begin(given, connections, folder)
+        one = Run(source, folder, limits)
+        is_baseline = given.baseline or folder.until is None
+        if given.dry_run:
+            forecast(one, is_baseline)
+        else:
+            folder.begin()
+            say(one.go(is_baseline or folder.until is None))
+    finally:
+        folder.close()
     return 0
+
+
+def forecast(one, is_baseline):
+    """Tells what a run would do, and whether it would be refused."""
+    one.folder.count()
+    found = Forecast(one, is_baseline)
+    for it in found.lines():
+        say(it)
+    one.limits.check_removals(len(found.going), one.folder.held)
+    one.folder.check_room(found.lacking)

@@ -1,106 +1,186 @@
-"""Mirrors a collection: each source that a Source Description names, into a folder of its own, side by side.
+"""Mirrors a collection: each source that a Source Description names, into a folder of its own, some of them side by side.
 
 Each folder below the one of the whole is then exactly what its source held at the moment in its line. There is no moment for all.
 What moves from one source to another is put there before it is deleted here (ropepeach-grow(1)). So nothing is removed before every
 source was read after the deletion was: what was moved is fetched first, and a mirror has it once or twice, never not at all.
 """
-import fcntl
-import json
+from __future__ import annotations
+
+import argparse
+import dataclasses
+import enum
+import multiprocessing
 import os
-import re
 import time
-import urllib.parse
+from typing import Any
 
 from ropepeach.connections import Connections
-from ropepeach.facts import is_name
-from ropepeach.faults import Fault, Unusable
+from ropepeach.faults import Fault, Unusable, say
 from ropepeach.fill_sending import KEPT
-from ropepeach.health import write_whole
+from ropepeach.limits import Limits
 from ropepeach.lists import Dropped, Several, Source
-from ropepeach.mirror import Run
 from ropepeach.mirror_folder import STATE, Folder
+from ropepeach.mirror_run import BASELINE, Forecast, Run
+from ropepeach.mirror_whole import Whole, is_whole, parts_of
+from ropepeach.moments import NEVER, latest_now
+from ropepeach.pool import Pool
 from ropepeach.progress import tell
-from ropepeach.side_by_side import Sides, failures
+from ropepeach.side_by_side import Failed, failures
 
-# The file at the top of a mirror of a collection: the address of the whole.
-WHOLE = "#collection"
+__all__ = ["begin", "is_whole", "run"]
+
 # How often sources are read again because of what others deleted, and how often a run begins anew with other sources.
 PASSES, RUNS = 50, 10
-# What a base may be (docs/SCRIPT.md).
-BASE = re.compile(r"https?://[A-Za-z0-9.:/_~-]{1,120}(?<!/)")
+
+
+class SharedCount:
+    """A count of bytes that several processes share."""
+
+    def __init__(self) -> None:
+        self.sum: Any = multiprocessing.get_context("fork").Value("Q", 0)
+
+    def add(self, size: int) -> int:
+        """Counts bytes, and gives all that were counted."""
+        with self.sum.get_lock():
+            self.sum.value += size
+            return int(self.sum.value)
 
 
 class Part(Folder):
     """The folder of one source, which keeps what has to be removed until it is released."""
 
-    def __init__(self, path, source):
-        super().__init__(path, source)
-        self.kept, self.gone = {}, set()
+    def __init__(self, path: str, source: str, within: int | None) -> None:
+        super().__init__(path, source, within)
+        self.kept: dict[str, bool] = {}
+        self.gone: set[str] = set()
 
-    def remove(self, name):
+    def remove(self, name: str) -> bool:
         self.kept[name] = True
         self.gone.add(name)
-        return os.path.lexists(self.place(name))
+        return self.is_held(name)
 
-    def has(self, name, facts):
+    def has(self, name: str, facts: bytes) -> bool:
         self.kept.pop(name, None)
         return super().has(name, facts)
 
-    def write(self, name, body):
+    def write(self, name: str, body: bytes) -> None:
         self.kept.pop(name, None)
         super().write(name, body)
 
-    def remember(self, until, newest):
+    def remember(self, until: str | None, newest: str | None) -> None:
         """Notes a moment, which is written once all is removed that was gone by then."""
         if until is None:
             super().remember(until, newest)
         else:
             self.until, self.newest = until, newest
 
-    def release(self):
+    def release(self) -> None:
         """Removes what is gone, and remembers the moment."""
         for it in self.kept:
             super().remove(it)
         super().remember(self.until, self.newest)
 
 
+class Step(enum.Enum):
+    """What a part is asked to do."""
+
+    FORETELL = enum.auto()
+    BEGIN = enum.auto()
+    READ_ON = enum.auto()
+    RELEASE = enum.auto()
+
+
+@dataclasses.dataclass
+class Message:
+    """A step, and the names that are gone elsewhere."""
+
+    step: Step
+    names: set[str] = dataclasses.field(default_factory=set)
+
+
+@dataclasses.dataclass
+class Report:
+    """What a part did: whether it was a baseline, what is gone since it was asked before, how many of all that were there have to go,
+    how many these are, what it says, and its moment.
+    """
+
+    is_baseline: bool = False
+    gone: set[str] = dataclasses.field(default_factory=set)
+    going: int = 0
+    held: int = 0
+    lines: list[str] = dataclasses.field(default_factory=list)
+    until: str = ""
+
+
 class PartRun:
-    """A run of one source, in a process of its own."""
+    """A run of one source."""
 
-    def __init__(self, base, path, given):
-        self.base, self.path, self.given = base, path, given
-
-    def work(self, link):
-        """Mirrors the source, then does what it is asked: reads on because of names that are gone elsewhere, and ends."""
-        connections = Connections(self.base, self.given.patience, self.given.certificate, self.given.max_time)
-        self.folder = Part(self.path, connections.address)
-        if self.given.incremental and self.folder.until is None:
+    def __init__(self, name: str, base: str, given: argparse.Namespace, within: int | None, limits: Limits) -> None:
+        # How much may be removed is decided for the whole.
+        limits = dataclasses.replace(limits, removals=None, is_sure=True)
+        connections = Connections(base, given.patience, given.certificate, given.max_time, limits)
+        self.name, self.given = name, given
+        self.folder = Part(os.path.join(given.folder, name), connections.address, within)
+        if given.incremental and self.folder.until is None:
             raise Fault("there is no earlier run to go on from")
-        self.source = Source(connections, is_at_base=True)
-        self.folder.begin()
-        self.run, is_baseline = Run(self.source, self.folder), self.given.baseline or self.folder.until is None
-        link.send(self.gone(is_baseline))
-        while (asked := link.recv()) is not None:
-            link.send(self.gone(False) if self.is_due(asked) else (False, set()))
-        self.folder.release()
-        link.send((self.told, self.folder.until))
+        self.source = Source(connections, is_at_base=True, latest=latest_now())
+        self.run, self.told = Run(self.source, self.folder, limits), ""
 
-    def gone(self, is_baseline):
-        """Runs, and gives whether it was a baseline, and what is gone since the last run here."""
+    def answer(self, message: Message) -> Report:
+        """Does a step."""
+        try:
+            steps = {Step.FORETELL: self.foretell, Step.BEGIN: self.begin, Step.READ_ON: self.read_on, Step.RELEASE: self.release}
+            return steps[message.step](message)
+        finally:
+            self.source.connections.rest()
+            if self.folder.is_open:
+                self.folder.rest()
+
+    def is_baseline(self) -> bool:
+        return self.given.baseline or self.folder.until is None
+
+    def foretell(self, _: Message) -> Report:
+        """Tells what the source would do to the folder, and changes nothing."""
+        self.folder.count()
+        found = Forecast(self.run, self.is_baseline())
+        self.folder.check_room(found.lacking)
+        *lines, told = found.lines(f"{self.name} ")
+        return Report(going=len(found.going), held=self.folder.held, lines=[*lines, f"{self.name}: {told}"])
+
+    def begin(self, _: Message) -> Report:
+        """Mirrors the source, but removes nothing."""
+        self.folder.begin()
+        return self.gone(self.is_baseline())
+
+    def read_on(self, message: Message) -> Report:
+        """Reads on because of names that are gone elsewhere."""
+        return self.gone(False) if self.is_due(message.names) else self.report()
+
+    def release(self, _: Message) -> Report:
+        """Removes what is gone, and remembers the moment."""
+        self.folder.release()
+        return self.report([self.told])
+
+    def gone(self, is_baseline: bool) -> Report:
+        """Runs, and tells what is gone since the last run here."""
         self.folder.gone = set()
         self.told = self.run.go(is_baseline)
-        return self.told.startswith("baseline"), self.folder.gone
+        return dataclasses.replace(self.report(), is_baseline=self.run.way == BASELINE, gone=self.folder.gone)
 
-    def is_due(self, names):
+    def report(self, lines: list[str] | None = None) -> Report:
+        going = sum(self.folder.is_held(it) for it in self.folder.kept if it not in self.folder.absent)
+        return Report(going=going, held=self.folder.held, lines=lines or [], until=self.folder.until or "")
+
+    def is_due(self, names: set[str]) -> bool:
         """Whether the source has new changes that may have brought one of these names; any one, where none are given."""
         try:
-            entries = self.source.changes(self.folder.until).entries
+            entries = self.source.changes(self.folder.until or NEVER).entries
         except Dropped:
             return True
         return any(it.facts is not None and (not names or it.name in names) for it in entries)
 
 
-def bases_at(connections):
+def bases_at(connections: Connections) -> list[str]:
     """The bases of the sources that a Source Description names."""
     try:
         return [Source(connections, is_at_base=True).base]
@@ -108,113 +188,109 @@ def bases_at(connections):
         return several.bases
 
 
-def parts_of(bases, address, is_elsewhere):
-    """The folder of each base: the path below the address of the whole, or else the base itself."""
-    if len(set(bases)) < len(bases):
-        raise Fault(f"{address}: refused, as the Source Description names {len(bases):,} sources, and one of them twice")
-    parts = {}
-    for base in bases:
-        if not BASE.fullmatch(base):
-            raise Fault(f"{base[:300]}: refused, as it is no base of a source")
-        path = base.removeprefix(address + "/")
-        if path == base and not is_elsewhere:
-            raise Fault(f"{base}: refused, as it is not below {address}; --elsewhere takes sources of other hosts")
-        name = urllib.parse.quote(path.partition("://")[2] if path == base else path, safe="")
-        if not is_name(name) or parts.setdefault(name, base) != base:
-            raise Fault(f"{base}: refused, as its folder would be {name}, which is another one's or no name")
-    return parts
-
-
-def is_whole(folder):
-    """Whether a folder is a mirror of a collection."""
-    return os.path.lexists(os.path.join(folder, WHOLE))
-
-
-def begin(given, connections, folder):
+def begin(given: argparse.Namespace, connections: Connections, folder: Folder) -> int:
     """Mirrors a collection into a folder that is no mirror yet."""
-    if folder.lock is not None:
-        if os.path.lexists(folder.at(STATE)):
+    if folder.is_open:
+        if folder.tree.is_there(STATE):
             raise Unusable(f"{folder.path}: is a mirror of one source, and {connections.address} names several: take another folder")
         folder.close()
     return run(given, connections)
 
 
-def locked(path, address):
-    """Makes and locks the folder of the whole, which may be a mirror of this collection alone."""
-    os.makedirs(path, exist_ok=True)
-    lock, mark = os.open(path, os.O_RDONLY | os.O_DIRECTORY), os.path.join(path, WHOLE)
-    try:
-        fcntl.flock(lock, fcntl.LOCK_EX | fcntl.LOCK_NB)
-    except BlockingIOError:
-        raise Unusable(f"{path}: another run is at work in it") from None
-    if not os.path.lexists(mark):
-        write_whole(mark, json.dumps({"collection": address}))
-    try:
-        with open(mark, encoding="utf-8") as file:
-            found = json.load(file)["collection"]
-    except (ValueError, LookupError, TypeError):
-        raise Unusable(f"{mark}: can't be read") from None
-    if found != address:
-        raise Unusable(f"{path}: is a mirror of {found}")
-    return lock
-
-
-def run(given, connections):
+def run(given: argparse.Namespace, connections: Connections) -> int:
     """Mirrors all, anew where the Source Description names other sources meanwhile, and gives the exit status."""
-    folder = os.path.abspath(given.folder)
-    lock = locked(folder, connections.address) if is_whole(folder) else None
+    path = os.path.abspath(given.folder)
+    whole = Whole(path, connections.address) if is_whole(given.folder) else None
+    limits = dataclasses.replace(connections.limits, taken=SharedCount())
     for _ in range(RUNS):
         parts = parts_of(bases_at(connections), connections.address, given.elsewhere)
-        lock = lock or locked(folder, connections.address)
-        status = once(given, connections, parts)
+        if given.dry_run:
+            return foretold(given, parts, whole, limits)
+        whole = whole or Whole(path, connections.address)
+        status = once(given, connections, parts, whole, limits)
         if status is not None:
             return status
     raise Fault("the Source Description names other sources again and again")
 
 
-def once(given, connections, parts):
+def pool_of(given: argparse.Namespace, parts: dict[str, str], whole: Whole | None, limits: Limits) -> Pool:
+    """The processes that mirror these sources."""
+    within = whole.lock if whole else None
+    return Pool(min(len(parts), given.jobs), lambda name: PartRun(name, parts[name], given, within, limits))
+
+
+def foretold(given: argparse.Namespace, parts: dict[str, str], whole: Whole | None, limits: Limits) -> int:
+    """Tells what a run would do, and whether it would be refused. Gives the exit status."""
+    with pool_of(given, parts, whole, limits) as pool:
+        answers = pool.asked(dict.fromkeys(parts, Message(Step.FORETELL)))
+    failed = failures(answers)
+    for name, it in answers.items():
+        if name in failed:
+            tell_of(name, it)
+        else:
+            for line in it.lines:
+                say(line)
+    check_removals(limits, [it for name, it in answers.items() if name not in failed])
+    return status_of(failed)
+
+
+def once(given: argparse.Namespace, connections: Connections, parts: dict[str, str], whole: Whole, limits: Limits) -> int | None:
     """Mirrors these sources. Gives the exit status, or nothing where there are others by now."""
-    work = lambda name, link: PartRun(parts[name], os.path.join(given.folder, name), given).work(link)
-    with Sides(parts, work) as sides:
-        answers = {name: sides.heard(name) for name in parts}
-        failed = failures(answers)
-        waiting = set()
+    with pool_of(given, parts, whole, limits) as pool:
+        answers = pool.asked(dict.fromkeys(parts, Message(Step.BEGIN)))
+        failed, reports, waiting = failures(answers), dict[str, Report](), set[str]()
         for _ in range(PASSES):
             well = {name: it for name, it in answers.items() if name not in failed}
-            is_baseline, gone = any(it[0] for it in well.values()), set().union(*(it[1] for it in well.values()))
-            waiting |= {name for name, it in well.items() if it[1]}
+            reports |= well
+            is_baseline, gone = any(it.is_baseline for it in well.values()), set[str]().union(*(it.gone for it in well.values()))
+            waiting |= {name for name, it in well.items() if it.gone}
             if not is_baseline and not gone:
                 break
             if gone and set(bases_at(connections)) != set(parts.values()):
                 return None
             # (a proxy may serve a list that is as old as this)
             time.sleep(KEPT)
-            answers = sides.asked(dict.fromkeys(well, set() if is_baseline else gone))
+            answers = pool.asked(dict.fromkeys(well, Message(Step.READ_ON, set() if is_baseline else gone)))
             failed |= failures(answers)
         else:
             raise Fault("the sources change faster than they can be read")
         # Where a source was not read, others may not remove what it may have by now.
         ends = [name for name in parts if name not in failed and not (failed and name in waiting)]
-        answers = sides.asked(dict.fromkeys(ends))
-        return told(parts, answers, failed | failures(answers), given.folder)
+        check_removals(limits, [reports[name] for name in ends])
+        answers = pool.asked(dict.fromkeys(ends, Message(Step.RELEASE)))
+        return told(parts, answers, failed | failures(answers), whole)
 
 
-def told(parts, answers, failed, folder):
+def check_removals(limits: Limits, reports: list[Report]) -> None:
+    """Refuses to remove more of the whole than was allowed."""
+    limits.check_removals(sum(it.going for it in reports), sum(it.held for it in reports))
+
+
+def told(parts: dict[str, str], answers: dict[str, Any], failed: dict[str, Failed], whole: Whole) -> int:
     """Prints at which moment each source's part is, and what could not be had. Gives the exit status."""
     ended = {name: it for name, it in answers.items() if name not in failed}
     for name in parts:
         if name in ended:
-            print(f"{name}: {ended[name][0]}")
+            say(f"{name}: {' '.join(ended[name].lines)}")
         elif name in failed:
-            tell(f"{name}: {failed[name].text}")
+            tell_of(name, failed[name])
         else:
             tell(f"{name}: keeps what its source deleted, and its old moment, until the others can be read")
-    moments = sorted(it[1] for it in ended.values())
+    moments = sorted(it.until for it in ended.values())
     if moments:
-        print(f"{len(ended):,} of {len(parts):,} sources, each at its own moment, from {moments[0]} to {moments[-1]}")
-    for it in sorted(os.listdir(folder)):
-        if it not in parts and not it.startswith("#"):
-            tell(f"{it}: no source of this name is in the Source Description any more; its folder stays")
-    if not failed:
-        return 0
-    return max(it.status for it in failed.values())
+        say(f"{len(ended):,} of {len(parts):,} sources, each at its own moment, from {moments[0]} to {moments[-1]}")
+    for it in whole.others(parts):
+        tell(f"{it}: no source of this name is in the Source Description any more; its folder stays")
+    return status_of(failed)
+
+
+def tell_of(name: str, failed: Failed) -> None:
+    """Writes why a source's part failed."""
+    first, *more = failed.lines
+    for it in (f"{name}: {first}", *more):
+        tell(it)
+
+
+def status_of(failed: dict[str, Failed]) -> int:
+    """The exit status of a run of which these failed."""
+    return max((int(it.status) for it in failed.values()), default=0)

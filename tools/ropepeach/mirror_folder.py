@@ -2,37 +2,47 @@
 
 A name is a path of segments joined by `/`, and its bytes lie in the file of that path below the folder, byte for byte as the name is
 written, `%` too. A name that is held while another one lies below it (`a` and `a/b`) can't be a file and a folder at once: it has then a
-`#` behind it (`a#` beside `a/b`), which stands in no name. Where a resource lies follows from the names held alone. What begins with `#`
-at the top is the mirror's own: the state, and what is being written.
+`#` behind it (`a#` beside `a/b`), which stands in no name. Where a resource lies follows from the names held alone. `#state` and
+`#incoming` at the top are the mirror's own: what is remembered, and what is being written. All else that begins with `#` is somebody
+else's, and stays.
 
 Each change is a rename of a synced file, so a stop at any moment, a power cut too, leaves every file whole. What a stop can leave is a
 folder with nothing in it, and a name with a `#` that needs none: opening a folder puts both right. Nothing is remembered of a run before
-its files are in their places, and synced there.
+its files are in their places, and synced there. No link below the folder is followed (mirror_tree.py).
 """
+from __future__ import annotations
+
 import concurrent.futures
 import contextlib
 import ctypes
+import errno
 import fcntl
-import json
 import os
 import re
+import stat
+from collections.abc import Iterator
 
-from ropepeach.facts import fit, length_of
+from ropepeach.facts import fit, is_name, length_of
 from ropepeach.faults import Unusable
+from ropepeach.mirror_state import FRONTS, LONGEST, State
+from ropepeach.mirror_tree import FOLDER, Tree
+from ropepeach.progress import tell
 
 STATE, INCOMING = "#state", "#incoming"
 ASIDE = "#"
 # This many files, or bytes, are synced together.
 BATCH, BATCH_BYTES = 256, 16 << 20
+# Two names that a file system which folds case has as one, of all characters that a name may have.
+PROBE, FOLDED = "aB0-._~!$&'()*+,;=:@%C3.", "Ab0-._~!$&'()*+,;=:@%c3."
 LIBRARY = ctypes.CDLL(None, use_errno=True)
 
 
-def above_it(name):
+def above_it(name: str) -> list[str]:
     """The folders that a name lies in, the outermost first."""
     return [name[: it.start()] for it in re.finditer("/", name)]
 
 
-def sync_all(opened):
+def sync_all(opened: int) -> None:
     """Syncs the whole file system of an open folder: on Linux this waits for the disk, as fsync of each of its files would."""
     if LIBRARY.syncfs(opened):
         raise OSError(ctypes.get_errno(), os.strerror(ctypes.get_errno()))
@@ -41,159 +51,319 @@ def sync_all(opened):
 class Folder:
     """A folder that one program at a time makes the mirror of one source."""
 
-    def __init__(self, path, source):
-        """Looks at a folder, and changes nothing: `begin` does."""
-        self.path, self.source, self.lock = os.path.abspath(path), source, None
-        self.until, self.newest, self.worker = None, None, concurrent.futures.ThreadPoolExecutor(1)
+    def __init__(self, path: str, source: str, within: int | None = None) -> None:
+        """Looks at a folder, and changes nothing: `begin` does. The last segment of a path may be one of an open folder."""
+        self.path, self.source, self.within, self.lock = os.path.abspath(path), source, within, -1
+        self.until: str | None = None
+        self.newest: str | None = None
+        self.worker: concurrent.futures.ThreadPoolExecutor | None = None
+        self.incoming: int | None = None
         # What was written since the last sync began, and its bytes; how many files were written; what is being synced, and that sync.
-        self.written, self.size, self.count, self.syncing, self.synced = [], 0, 0, [], None
-        if os.path.lexists(self.path):
+        self.written: list[tuple[str, str]] = []
+        self.syncing: list[tuple[str, str]] = []
+        self.synced: concurrent.futures.Future[None] | None = None
+        self.size = self.number = 0
+        # How many resources were there when it was begun, and which were looked for and were not there.
+        self.held, self.absent = 0, set[str]()
+        if self.is_there():
             self.open()
 
-    def open(self):
-        """Locks the folder, and reads what it remembers."""
-        self.lock = os.open(self.path, os.O_RDONLY | os.O_DIRECTORY)
+    @property
+    def is_open(self) -> bool:
+        """Whether there is such a folder, which is locked then."""
+        return self.lock >= 0
+
+    def is_there(self) -> bool:
+        """Whether there is something by its path."""
+        name = self.path if self.within is None else os.path.basename(self.path)
         try:
-            fcntl.flock(self.lock, fcntl.LOCK_EX | fcntl.LOCK_NB)
+            os.stat(name, dir_fd=self.within, follow_symlinks=False)
+        except FileNotFoundError:
+            return False
+        return True
+
+    def opened(self) -> int:
+        """Opens the folder itself; its path may have links, but not where it is one of an open folder."""
+        if self.within is None:
+            return os.open(self.path, os.O_RDONLY | os.O_DIRECTORY)
+        try:
+            return os.open(os.path.basename(self.path), FOLDER, dir_fd=self.within)
+        except NotADirectoryError:
+            raise Unusable(f"{self.path}: is a link, or no folder, and a mirror follows no link: move it away") from None
+
+    def open(self) -> None:
+        """Locks the folder, and reads what it remembers."""
+        lock = self.opened()
+        try:
+            fcntl.flock(lock, fcntl.LOCK_EX | fcntl.LOCK_NB)
         except BlockingIOError:
+            os.close(lock)
             raise Unusable(f"{self.path}: another run is at work in it") from None
-        is_empty = all(it.startswith(ASIDE) for it in os.listdir(self.path))
-        if not os.path.exists(self.at(STATE)):
-            if not is_empty:
+        self.lock, self.tree = lock, Tree(self.path, lock)
+        is_empty = set(os.listdir(lock)) <= {STATE, INCOMING}
+        if not self.tree.is_there(STATE):
+            if not is_empty or not self.is_begun():
                 raise Unusable(f"{self.path}: is not empty, and no mirror")
             return
-        mirrored, self.until, self.newest = self.state()
-        if mirrored != self.source and not (is_empty and self.until is None):
-            raise Unusable(f"{self.path}: is a mirror of {mirrored}")
+        state = self.state()
+        if state.source != self.source and not (is_empty and state.until is None):
+            raise Unusable(f"{self.path}: is a mirror of {state.source}")
+        if state.is_true():
+            self.until, self.newest = state.until, state.newest
+        else:
+            tell(f"{self.at(STATE)}: remembers {state.until} and {state.newest}, which no source may have by now: this run is a baseline")
 
-    def begin(self):
+    def is_begun(self) -> bool:
+        """Whether what lies where the first state is written is such a state, which a stop left, or nothing."""
+        found = self.tree.status(INCOMING)
+        if found is None:
+            return True
+        if not stat.S_ISREG(found.st_mode) or found.st_size > LONGEST:
+            return False
+        text = self.text_of(INCOMING)
+        return any(text.startswith(it) or it.startswith(text) for it in FRONTS)
+
+    def begin(self) -> None:
         """Makes the folder if there is none, and puts right what a stop left half done."""
-        if self.lock is None:
-            os.makedirs(self.path, exist_ok=True)
+        if not self.is_open:
+            if self.within is None:
+                os.makedirs(self.path, exist_ok=True)
+            else:
+                with contextlib.suppress(FileExistsError):
+                    os.mkdir(os.path.basename(self.path), dir_fd=self.within)
             self.open()
         if self.until is None:
             self.remember(None, None)
         self.put_right()
+        self.check_names()
 
-    def close(self):
-        """Lets another run have the folder."""
-        self.worker.shutdown()
-        os.close(self.lock)
+    def rest(self) -> None:
+        """Lets go of all but the lock."""
+        if self.worker is not None:
+            self.worker.shutdown()
+            self.worker = None
+        self.leave_incoming()
+        self.tree.back_to(0)
 
-    def state(self):
+    def close(self) -> None:
+        """Lets another run have the folder. What was written and has no place goes."""
+        if self.is_open:
+            with contextlib.suppress(OSError, Unusable):
+                if self.written or self.syncing:
+                    self.drop_incoming()
+            self.rest()
+            os.close(self.lock)
+            self.lock = -1
+
+    def state(self) -> State:
         """The source, the moment up to which its changes are here, and the newest one that was read."""
-        try:
-            with open(self.at(STATE), encoding="utf-8") as file:
-                state = json.load(file)
-            return state["source"], state["until"], state["newest"]
-        except (ValueError, LookupError, TypeError):
-            raise Unusable(f"{self.at(STATE)}: can't be read") from None
+        if not self.tree.is_file(STATE):
+            raise Unusable(f"{self.at(STATE)}: is no regular file")
+        found = State.read(self.text_of(STATE))
+        if found is None:
+            raise Unusable(f"{self.at(STATE)}: can't be read")
+        return found
 
-    def at(self, name):
+    def text_of(self, path: str) -> bytes:
+        """The first bytes of a file of the mirror's own."""
+        with open(self.tree.opened(path), "rb") as file:
+            return file.read(LONGEST)
+
+    def at(self, name: str) -> str:
         return os.path.join(self.path, name)
 
-    def place(self, name):
-        """Where the bytes of a name lie, or would lie now."""
-        plain = self.at(name)
-        return plain + ASIDE if os.path.isdir(plain) else plain
+    def place(self, name: str) -> str:
+        """The path at which the bytes of a name lie, or would lie now."""
+        return name + ASIDE if self.tree.is_folder(name) else name
 
-    def has(self, name, facts):
+    def is_held(self, name: str) -> bool:
+        """Whether there is something in the place of a name."""
+        return self.is_open and self.tree.is_there(self.place(name))
+
+    def length(self, name: str) -> int:
+        """The bytes of the file of a name, or 0."""
+        found = self.tree.status(self.place(name)) if self.is_open else None
+        return found.st_size if found is not None and stat.S_ISREG(found.st_mode) else 0
+
+    def has(self, name: str, facts: bytes) -> bool:
         """Whether the file of a name has what a list says."""
+        if not self.is_open:
+            return False
         try:
-            with open(self.place(name), "rb") as file:
-                return os.fstat(file.fileno()).st_size == length_of(facts) and fit(facts, file.read())
+            number = self.tree.opened(name)
+            found = os.fstat(number)
+            if stat.S_ISDIR(found.st_mode):
+                os.close(number)
+                number = self.tree.opened(name + ASIDE)
+                found = os.fstat(number)
+            with open(number, "rb", buffering=0) as file:
+                return stat.S_ISREG(found.st_mode) and found.st_size == length_of(facts) and fit(facts, file.read())
         except (FileNotFoundError, NotADirectoryError):
+            self.absent.add(name)
+            return False
+        except OSError:
+            # (a link, a socket or a device without a driver can't be opened so, and is no file)
+            if self.tree.is_file(self.place(name)):
+                raise
             return False
 
-    def write(self, name, body):
+    def count(self) -> None:
+        """Counts what is there."""
+        self.held = sum(len(it.others) for it in self.tree.levels(ASIDE)) if self.is_open else 0
+
+    def check_room(self, wanted: dict[str, bytes]) -> None:
+        """Refuses what the folder's file system has no room for, if it says how much that is."""
+        room = os.fstatvfs(self.lock) if self.is_open else None
+        if room is None or not room.f_blocks:
+            return
+        free, unit = room.f_bavail * room.f_frsize, room.f_frsize
+        if sum(rounded(length_of(facts), unit) for facts in wanted.values()) <= free:
+            return
+        more = sum(max(0, rounded(length_of(facts), unit) - rounded(self.length(name), unit)) for name, facts in wanted.items())
+        if more > free:
+            raise Unusable(f"{self.path}: has room for {free:,} bytes, and what the source lists takes {more:,} more: nothing was fetched")
+
+    def write(self, name: str, body: bytes) -> None:
         """Gives a name these bytes, once `settle` has put them in their place."""
-        path = self.at(f"{INCOMING}/{self.count}")
-        if not self.written:
-            os.makedirs(self.at(INCOMING), exist_ok=True)
-        with open(path, "wb") as file:
+        path = str(self.number)
+        with open(os.open(path, os.O_WRONLY | os.O_CREAT | os.O_EXCL | os.O_NOFOLLOW, 0o666, dir_fd=self.enter_incoming()), "wb") as file:
+            # (it is there from now on, and goes if the run ends)
+            self.written.append((path, name))
             file.write(body)
-        self.written.append((path, name))
-        self.count, self.size = self.count + 1, self.size + len(body)
+        self.number, self.size = self.number + 1, self.size + len(body)
         if len(self.written) == BATCH or self.size >= BATCH_BYTES:
             self.turn()
 
-    def turn(self):
+    def enter_incoming(self) -> int:
+        """The descriptor of the folder of what is being written."""
+        if self.incoming is None:
+            if not self.tree.is_there(INCOMING):
+                self.tree.make_folder(INCOMING)
+            self.incoming = os.dup(self.tree.folder(INCOMING))
+        return self.incoming
+
+    def leave_incoming(self) -> None:
+        if self.incoming is not None:
+            os.close(self.incoming)
+            self.incoming = None
+
+    def turn(self) -> None:
         """Puts in its place what a thread has synced, and lets it sync what was written since."""
-        if self.syncing:
+        if self.synced is not None:
             self.synced.result()
-        synced, self.syncing = self.syncing, self.written
+        synced, self.syncing, self.synced = self.syncing, self.written, None
         self.written, self.size = [], 0
         if self.syncing:
+            self.worker = self.worker or concurrent.futures.ThreadPoolExecutor(1)
             self.synced = self.worker.submit(sync_all, self.lock)
         for path, name in synced:
             self.make_way(name)
-            os.replace(path, self.place(name))
+            self.tree.take(self.enter_incoming(), path, self.place(name))
 
-    def settle(self):
+    def settle(self) -> None:
         """Waits until all that was written is in its place."""
         while self.written or self.syncing:
             self.turn()
 
-    def make_way(self, name):
+    def make_way(self, name: str) -> None:
         """Makes the folders that a name lies in; a name above it that is a file steps aside."""
-        for above in map(self.at, above_it(name)):
-            if os.path.isfile(above):
-                os.replace(above, above + ASIDE)
-            if not os.path.isdir(above):
-                os.mkdir(above)
+        with contextlib.suppress(FileNotFoundError, NotADirectoryError):
+            self.tree.parted(name)
+            return
+        for above in above_it(name):
+            if self.tree.is_file(above):
+                self.tree.move(above, above + ASIDE)
+            if not self.tree.is_folder(above):
+                self.tree.make_folder(above)
 
-    def remove(self, name):
+    def remove(self, name: str) -> bool:
         """Removes the file of a name and the folders that it leaves empty. Whether it was there."""
-        is_there = os.path.lexists(self.place(name))
+        is_there = self.is_held(name)
         if is_there:
-            os.remove(self.place(name))
+            self.tree.remove(self.place(name))
         for above in reversed(above_it(name)):
-            self.drop_empty(self.at(above))
+            self.drop_empty(above)
         return is_there
 
-    def drop_empty(self, path):
+    def drop_empty(self, path: str) -> None:
         """Removes a folder if it is empty; the file that had stepped aside for it steps back."""
         with contextlib.suppress(OSError):
-            os.rmdir(path)
-        if os.path.isfile(path + ASIDE) and not os.path.exists(path):
-            os.replace(path + ASIDE, path)
+            self.tree.remove_folder(path)
+        if self.tree.is_file(path + ASIDE) and not self.tree.is_there(path):
+            self.tree.move(path + ASIDE, path)
 
-    def put_right(self):
-        """Undoes what a stop left half done."""
+    def put_right(self) -> None:
+        """Undoes what a stop left half done, and counts what is there."""
         self.drop_incoming()
-        for above, folders, files in os.walk(self.path, topdown=False):
-            own = {STATE, INCOMING} if above == self.path else set()
-            aside = [it[:-1] for it in files if it.endswith(ASIDE) and it not in own]
-            for it in {*folders, *aside}:
-                self.drop_empty(os.path.join(above, it))
+        self.held, due = 0, []
+        for it in self.tree.levels(ASIDE):
+            aside = {name[:-1] for name in it.others if name.endswith(ASIDE)}
+            due.append([it.front + name for name in it.folders | aside])
+            self.held += len(it.others)
+        # The top's own are not among these.
+        for paths in reversed(due):
+            for path in paths:
+                self.drop_empty(path)
 
-    def drop_incoming(self):
+    def check_names(self) -> None:
+        """Refuses a file system that has two names of a source as one, or a name as another one."""
+        folder = self.enter_incoming()
+        try:
+            os.close(os.open(PROBE, os.O_WRONLY | os.O_CREAT | os.O_EXCL | os.O_NOFOLLOW, 0o666, dir_fd=folder))
+            found = [*os.listdir(folder), *(it for it in (FOLDED, PROBE.rstrip(".")) if is_at(folder, it))]
+        except OSError as fault:
+            if fault.errno not in (errno.EINVAL, errno.EILSEQ):
+                raise
+            raise Unusable(f"{self.path}: its file system does not take each name that a resource may have: {fault.strerror}") from None
+        finally:
+            self.drop_incoming()
+        if found != [PROBE]:
+            raise Unusable(f"{self.path}: its file system has several names as one ({' and '.join(found)}): "
+                           "take one that tells upper from lower case")
+
+    def drop_incoming(self) -> None:
         """Removes what was written and has no place; an earlier version had a file there."""
-        path = self.at(INCOMING)
-        if os.path.isdir(path):
-            for it in os.listdir(path):
-                os.remove(os.path.join(path, it))
-            os.rmdir(path)
-        elif os.path.lexists(path):
-            os.remove(path)
+        self.leave_incoming()
+        if self.tree.is_folder(INCOMING):
+            folder = self.tree.folder(INCOMING)
+            for it in os.listdir(folder):
+                os.remove(it, dir_fd=folder)
+            self.tree.remove_folder(INCOMING)
+        elif self.tree.is_there(INCOMING):
+            self.tree.remove(INCOMING)
 
-    def names(self):
-        """The names of all files but the mirror's own."""
-        for above, _, files in os.walk(self.path):
-            own = {STATE, INCOMING} if above == self.path else set()
-            for it in files:
-                if it not in own:
-                    yield os.path.join(above, it)[len(self.path) + 1 :].removesuffix(ASIDE)
+    def names(self) -> Iterator[str]:
+        """The names of all files but the mirror's own, and the paths of what can be no name's."""
+        if not self.is_open:
+            return
+        for it in self.tree.levels(ASIDE):
+            for name in it.others:
+                is_aside = name.endswith(ASIDE) and name[:-1] in it.folders and is_name(it.front + name[:-1])
+                yield it.front + (name[:-1] if is_aside else name)
 
-    def remember(self, until, newest):
+    def remember(self, until: str | None, newest: str | None) -> None:
         """Writes the state, once all else is synced. What was written has to be in its place."""
         self.drop_incoming()
         sync_all(self.lock)
-        state, path = {"source": self.source, "until": until, "newest": newest}, self.at(INCOMING)
-        with open(path, "w", encoding="utf-8") as file:
-            json.dump(state, file)
+        state = State(self.source, until, newest)
+        with open(self.tree.made(INCOMING), "wb") as file:
+            file.write(state.text())
             file.flush()
             os.fsync(file.fileno())
-        os.replace(path, self.at(STATE))
+        self.tree.move(INCOMING, STATE)
         os.fsync(self.lock)
         self.until, self.newest = until, newest
+
+
+def rounded(size: int, unit: int) -> int:
+    """The bytes that a file of this size takes of a file system."""
+    return -(-size // unit) * unit
+
+
+def is_at(folder: int, name: str) -> bool:
+    """Whether an open folder has something by a name."""
+    try:
+        os.stat(name, dir_fd=folder, follow_symlinks=False)
+    except FileNotFoundError:
+        return False
+    return True

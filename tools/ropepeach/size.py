@@ -4,11 +4,10 @@ SIZE stands alone on standard output. It follows the formula of docs/OPERATING.m
 What it is made of stands on standard error, and so does each file that cannot be a resource. No file is read.
 """
 import argparse
-import os
 
 from ropepeach import room
 from ropepeach.faults import Fault
-from ropepeach.fill_files import Kinds, Unfit, names_below, path_of, shown, size_of
+from ropepeach.fill_files import Files, Kinds, Unfit, path_of, shown
 from ropepeach.progress import tell
 
 NAME, HELP = "size", "tell how large a disk has to be for what a folder holds"
@@ -34,6 +33,7 @@ def add_arguments(parser):
     parser.add_argument("folder", metavar="FOLDER")
     parser.add_argument("--base", default=BASE, metavar="URL", help=f"the address that the source is served at ({BASE})")
     parser.add_argument("--changes", type=changes, default=room.MOST_CHANGES, metavar="N", help="how many changes are kept (50,000)")
+    parser.add_argument("--links", action="store_true", help="follow links to files that lie inside FOLDER")
     parser.add_argument("--types", metavar="FILE", help="media types by name, as of `ropepeach fill`")
 
 
@@ -45,13 +45,12 @@ class Counted:
 
     def count(self, folder, kinds):
         """Counts the files that can be resources, and names those that cannot."""
-        for name in names_below(folder):
-            path = path_of(folder, name)
+        for name in folder.names():
             try:
-                size = size_of(path, name)
+                size = folder.size(name)
             except Unfit as why:
                 self.left_out += 1
-                tell(f"left out {shown(path[len(folder):].lstrip(b'/'))}: {why}")
+                tell(f"left out {shown(path_of(name))}: {why}")
                 continue
             self.files, self.bytes, self.blocks = self.files + 1, self.bytes + size, self.blocks + room.blocks(size)
             self.names, self.types, self.longest = self.names + len(name), self.types + len(kinds.of(name)), max(self.longest, size)
@@ -65,7 +64,7 @@ class Counted:
 
 def run(given):
     """Counts, prints SIZE, and returns the status."""
-    counted = Counted().count(os.fsencode(given.folder), Kinds(given.types))
+    counted = Counted().count(Files(given.folder, given.links), Kinds(given.types))
     it = counted.collection()
     used = room.used(it, len(given.base), given.changes)
     size = room.blocks(room.needed(it, len(given.base), given.changes)) * room.BLOCK

@@ -6,10 +6,12 @@ to be fenced by its whole address, since it may come back. With --planned OTHER 
 """
 import datetime
 import os
+import stat
 import subprocess
 import time
 
-from ropepeach.faults import Misused, Unusable
+from ropepeach.arguments import seconds_given
+from ropepeach.faults import Unusable, say
 from ropepeach.takeover_store import CephFS, Refused
 
 NAME, HELP = "takeover", "take a source over from another machine, on a replicated store"
@@ -30,7 +32,7 @@ def add_arguments(parser):
     parser.add_argument("other", metavar="OTHER", help="the address of the machine that had the source, as the store knows it")
     parser.add_argument("--planned", action="store_true", help="OTHER has ended its program and its mount in peace")
     parser.add_argument("--copy", action="store_true", help="the store's copies may differ: copy the source, and keep the old file")
-    parser.add_argument("--wait", metavar="SECONDS", type=float, default=WAIT, help=f"how long to wait for a step ({WAIT})")
+    parser.add_argument("--wait", metavar="SECONDS", type=seconds_given, default=WAIT, help=f"how long to wait for a step ({WAIT})")
     parser.add_argument("--program", metavar="PROGRAM", default=PROGRAM, help=f"the program that opens the file ({PROGRAM})")
     parser.add_argument("--sockets", metavar="FOLDER", default=SOCKETS, help=f"where this machine's mounts have their sockets ({SOCKETS})")
 
@@ -50,7 +52,7 @@ def waited(step, seconds):
 def ran(words, lines, seconds):
     """A run of the program: its output, and its messages, which it has where it fails."""
     try:
-        it = subprocess.run(words, input=lines, capture_output=True, text=True, timeout=seconds)
+        it = subprocess.run(words, input=lines, capture_output=True, text=True, errors="replace", timeout=seconds)
     except subprocess.TimeoutExpired:
         raise Unusable(f"{' '.join(words)}: no answer within {seconds} seconds: look at the store (ceph status)") from None
     except OSError as fault:
@@ -68,29 +70,66 @@ def held(program, path):
 
 
 def copy(given, wanted):
-    """Copies the source, and puts the copy in its place; the old file is kept. Gives what it is called then."""
-    made, now = f"{given.file}.taken-over", datetime.datetime.now(datetime.timezone.utc)
-    kept = f"{given.file}.before-{now:%Y%m%dT%H%M%SZ}"
-    for it in (made, kept):
-        if os.path.lexists(it):
-            raise Refused(f"{it} is there, of an earlier copy: look at it, and move it away")
-    old = os.stat(given.file)
-    _, messages = ran([given.program, "copy", given.file, made, str(old.st_size)], "", COPYING)
-    if messages:
-        raise Refused(f"the copy {made} failed, {messages}: remove it; the old file is as it was")
-    os.chown(made, old.st_uid, old.st_gid)
-    os.chmod(made, old.st_mode & 0o7777)
-    if (found := held(given.program, made)) != wanted:
-        raise Refused(f"the copy {made} holds {found}, and the old file {wanted}: start neither, and look at the store")
-    # (there is a file of this name at each moment)
-    os.link(given.file, kept)
-    os.rename(made, given.file)
-    folder = os.open(os.path.dirname(os.path.abspath(given.file)), os.O_RDONLY)
+    """Copies the source, and puts the copy in its place; the old file is kept. Gives what it is called then.
+
+    Whoever may write the folder may put links there meanwhile: none is followed, and what gets the old file's owner is the copy itself.
+    """
+    where, name = os.path.split(os.path.abspath(given.file))
+    made, now = f"{name}.taken-over", datetime.datetime.now(datetime.timezone.utc)
+    kept = f"{name}.before-{now:%Y%m%dT%H%M%SZ}"
+    folder = os.open(where, os.O_RDONLY | os.O_DIRECTORY)
     try:
+        old = regular(folder, name, where)
+        for it in (made, kept):
+            if is_there(folder, it):
+                raise Refused(f"{given.file}{it.removeprefix(name)} is there, of an earlier copy: look at it, and move it away")
+        path = os.path.join(where, made)
+        _, messages = ran([given.program, "copy", given.file, path, str(old.st_size)], "", COPYING)
+        if messages:
+            raise Refused(f"the copy {path} failed, {messages}: remove it; the old file is as it was")
+        give_away(folder, made, path, old)
+        if (found := held(given.program, path)) != wanted:
+            raise Refused(f"the copy {path} holds {found}, and the old file {wanted}: start neither, and look at the store")
+        # (there is a file of this name at each moment)
+        os.link(name, kept, src_dir_fd=folder, dst_dir_fd=folder, follow_symlinks=False)
+        os.rename(made, name, src_dir_fd=folder, dst_dir_fd=folder)
         os.fsync(folder)
     finally:
         os.close(folder)
-    return kept
+    return os.path.join(where, kept)
+
+
+def is_there(folder, name):
+    """Whether an open folder has something by a name, a link too."""
+    try:
+        os.stat(name, dir_fd=folder, follow_symlinks=False)
+    except FileNotFoundError:
+        return False
+    return True
+
+
+def regular(folder, name, where):
+    """What stat(2) says of a regular file of an open folder."""
+    found = os.stat(name, dir_fd=folder, follow_symlinks=False)
+    if not stat.S_ISREG(found.st_mode):
+        raise Refused(f"{os.path.join(where, name)} is a link, or no regular file: name the file itself")
+    return found
+
+
+def give_away(folder, name, path, old):
+    """Gives the copy the owner and the mode of the old file."""
+    try:
+        file = os.open(name, os.O_RDWR | os.O_NOFOLLOW | os.O_NONBLOCK, dir_fd=folder)
+    except OSError as fault:
+        raise Refused(f"{path} is not the copy that was made, {fault.strerror}: somebody else changes this folder") from None
+    try:
+        found = os.fstat(file)
+        if not stat.S_ISREG(found.st_mode) or found.st_nlink != 1 or found.st_uid != os.geteuid():
+            raise Refused(f"{path} is not the copy that was made: somebody else changes this folder")
+        os.fchown(file, old.st_uid, old.st_gid)
+        os.fchmod(file, old.st_mode & 0o7777)
+    finally:
+        os.close(file)
 
 
 def look(given):
@@ -98,23 +137,23 @@ def look(given):
     if not os.path.exists(given.file):
         raise Unusable(f"{given.file}: there is no such file: mount the store's file system first")
     store = CephFS(given.file, given.sockets)
-    print(f"mount: {store.look_at_mount(given.other)}", flush=True)
-    print(f"fence: {waited(lambda: store.look_at_fence(given.other, given.planned), given.wait)}", flush=True)
-    print(f"copies: {waited(lambda: store.look_at_copies(given.planned), given.wait)}", flush=True)
+    say(f"mount: {store.look_at_mount(given.other)}")
+    say(f"fence: {waited(lambda: store.look_at_fence(given.other, given.planned), given.wait)}")
+    say(f"copies: {waited(lambda: store.look_at_copies(given.planned), given.wait)}")
     holds = waited(lambda: held(given.program, given.file), given.wait)
     if given.copy:
-        print(f"copy: the old file is {copy(given, holds)}", flush=True)
+        say(f"copy: the old file is {copy(given, holds)}")
         holds = held(given.program, given.file)
-    print(f"source: {holds}")
+    say(f"source: {holds}")
 
 
 def run(given):
     """Looks at each step, and gives the exit status."""
-    if given.wait < 0:
-        raise Misused("--wait: a number of seconds from 0 on")
     try:
         look(given)
     except OSError as fault:
         raise Unusable(fault) from None
-    print(f"every step is done: start the program (systemctl start ropepeach), and move the address of {given.other}")
+    except (LookupError, TypeError, ValueError, AttributeError) as fault:
+        raise Unusable(f"the store answers in a form that is not known: {type(fault).__name__} {fault}") from None
+    say(f"every step is done: start the program (systemctl start ropepeach), and move the address of {given.other}")
     return 0

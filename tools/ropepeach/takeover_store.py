@@ -36,7 +36,7 @@ class Refused(Fault):
 def output(*words):
     """What a command prints, which has to end well."""
     try:
-        it = subprocess.run(words, stdin=subprocess.DEVNULL, capture_output=True, text=True, timeout=SECONDS)
+        it = subprocess.run(words, stdin=subprocess.DEVNULL, capture_output=True, text=True, errors="replace", timeout=SECONDS)
     except subprocess.TimeoutExpired:
         raise Unusable(f"{' '.join(words)}: no answer within {SECONDS} seconds: is a quorum of the monitors up?") from None
     except OSError as fault:
@@ -52,7 +52,7 @@ def value(*words):
     starts = [text.index(it) for it in "[{" if it in text]
     try:
         return json.JSONDecoder().raw_decode(text[min(starts):])[0]
-    except ValueError:
+    except (ValueError, RecursionError):
         raise Unusable(f"{' '.join(words)}: no JSON: {text[:100]!r}") from None
 
 

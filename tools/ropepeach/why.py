@@ -13,7 +13,7 @@ import pwd
 import socket
 import stat
 
-from ropepeach.faults import Misused, Unusable
+from ropepeach.faults import Misused, Unusable, say
 from ropepeach.processes import Processes
 
 NAME, HELP = "why", "tell why the program says Device: what is in the way of a file and a port"
@@ -229,10 +229,10 @@ def run(given):
     try:
         who = look(given, Processes())
     except Cause as cause:
-        print(cause)
+        say(str(cause))
         return 1
     except OSError as fault:
         raise Unusable(f"{given.file}: can't be looked at, {fault.strerror}: ask as root") from None
     at = "" if given.port is None else f" on port {given.port}"
-    print(f"nothing is found in the way: the user {who} can open {given.file}{at and ' and listen' + at}")
+    say(f"nothing is found in the way: the user {who} can open {given.file}{at and ' and listen' + at}")
     return 0
