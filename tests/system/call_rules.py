@@ -102,19 +102,28 @@ def verifying(name, disk):
 
 
 def showing(name, disk, resource):
-    """The body of a resource is read once, in pieces."""
-    found = next(it for it in records_of(disk) if it.name == resource)
-    return pieces("read", name, found.first * BLOCK, found.length, SHOWN)
+    """The body of a resource that is held is read once, in pieces."""
+    found = [it for it in records_of(disk) if it.name == resource]
+    return [call for it in found for call in pieces("read", name, it.first * BLOCK, it.length, SHOWN)]
+
+
+def copying_bodies(name, disk, to, blocks, last=None):
+    """How the bodies of a source are copied to a new file of these blocks, up to this one: each piece is written when it was read."""
+    calls = [*making(to, len(blocks.used) * BLOCK), f"write {to} 0 {GATE}", *gate(to, BLOCK)]
+    held = records_of(disk)
+    places = [blocks.place(it.length) for it in held]
+    for it, place in zip(held, places):
+        read, written = pieces("read", name, it.first * BLOCK, it.length, LOOKED), pieces("write", to, place, it.length, LOOKED)
+        calls += [call for pair in zip(read, written) for call in pair]
+        if it.name == last:
+            break
+    return calls
 
 
 def copying(name, disk, to, copy):
-    """How a source that is open is copied to a new file: each piece of a body is written when it was read."""
+    """How a source that is open is copied to a new file."""
     new, blocks = disk_reader.source_of(copy), Blocks(len(copy))
-    calls = [*making(to, len(copy)), f"write {to} 0 {GATE}", *gate(to, BLOCK)]
-    places = [blocks.place(it.length) for it in records_of(disk)]
-    for it, place in zip(records_of(disk), places):
-        read, written = pieces("read", name, it.first * BLOCK, it.length, LOOKED), pieces("write", to, place, it.length, LOOKED)
-        calls += [call for pair in zip(read, written) for call in pair]
+    calls = copying_bodies(name, disk, to, blocks)
     pages = [it.entry.length for it in [*new.catalogue, *new.changes, *new.published]]
     for length in [*pages, new.directory.length]:
         calls += pieces("write", to, blocks.place(length), length)

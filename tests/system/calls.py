@@ -10,7 +10,8 @@ is told to, and fails a chosen call. What is looked at:
     at bodies, what the next command asks; the root on the file is then the one before that command or after it;
   - where the system takes a part of a write, or gives a part of a read, the rest follows; where it takes no more, as at
     the file-size limit, the command is refused;
-  - where a call of a copy fails, the new file is no source, or the whole one, and the old one stays;
+  - where a call of a copy fails, the new file is no source, or the whole one, and the old one stays; behind a damaged body
+    a copy makes no call but to close both;
   - a file that got the number of a closed standard stream is moved, and no message lands in it;
   - what is no regular file is refused.
 At the end the lists of wrong programs are made up (calls_wrong.py), each of which has to differ.
@@ -22,6 +23,7 @@ import sys
 import tempfile
 
 from tests.program import PROGRAM
+from tests.reading.disk_formats import BLOCK
 from tests.system import call_rules, calls_of_commands, calls_wrong
 from tests.system.calls_of_commands import DISK, RUN, numbered
 from tests.system.noted_calls import Room, texts
@@ -29,6 +31,7 @@ from tests.system.noted_calls import Room, texts
 NEW = "copy.disk"
 FORMAT = ["format", DISK, "8192", "http://127.0.0.1:8080", "2"]
 COPY = ["copy", DISK, NEW, "65536"]
+COPY_ALL = ["copy", DISK, NEW, "1048576"]
 SCRIPT = b"at 951782400000\nput a 616263 text/plain\nput a - text/plain\npublish\ndelete a\nstatus\nshow /changelist.xml\n"
 # What is copied: bodies in one piece and in two, published pages of their own, and changes.
 HELD = f"put a 616263 text/plain\nput b {'62' * 20_000} a/b\npublish\nput a - text/plain\nput c 63 a/b\n".encode()
@@ -154,6 +157,26 @@ def check_copy(room):
         compare(f"copy, call {at} fails: the old file", [room.bytes(DISK)], [old])
 
     failed("copy", room, COPY, whole.calls, look)
+    check_damaged_copies(room)
+
+
+def check_damaged_copies(room):
+    """A copy ends behind the first body that is damaged: no other is read or written, and the new file is no source."""
+    disk = calls_of_commands.damaged(room)
+    for name, at in calls_of_commands.DAMAGED.items():
+        record = next(it for it in call_rules.records_of(disk) if it.name == name.encode())
+        damage = record.first * BLOCK + at
+        room.put(disk)
+        room.clear(NEW)
+        ran = room.run(COPY_ALL)
+        compare(f"copy, {name} damaged", list(ran[:3]), [1, b"", b"rs_source: Damaged\n"])
+        size = int(COPY_ALL[-1])
+        calls = [*call_rules.opening(DISK, disk), *call_rules.copying_bodies(DISK, disk, NEW, call_rules.Blocks(size), name.encode())]
+        found = texts(ran.calls)
+        compare(f"copy, {name} damaged", [*found[: len(calls)], *sorted(found[len(calls) :])], [*calls, *call_rules.closes(calls)])
+        compare(f"copy, {name} damaged: the new file", [room.run(["run", NEW], TELL).error], [b"rs_source: NotASource\n"])
+        # The next one to be damaged is another.
+        disk = disk[:damage] + bytes([disk[damage] ^ 1]) + disk[damage + 1 :]
 
 
 def check_streams(room):

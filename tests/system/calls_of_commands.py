@@ -1,13 +1,16 @@
 """The calls that each command makes of its file, from a script and over HTTP, held against the rules of call_rules.py.
 
 The lists are compared whole: a call that is left out, that is made once more, that comes earlier, or that has another place or
-length is a difference. Then each call fails in turn. Behind one that fails within a command nothing more is asked of the file
-but to close it; behind one that fails as a body is looked at the next command makes its calls as ever.
+length is a difference. Then each call fails in turn, of short scripts on a new disk, on one whose pages the commands cut, and on
+one with damaged bodies. Behind one that fails within a command nothing more is asked of the file but to close it; behind one that
+fails as a body is looked at the next command makes its calls as ever.
 """
 import collections
 import pathlib
 
+from tests.disks import paged_disk
 from tests.reading import disk_reader
+from tests.reading.disk_formats import BLOCK
 from tests.served_source import connected, exchanged, served
 from tests.system import call_rules
 from tests.system.noted_calls import texts
@@ -57,6 +60,31 @@ LONG = [
     Line("publish", []),
     Line("verify", None),
 ]
+# What the second script begins with: as many resources and changes as a page has, so that each command writes two pages of one list.
+FULL_PAGE = 64
+CUTTING = [
+    Line(AT, None),
+    Line(put("name00031x", 40), [40]),
+    Line(group(put("name00001", 600), put("name00060", 5), put("zz", 700)), [600, 5, 700]),
+    Line("delete name00000", []),
+    Line("publish", []),
+    Line(put("zzz", 20_000), [20_000]),
+    Line(group(*(put(f"name{at:05d}", at) for at in range(2, 64, 4))), list(range(2, 64, 4))),
+    Line("publish", []),
+]
+# What the third begins with, and the resources whose bodies are then damaged, each at this byte: the first, one of some pieces in
+# its last, and the last.
+WHOLE = [Line(AT, None), Line(put("a", 3), [3]), Line(put("b", 20_000), [20_000]), Line(put("c", 600_000), [600_000]), Line(put("d", 5), [5])]
+DAMAGED = {"a": 0, "c": 599_999, "d": 4}
+LOOKING = [
+    Line(AT, None),
+    Line("show /resource/a", None),
+    Line("show /resource/c", None),
+    Line("verify", None),
+    Line(put("a", 4), [4]),
+    Line("show /resource/d", None),
+    Line("verify", None),
+]
 HOST = "HTTP/1.1\r\nHost: a\r\n"
 
 
@@ -100,10 +128,11 @@ def calls_by_rule(name, line, before, after, piece=None):
 
 
 class Scripted:
-    """A script on a new file: the disk behind each line, the part of each line, and the list of all calls."""
+    """A script on a disk, or on a new one: the disk behind each line, the part of each line, and the list of all calls."""
 
-    def __init__(self, room, lines):
-        self.room, self.lines, self.disks, self.answers, parts = room, lines, [made(room)], [], []
+    def __init__(self, room, lines, disk=None):
+        self.room, self.lines, self.disks, self.answers, parts = room, lines, [disk or made(room)], [], []
+        room.put(self.disks[0], DISK)
         for line in lines:
             self.answers.append(room.run(RUN, f"{AT}\n{line.text}\n".encode()).output.split(b"\n", 1)[1])
             self.disks.append(room.bytes(DISK))
@@ -162,26 +191,55 @@ def numbered(calls):
     return [at for at, it in enumerate(calls, 1) if it.name in FAILING]
 
 
+def full_page():
+    """A disk of FULL_PAGE resources, all in one page, which are published; it has some more room."""
+    whole = paged_disk.spelled(FULL_PAGE, FULL_PAGE)
+    return whole[: len(whole) - (paged_disk.ROOM - 512) * BLOCK]
+
+
+def damaged(room):
+    """A disk with damaged bodies."""
+    disk = bytearray(Scripted(room, WHOLE).disks[-1])
+    for it in call_rules.records_of(bytes(disk)):
+        if (name := it.name.decode()) in DAMAGED:
+            disk[it.first * BLOCK + DAMAGED[name]] ^= 1
+    return bytes(disk)
+
+
 def look_at_script(room, compare):
-    """The whole list of a long script, and that of a short one where each call fails in turn."""
-    scripted = Scripted(room, LONG)
+    """The whole list of a long script, and those of short ones where each call fails in turn. Gives the first of these."""
+    look_at_whole("a long script", Scripted(room, LONG), compare)
+    short = Scripted(room, SHORT)
+    look_at_failing("a script", short, compare)
+    for what, lines, disk in [("a script that cuts pages", CUTTING, full_page()), ("a script on damaged bodies", LOOKING, damaged(room))]:
+        scripted = Scripted(room, lines, disk)
+        look_at_whole(what, scripted, compare)
+        look_at_failing(what, scripted, compare)
+    return short
+
+
+def look_at_whole(what, scripted, compare):
+    """The list of all calls of a script, its answers, and its disk."""
     ran = scripted.run()
-    compare("a long script", texts(ran.calls), scripted.wanted())
-    compare("its answers", [ran.output], [b"".join(scripted.answers)])
-    compare("its disk", [room.bytes(DISK)], [scripted.disks[-1]])
-    scripted = Scripted(room, SHORT)
+    compare(what, texts(ran.calls), scripted.wanted())
+    compare(f"{what}: its answers", [ran.output], [b"".join(scripted.answers)])
+    compare(f"{what}: its disk", [scripted.room.bytes(DISK)], [scripted.disks[-1]])
+
+
+def look_at_failing(name, scripted, compare):
+    """Each call of a script fails in turn."""
     calls = scripted.run().calls
-    for number, at in enumerate(numbered(calls)):
+    wanted = sum(len(it.calls) for it in scripted.parts)
+    for number, at in enumerate(numbered(calls)[:wanted]):
         ran = scripted.run(FAILS=at)
-        what = f"a script whose call {at} fails"
+        what = f"{name} whose call {at} fails"
         compare(what, texts(ran.calls), scripted.wanted_behind(number))
         compare(f"{what}: what is written", [ran[:3]], [scripted.output_behind(number)])
         part, _ = scripted.place(number)
         roots = {disk_reader.root(it).directory for it in scripted.disks[max(part - 1, 0) : part + 1]}
         if scripted.parts[part].looks:
             roots = {disk_reader.root(scripted.disks[-1]).directory}
-        compare(f"{what}: the root is an old or a new one", [disk_reader.root(room.bytes(DISK)).directory in roots], [True])
-    return scripted
+        compare(f"{what}: the root is an old or a new one", [disk_reader.root(scripted.room.bytes(DISK)).directory in roots], [True])
 
 
 class Asked:
@@ -211,6 +269,7 @@ def look_at_requests(room, compare):
         wanted, _ = calls_by_rule(asked.name, it, disk, after, call_rules.CAME)
         compare(f"{it.text[:30]!r}, answered {response[:20]!r}", calls, wanted)
         disk = after
+    look_at_damaged_requests(asked, damaged(room), compare)
     first, opened = REQUESTS[:1], made(room)
     (_, calls, _), = asked.ask(first)[0]
     begun = call_rules.opening(asked.name, opened)
@@ -222,3 +281,13 @@ def look_at_requests(room, compare):
         compare(f"a PUT whose call {number + 1} fails", every, wanted)
         words = [it[0].rpartition(b"\r\n\r\n")[2] for it in (put_of, get)]
         compare(f"a PUT whose call {number + 1} fails: the responses", words, [b"Device\n", b"Closed\n"])
+
+
+def look_at_damaged_requests(asked, disk, compare):
+    """A damaged body is read once for a request too, and no byte of it is sent."""
+    asked.room.put(disk, DISK)
+    requests = [Line(request("GET", f"/resource/{name}"), None) for name in DAMAGED]
+    for it, (response, calls, after) in zip(requests, asked.ask(requests)[0], strict=True):
+        wanted, _ = calls_by_rule(asked.name, it, disk, after)
+        compare(f"{it.text[:20]!r}, which is damaged", calls, wanted)
+        compare(f"{it.text[:20]!r}, which is damaged: its response", [response.rpartition(b"\r\n\r\n")[2]], [b"Damaged\n"])

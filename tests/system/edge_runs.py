@@ -61,7 +61,17 @@ ssize_t send(int fd, const void *bytes, size_t n, int flags) {
     if (getenv("SENDS_FAIL")) { errno = EIO; return -1; }
     return takes_none(n) ? 0 : NEXT(send)(fd, bytes, n, flags);
 }
-ssize_t recv(int fd, void *bytes, size_t n, int flags) { return interrupted() ? -1 : NEXT(recv)(fd, bytes, n, flags); }
+/* The rest of a refused request is read 8,192 bytes at once: more often than it is asked for, or in smaller parts. */
+static ssize_t rest(int fd, void *bytes, size_t n, int flags) {
+    ssize_t it = 1;
+    if (number("REST_AT_MOST", 0)) n = number("REST_AT_MOST", 0);
+    for (long times = number("REST_TIMES", 1); times > 0 && it > 0; times--) it = NEXT(recv)(fd, bytes, n, flags);
+    return it;
+}
+ssize_t recv(int fd, void *bytes, size_t n, int flags) {
+    if (interrupted()) return -1;
+    return n == 8192 ? rest(fd, bytes, n, flags) : NEXT(recv)(fd, bytes, n, flags);
+}
 ssize_t read(int fd, void *bytes, size_t n) { return fd == 0 && interrupted() ? -1 : NEXT(read)(fd, bytes, n); }
 ssize_t write(int fd, const void *bytes, size_t n) { return fd == 1 && takes_none(n) ? 0 : NEXT(write)(fd, bytes, n); }
 /* The calls on files are counted, from 1. */

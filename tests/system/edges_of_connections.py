@@ -16,6 +16,8 @@ from tests.system.edge_runs import formatted, is_read_from, ran, read_to_end, se
 
 # The seconds for which the rest of a refused request is read, and those within which the next client is then served.
 LONGEST_REST, MARGIN = 2, 4
+# The most bytes of the rest that are read, how many a client sends that goes on, and those it sends at once.
+MOST_REST, ENDLESS, AT_ONCE = 64 << 20, 96 << 20, 1 << 20
 # A body that goes on past what a writer holds back, and a line that puts it.
 LARGE = b"x" * 100_000
 PUT_LARGE = b"put b %s a/b\n" % LARGE.hex().encode()
@@ -95,6 +97,38 @@ def commands_come_when_their_connection_is_taken(program, room):
         ends_with(found, b"\r\n\r\npublished 1 2000-03-02T00:00:00.000Z\n")
     shown = ran(program, room, "run", "a.disk", given=b"show /changelist.xml")[2]
     compare("the change", b"<lastmod>2000-03-01T00:00:00.000Z</lastmod>", shown[shown.find(b"<lastmod>"):][:43])
+
+
+def the_rest_is_read_up_to_a_limit(program, room, **settings):
+    """Of a client that was refused and goes on no more than 64 MiB are read, and what the system holds of the next ones, however fast it is."""
+    formatted(program, room)
+    with served(program, room, 1, **settings) as (port, _), connected(port) as refused:
+        refused.sendall(TOO_LONG)
+        ends_with(read_to_end(refused), b"\r\n\r\nTooLong\n")
+        sent, piece = 0, b"x" * AT_ONCE
+        with contextlib.suppress(ConnectionError):
+            while sent < ENDLESS:
+                refused.sendall(piece)
+                sent += AT_ONCE
+    if not AT_ONCE <= sent < ENDLESS:
+        raise Differs(f"{sent} bytes of a rest are taken, where {MOST_REST} are read at most")
+
+
+def a_refused_body_may_be_sent_first(program, room, **settings):
+    """A client that sends a whole refused body before it reads gets its response, and no reset: the rest is read meanwhile."""
+    formatted(program, room)
+    sizes = (AT_ONCE, MOST_REST // 4)
+    with served(program, room, len(sizes), **settings) as (port, _):
+        for size in sizes:
+            with connected(port) as refused:
+                try:
+                    refused.sendall(TOO_LONG + b"x" * size)
+                    found = refused.recv(65_536)
+                    while piece := refused.recv(65_536):
+                        found += piece
+                except ConnectionError as fault:
+                    raise Differs(f"a refused body of {size} bytes: {fault}") from None
+            ends_with(found, b"\r\n\r\nTooLong\n")
 
 
 @contextlib.contextmanager
@@ -187,12 +221,14 @@ def a_write_that_takes_no_byte_is_tried_once(program, room, **settings):
 EDGES = [
     the_word_to_go_on_is_sent_at_once, a_refused_request_is_read_on, a_response_that_cannot_be_sent_ends_the_connection,
     a_fault_ends_its_connection_alone, each_cut_of_a_head_is_bad, commands_come_when_their_connection_is_taken,
-    a_refused_client_is_not_waited_for_long, a_connection_that_cannot_be_taken_counts, an_interrupted_read_is_a_fault,
-    a_write_that_takes_no_byte_is_tried_once,
+    the_rest_is_read_up_to_a_limit, a_refused_body_may_be_sent_first, a_refused_client_is_not_waited_for_long,
+    a_connection_that_cannot_be_taken_counts, an_interrupted_read_is_a_fault, a_write_that_takes_no_byte_is_tried_once,
 ]
-# What a program looks like that is wrong: its clock stands still and it waits for a minute; it takes the next connection, or reads,
-# as if nothing had failed; it tries a hundred times.
+# What a program looks like that is wrong: it reads the rest with no limit, or little of it; its clock stands still and it waits for a
+# minute; it takes the next connection, or reads, as if nothing had failed; it tries a hundred times.
 WRONG = [
+    (the_rest_is_read_up_to_a_limit, {"REST_TIMES": "100"}),
+    (a_refused_body_may_be_sent_first, {"REST_AT_MOST": "100"}),
     (a_refused_client_is_not_waited_for_long, {"CLOCK_STANDS": "1"}),
     (a_connection_that_cannot_be_taken_counts, {"ACCEPT_FAILS_AT": "0"}),
     (an_interrupted_read_is_a_fault, {"INTERRUPTED_AT": "0"}),

@@ -1,4 +1,4 @@
-"""Counts the growths of memory of the proved program while it opens a disk, and the bytes that they ask for.
+"""Counts the growths of memory of the proved program while it opens a disk and does a command, and the bytes that they ask for.
 
 `make build` makes the program. A C library that stands before the system's counts each malloc and each realloc. The disks are
 those of the tables in tests/rows (rules broken one by one, counts and lengths as great as a field can say), sources with
@@ -6,8 +6,9 @@ those of the tables in tests/rows (rules broken one by one, counts and lengths a
   - asks in all for no more bytes than what the disk names allows, by figures that are written down (opening_memory.py);
   - asks for no single growth larger than the file, but for what holds a line, and for a list that grows item by item;
   - a refused disk costs no more growths than there are bytes in 16 of its file, and what the program begins with.
-So nothing is asked for on the word of a number that the bytes can't hold, and no constant. At the end programs are made up that ask for
-a constant more (WRONG): each has to be noticed.
+So nothing is asked for on the word of a number that the bytes can't hold, and no constant. On some disks each kind of line and of request is given
+(command_growths.py): it asks in all for no more than what it holds and what it changes allows, by figures of command_memory.py. At the end
+programs are made up that ask for a constant more (WRONG): each has to be noticed.
 
 usage: python3 -m tests.system.growths [PROGRAM]
 Exit status 1 where one does not hold.
@@ -24,19 +25,9 @@ from tests.hostile import wrong_disks
 from tests.program import MEMORY, PROGRAM, interposed
 from tests.reading import disk_parts as parts_of
 from tests.reading.disk_formats import BLOCK, laid_out
-from tests.system import opening_memory
+from tests.system import command_growths, opening_memory
+from tests.system.counted_growths import COUNTING
 
-COUNTING = r"""
-#include <stddef.h>
-#include <stdio.h>
-extern void *__libc_malloc(size_t);
-extern void *__libc_realloc(void *, size_t);
-static unsigned long growths = 0, largest = 0, all = 0;
-static size_t counted(size_t n) { growths++; all += n; if (n > largest) largest = n; return n; }
-void *malloc(size_t n) { return __libc_malloc(counted(n)); }
-void *realloc(void *p, size_t n) { return __libc_realloc(p, counted(n)); }
-__attribute__((destructor)) static void told(void) { dprintf(2, "\ngrowths %lu %lu %lu\n", growths, largest, all); }
-"""
 # The pages of a disk.
 PAGES = 5_000
 # How many growths there were, the bytes of the largest one, and those of all.
@@ -103,6 +94,26 @@ def small_pages(count):
     return laid_out(first + -(-len(directory) // BLOCK), [(0, parts_of.slot(1, 5, first, directory)), *pages, (first, directory)])
 
 
+def pages_of_wrong_moments(count):
+    """A disk with this many pages of one record, published in as many others, whose last moment is not that of its publication."""
+    records = [parts_of.page(1, [parts_of.record(b"n%06d" % number, b"", number, 0)]) for number in range(1, count + 1)]
+    pages = made_disks.laid_behind(2, records * 2)
+    entries = [parts_of.entry(*it) for it in pages]
+    directory = parts_of.directory(count + 1, number=1, at=count, lists=(entries[:count], [], entries[count:]))
+    first = pages[-1][0] + -(-len(records[-1]) // BLOCK)
+    return laid_out(first + -(-len(directory) // BLOCK), [(0, parts_of.slot(1, 5, first, directory)), *pages, (first, directory)])
+
+
+def before_the_moments(program, room):
+    """What is wrong where the moments are: only the directory and the pages have cost memory then, and nothing was asked for of the blocks."""
+    pathlib.Path(room, "moments.disk").write_bytes(pages_of_wrong_moments(PAGES))
+    it, opens = asked(program, room, "moments.disk")
+    most = opening_memory.BEGUN + 2 * PAGES * opening_memory.OF_A_SHORT_PAGE
+    is_blind = it.all + 2 * PAGES * ENTRY // 2 <= most
+    found = ["it opens"] * opens + ["a list of the published pages more is not noticed"] * is_blind
+    return found + ([f"wrong moments: {it.all} bytes in all, of {most}"] if it.all > most else [])
+
+
 def too_much(it, opens, disk):
     """What is wrong with what was asked for while this disk was opened."""
     found, allowed = [], opening_memory.allowed(disk)
@@ -135,9 +146,13 @@ def main():
             print(f"{name}, of {len(disk)} bytes: {', '.join(found)}\n" if found else "", end="")
             wrong, count, most = wrong + bool(found), count + 1, max(most, it.all / opening_memory.allowed(disk))
             seen |= noticed(it, opens, disk)
-    blind = {*WRONG, "a growth", "growths"} - seen
+        looks = command_growths.look(program, room)
+        told = [*looks.wrong, *before_the_moments(program, room)]
+    print("".join(f"{it}\n" for it in told), end="")
+    wrong, seen = wrong + len(told), seen | looks.seen
+    blind = {*WRONG, *command_growths.WRONG, "a growth", "growths"} - seen
     print("".join(f"not noticed: {it}\n" for it in sorted(blind)), end="")
-    print(f"growths: {count} disks, at most {most:.2f} of the bytes that what they name allows; {wrong} wrong")
+    print(f"growths: {count} disks, at most {most:.2f} of the bytes that what they name allows, and {looks.count} lines and requests; {wrong} wrong")
     return 1 if wrong or blind or not most else 0
 
 

@@ -11,13 +11,16 @@ and what the files hold then is read by disk_judge.py:
   - a document of more than 1,000,000 bytes, one of more than 1,000 changes;
   - `verify` with 25 damaged bodies;
   - a copy of more than 64 resources.
+Then sizes are drawn anew, and the calls on files and the memory are looked at too (drawn_sizes.py).
 At the end each answer is held against a refusal in its place, which has to differ.
 
-usage: python3 -m tests.system.large [PROGRAM]     the built program, where none is given
-Exit status 1 where one differs.
+usage: python3 -m tests.system.large [PROGRAM] [--seed N]     the built program, where none is given
+The last line but one tells the seed, which may be given again. Exit status 1 where one differs.
 """
+import argparse
 import os
 import pathlib
+import random
 import subprocess
 import sys
 
@@ -25,9 +28,10 @@ from tests.disks import made_disks, paged_disk
 from tests.hostile import disk_runs
 from tests.hostile.script_runs import differing
 from tests.program import CLOCK, PROGRAM, STILL_CLOCK, interposed, room_in_memory
-from tests.reading import crash_model, disk_judge, line_judge, request_judge
+from tests.reading import crash_model, disk_judge, disk_reader, line_judge, request_judge
 from tests.reading.front_model import Source
 from tests.served_source import Ended, exchanged, served
+from tests.system import drawn_sizes
 
 COUNT, DAMAGED, GROUPED, LINE, BODY = 6_000, 25, 15, 5_000, 10_485_761
 # Room for two such bodies.
@@ -179,8 +183,30 @@ def look_at_copy(program, file, disk, state):
 LOOKS = [look_at_opening, look_at_script, look_at_requests, look_at_damage, look_at_copy]
 
 
+def compare_drawn(what, wanted, found):
+    """Compares what is to be at a drawn size."""
+    if wanted != found:
+        wrong(what, f"wanted {str(wanted)[:500]}, found {str(found)[:500]}")
+
+
+def look_at_drawn(program, folder, seed):
+    """What is drawn by a seed."""
+    try:
+        print(drawn_sizes.look(program, folder, seed, compare_drawn), flush=True)
+    except (Ended, OSError, ValueError, disk_reader.Unread, subprocess.SubprocessError) as fault:
+        wrong(f"seed {seed}", repr(fault)[:500])
+
+
+def words():
+    it = argparse.ArgumentParser(usage="python3 -m tests.system.large [PROGRAM] [--seed N]")
+    it.add_argument("program", nargs="?", default=str(PROGRAM))
+    it.add_argument("--seed", type=int, default=random.SystemRandom().randrange(1_000_000))
+    return it.parse_args()
+
+
 def main():
-    program = os.path.abspath(sys.argv[1] if len(sys.argv) > 1 else PROGRAM)
+    asked = words()
+    program = os.path.abspath(asked.program)
     disk, state = spelled()
     with room_in_memory("large-") as room:
         for look in LOOKS:
@@ -188,6 +214,7 @@ def main():
                 look(program, pathlib.Path(room, "source.disk"), disk, state)
             except (Ended, OSError, subprocess.SubprocessError) as fault:
                 wrong(look.__name__, repr(fault)[:500])
+        look_at_drawn(program, room, asked.seed)
     told = f"{len(list(lines()))} lines, {len(list(requests()))} requests, {DAMAGED} damaged bodies, a copy of {COUNT} resources"
     print(f"large: {told}: {len(FAULTS)} wrong")
     return 1 if FAULTS else 0

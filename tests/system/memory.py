@@ -8,18 +8,20 @@ refused
   - within a line, exactly that line is answered `refused NoMemory`, and all other lines as if the script were without
     it: so nothing was changed, and later lines work; a group is one line here. A line of at most 8 bytes that is no item
     is never refused so, unless it asks the source for what takes memory; nor is a group whose first line is such a one;
+  - while a file is opened or copied, it ends with `rs_source: NoMemory`, and makes no further call on a file but to close
+    it (opening_refusals.py);
   - for the disk's note of a write, that line is answered `refused Device`, all lines before it as ever, and each later
     line that asks the source `refused Closed`;
   - within a request, its response is 503 NoMemory, or none where there is no memory to begin; the next request finds
     nothing changed, and the same request is then answered as ever. One whose head is refused is never answered 503, nor is
     one of a document.
-What is answered else is a plain reading of docs/SCRIPT.md and docs/HTTP.md (line_judge.py, request_judge.py). A long
+What is answered otherwise is a plain reading of docs/SCRIPT.md and docs/HTTP.md (line_judge.py, request_judge.py). A long
 script has every line and every document, bodies that grow, and bad lines, and a short one has groups; both are given at
 once, and in pieces of 7 bytes and of one byte. The worked rows of scripts and of requests whose ends tests/ends makes
 fail are given at once.
 
-usage: python3 -m tests.system.memory [PROGRAM]     the built program, where none is given
-Exit status 1 where anything differs.
+usage: python3 -m tests.system.memory [PROGRAM] [--short]     the built program, where none is given
+The short form gives each script at once alone, no worked row, and few requests. Exit status 1 where anything differs.
 """
 import os
 import subprocess
@@ -35,7 +37,7 @@ from tests.reading import crash_model, line_judge
 from tests.reading.front_model import Source, is_document
 from tests.reading.request_judge import CONTINUE, date_of, response
 from tests.served_source import exchanged
-from tests.system import edge_runs
+from tests.system import edge_runs, opening_refusals
 
 SIZE, BASE, LIMIT = int(MEMORY[1]), MEMORY[2], int(MEMORY[3])
 REFUSED = b"refused NoMemory\n"
@@ -43,12 +45,15 @@ FAILED = b"refused Device\n"
 CLOSED = b"refused Closed\n"
 # What lines are answered for which the source is not asked.
 UNASKED = {b"ok\n"} | {b"refused " + name + b"\n" for name in [b"BadLine", b"BadMoment", b"BadName", b"BadHex", b"BadType", b"LongLine"]}
+# How many requests the short form has.
+SHORT = 2
 # From this many bytes on a line is kept in memory, and so are the parts of an item. These lines ask the source for memory.
 KEPT, ITEMS, ASKING = 9, (b"put ", b"delete "), (b"publish", b"verify")
 # The ends of responses to requests whose head is refused.
 OF_HEADS = (b"\nTooLong\n", b"\nNoLength\n", b"\nTransferEncoding\n", b"\nBadMethod\n")
 SHIM = r"""
 #include <stddef.h>
+#include <stdio.h>
 #include <stdlib.h>
 extern void *__libc_malloc(size_t);
 extern void *__libc_realloc(void *, size_t);
@@ -56,6 +61,8 @@ static long refused_at = -1, calls = 0;
 __attribute__((constructor)) static void begin(void) { char *n = getenv("REFUSED_AT"); if (n) refused_at = atol(n); }
 void *malloc(size_t n) { return ++calls == refused_at ? 0 : __libc_malloc(n); }
 void *realloc(void *p, size_t n) { return ++calls == refused_at ? 0 : __libc_realloc(p, n); }
+/* Where none is refused, it is told how many there were. */
+__attribute__((destructor)) static void told(void) { if (!refused_at) dprintf(2, "growths %ld\n", calls); }
 """
 LINES = """at 951782400000
 put a - text/plain
@@ -248,11 +255,11 @@ def refuse_in_request(program, room, state, sent, growth):
     return refused, None
 
 
-def refuse_in_requests(program, room):
-    """Refuses each growth of each request, on a file on which those before it were done. Gives how many answers are wrong."""
+def refuse_in_requests(program, room, most=None):
+    """Refuses each growth of each request, or of so many, on a file on which those before it were done. Gives how many answers are wrong."""
     file = os.path.join(room, edge_runs.formatted(program, room))
     model, faults = Model(crash_model.State(BASE, LIMIT)), 0
-    for sent, _ in exchanges():
+    for sent, _ in exchanges()[:most]:
         with open(file, "rb") as it:
             kept = it.read()
         growth, quiet, within = 0, 0, 0
@@ -275,15 +282,21 @@ def refuse_in_requests(program, room):
     return faults
 
 
+def refuse_in_scripts(program, room, shim, is_short):
+    """Refuses each growth of each script, in each kind of pieces. Gives how many answers are wrong."""
+    scripts, rows = [("each line", LINES), ("groups", GROUPS)], [] if is_short else ROWS_OF_SCRIPTS
+    faults = sum(refuse_in_script(program, shim, *script, piece) for script in scripts for piece in ((0,) if is_short else (0, 7, 1)))
+    return faults + sum(refuse_in_script(program, shim, name, Script(name).lines, 0) for name in rows)
+
+
 def main():
-    program = os.path.abspath(sys.argv[1] if len(sys.argv) > 1 else PROGRAM)
+    given = [it for it in sys.argv[1:] if it != "--short"]
+    program, is_short = os.path.abspath(given[0] if given else PROGRAM), "--short" in sys.argv[1:]
     with tempfile.TemporaryDirectory() as room:
         shim = interposed(room, "refusing", SHIM)
-        scripts = [("each line", LINES), ("groups", GROUPS)]
-        faults = sum(refuse_in_script(program, shim, *script, piece) for script in scripts for piece in (0, 7, 1))
-        for name in ROWS_OF_SCRIPTS:
-            faults += refuse_in_script(program, shim, name, Script(name).lines, 0)
-        faults += refuse_in_requests(program, room)
+        faults = refuse_in_scripts(program, room, shim, is_short)
+        faults += opening_refusals.look(program, room, shim["LD_PRELOAD"])
+        faults += refuse_in_requests(program, room, SHORT if is_short else None)
     for it in passing():
         faults += 1
         print(f"not noticed: {it}")

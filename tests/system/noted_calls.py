@@ -2,7 +2,8 @@
 
 The program runs with a C library (`cc` builds it) that notes each call on a file whose path begins with no `/`, or is
 that of ALSO, each read of standard input, of which one gives a line, and each write of standard output. It takes and
-gives no more than AT_ONCE bytes of a file in one call, and lets the call FAILS fail, counted from 1 in the list.
+gives no more than AT_ONCE bytes of a file in one call, lets the call FAILS fail, and ends before the call STOPS, counted from 1.
+Of the offsets of a file it gives the system the bits READ_BITS and WRITE_BITS alone.
 """
 import collections
 import os
@@ -24,9 +25,12 @@ SHIM = r"""
 #include <unistd.h>
 #define MOST 1024
 static char is_ours[MOST];
-static long calls = 0, failing = -1, at_once = 0;
+static long calls = 0, failing = -1, stopping = -1, at_once = 0, read_bits = -1, write_bits = -1;
 __attribute__((constructor)) static void begin(void) {
     if (getenv("FAILS")) failing = atol(getenv("FAILS"));
+    if (getenv("STOPS")) stopping = atol(getenv("STOPS"));
+    if (getenv("READ_BITS")) read_bits = atol(getenv("READ_BITS"));
+    if (getenv("WRITE_BITS")) write_bits = atol(getenv("WRITE_BITS"));
     if (getenv("AT_ONCE")) at_once = atol(getenv("AT_ONCE"));
 }
 static int ours(long fd) { return fd >= 0 && fd < MOST && is_ours[fd]; }
@@ -41,8 +45,13 @@ static long noted(const char *call, long fd, long result, long at, long length, 
     errno = error;
     return result;
 }
-/* Whether the next call is the one that fails. */
-static int fails(void) { if (++calls != failing) return 0; errno = EIO; return 1; }
+/* Whether the next call is the one that fails. The program is gone before the one at which it stops. */
+static int fails(void) {
+    if (++calls == stopping) _exit(0);
+    if (calls != failing) return 0;
+    errno = EIO;
+    return 1;
+}
 #define NOTED(call, fd, made, at, length) noted(call, fd, fails() ? -1 : (made), at, length, "")
 /* A call on a file of ours is noted; every other one is made. */
 #define PASSED(call, fd, made, at, length) (ours(fd) ? NOTED(call, fd, made, at, length) : (made))
@@ -97,24 +106,32 @@ int posix_fadvise(int fd, off_t at, off_t n, int advice) {
 }
 int posix_fadvise64(int fd, off_t at, off_t n, int advice) { return posix_fadvise(fd, at, n, advice); }
 static size_t part(size_t n) { return at_once && n > at_once ? at_once : n; }
-ssize_t pread(int fd, void *to, size_t n, off_t at) { return PASSED("read", fd, syscall(SYS_pread64, fd, to, part(n), at), at, n); }
+ssize_t pread(int fd, void *to, size_t n, off_t at) {
+    return PASSED("read", fd, syscall(SYS_pread64, fd, to, part(n), at & read_bits), at, n);
+}
 ssize_t pread64(int fd, void *to, size_t n, off_t at) { return pread(fd, to, n, at); }
-ssize_t pwrite(int fd, const void *from, size_t n, off_t at) { return PASSED("write", fd, syscall(SYS_pwrite64, fd, from, part(n), at), at, n); }
+ssize_t pwrite(int fd, const void *from, size_t n, off_t at) {
+    return PASSED("write", fd, syscall(SYS_pwrite64, fd, from, part(n), at & write_bits), at, n);
+}
 ssize_t pwrite64(int fd, const void *from, size_t n, off_t at) { return pwrite(fd, from, n, at); }
 ssize_t write(int fd, const void *from, size_t n) {
     /* Who reads an answer finds it noted. */
     if (fd == 1 && !ours(fd)) { calls++; noted("answer", 1, n, 0, n, ""); }
     return PASSED("write_on", fd, syscall(SYS_write, fd, from, n), 0, n);
 }
+/* The next byte of standard input, which is read ahead, or -1 at its end. */
+static int next_byte(void) {
+    static unsigned char ahead[65536];
+    static ssize_t has = 0, given = 0;
+    if (given == has) has = syscall(SYS_read, 0, ahead, sizeof ahead), given = 0;
+    return has > 0 ? ahead[given++] : (has = 0, -1);
+}
 ssize_t read(int fd, void *to, size_t n) {
     char *line = to;
     size_t came = 0;
+    int byte;
     if (fd != 0 || ours(fd)) return PASSED("read_on", fd, syscall(SYS_read, fd, to, n), 0, n);
-    while (came < n && (came == 0 || line[came - 1] != '\n')) {
-        ssize_t it = syscall(SYS_read, fd, line + came, 1);
-        if (it <= 0) break;
-        came++;
-    }
+    while (came < n && (came == 0 || line[came - 1] != '\n') && (byte = next_byte()) >= 0) line[came++] = byte;
     /* A line may come in parts, of which the last one is noted. */
     if (came < n || line[n - 1] == '\n') { calls++; noted("line", 0, came, 0, n, ""); }
     return came;

@@ -12,6 +12,8 @@ BEGUN, GROWTHS, LINES = 12_288, 16, 8_192
 OF_FILE = 1_024
 # An item, and what is kept of a page beside it: what the directory says of it, its place, and its part in three lists.
 ITEM, PAGE = 160, 208
+# What a page of one short record has cost when it was read, and its moments were not yet looked at.
+OF_A_SHORT_PAGE = 1_100
 # What is read is asked for once, and the texts in it once more.
 READ = 2
 # The shortest item of a page, and what stands before the items.

@@ -8,6 +8,7 @@ import subprocess
 import sys
 
 from tests.program import PROGRAM, ROOT
+from tests.skipped import skipped
 
 TOUR, EXPECTED = (ROOT / "examples" / it for it in ("tour.sh", "tour.expected"))
 
@@ -19,11 +20,9 @@ def without_moments(text):
 
 def main():
     if not shutil.which("curl"):
-        print("tour: not run, since there is no curl")
-        return 0
+        return skipped("tour", "there is no curl here")
     if not PROGRAM.is_file():
-        print(f"tour: not run, since there is no {PROGRAM}: make build")
-        return 0
+        return skipped("tour", f"there is no {PROGRAM}: make build")
     ran = subprocess.run(["bash", str(TOUR), str(PROGRAM)], capture_output=True, text=True, timeout=120)
     found = without_moments(ran.stdout)
     if "--write" in sys.argv[1:]:

@@ -1,0 +1,108 @@
+"""Commands at each thousand of resources and at counts that are drawn: each kind of them, and groups of each number of items.
+
+A group has puts of new names, puts of a name once more, and deletions, in a drawn order; names are of drawn lengths. What is to be answered
+is counted beside, and a publication is made twice.
+"""
+import math
+import pathlib
+import random
+import subprocess
+from collections.abc import Callable
+from dataclasses import dataclass, field
+
+from tests.disks import counted_disk, paged_disk
+from tests.program import CLOCK
+from tests.reading.crash_model import moment_text
+
+MOST, MOST_IN_GROUP, STEP, LONGEST_NAME = 50_000, 16, 1_000, 240
+SECONDS = 300
+Compare = Callable[[str, object, object], None]
+
+
+def between(draw: random.Random, most: int) -> int:
+    """A number of 0 to `most`: any one, or one of any number of digits."""
+    return draw.randint(0, most) if draw.random() < 0.5 else int(math.exp(draw.uniform(0, math.log(most + 1)))) - 1
+
+
+@dataclass
+class Count:
+    """How many resources are held, how many changes were made and dropped, and the publication; the lines and their answers so far."""
+
+    resources: int
+    made: int
+    dropped: int = 0
+    publication: int = 1
+    published: int = 0
+    moment: int = CLOCK
+    lines: list[str] = field(default_factory=list)
+    answers: list[str] = field(default_factory=list)
+
+    def command(self, line: str, word: str, items: int, more: int) -> None:
+        """A command of so many changes, that holds so many resources more."""
+        self.lines.append(line)
+        self.answers.append(f"{word} {moment_text(self.moment)}\n")
+        self.moment, self.made, self.resources = self.moment + max(items, 1), self.made + items, self.resources + more
+
+    def publish(self) -> None:
+        """A publication drops the full parts of the changes before the publication before."""
+        self.publication += 1
+        self.command("publish", f"published {self.publication}", 0, 0)
+        self.dropped = max(self.dropped, self.published // counted_disk.LIMIT * counted_disk.LIMIT)
+        self.published = self.made
+
+    def status(self) -> None:
+        last = moment_text(self.moment - 1)
+        self.lines.append("status")
+        self.answers.append(f"resources {self.resources} changes {self.made - self.dropped} publication {self.publication} last {last}\n")
+
+
+def items(draw: random.Random, count: int, held: list[str]) -> tuple[list[str], int]:
+    """So many lines of a group, in a drawn order, and how many resources more are held behind it. `held` are names to delete."""
+    lines: list[str] = []
+    new: list[str] = []
+    gone = 0
+    for at in range(count):
+        kind = draw.random()
+        if kind < 0.25 and held:
+            lines.append(f"delete {held.pop()}")
+            gone += 1
+            continue
+        if kind > 0.5 or not new:
+            new.append(f"new{at:02d}" + "x" * between(draw, LONGEST_NAME - 5))
+            lines.append(f"put {new[-1]} {'61' * draw.randint(0, 9) or '-'} text/plain")
+            continue
+        lines.append(f"put {draw.choice([new[0], draw.choice(new)])} 62 a/b")
+    return lines, len(new) - gone
+
+
+def script(draw: random.Random, count: Count, held: int, size: int) -> None:
+    """The lines of a run: each kind of command, and a group of so many items."""
+    names = [paged_disk.name(it).decode() for it in draw.sample(range(held), min(held, MOST_IN_GROUP + 1))]
+    count.command("put made - text/plain", "created", 1, 1)
+    count.command(f"delete {names.pop()}", "deleted", 1, -1)
+    lines, more = items(draw, size, names)
+    count.command("\n".join([f"group {size}", *lines]), f"grouped {size}", size, more)
+    count.status()
+    count.publish()
+    count.status()
+    count.publish()
+    count.status()
+
+
+def look(program: str, file: pathlib.Path, draw: random.Random, compare: Compare) -> int:
+    """A source of each thousand, and of some counts that are drawn, is opened and commanded. How many there were."""
+    drawn = (between(draw, MOST - MOST_IN_GROUP - 2) + 1 for _ in range(MOST_IN_GROUP))
+    counts = sorted({*range(STEP, MOST, STEP), *drawn})
+    sizes = draw.sample(range(1, MOST_IN_GROUP + 1), MOST_IN_GROUP)
+    for number, held in enumerate(counts):
+        size = sizes[number % MOST_IN_GROUP]
+        most = min(held, MOST - size - 2)
+        kept = most if number % 4 else draw.randint(0, most)
+        file.write_bytes(counted_disk.spelled(held, kept, MOST))
+        count = Count(held, kept, published=kept)
+        script(draw, count, held, size)
+        given = f"at {CLOCK}\n" + "".join(f"{it}\n" for it in count.lines)
+        ran = subprocess.run([program, "run", file], input=given.encode(), capture_output=True, timeout=SECONDS)
+        what = f"{held} resources, {kept} changes, a group of {size}"
+        compare(what, "".join(["ok\n", *count.answers]).encode(), ran.stdout + ran.stderr)
+    return len(counts)

@@ -1,0 +1,185 @@
+"""What `large` does at sizes that are drawn anew each time, between nothing and each limit: nothing is refused for its size.
+
+  - Sources of each thousand of resources, and of counts that are drawn, are opened and commanded (drawn_commands.py). One is opened by the
+    calls of the rules. Each document is shown, also of the longest names; a drawn number of damaged bodies is named.
+  - Bodies of drawn lengths, and of the greatest, are put and shown, in a script and over HTTP, and verified; so are groups. The calls on the
+    file are those of call_rules.py, so no byte is written or read twice; a line asks for no more memory than command_memory.py allows.
+  - Sources of drawn numbers of bodies are copied, by the calls of the rules.
+"""
+import pathlib
+import random
+import subprocess
+from collections.abc import Iterator
+
+from tests.disks import counted_disk, paged_disk
+from tests.program import CLOCK, interposed
+from tests.reading.disk_formats import BLOCK
+from tests.system import call_rules, calls_of_commands, command_memory, drawn_commands
+from tests.system.calls_of_commands import DISK, RUN, Asked, Line, Scripted, group, put, request
+from tests.system.command_memory import Asking
+from tests.system.counted_growths import COUNTING
+from tests.system.drawn_commands import MOST, MOST_IN_GROUP, Compare, between
+from tests.system.noted_calls import Room, texts
+
+LONGEST, LONGEST_NAME = 16_777_216, 240
+NEW, SECONDS = "copy.disk", 300
+# The number of the body whose memory is looked at.
+LOOKED = 1
+AT = f"at {CLOCK}\n".encode()
+
+def look_at_calls_of_opening(room: Room, draw: random.Random, compare: Compare) -> None:
+    """A source of a drawn number of resources, and one of the most, are opened by the calls of the rules."""
+    for held in (between(draw, MOST - 1) + 1, MOST - 1):
+        disk = counted_disk.spelled(held, draw.randint(0, held), MOST)
+        room.put(disk, DISK)
+        calls = [*call_rules.opening(DISK, disk), "line", f"close {DISK}"]
+        compare(f"the calls of an opening of {held}", calls, texts(room.run(RUN).calls))
+
+
+def paths(held: int, kept: int) -> Iterator[str]:
+    """The documents of a source that was published once."""
+    for word, count in (("/resourcelist", held), ("/changelist", kept)):
+        yield f"{word}.xml"
+        parts = range(-(-count // counted_disk.LIMIT) if count > counted_disk.LIMIT else 0)
+        yield from (f"{word}/1/{it}.xml" if word == "/resourcelist" else f"{word}/{it}.xml" for it in parts)
+
+
+def look_at_documents(program: str, file: pathlib.Path, draw: random.Random, compare: Compare) -> None:
+    """Each document of a source of drawn numbers is shown, and one of the longest names."""
+    for held, longer in ((between(draw, 20_000) + 1, draw.randint(0, LONGEST_NAME - 9)), (5_000, LONGEST_NAME - 9)):
+        kept = draw.randint(0, held)
+        file.write_bytes(counted_disk.spelled(held, kept, held, longer))
+        asked = [*paths(held, kept)]
+        script = "".join(f"show {it}\n" for it in asked).encode()
+        ran = subprocess.run([program, "run", file], input=script, capture_output=True, timeout=SECONDS)
+        left = ran.stdout
+        for it in asked:
+            first, _, rest = left.partition(b"\n")
+            compare(f"{held} resources, {kept} changes, names longer by {longer}: {it}", b"bytes ", first[:6])
+            left = rest[int(first[6:]) + 1 :] if first.startswith(b"bytes ") else rest
+        compare(f"{held} resources: behind the documents", b"", left)
+
+
+def look_at_damage(room: Room, draw: random.Random, compare: Compare) -> None:
+    """A drawn number of the bodies is damaged, and `verify` names each."""
+    held = draw.randint(1, 3_000)
+    disk = bytearray(paged_disk.spelled(held, 0))
+    names = sorted(draw.sample(range(held), draw.randint(held // 2, held)))
+    for it in names:
+        disk[(2 + it) * BLOCK] ^= 1
+    room.put(disk, DISK)
+    wanted = b"".join(b"damaged %s\n" % paged_disk.name(it) for it in names) + b"verified %d\n" % (held - len(names))
+    compare(f"{len(names)} damaged bodies of {held}", wanted, room.run(RUN, b"verify\n").output)
+
+
+def bodies(draw: random.Random) -> list[int]:
+    """Lengths of bodies: two that are drawn, and the greatest."""
+    return [between(draw, LONGEST), draw.randint(1 << 20, LONGEST), LONGEST]
+
+
+def empty(room: Room, size: int) -> bytes:
+    """A new source of this size."""
+    room.clear(DISK)
+    room.run(["format", DISK, str(size), "http://127.0.0.1:8080", "4000"])
+    disk: bytes = room.bytes(DISK)
+    return disk
+
+
+def answer_of(line: str, lengths: list[int]) -> bytes:
+    """How the answer to a line begins."""
+    word, _, name = line.partition(" ")
+    if word == "show":
+        length = lengths[int(name[-1])]
+        return b"bytes %d\n%s\n" % (length, b"a" * length)
+    return {"put": b"created ", "group": b"grouped 2 ", "verify": b"verified %d\n" % len(lengths), "at": b"ok\n"}[word]
+
+
+def look_at_memory(room: Room, line: str, shown: int, disk: bytes, compare: Compare) -> None:
+    """A line, a put or one that shows so many bytes, asks for no more memory than it may."""
+    environment = interposed(room.folder, "counting", COUNTING)
+    asked = []
+    for script in (AT, AT + line.encode() + b"\n"):
+        room.put(disk, DISK)
+        ran = subprocess.run([room.program, *RUN], cwd=room.folder, env=environment, input=script, capture_output=True, timeout=SECONDS)
+        asked.append(int(ran.stderr.split()[-1]))
+    most = command_memory.allowed(Asking(f"{line}\n".encode(), int(not shown), shown), disk)
+    compare(f"{line[:20]!r}: {asked[1] - asked[0]} bytes of memory are at most {most}", True, asked[1] - asked[0] <= most)
+
+
+def look_at_lines(room: Room, draw: random.Random, compare: Compare) -> list[int]:
+    """Bodies of drawn lengths in a script. Gives the lengths."""
+    lengths = bodies(draw)
+    pair = [draw.randint(1 << 20, 3 << 20), between(draw, 1 << 20)]
+    disk = empty(room, sum(lengths) + sum(pair) + 1_000_000)
+    puts = [Line(put(f"r{at}", it), [it]) for at, it in enumerate(lengths)]
+    shows = [Line(f"show /resource/r{at}", None) for at in range(len(lengths))]
+    grouped = Line(group(put("g", pair[0]), put("h", pair[1])), pair)
+    scripted = Scripted(room, [Line(f"at {CLOCK}", None), *puts, Line("verify", None), *shows, grouped], disk)
+    calls_of_commands.look_at_whole("drawn bodies", scripted, compare)
+    for line, answer, before in zip(scripted.lines, scripted.answers, scripted.disks):
+        wanted, what = answer_of(line.text, lengths), f"{line.text[:20]!r} of {lengths}"
+        compare(what, wanted, answer[: len(wanted)])
+        if line.text.startswith((f"put r{LOOKED} ", f"show /resource/r{LOOKED}")):
+            look_at_memory(room, line.text, lengths[LOOKED] * line.text.startswith("show"), before, compare)
+    return lengths
+
+
+def look_at_requests(room: Room, draw: random.Random, compare: Compare) -> list[int]:
+    """Bodies of drawn lengths over HTTP. Gives the lengths."""
+    lengths = bodies(draw)
+    disk, asked = empty(room, sum(lengths) + 1_000_000), Asked(room)
+    puts = [Line(request("PUT", f"/resource/r{at}", b"x" * it), [it]) for at, it in enumerate(lengths)]
+    gets = [Line(request("GET", f"/resource/r{at}"), None) for at in range(len(lengths))]
+    for it, (response, calls, after) in zip([*puts, *gets], asked.ask([*puts, *gets])[0], strict=True):
+        what = f"{it.text[:20]!r} of {lengths}"
+        wanted, _ = calls_of_commands.calls_by_rule(asked.name, it, disk, after, call_rules.CAME)
+        compare(what, wanted, calls)
+        body = b"x" * lengths[int(it.text[len("GET /resource/r") :][:1])]
+        compare(what, body if it.bodies is None else b"", response.partition(b"\r\n\r\n")[2])
+        compare(what, b"HTTP/1.1 200" if it.bodies is None else b"HTTP/1.1 201", response[:12])
+        disk = after
+    return lengths
+
+
+def look_at_groups(room: Room, draw: random.Random, compare: Compare) -> None:
+    """Groups of each number of items over HTTP."""
+    asked, disk = Asked(room), empty(room, 1 << 20)
+    sizes = draw.sample(range(1, MOST_IN_GROUP + 1), MOST_IN_GROUP)
+    lengths = [[between(draw, 2_000) for _ in range(it)] for it in sizes]
+    texts_of = ["\n".join(put(f"n{at}", length) for at, length in enumerate(it)) for it in lengths]
+    requests = [Line(request("POST", "/group", text.encode()), it) for text, it in zip(texts_of, lengths)]
+    for items, it, (response, calls, after) in zip(sizes, requests, asked.ask(requests)[0], strict=True):
+        compare(f"a group of {items} over HTTP", b"grouped %d " % items, response.partition(b"\r\n\r\n")[2][: len(b"grouped %d " % items)])
+        compare(f"a group of {items} over HTTP", calls_of_commands.calls_by_rule(asked.name, it, disk, after)[0], calls)
+        disk = after
+
+
+def look_at_copies(room: Room, draw: random.Random, compare: Compare) -> list[int]:
+    """Sources of drawn numbers of bodies are copied. Gives the numbers."""
+    numbers = [draw.randint(2, 64), draw.randint(65, 2_000)]
+    for number in numbers:
+        whole = paged_disk.spelled(number, draw.randint(0, number))
+        disk = whole[: len(whole) - (paged_disk.ROOM - 64) * BLOCK]
+        room.put(disk, DISK)
+        room.clear(NEW)
+        # The published pages are copied beside those of the catalogue.
+        size = len(disk) + number * BLOCK
+        ran = room.run(["copy", DISK, NEW, str(size)])
+        compare(f"a copy of {number}", (0, b"copied %d\n" % size, b""), tuple(ran[:3]))
+        copy = room.bytes(NEW)
+        calls = [*call_rules.opening(DISK, disk), *call_rules.copying(DISK, disk, NEW, copy), f"close {NEW}", "answer", f"close {DISK}"]
+        compare(f"the calls of a copy of {number}", calls, texts(ran.calls))
+    return numbers
+
+
+def look(program: str, folder: str, seed: int, compare: Compare) -> str:
+    """All of it. Tells what was drawn."""
+    draw, room = random.Random(seed), Room(program, pathlib.Path(folder))
+    lines, requests, copies = (it(room, draw, compare) for it in (look_at_lines, look_at_requests, look_at_copies))
+    file = pathlib.Path(folder, "counted.disk")
+    look_at_groups(room, draw, compare)
+    look_at_damage(room, draw, compare)
+    look_at_calls_of_opening(room, draw, compare)
+    look_at_documents(program, file, draw, compare)
+    counts = drawn_commands.look(program, file, draw, compare)
+    return f"seed {seed}: {counts} counts of resources, bodies of {lines} and of {requests} bytes, copies of {copies}"
