@@ -1,0 +1,70 @@
+"""Writes the sources as plain Rust: `make rust`.
+
+usage: python3 -m rust [--to FOLDER]
+FOLDER (out/rust) gets the Cargo workspace `ropepeach-plain-VERSION` and its tarball; what had these names there goes.
+Exit status 1 if a source has what the eraser does not know, or something is missing: it says what.
+"""
+import argparse
+import gzip
+import io
+import shutil
+import sys
+import tarfile
+import tempfile
+from pathlib import Path
+
+from rust.crates import ROOT, VERSION, Missing
+from rust.edits import Refused
+from rust.workspace import write
+
+NAME = f"ropepeach-plain-{VERSION}"
+
+
+def packed(folder: Path, tarball: Path) -> None:
+    """Packs a folder, so that the same files make the same bytes."""
+    def settled(it: tarfile.TarInfo) -> tarfile.TarInfo:
+        it.uid = it.gid = it.mtime = 0
+        it.uname = it.gname = ""
+        it.mode = 0o755 if it.isdir() else 0o644
+        return it
+
+    with io.BytesIO() as room:
+        with tarfile.open(mode="w", fileobj=room, format=tarfile.PAX_FORMAT) as archive:
+            for path in [folder, *sorted(folder.rglob("*"))]:
+                archive.add(path, str(path.relative_to(folder.parent)), recursive=False, filter=settled)
+        tarball.write_bytes(gzip.compress(room.getvalue(), 9, mtime=0))
+
+
+def run(to: Path) -> int | str:
+    """Writes the workspace and its tarball into a folder, and prints where they are."""
+    try:
+        to.mkdir(parents=True, exist_ok=True)
+        with tempfile.TemporaryDirectory(prefix=".rust-", dir=to) as room:
+            told = write(Path(room) / NAME)
+            packed(Path(room) / NAME, Path(room) / f"{NAME}.tar.gz")
+            for name in (NAME, f"{NAME}.tar.gz"):
+                put(Path(room) / name, to / name)
+    except (Missing, Refused, OSError, UnicodeDecodeError) as why:
+        return f"rust: {why}"
+    print(f"rust: {told}, each put together again to the byte\n{to / NAME}\n{to / NAME}.tar.gz", flush=True)
+    return 0
+
+
+def put(made: Path, target: Path) -> None:
+    """Puts a file or a folder in its place. What was built of an earlier one stays."""
+    if target.is_dir():
+        if (target / "target").is_dir():
+            (target / "target").rename(made / "target")
+        shutil.rmtree(target)
+    made.rename(target)
+
+
+def main() -> int | str:
+    """Writes all, where the command line says."""
+    words = argparse.ArgumentParser(prog="rust", description=__doc__.partition("\n")[0])
+    words.add_argument("--to", type=Path, default=ROOT / "out/rust", metavar="FOLDER")
+    return run(words.parse_args().to)
+
+
+if __name__ == "__main__":
+    sys.exit(main())

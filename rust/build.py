@@ -1,0 +1,87 @@
+"""Writes the sources as plain Rust, builds them, and runs their tests: `make rust` writes alone.
+
+usage: python3 -m rust.build [--to FOLDER] [--no-tests] [--upstream-digests]
+The last line is 'plain: N tests passed; PROGRAM'. Exit status 1 where something is refused, does not build or fails,
+and 77 where there is no cargo that is new enough, or a crate of others is missing.
+"""
+import argparse
+import os
+import re
+import shutil
+import subprocess
+import sys
+from pathlib import Path
+
+from rust import __main__ as writing
+from rust.crates import ROOT, Missing, vendored
+from rust.workspace import FEATURE, PROGRAM, RUST_VERSION
+
+NOT_TRIED = 77
+# Where Debian's is, beside what PATH has.
+PLACES = ["/usr/bin/cargo"]
+SETTINGS = ["--locked", "--offline"]
+
+
+class Failed(Exception):
+    """A step of the build."""
+
+
+def cargo() -> str:
+    """A cargo that is new enough."""
+    wanted = tuple(int(it) for it in RUST_VERSION.split("."))
+    for found in [shutil.which("cargo"), *PLACES]:
+        if found and os.access(found, os.X_OK):
+            told = subprocess.run([found, "--version"], capture_output=True, text=True, check=False).stdout
+            version = re.match(r"cargo (\d+)\.(\d+)", told)
+            if version and tuple(int(it) for it in version.groups()) >= wanted:
+                return found
+    raise Missing(f"there is no cargo of version {RUST_VERSION} or later here: apt-get install cargo-web rustc-web")
+
+
+def step(folder: Path, *words: str) -> str:
+    """Runs cargo in the workspace. Answers what it printed."""
+    # The compiler that stands beside it, whatever PATH has first.
+    beside = f"{Path(words[0]).parent}{os.pathsep}{os.environ.get('PATH', '')}"
+    settings = {**os.environ, "PATH": beside}
+    ran = subprocess.run(words, cwd=folder, capture_output=True, text=True, check=False, env=settings)
+    if ran.returncode:
+        raise Failed(f"{' '.join(words[1:3])} failed:\n{ran.stdout[-3000:]}\n{ran.stderr[-3000:]}")
+    return ran.stdout
+
+
+def passed(told: str) -> int:
+    """How many tests passed, by what cargo printed. None may be left out."""
+    results = re.findall(r"^test result: ok\. (\d+) passed; 0 failed; (\d+) ignored", told, re.MULTILINE)
+    if not results or any(ignored != "0" for _, ignored in results):
+        raise Failed("cargo told of no tests, or left some out")
+    return sum(int(count) for count, _ in results)
+
+
+def main() -> int | str:
+    """Writes, builds and tests."""
+    words = argparse.ArgumentParser(prog="rust.build", description=__doc__.partition("\n")[0])
+    words.add_argument("--to", type=Path, default=ROOT / "out/rust", metavar="FOLDER")
+    words.add_argument("--no-tests", action="store_true")
+    words.add_argument("--upstream-digests", action="store_true")
+    given = words.parse_args()
+    try:
+        tool, _ = cargo(), list(vendored())
+    except Missing as why:
+        print(f"plain: NOT TRIED: {why}")
+        return NOT_TRIED
+    status = writing.run(given.to)
+    if status:
+        return status
+    folder = given.to / writing.NAME
+    features = ["--features", FEATURE] if given.upstream_digests else []
+    try:
+        step(folder, tool, "build", "--release", "-p", PROGRAM, *features, *SETTINGS)
+        tests = 0 if given.no_tests else passed(step(folder, tool, "test", "--workspace", *SETTINGS))
+    except Failed as why:
+        return f"plain: {why}"
+    print(f"plain: {tests} tests passed; {folder}/target/release/{PROGRAM}")
+    return 0
+
+
+if __name__ == "__main__":
+    sys.exit(main())

@@ -1,0 +1,80 @@
+"""Which crates the workspace has, what each needs, and where it comes from."""
+import re
+import subprocess
+from collections.abc import Iterator
+from dataclasses import dataclass
+from pathlib import Path
+
+ROOT = Path(__file__).resolve().parent.parent
+HERE = ROOT / "rust"
+VERSION = (ROOT / "VERSION").read_text().strip()
+# The kit's ports that are erased like our crates. Each has its licence beside it.
+PORTS = ("hex", "httparse", "httpdate", "itoa", "md5", "sha2")
+# What stands for the rest of the kit.
+STAND_INS = ("rattle_std", "smallvec", "jiff", "jiff_core", "libc")
+# Digests: the kit's port, or by a feature the crate of the same name.
+CHOICES = ("md5", "sha2")
+# Crates of others, by the one version that is known to fit. Debian 12 has them.
+VENDORED = {
+    "proc-macro2": "1.0.47", "quote": "1.0.21", "syn": "1.0.107", "thiserror": "1.0.38", "thiserror-impl": "1.0.38",
+    "unicode-ident": "1.0.0",
+    "block-buffer": "0.10.2", "cfg-if": "1.0.0", "cpufeatures": "0.2.4", "crypto-common": "0.1.3", "digest": "0.10.5",
+    "generic-array": "0.14.4", "libc": "0.2.139", "md-5": "0.10.1", "sha2": "0.10.5", "typenum": "1.16.0",
+    "version_check": "0.9.4",
+}
+REGISTRY = Path("/usr/share/cargo/registry")
+
+
+class Missing(Exception):
+    """Something that the workspace needs is not here."""
+
+
+@dataclass(frozen=True)
+class Crate:
+    """A crate of crates.txt, and the crates that it names."""
+    name: str
+    needs: tuple[str, ...]
+
+    @property
+    def is_of_tests(self) -> bool:
+        """Whether it has tests alone."""
+        return self.name.endswith("_tests")
+
+
+def listed(root: Path = ROOT) -> Iterator[Crate]:
+    """The crates of the project, the lowest first."""
+    for line in (root / "crates.txt").read_text().splitlines():
+        name, colon, needs = line.partition("#")[0].partition(":")
+        if colon:
+            yield Crate(name.strip(), tuple(needs.split()))
+
+
+def kit() -> Path:
+    """The folder of the kit's crates."""
+    try:
+        page = subprocess.run(["rt", "doc"], capture_output=True, text=True, check=True).stdout.strip()
+    except (OSError, subprocess.CalledProcessError) as error:
+        raise Missing("there is no kit here (`rt`); a release has the tarball that is written from it") from error
+    return Path(page).parent / "rattle"
+
+
+def vendored(registry: Path = REGISTRY) -> Iterator[Path]:
+    """The folders of the crates of others, each of its one version."""
+    for name, version in VENDORED.items():
+        folder = next((it for it in registry.glob(f"*-{version}") if is_crate(it, name, version)), None)
+        if folder is None:
+            others = [it.name for it in registry.glob("*") if is_crate(it, name, None)]
+            package = f"librust-{name.replace('_', '-')}-dev"
+            seen = f"there is {', '.join(others)}" if others else f"there is none in {registry}: apt-get install {package}"
+            raise Missing(f"the crate {name} of version {version} is needed; {seen}")
+        yield folder
+
+
+def is_crate(folder: Path, name: str, version: str | None) -> bool:
+    """Whether a folder has a crate of this name, and of this version."""
+    try:
+        text = (folder / "Cargo.toml").read_text()
+    except OSError:
+        return False
+    has_name = re.search(rf'^name = "{re.escape(name)}"$', text, re.MULTILINE)
+    return bool(has_name) and (version is None or f'\nversion = "{version}"' in text)
