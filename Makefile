@@ -2,6 +2,8 @@
 #   make demo     runs the main job once, on examples/first.script
 #   make test     passes every test and every proof (the merge gate), with the must-fail edits of what changed; as root it first installs
 #                 what packages.txt has and this machine has not (SETUP=no leaves the machine alone)
+#   make quick    looks in minutes at what a change since the last commit touches (CONTRIBUTING.md)
+#   make setup    installs what packages.txt has and this machine has not, as root
 #   make edits    tries every must-fail edit, or those of CRATES="rs_io rs_time", and records which were all refused
 #   make build    builds the proved program
 #   make statement  prints all that each promise means, definition by definition (of those with PROMISE="headline" in the title), and
@@ -26,6 +28,8 @@
 #   make snapshots  opens snapshots that are taken while a source is put to (as root, with loop devices; 'make test' has it not)
 #   make replicas three machines on one kernel with a CephFS over them: a source goes from one to another as they die, REPLICA_ROUNDS=200
 #                 times, and stores that lose are seen to lose (as root, with packages.txt's `replicas`; 'make test' has a short form)
+#   make rust     writes the sources as plain Rust, a Cargo workspace and its tarball, into out/rust (rust/README.md)
+#   make twins    builds that too, and gives both programs the same CASES=1000000 lines, disks, requests and command lines
 #   make pictures draws the pictures of docs/pictures anew, from runs of the proved program
 #   make bench    measures speed (docs/keepers/BENCH.md has figures; it needs wrk, lighttpd and python3-lmdb of Debian)
 #   make bench-more  measures what changes seldom: digests, `verify`, the writing of lists, and list makers that are killed (it needs jekyll)
@@ -49,14 +53,14 @@ MILLION ?= --resources 1000000 --sources 24
 PREFIX ?= /usr/local
 DESTDIR ?=
 PROGRAM ?= crates/rs_source/out/rs_source
-# The checks of tests/system that have no target of their own.
-SYSTEM = calls edges growths large documents pages kept tour folder sizes
-# The checks of tests/tools.
-TOOL_CHECKS = fill mirror power hostile served look size why health takeover
+# The checks of tests/system that have no target of their own, and those of tests/tools (tests/checks.txt).
+SYSTEM = $(filter-out install,$(shell python3 -m tests.checks --names system))
+TOOL_CHECKS = $(shell python3 -m tests.checks --names tools)
 # How many go side by side: checks of edits, if not as many as there are processors and memory for; stores of `make replicas`, if not one.
 LANES ?=
+CASES ?= 1000000
 
-.PHONY: demo test edits build rows statement bench bench-more proof-times memory ends crash hostile mirror system tools operate package machine page million powercut replicas snapshots pictures install uninstall
+.PHONY: demo test quick setup edits build rows statement bench bench-more proof-times memory ends crash hostile mirror system tools operate package machine page million powercut replicas snapshots rust twins pictures install uninstall
 
 # Quick, and no more than an unproved build.
 demo:
@@ -64,6 +68,14 @@ demo:
 
 test:
 	@python3 gate/gate.py
+
+# What a change since the last commit touches: texts, types, layout, changed crates, checks (tests/checks.txt).
+quick:
+	@python3 gate/quick.py
+
+# What the tests use of Debian (as root).
+setup:
+	@python3 -m tests.house.setup
 
 # What they stand on is proved and built first, over what earlier checks kept.
 edits:
@@ -150,6 +162,13 @@ replicas: build
 
 snapshots: build
 	@python3 -m tests.system.snapshots
+
+rust:
+	@python3 -m rust
+
+twins: build
+	@python3 -m rust.build
+	@python3 -m tests.twins --cases $(CASES)
 
 # One check alone, as `make tests.system.calls`.
 tests.%: build

@@ -1,5 +1,6 @@
 #!/usr/bin/env python3
-"""The gate of `make test`. Its last line is 'N passed, M failed', and its status is 1 where M is not 0.
+"""The gate of `make test`. Its last line is 'N passed, M failed', with ', K skipped' where a part or a piece of one could not be tried.
+Its status is 1 where M is not 0. With STRICT=1 what is skipped fails.
 
 It proves and builds a copy of the repository by the toolchain's own run (`rt ci`), tries the must-fail edits of what changed
 and of two crates more, looks at the program that it proved, and reads texts: docs/keepers/GATE.md has each part, and what fails it.
@@ -7,6 +8,7 @@ N counts crates, edits and the other parts. The minutes of a processor of each p
 """
 
 import os
+import re
 import resource
 import shutil
 import subprocess
@@ -16,24 +18,27 @@ import time
 from pathlib import Path
 
 ROOT = Path(__file__).resolve().parent.parent
-sys.path.insert(0, str(ROOT / "gate" / "edits"))
+sys.path[:0] = [str(ROOT / "gate" / "edits"), str(ROOT)]
 
 import edit
 import edits
 import kit
 import record
 import runs
+from tests.checks import checks
 
 LOG = ROOT / "out" / "test.log"
-# What is looked at on the proved program: the module tests.NAME of each; those of SHORT have a short form.
-CHECKS = ["rows", "system.calls", "system.edges", "system.growths", "system.large", "system.documents", "system.pages", "system.kept", "system.tour",
-          "mirror", "system.folder", "system.sizes", "pictures", "system.install", "machine",
-          "tools.fill", "tools.mirror", "tools.power", "tools.hostile", "tools.served", "tools.look", "tools.size", "tools.why", "tools.health",
-          "tools.takeover",
-          "collection.rows", "collection", "page"]
-SHORT = ["crash", "hostile.disks", "hostile.lines", "hostile.requests", "ends", "powercut", "replicas"]
+# The seconds of each part (`python3 -m tests.checks --note out/seconds.txt` notes those of checks).
+TOOK = ROOT / "out" / "seconds.txt"
 # A line of Python has at most so many columns.
 WIDTH = 150
+# What is looked at on the program that cargo builds of the same sources (rust/README.md), and where that lies.
+PLAIN_CHECKS = ["rows", "system.calls", "system.edges", "crash --short", "hostile.disks --short", "hostile.lines --short",
+                "hostile.requests --short", "ends --short"]
+PLAIN = "out/rust/ropepeach-plain-*/target/release/rs_source"
+# How a check ends that could not be tried, and how a line says so of a check or of a piece of it, behind its name.
+SKIPPED = 77
+NOT_TRIED = re.compile(r"^[\w .-]+: NOT TRIED\b")
 
 
 def copied(room):
@@ -51,15 +56,16 @@ class Parts:
     """The parts of the gate: how many passed and failed, and what each took."""
 
     def __init__(self):
-        self.passed, self.failed, self.rows = 0, [], []
+        self.passed, self.failed, self.skipped, self.rows = 0, [], [], []
 
     def run(self, name, call):
-        """Runs a part, which gives how many passed and what failed."""
+        """Runs a part, which gives how many passed and what failed, and why pieces of it were not tried, if it has such pieces."""
         print(f"== {name}", flush=True)
         used = lambda: sum(resource.getrusage(resource.RUSAGE_CHILDREN)[:2])
         before, started = used(), time.time()
-        passed, failed = call()
+        passed, failed, *skipped = call()
         self.passed, self.failed = self.passed + passed, self.failed + failed
+        self.skipped += [why for each in skipped for why in each]
         self.rows.append((name, used() - before, time.time() - started))
         return not failed
 
@@ -112,10 +118,41 @@ def some_edits(copy, names):
     return sum(it.is_refused for it in every), [it.label for it in every if not it.is_refused]
 
 
-def script(*words, folder=None):
-    """A part that is a program of its own, run in a folder, and passes with status 0."""
-    run = lambda: subprocess.run([sys.executable, *map(str, words)], cwd=folder).returncode
-    return lambda: (0, [f"{' '.join(map(str, words))} ended with status {status}"]) if (status := run()) else (1, [])
+def script(*words, folder=None, **settings):
+    """A part that is a program of its own, run in a folder with settings of the environment, and passes with status 0. Status SKIPPED
+    says that it could not be tried; a line NOT TRIED says why, or which piece of it could not be."""
+    return lambda: program(sys.executable, words, folder, settings)
+
+
+def program(command, words, folder, settings=None):
+    """What comes of a program that runs in a folder, with settings of the environment. None takes another program for ours by it."""
+    name = " ".join(map(str, words)) or command
+    environment = {it: value for it, value in os.environ.items() if it != "PROGRAM"}
+    environment |= {"PYTHONUNBUFFERED": "1", **(settings or {})}
+    how = {"stdout": subprocess.PIPE, "text": True, "errors": "replace", "env": environment}
+    told = []
+    with subprocess.Popen([command, *map(str, words)], cwd=folder, **how) as ran:
+        for line in ran.stdout:
+            print(line, end="", flush=True)
+            told += [line.strip()] if NOT_TRIED.search(line) else []
+    if ran.returncode == SKIPPED:
+        return 0, [], told or [f"{name} does not say why it was not tried"]
+    return (0, [f"{name} ended with status {ran.returncode}"], told) if ran.returncode else (1, [], told)
+
+
+def plain(parts, copy):
+    """The sources as plain Rust, and what the program that is built of them answers."""
+    parts.run("the eraser's own tests", script("-m", "rust.tests", folder=copy))
+    parts.run("plain Rust", script("-m", "rust.build", folder=copy))
+    built = str(next(iter(copy.glob(PLAIN)), ""))
+    for name in PLAIN_CHECKS if built else []:
+        module, *form = name.split()
+        parts.run(f"{name}, of the plain program", script("-m", f"tests.{module}", *form, folder=copy, PROGRAM=built))
+
+
+def types():
+    """Whether the types of Python are right, in the files that mypy.ini names."""
+    return program("mypy", [], ROOT) if shutil.which("mypy") else (0, [], ["types: NOT TRIED: there is no mypy here"])
 
 
 def tell(parts, meter, started):
@@ -123,6 +160,7 @@ def tell(parts, meter, started):
     print("== minutes of a processor, and minutes on the clock")
     for name, seconds, clock in parts.rows:
         print(f"{name}: {seconds / 60:.1f}, {clock / 60:.1f}")
+    TOOK.write_text("".join(f"{name} {clock:.0f}\n" for name, _, clock in parts.rows))
     print(f"in all: {sum(it[1] for it in parts.rows) / 60:.1f}, {(time.time() - started) / 60:.1f}")
     print("== seconds of a processor by crate: proofs, tests, compiling, edits")
     for crate in kit.crates_of(ROOT):
@@ -137,6 +175,20 @@ def announce(uses, names):
     tried = f"tries {number} must-fail edits of {len(names)} crates"
     what = f"make test: proves {len(uses)} crates and their tests, {tried}, and looks at the program that it proved."
     runs.announce(what, seconds, processors, LOG)
+
+
+def is_strict():
+    """Whether STRICT=1 is asked for."""
+    return os.environ.get("STRICT", "") not in ("", "0")
+
+
+def conclude(parts, is_strict):
+    """Tells what failed and what was skipped, and gives the status. Who is strict takes what is skipped as failed."""
+    failed = parts.failed + [f"not tried: {it}" for it in parts.skipped] * is_strict
+    skipped = [] if is_strict else parts.skipped
+    print("".join(f"FAILED: {it}\n" for it in failed) + "".join(f"SKIPPED: {it}\n" for it in skipped), end="")
+    print(f"{parts.passed} passed, {len(failed)} failed" + f", {len(skipped)} skipped" * bool(skipped))
+    return 1 if failed else 0
 
 
 def main():
@@ -157,20 +209,18 @@ def main():
         parts.run("the record of edits", dates)
         for name, module in (("the house's own tests", "house"), ("imports", "house.imports"), ("the pages", "house.words")):
             parts.run(name, script("-m", f"tests.{module}", folder=ROOT))
+        parts.run("types", types)
         parts.run("proofs by hand", script("-m", "tests.house.hand_proofs", folder=copy))
         parts.run("the statement", script(copy / "statement" / "statement.py", "--check"))
         parts.run("the statement's own tests", script(copy / "statement" / "test_statement.py"))
         if parts.run("proofs, tests and builds", lambda: runs.rt_ci(copy, uses, LOG, meter.seconds)):
             parts.run("must-fail edits", lambda: some_edits(copy, names))
-            for name in CHECKS:
-                parts.run(name, script("-m", f"tests.{name}", folder=copy))
-            for name in SHORT:
-                parts.run(name, script("-m", f"tests.{name}", "--short", folder=copy))
+            plain(parts, copy)
+            for check in checks():
+                if check.form != "never":
+                    parts.run(check.name, script("-m", *check.words, folder=copy))
         tell(parts, meter, started)
-    for it in parts.failed:
-        print(f"FAILED: {it}")
-    print(f"{parts.passed} passed, {len(parts.failed)} failed")
-    return 1 if parts.failed else 0
+    return conclude(parts, is_strict())
 
 
 if __name__ == "__main__":

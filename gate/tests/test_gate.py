@@ -2,6 +2,7 @@
 
 import contextlib
 import io
+import os
 import subprocess
 import sys
 import tempfile
@@ -45,11 +46,78 @@ class Parts(unittest.TestCase):
 
     def test_a_part_that_is_a_program_passes_by_its_status(self):
         with tempfile.TemporaryDirectory() as room:
-            for status, wanted in ((0, (1, 0)), (1, (0, 1)), (3, (0, 1)), (None, (0, 1))):
+            for status, wanted in ((0, (1, 0, 0)), (1, (0, 1, 0)), (3, (0, 1, 0)), (77, (0, 0, 1)), (None, (0, 1, 0))):
                 if status is not None:
                     write(f"raise SystemExit({status})\n", room, f"ends_{status}.py")
-                passed, failed = gate.script(Path(room, f"ends_{status}.py"))()
-                self.assertEqual((passed, len(failed)), wanted)
+                passed, failed, skipped = self.ran(Path(room, f"ends_{status}.py"))
+                self.assertEqual((passed, len(failed), len(skipped)), wanted)
+
+    def ran(self, file):
+        """What came of a part that is this program; what it prints is left out."""
+        with contextlib.redirect_stdout(io.StringIO()) as out:
+            came = gate.script(file)()
+        self.told = out.getvalue()
+        return came
+
+    def test_a_part_that_was_not_tried_is_no_pass(self):
+        """A part that could not be tried, one of which a piece could not be, and one that fails beside; lines that only look so."""
+        why, piece = "page: NOT TRIED: there is no chromium here", "it_is_clean: NOT TRIED, as there is no mandoc here"
+        rows = [(why, 77, (0, 0, [why])), (piece, 0, (1, 0, [piece])), (why, 1, (0, 1, [why])), ("NOT TRIED: low/one", 0, (1, 0, [])),
+                ("all is tried", 0, (1, 0, [])), ("a page says NOT TRIED where it must", 0, (1, 0, []))]  # fmt: skip
+        with tempfile.TemporaryDirectory() as room:
+            for line, status, wanted in rows:
+                write(f"print({line!r})\nraise SystemExit({status})\n", room, "check.py")
+                passed, failed, skipped = self.ran(Path(room, "check.py"))
+                self.assertEqual((passed, len(failed), skipped), wanted)
+                self.assertEqual(self.told, f"{line}\n")
+
+    def test_what_is_skipped_is_told_and_fails_who_is_strict(self):
+        """The last line and the status: all is tried, something is not, and it is asked for strictly."""
+        rows = [([], [], False, "2 passed, 0 failed\n", 0), ([], ["so"], False, "SKIPPED: so\n2 passed, 0 failed, 1 skipped\n", 0),
+                ([], ["so"], True, "FAILED: not tried: so\n2 passed, 1 failed\n", 1), ([], [], True, "2 passed, 0 failed\n", 0),
+                (["it"], ["so"], False, "FAILED: it\nSKIPPED: so\n2 passed, 1 failed, 1 skipped\n", 1)]  # fmt: skip
+        for failed, skipped, is_strict, wanted, status in rows:
+            parts = gate.Parts()
+            parts.passed, parts.failed, parts.skipped = 2, failed, skipped
+            with contextlib.redirect_stdout(io.StringIO()) as out:
+                self.assertEqual(gate.conclude(parts, is_strict), status)
+            self.assertEqual(out.getvalue(), wanted)
+
+    def test_each_check_that_has_not_its_tools_says_so(self):
+        """Checks on a machine with no tool but Python: each says what it lacks, and none passes."""
+        with tempfile.TemporaryDirectory() as room:
+            for name in ("page", "collection", "machine", "tools.served", "system.tour", "powercut", "replicas"):
+                ran = self.without_tools(name, room)
+                self.assertEqual((name, ran.returncode), (name, gate.SKIPPED))
+                self.assertTrue(any(map(gate.NOT_TRIED.search, ran.stdout.splitlines())), ran.stdout)
+
+    def without_tools(self, name, room):
+        """A check with a search path of no folder with tools, as far as it looks for them there."""
+        words = [sys.executable, "-c", f"import os, runpy, shutil\nshutil.which = lambda *_, **__: None\nrunpy.run_module('tests.{name}', "
+                 "run_name='__main__', alter_sys=True)"]  # fmt: skip
+        return subprocess.run(words, cwd=gate.ROOT, env={"PATH": room, "HOME": room}, capture_output=True, text=True)
+
+    def test_the_plain_program_is_looked_at_where_it_was_built(self):
+        ran, parts, made = [], gate.Parts(), [("rust.tests", None), ("rust.build", None)]
+
+        def program(command, words, folder, settings=None):
+            ran.append((words[1], (settings or {}).get("PROGRAM")))
+            return 1, [], []
+
+        with tempfile.TemporaryDirectory() as room, mock.patch.object(gate, "program", program):
+            built = Path(room, "out/rust/ropepeach-plain-1/target/release/rs_source")
+            gate.plain(parts, Path(room))
+            self.assertEqual(ran, made)
+            built.parent.mkdir(parents=True)
+            built.touch()
+            gate.plain(parts, Path(room))
+        self.assertEqual(ran, made + made + [(f"tests.{it.split()[0]}", str(built)) for it in gate.PLAIN_CHECKS])
+
+    def test_no_part_takes_another_program_by_the_environment(self):
+        with tempfile.TemporaryDirectory() as room, mock.patch.dict(os.environ, PROGRAM="another"):
+            file = Path(room, "looks.py")
+            file.write_text("import os, sys\nsys.exit('PROGRAM' in os.environ)\n")
+            self.assertEqual(self.ran(file)[0], 1)
 
     def test_parts_are_counted_and_a_failed_one_stops_none(self):
         parts = gate.Parts()
@@ -57,12 +125,11 @@ class Parts(unittest.TestCase):
         self.assertEqual([parts.run(*it) for it in some], [True, False, True])
         self.assertEqual((parts.passed, parts.failed, len(parts.rows)), (3, ["it"], 3))
 
-    def test_each_part_has_a_program_and_a_row_of_the_page(self):
-        page = Path(gate.ROOT, "docs", "keepers", "GATE.md").read_text()
-        for name in [*gate.CHECKS, *gate.SHORT]:
-            place = Path(gate.ROOT, "tests", *name.split("."))
-            self.assertTrue(place.with_suffix(".py").is_file() or (place / "__main__.py").is_file(), name)
-            self.assertRegex(page, rf"(?m)^\| \w[\w ]* \(`tests\.{name}{' --short' * (name in gate.SHORT)}`\) \|")
+    def test_each_check_has_a_program(self):
+        self.assertGreater(len(gate.checks()), 30)
+        for check in gate.checks():
+            place = Path(gate.ROOT, "tests", *check.name.split("."))
+            self.assertTrue(place.with_suffix(".py").is_file() or (place / "__main__.py").is_file(), check.name)
 
     def test_what_has_no_tool_is_told_by_name(self):
         """The look at install/ with no tool but the shell: what needs one says so, and fails nothing."""

@@ -7,7 +7,8 @@ from pathlib import Path
 
 SOURCES = ["crates/*/src/**/*.rt", "crates/*/specs/**/*.antt", "crates/*/proofs/*.antt", "Makefile", "crates.txt", "packages.txt",
            "tests/house/words.txt", "statement/kit_words.txt", "tools/*", "install/*", "install/site/*", "package/debian/*", "examples/*"]
-SOURCES += [f"{folder}/**/*.py" for folder in ("bench", "gate", "package", "statement", "tests", "tools")]
+SOURCES += [f"{folder}/**/*.py" for folder in ("bench", "gate", "package", "rust", "statement", "tests", "tools")]
+SOURCES += ["rust/*/src/*.rs", "rust/*/Cargo.toml"]
 COMMENT, WORD, FLAG = re.compile(r"(?m)(?<!\S)(?://|--(?=\s)).*"), re.compile(r"[^\W\d]\w*"), re.compile(r"(?<![\w-])--[a-z][a-z-]*")
 FENCE, SPAN = re.compile(r"(?ms)^ *```(\w*)\n(.*?)^ *```"), re.compile(r"(?<!`)`([^`]+)`(?!`)")
 

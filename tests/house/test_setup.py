@@ -53,4 +53,4 @@ class SetUp(unittest.TestCase):
     def test_the_table_says_what_for(self):
         every = setup.packages(Path(setup.ROOT, "packages.txt").read_text())
         self.assertEqual(len({it.name for it in every}), len(every))
-        self.assertTrue(all(it.name and it.mark and it.use and it.user in ("gate", "test", "bench", "replicas") for it in every))
+        self.assertTrue(all(it.name and it.mark and it.use and it.user in ("gate", "test", "bench", "replicas", "arm64") for it in every))

@@ -19,7 +19,8 @@ from pathlib import Path
 from tests.house import limits
 from tests.house.repository import COMMENT, FENCE, FLAG, SPAN, WORD, Repository, blanked, prose
 
-PAGES = ["README.md", "CONTRIBUTING.md", "docs/**/*.md", "crates/*/README.md", "tests/**/README.md", "tools/**/README.md", "examples/README.md"]
+PAGES = ["README.md", "CONTRIBUTING.md", "SECURITY.md", "docs/**/*.md", "crates/*/README.md", "tests/**/README.md",
+         "tools/**/README.md", "examples/README.md", "rust/README.md"]
 CLAUSE, CUT = r"^ *(?:pub |fn |requires\b|ensures\b)", r"(?:(?!\b(?:ensures|requires|fn)\b)[\s\S])*?"
 FILE = re.compile(r"(?<![\w/.:~%-])(?:(?:crates|docs|tests|tools|gate|statement|bench|examples|install|specs|src|proofs|must-fail)/[\w./*-]*"
                   r"|[\w*-]+(?:/[\w*-]+)*\.(?:md|py|rt|antt|sh|svg|session|disks|edit|txt|http))(?![\w/])")

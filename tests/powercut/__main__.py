@@ -28,6 +28,7 @@ from pathlib import Path
 from tests.powercut import kinds, machine, parts, worst
 from tests.powercut.trials import in_words
 from tests.program import PROGRAM, ROOT
+from tests.skipped import skipped
 
 INSIDE = "CHECK_POWERCUT_INSIDE"
 SEED, IMAGES = 20261128, 20_000
@@ -123,8 +124,7 @@ def look(given, room):
         kept += runner.results[-1:] if part.wanted in parts.KEPT else []
         seen += runner.results[-1:] if part.wanted == parts.SOME_LOST else []
     if not runner.results:
-        print("powercut: NOT TRIED, as no file system can be had here")
-        return 0
+        return skipped("powercut", "no file system can be had here")
     counted = [sum((it.outcomes for it in some), start=parts.collections.Counter()) for some in (kept, seen)]
     wrong = [it.title for it in runner.results if it.fault]
     print(f"powercut: {sum(counted[0].values())} images, {in_words(counted[0])}; {len(seen)} controls, {sum(counted[1].values())} images, "
@@ -137,8 +137,7 @@ def main():
     os.environ["PATH"] += ":/usr/sbin:/sbin"
     if INSIDE not in os.environ:
         if lacking := missing():
-            print(f"powercut: NOT TRIED, as there is no {', no '.join(lacking)} here")
-            return 0
+            return skipped("powercut", f"there is no {', no '.join(lacking)} here")
         os.environ[INSIDE] = "1"
         sys.stdout.flush()
         os.execvp(NAMESPACE[0], [*NAMESPACE, sys.executable, "-m", "tests.powercut", *sys.argv[1:]])

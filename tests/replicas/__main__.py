@@ -34,6 +34,7 @@ from tests.replicas.ceph_store import CephFS
 from tests.replicas.machines import Ended, Late, Stuck, three
 from tests.replicas.relay import Relay
 from tests.replicas.wrong_states import not_noticed
+from tests.skipped import skipped
 
 TOOLS = ["unshare", "nsenter", "setpriv", "timeout", "ip", "losetup", "mount", "findmnt", "mkfs.xfs",
          "ceph", "ceph-mon", "ceph-osd", "ceph-mds", "ceph-mgr", "ceph-fuse", "monmaptool"]
@@ -160,8 +161,7 @@ def main():
     given = words()
     given.program = os.path.abspath(given.program)
     if missing := lacking():
-        print(f"replicas: NOT TRIED, as this machine has not {', '.join(missing)}: a source on a store of three machines")
-        return 0
+        return skipped("replicas", f"this machine has not {', '.join(missing)}: a source on a store of three machines")
     parts = ["rounds"] if given.short else given.only or PARTS
     failed, left = [], parts
     if "rounds" in parts and 1 < given.lanes <= given.rounds:
@@ -175,8 +175,8 @@ def main():
         signal.alarm(0)
         if given.short and isinstance(fault, (Late, Stuck)):
             steps = [it.name for it in traceback.extract_tb(fault.__traceback__) if "/replicas/" in it.filename and it.name != "late"]
-            print(f"replicas: NOT TRIED to the end, as the store is too slow here; nothing was lost until then: {fault} ({', '.join(steps[-4:])})")
-            return 0
+            slow = "the store is too slow here to come to the end; nothing was lost until then"
+            return skipped("replicas", f"{slow}: {fault} ({', '.join(steps[-4:])})")
         traceback.print_exception(fault)
         failed = [f"{type(fault).__name__} {fault}"]
     if "controls" in parts:

@@ -1,0 +1,71 @@
+"""What a change since the last commit touches: files, crates, and checks by the table of tests/checks.txt."""
+
+import ast
+import subprocess
+from functools import cache
+from pathlib import Path
+
+from tests.checks import Check
+
+
+def changed(root: Path) -> list[str]:
+    """The files that are not as the last commit has them: changed, new or gone."""
+    asked = (["diff", "--name-only", "-z", "HEAD"], ["ls-files", "-z", "--others", "--exclude-standard"])
+    told = [subprocess.run(["git", *words], cwd=root, capture_output=True, check=True).stdout.decode() for words in asked]
+    return sorted({name for it in told for name in it.split("\0") if name})
+
+
+def crates(uses: list[str], names: list[str]) -> list[str]:
+    """The crates whose code, specs or proofs are among these files, in the order of the crates."""
+    parts = [Path(it).parts for it in names]
+    touched = {it[1] for it in parts if len(it) > 3 and it[0] == "crates" and it[2] in ("src", "specs", "proofs")}
+    return [it for it in uses if it in touched]
+
+
+def files_of(root: Path, module: str) -> list[Path]:
+    """The files of a module: its own, or all of its folder. The tools' package lies below tools/."""
+    places = [base.joinpath(*module.split(".")) for base in (root, root / "tools")]
+    folders = [file for it in places if it.is_dir() for file in sorted(it.rglob("*.py"))]
+    return [it.with_suffix(".py") for it in places if it.with_suffix(".py").is_file()] + folders
+
+
+@cache
+def imported(file: Path) -> frozenset[str]:
+    """The modules that a file brings in, and the names that it takes of them, as dotted names; none where it is no Python."""
+    found: set[str] = set()
+    try:
+        tree = ast.parse(file.read_bytes())
+    except (SyntaxError, ValueError):
+        return frozenset()
+    for node in ast.walk(tree):
+        if isinstance(node, ast.Import):
+            found |= {it.name for it in node.names}
+        elif isinstance(node, ast.ImportFrom) and node.module:
+            found |= {node.module, *(f"{node.module}.{it.name}" for it in node.names)}
+    return frozenset(found)
+
+
+def behind(root: Path, check: Check) -> set[Path]:
+    """All files of Python that a check is made of: its own, and what these bring in."""
+    seen: set[Path] = set()
+    left = files_of(root, f"tests.{check.name}")
+    while left:
+        file = left.pop()
+        if file not in seen:
+            seen.add(file)
+            # (a package that is brought in by its name alone brings its first file)
+            left += [it for name in imported(file) for it in own_files(root, name)]
+    return seen
+
+
+def own_files(root: Path, module: str) -> list[Path]:
+    """The one file of a module that is brought in, if it is one of the repository."""
+    places = [base.joinpath(*module.split(".")) for base in (root, root / "tools")]
+    return [file for it in places for file in (it.with_suffix(".py"), it / "__init__.py") if file.is_file()]
+
+
+def is_touched(root: Path, check: Check, names: list[str]) -> bool:
+    """Whether one of these files is a check's own, or brought in by it, or among those that its line names."""
+    own = {str(it.relative_to(root)) for it in behind(root, check)}
+    folders = (f"tests/{check.name.replace('.', '/')}/", *(f"{it}/" for it in check.touched))
+    return any(it in own or it in check.touched or it.startswith(folders) for it in names)
