@@ -347,7 +347,7 @@ class Planted(unittest.TestCase):
         self.assertIn(f"statement/promises.txt: {told}", found)
 
     def test_a_headline_without_its_run(self) -> None:
-        found = self.without("by: rs_store Source::run answered\n")
+        found = self.without("by: rs_store Source::run answered at_exit untouched\n")
         told = "The headline: AreAnswered is said to come from rs_store Source::run answered, which the promise does not print"
         self.assertIn(f"statement/promises.txt: {told}", found)
 
