@@ -4,14 +4,15 @@ use Rattle.std.specs.Prelude.{◌≡◌, ◌⊎◌, ℕ, ◌+◌, ◌<◌, ◌�
 use Rattle.std.specs.Result.{IsErr}
 use Rattle.std.specs.Io.KnownBytes.{Consumes, Appends}
 use Rattle.rs_io.specs.declared.watch.Watched.{Watched}
+use Rattle.rs_io.specs.Counted.{IsCounted}
 
 -- the reader or the writer inside
 abbrev pub watched : {T : Type 0} → Watched T → T
-watched w = w.inner
+watched w = w.inner.end
 
 -- how many calls it has made of the end inside
 abbrev pub calls : {T : Type 0} → Watched T → ℕ
-calls w = w.calls
+calls w = w.inner.calls
 
 -- How many faults it has answered: in all, and by a flush.
 pub record Failures : Type 0 where
@@ -33,8 +34,7 @@ is_flushed w = not w.holds_back
 -- the same end, but with only what `told` gives of the reader or the writer inside
 abbrev pub seen_by : {T X : Type 0} → (T → X) → Watched T → Watched X
 seen_by told w = record {
-  inner = told w.inner;
-  calls = w.calls;
+  inner = record { end = told w.inner.end; calls = w.inner.calls };
   failures = w.failures;
   failed_flushes = w.failed_flushes;
   holds_back = w.holds_back;
@@ -83,7 +83,7 @@ ends_of remaining left rest contents before after = record {
 
 -- it made one call of the end inside, or the count of calls has reached its last value
 abbrev pub IsCalledOnce : {T : Type 0} → Watched T → Watched T → Type 0
-IsCalledOnce old new = (calls new ≡ calls old + 1) ⊎ ((calls new ≡ calls old) × (2 ^ 64 ≤ calls old + 1))
+IsCalledOnce old new = IsCounted old.inner new.inner
 
 -- A call was refused: it answers a fault, and made no call of the end inside.
 pub record IsRefused {T X E : Type 0} (old new : Watched T) (result : Result X E) : Type 0 where

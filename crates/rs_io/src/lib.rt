@@ -8,7 +8,8 @@
 //! fault comes exactly where the end inside fails: the calls pass its errors on, and tests show it.
 #![tactic(auto)]
 
-pub mod fault;
+pub mod counted;
+mod fault;
 pub mod watch;
 
 pub use fault::{ReadFault, WriteFault};

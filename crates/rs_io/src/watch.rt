@@ -4,6 +4,7 @@ ghost use Rattle.std.specs.Prelude.{◌≡◌, ◌+◌, ◌<◌, ◌≤◌, [], 
 ghost use Rattle.std.specs.List.{flat_map};
 ghost use Rattle.std.specs.Io.KnownBytes.{IsAtEnd, Keeps};
 
+use crate::counted::Counted;
 use crate::fault::{ReadFault, WriteFault};
 use itoa::Buffer;
 use std::io::{ErrorKind, Read, Write};
@@ -23,8 +24,7 @@ const MOST_INTERRUPTIONS: u32 = 100;
 /// of them again in one call, and the next one is a failure.
 #[derive(Debug, Drop)]
 pub struct Watched<T> {
-    inner: T,
-    calls: u64,
+    inner: Counted<T>,
     failures: u64,
     failed_flushes: u64,
     holds_back: bool,
@@ -42,8 +42,7 @@ impl<T> Watched<T> {
         ensures flushed { is_flushed result ≡ true }
     {
         Watched {
-            inner,
-            calls: 0,
+            inner: Counted::new(inner),
             failures: 0,
             failed_flushes: 0,
             holds_back: false,
@@ -54,7 +53,7 @@ impl<T> Watched<T> {
     pub fn calls(&self) -> u64
         ensures { result ≡ calls self.now }
     {
-        self.calls
+        self.inner.calls()
     }
 
     /// How many calls have answered a fault, `u64::MAX` at most.
@@ -83,24 +82,14 @@ impl<T> Watched<T> {
     pub fn get_ref(&self) -> &T
         ensures { result.now ≡ watched self.now }
     {
-        &self.inner
+        self.inner.get_ref()
     }
 
     /// Gives the reader or the writer back. The counts are lost.
     pub fn into_inner(self) -> T
         ensures { result ≡ watched self }
     {
-        self.inner
-    }
-
-    /// Counts a call of the reader or writer inside.
-    fn count_call(&mut self)
-        ensures inner { watched self.new ≡ watched self.old }
-        ensures called { IsCalledOnce self.old self.new }
-        ensures failures { failures self.new ≡ failures self.old }
-        ensures flushed { is_flushed self.new ≡ is_flushed self.old }
-    {
-        self.calls = self.calls.saturating_add(1);
+        self.inner.into_inner()
     }
 
     /// Counts a fault.
@@ -142,7 +131,6 @@ impl<R: Read> Watched<R> {
             self.count_failure();
             return Err(ReadFault);
         }
-        self.count_call();
         match self.inner.read(buf) {
             Ok(count) => Ok(count),
             Err(_) => {
@@ -173,6 +161,7 @@ impl<W: Write> Watched<W> {
         ensures unflushed { is_flushed self.new ≡ false }
         ensures broken { IsTrue (is_broken self.old) → IsRefused self.old self.new result }
         ensures calls { calls self.old ≤ calls self.new }
+        ensures few { calls self.new ≤ calls self.old + length bytes.now + 101 }
     {
         self.holds_back = true;
         if self.is_broken() {
@@ -208,7 +197,6 @@ impl<W: Write> Watched<W> {
         ensures flushed { is_flushed self.new ≡ is_flushed self.old }
         ensures called { IsCalledOnce self.old self.new }
     {
-        self.count_call();
         let first = &bytes[..bytes.len().min(LARGEST_WRITE)];
         match self.inner.write(first) {
             Ok(count) if count > 0 => return Ok(Some(count)),
@@ -278,7 +266,6 @@ impl<W: Write> Watched<W> {
         ensures called { is_broken self.old ≡ false → IsCalledOnce self.old self.new }
     {
         if !self.is_broken() {
-            self.count_call();
             if let Ok(()) = self.inner.flush() {
                 self.holds_back = false;
                 return Ok(());

@@ -1,5 +1,5 @@
 -- The bytes taken and those after them are all the bytes.
-use Rattle.std.proofs.Common.{◌≡◌, ◌+◌, ◌≤◌, ◌-◌, ℕ, List, [], ◌++◌, length, take, drop, refl, sym, ap, ◌∙◌, take-append-drop, length-drop, arith}
+use Rattle.std.proofs.Common.{◌≡◌, ◌+◌, ◌<◌, ◌≤◌, ◌-◌, ℕ, List, [], ◌++◌, length, take, drop, refl, sym, ap, ◌∙◌, take-append-drop, length-drop, arith}
 use Rattle.std.proofs.Math.Seq.{take-add}
 use Rattle.std.proofs.lemmas.List.{take_rest}
 use Rattle.std.proofs.KnownBytes.{Keeps-refl}
@@ -44,6 +44,7 @@ loop-written-preserved-in-Some g c =
     let rest = take (length bytes - written) (drop written bytes) in
     let took : Wrote g.W.Write.contents c.loop-written.self c.put_some.new.self (take count rest) = rw c.in-Some.is at c.in_ok-count.ensures.ok in
     let most : count ≤ length rest = rw c.in-Some.is at c.in_ok-count.ensures.most in
+    let some : 0 < count = rw c.in-Some.is at c.in_ok-count.ensures.some in
     let room : length rest ≡ length bytes - written = ap (λ l. length l) (take_rest bytes written) ∙ length-drop written bytes in
     record {
       within = omega (arith, most, room, c.loop-written.invariant.within);
@@ -51,4 +52,5 @@ loop-written-preserved-in-Some g c =
       wrote = (appends_then _ _ _ _ _ _ c.loop-written.invariant.wrote.0 took.0 (more_of bytes written count), took.1 ∙ c.loop-written.invariant.wrote.1);
       unflushed = c.in_ok-count.ensures.flushed ∙ c.loop-written.invariant.unflushed;
       calls = grind (arith, c.loop-written.invariant.calls, c.in_ok-count.ensures.called);
+      tried = grind (arith, c.loop-written.invariant.tried, c.in_ok-count.ensures.called, some);
     }

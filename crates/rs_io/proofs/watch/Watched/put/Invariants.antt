@@ -9,6 +9,7 @@ invariant-loop-written g l =
       few : l.interruptions ≤ 100;
       wrote : Wrote g.W.Write.contents l.fn.self l.self (take l.written l.bytes);
       unflushed : is_flushed l.self ≡ false;
+      tried : calls l.self ≤ (calls l.fn.self + l.written) + l.interruptions;
       calls : calls l.fn.self ≤ calls l.self;
     }
 
