@@ -1,3 +1,4 @@
+pub mod Contents
 pub mod Cut
 pub mod Paths
 pub mod Shows

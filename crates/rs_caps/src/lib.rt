@@ -2,15 +2,11 @@
 //! source holds.
 #![tactic(auto)]
 
-mod answering;
-mod document;
+mod documents;
 pub mod laws;
-mod path_reading;
-mod path_writing;
-mod state_view;
 
-pub use answering::answer;
-pub use document::{document_length, write_document};
-pub use path_reading::doc_of;
-pub use path_writing::{path_of, write_path};
-pub use state_view::StateView;
+pub use documents::answering::answer;
+pub use documents::document::{Document, document_length, write_document};
+pub use documents::path_reading::doc_of;
+pub use documents::path_writing::{path_of, write_path};
+pub use documents::state_view::StateView;

@@ -1,6 +1,6 @@
 -- Which text a document has.
 use Rattle.std.proofs.Common.{◌≡◌, ℕ, ◌+◌, ◌-◌, ◌*◌, ◌≤◌, ◌<◌, List, [], ◌∷◌, take, length, map, Bool, true, false, cond, nat_le, nat_lt, refl, ap, sym, subst, ◌∙◌, ◌⊎◌, inl, inr, arith, Option, Some, None}
-use Rattle.std.specs.Prelude.{codes, IsTrue, ◌==◌, ◌&&◌, IsSome, is_some, IfSome, Result, OnOk}
+use Rattle.std.specs.Prelude.{codes, IsTrue, ◌==◌, ◌&&◌, IsSome, option_map}
 use Rattle.std.proofs.lemmas.Bool.Decides.{nat_tests}
 use Rattle.std.proofs.lemmas.List.{length-map, take-map, drop-map}
 use Rattle.rs_lists.specs.declared.doc.Doc.{Doc}
@@ -10,13 +10,6 @@ use Rattle.rs_lists.specs.Listed.{Listed, resources, changes, parts_in, head_tex
 use Rattle.rs_lists.specs.Shown.{Shown, resource_parts_of, change_parts_of}
 use Rattle.rs_lists.specs.Text.{list_text, is_part, document, up_line, part_links, numbers_from, resource_line, change_line}
 use Rattle.std.specs.Cmp.{first_so, second_so}
-
--- what holds of a text holds of the document that has it
-pub of_document : (P : List ℕ → Type 0) (d : Option (List ℕ)) (t : List ℕ) → d ≡ Some t → P t → IfSome d P
-of_document P d t e p = subst (λ o. IfSome o P) (sym e) p
-
-pub on_document : {X E : Type 0} (P : List ℕ → Type 0) (r : Result X E) (d : Option (List ℕ)) (t : List ℕ) → d ≡ Some t → OnOk r (P t) → OnOk r (IfSome d P)
-on_document P r d t e h = let Q : Option (List ℕ) → Type 0 = λ o. OnOk r (IfSome o P) in subst Q (sym e) h
 
 -- the heads
 head_is : (l : Listed) (s : Shown) (n : ℕ) → length (l.items s) ≡ n
@@ -77,36 +70,43 @@ pub change_part_is : (s : Shown) (doc : Doc) (number first : ℕ) → doc ≡ Ch
     → (first ≤ number) × (number - first < parts_in changes s) × (list_text s doc ≡ Some (part_text changes s (number - first)))
 change_part_is s doc number first e f h = rw (e, f) (change_part s number (rw e at h))
 
--- whether a document exists
-some_is : {A : Type 0} (b : Bool) (x : A) → b ≡ is_some (cond b (Some x) None)
-some_is true x = refl
-some_is false x = refl
+-- what is made of a place, where there is one
+placed : {A : Type 0} (b : Bool) (k : ℕ) (f : ℕ → A) (x : A) (o : Option ℕ) → f k ≡ x → o ≡ cond b (Some k) None → option_map f o ≡ cond b (Some x) None
+placed true k f x o same e = ap (option_map f) e ∙ ap Some same
+placed false k f x o same e = ap (option_map f) e
 
-pub resource_part_exists : (s : Shown) (publication k : ℕ) (b : Bool) → publication ≡ s.number → b ≡ is_part (resource_parts_of s) 0 k
-    → b ≡ is_some (list_text s (ResourcePart publication k))
+pub resource_part_has : (s : Shown) (doc : Doc) (publication k parts : ℕ) (o : Option ℕ) → doc ≡ ResourcePart publication k → publication ≡ s.number → parts ≡ resource_parts_of s
+    → o ≡ cond (is_part parts 0 k) (Some (k - 0)) None → option_map (part_text resources s) o ≡ list_text s doc
 unfolding list_text
-resource_part_exists s publication k b e f =
+resource_part_has s doc publication k parts o is latest all e =
     let same : (publication == s.number) ≡ true = grind (arith, nat_tests) in
-    f ∙ rw same (some_is (is_part (resource_parts_of s) 0 k) _)
+    let whole : k - 0 ≡ k = omega arith in
+    let items = part_at-map (resource_line s.base) k s.limit s.published in
+    let text : part_text resources s (k - 0) ≡ document (codes "urlset") (part_links s (codes "/resourcelist.xml")) (resources.part_bounds s k) (map (resource_line s.base) (part_at k s.limit s.published)) =
+    ap (part_text resources s) whole ∙ sym (ap (document (codes "urlset") (part_links s (codes "/resourcelist.xml")) (resources.part_bounds s k)) items) in
+    placed (is_part (resource_parts_of s) 0 k) (k - 0) (part_text resources s) _ o text (e ∙ ap (λ n. cond (is_part n 0 k) (Some (k - 0)) None) all)
+    ∙ rw (is, same) refl
 
-pub resource_part_absent : (s : Shown) (publication k number : ℕ) → number ≡ s.number → ¬ (publication ≡ number) → (publication == number) ≡ is_some (list_text s (ResourcePart publication k))
+pub resource_part_old : (s : Shown) (doc : Doc) (publication k : ℕ) → doc ≡ ResourcePart publication k → ¬ (publication ≡ s.number) → None ≡ list_text s doc
 unfolding list_text
-resource_part_absent s publication k number e h =
-    let other : (publication == number) ≡ false = grind (arith, nat_tests) in
-    let same : (publication == s.number) ≡ false = rw e at other in
-    other ∙ rw same refl
+resource_part_old s doc publication k is old =
+    let other : (publication == s.number) ≡ false = grind (arith, nat_tests) in
+    rw (is, other) refl
 
-pub change_part_exists : (s : Shown) (number : ℕ) (b : Bool) → b ≡ is_part (change_parts_of s) s.first number → b ≡ is_some (list_text s (ChangePart number))
+pub change_part_has : (s : Shown) (doc : Doc) (number parts first : ℕ) (o : Option ℕ) → doc ≡ ChangePart number → parts ≡ change_parts_of s → first ≡ s.first
+    → o ≡ cond (is_part parts first number) (Some (number - first)) None → option_map (part_text changes s) o ≡ list_text s doc
 unfolding list_text
-change_part_exists s number b f = f ∙ some_is (is_part (change_parts_of s) s.first number) _
-
-pub heads_exist : (s : Shown) (doc : Doc) → (doc ≡ ResourceHead) ⊎ (doc ≡ ChangeHead) → true ≡ is_some (list_text s doc)
-unfolding list_text
-heads_exist s doc (inl e) = rw e refl
-heads_exist s doc (inr e) = rw e refl
+change_part_has s doc number parts first o is all begin e =
+    let k = number - s.first in
+    let items = part_at-map (change_line s.base) k s.limit s.changes in
+    let text : part_text changes s k ≡ document (codes "urlset") (part_links s (codes "/changelist.xml")) (changes.part_bounds s k) (map (change_line s.base) (part_at k s.limit s.changes)) =
+    sym (ap (document (codes "urlset") (part_links s (codes "/changelist.xml")) (changes.part_bounds s k)) items) in
+    let place : o ≡ cond (is_part (change_parts_of s) s.first number) (Some k) None =
+    e ∙ ap (λ n. cond (is_part n first number) (Some (number - first)) None) all ∙ ap (λ f. cond (is_part (change_parts_of s) f number) (Some (number - f)) None) begin in
+    placed (is_part (change_parts_of s) s.first number) k (part_text changes s) _ o text place ∙ rw is refl
 
 -- the documents that are no lists
-pub others_absent : (s : Shown) (doc : Doc) → (doc ≡ Description) ⊎ (doc ≡ Capabilities) → false ≡ is_some (list_text s doc)
+pub others_absent : (s : Shown) (doc : Doc) → (doc ≡ Description) ⊎ (doc ≡ Capabilities) → None ≡ list_text s doc
 unfolding list_text
 others_absent s doc (inl e) = rw e refl
 others_absent s doc (inr e) = rw e refl

@@ -7,6 +7,7 @@ pub mod Meters
 pub mod Parts
 pub mod Piece
 pub mod Root
+pub mod Sections
 pub mod Shown
 pub mod SinkLaws
 pub mod Sinks

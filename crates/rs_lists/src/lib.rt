@@ -4,10 +4,10 @@
 
 mod change_list;
 mod doc;
+mod document;
 mod escape;
 mod frame;
 mod laws;
-mod length;
 mod listing;
 mod meter;
 mod piece;
@@ -17,10 +17,10 @@ mod view;
 mod write;
 
 pub use doc::Doc;
+pub use document::ListDocument;
 pub use escape::write_escaped;
 pub use laws::{documents_are_small, entries_are_small, parts_are_chunks, plain_texts_stay};
-pub use length::list_length;
 pub use meter::pieces_length;
 pub use piece::{Piece, put_pieces};
 pub use view::{View, change_parts, resource_parts};
-pub use write::{ListError, write_list};
+pub use write::{ListError, list_length, write_list};

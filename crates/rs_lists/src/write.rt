@@ -1,16 +1,12 @@
-//! The lists as documents.
+//! The lists as documents, written and measured.
 
-ghost use Rattle.std.specs.Prelude.{◌≡◌, ◌↔◌, None, IfSome, IsSome, is_some, IsErrOf, OnOk, OnErr};
+ghost use Rattle.std.specs.Prelude.{◌≡◌, ◌<◌, ◌↔◌, None, IfSome, IsErrOf, OnOk, length};
+ghost use Rattle.std.specs.Option.{option_map};
 ghost use Rattle.rs_io.specs.Watch.{EndFailed, FailedWithin, Wrote};
 ghost use Rattle.rs_lists.specs.Lawful.{IsSmall};
-ghost use Rattle.rs_lists.specs.Sinks.{Puts};
-ghost use Rattle.rs_lists.specs.Text.{list_text, is_part};
+ghost use Rattle.rs_lists.specs.Text.{list_text};
 
-use crate::change_list::Changes;
-use crate::listing::{put_head, put_part};
-use crate::resource_list::Resources;
-use crate::sink::Sink;
-use crate::{Doc, View, change_parts, resource_parts};
+use crate::{Doc, ListDocument, View};
 use rs_io::{Watched, WriteFault};
 use std::io::Write;
 use thiserror::Error;
@@ -27,20 +23,10 @@ pub enum ListError {
     WriteFault,
 }
 
-impl From<WriteFault> for ListError {
-    ghost use Rattle.rs_lists.specs.declared.write.ListError.{ListError};
-
-    ghost from_gives = { λ _ error. error ≡ ListError.WriteFault };
-
-    fn from(_: WriteFault) -> ListError {
-        ListError::WriteFault
-    }
-}
-
-/// Writes exactly the text of a list, an index or a part, with its last line feed.
+/// Writes exactly the text of a list, an index or a part: what [`ListDocument::write`] writes.
 ///
-/// Takes no memory. A part costs its own items only. This function does not write the Source
-/// Description and the Capability List: for them it answers [`ListError::NoSuchDocument`].
+/// This function does not write the Source Description and the Capability List: for them it answers
+/// [`ListError::NoSuchDocument`].
 ///
 /// # Errors
 ///
@@ -62,60 +48,21 @@ pub fn write_list<V: View, W: Write>(
     ensures within { IsErrOf result ListError.WriteFault →
         IfSome (list_text (V.shown view.now) doc) (FailedWithin W.contents out.old out.new) }
 {
-    put_list(view, doc, out)
-}
-
-/// Puts a list, an index or a part.
-pub fn put_list<V: View, S: Sink>(view: &V, doc: Doc, sink: &mut S) -> Result<(), ListError>
-    ensures taken { OnOk result
-        (IfSome (list_text (V.shown view.now) doc) (S.takes sink.old sink.new)) }
-    ensures missing { IsErrOf result ListError.NoSuchDocument
-        ↔ (list_text (V.shown view.now) doc ≡ None) }
-    ensures untouched { IsErrOf result ListError.NoSuchDocument → sink.new ≡ sink.old }
-    ensures fault { IsErrOf result ListError.WriteFault →
-        IfSome (list_text (V.shown view.now) doc) (S.fails sink.old sink.new) }
-    ensures small { OnOk result (IfSome (list_text (V.shown view.now) doc) IsSmall) }
-{
-    if !is_there(view, doc) {
+    let Some(document) = ListDocument::of(view, doc) else {
         return Err(ListError::NoSuchDocument);
-    }
-    put_what_is_there(view, doc, sink)?;
-    Ok(())
-}
-
-/// Whether the list, index or part exists.
-fn is_there<V: View>(view: &V, doc: Doc) -> bool
-    ensures { result ≡ is_some (list_text (V.shown view.now) doc) }
-{
-    match doc {
-        Doc::ResourceHead | Doc::ChangeHead => true,
-        Doc::ResourcePart { publication, part } => {
-            publication == view.number() && is_part_of(resource_parts(view), 0, part)
-        }
-        Doc::ChangePart { part } => is_part_of(change_parts(view), view.first(), part),
-        Doc::Description | Doc::Capabilities => false,
+    };
+    match document.write(out) {
+        Ok(()) => Ok(()),
+        Err(WriteFault) => Err(ListError::WriteFault),
     }
 }
 
-/// Whether one of at least two parts has this number. They are numbered from `first` on.
-fn is_part_of(parts: u64, first: u64, number: u64) -> bool
-    ensures { result ≡ is_part parts first number }
+/// How many bytes [`write_list`] writes, or `None` exactly where the document does not exist. Makes no
+/// text and takes no memory.
+pub fn list_length<V: View>(view: &V, doc: Doc) -> Option<u64>
+    ensures value { result ≡ option_map length (list_text (V.shown view.now) doc) }
+    ensures small { IfSome result (λ bytes. bytes < 10485760) }
 {
-    parts > 1 && first <= number && number - first < parts
-}
-
-/// Puts a list, an index or a part that exists.
-fn put_what_is_there<V: View, S: Sink>(view: &V, doc: Doc, sink: &mut S) -> Result<(), WriteFault>
-    requires { IsSome (list_text (V.shown view.now) doc) }
-    ensures puts { IfSome (list_text (V.shown view.now) doc)
-        (Puts S.takes S.fails sink.old sink.new result) }
-    ensures small { OnOk result (IfSome (list_text (V.shown view.now) doc) IsSmall) }
-{
-    match doc {
-        Doc::ResourceHead => put_head::<Resources, V, S>(view, sink),
-        Doc::ResourcePart { part, .. } => put_part::<Resources, V, S>(view, part, sink),
-        Doc::ChangeHead => put_head::<Changes, V, S>(view, sink),
-        Doc::ChangePart { part } => { put_part::<Changes, V, S>(view, part - view.first(), sink) },
-        Doc::Description | Doc::Capabilities => unreachable!(),
-    }
+    let document = ListDocument::of(view, doc)?;
+    Some(document.len())
 }
