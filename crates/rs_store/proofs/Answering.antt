@@ -34,12 +34,12 @@ same_refusal : (one two : Refusal) → refused_as one ≡ refused_as two → one
 same_refusal one two is = cc
 
 -- a doubt stays
-doubt_stays : (s next : Source) (cs : Commands) (acks : Acks) (t : Source) → condition_behind (InDoubt s next) cs acks ≡ Holding t → ⊥
+pub doubt_stays : (s next : Source) (cs : Commands) (acks : Acks) (t : Source) → condition_behind (InDoubt s next) cs acks ≡ Holding t → ⊥
 doubt_stays s next [] acks t is = cc
 doubt_stays s next (c ∷ cs) [] t is = cc
 doubt_stays s next (c ∷ cs) (a ∷ acks) t is = doubt_stays s next cs acks t is
 
-held_is : (s t : Source) → Holding s ≡ Holding t → s ≡ t
+pub held_is : (s t : Source) → Holding s ≡ Holding t → s ≡ t
 held_is s t is = cc
 
 module _ {D : Type 0} (device : D → DiskState) (sound : (disk : D) → IsMedium (device disk).size (device disk).now) where

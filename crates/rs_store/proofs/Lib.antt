@@ -10,6 +10,7 @@ pub mod Opened
 pub mod Found
 pub mod Started
 pub mod Received
+pub mod ReaderCounts
 pub mod Turns
 pub mod Moments
 pub mod Answering

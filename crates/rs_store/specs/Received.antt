@@ -1,6 +1,8 @@
 -- What a source answers to a put whose body comes from a reader.
-use Rattle.std.specs.Prelude.{◌≡◌, ◌⊎◌, ◌<◌, ◌≤◌, ℕ, List, [], length, take, Option, None, Result, Ok, Err}
+use Rattle.std.specs.Prelude.{◌≡◌, ◌⊎◌, ◌<◌, ◌≤◌, ◌+◌, ℕ, List, [], length, take, Option, None, Result, Ok, Err}
 use Rattle.std.specs.Io.KnownBytes.{IsAtEnd}
+use Rattle.rs_io.specs.declared.watch.Watched.{Watched}
+use Rattle.rs_io.specs.Watch.{calls, failures}
 use Rattle.rs_disk.specs.Medium.{DiskState}
 use Rattle.rs_disk.specs.Leaves.{Leaves}
 use Rattle.rs_disk.specs.Runs.{RunsWriting}
@@ -74,6 +76,21 @@ AnswersFrom device old new put came (Err ShortBody) = IsCutShort device old new 
 AnswersFrom device old new put came (Err refusal) =
     MayHaveCome put.size came refusal
     × ((body : List ℕ) → IsBodyOf put.size came body → Answers device old new (Put put.name put.kind body) put.now (Err refusal))
+
+-- A reader gave these bytes by as many reads at most, and by `more` reads that gave none. Where one failed, it was the last.
+pub record ReadsFor {R : Type 0} (more : ℕ) (old new : Watched R) (came : List ℕ) : Type 0 where
+  pub reads : calls new ≤ calls old + (length came + more)
+  pub once : (failures new).all ≤ (failures old).all + 1
+
+-- how many reads give no byte: one where the reader failed or ended, and none at another refusal
+abbrev pub empty_reads : Refusal → ℕ
+empty_reads ReadFault = 1
+empty_reads ShortBody = 1
+empty_reads refusal = 0
+
+abbrev pub empty_reads_of : {T : Type 0} → Result T Refusal → ℕ
+empty_reads_of (Ok value) = 0
+empty_reads_of (Err refusal) = empty_reads refusal
 
 -- Why only these of n bytes came from a reader that has `rest` left: it failed, or it ended.
 abbrev pub IsCut : ℕ → Option (List ℕ) → List ℕ → Refusal → Type 0

@@ -78,7 +78,7 @@ impl<D: Disk> Source<D> {
     ) -> Result<Reply, Refusal>
         ensures { Answers D.state self.old self.new (Put name.now kind.now bytes.now) now result }
     {
-        let moment = self.moment_of_put(name, bytes.len() as u64, now)?;
+        let moment = self.accept_put(name, bytes.len() as u64, now)?;
         let mut plan = self.planned_put(name, kind, bytes, moment)?;
         self.carry_out_put(&mut plan, bytes)
     }
@@ -138,7 +138,7 @@ impl<D: Disk> Source<D> {
     pub fn delete(&mut self, name: &Name, now: Moment) -> Result<Reply, Refusal>
         ensures { Answers D.state self.old self.new (Delete name.now) now result }
     {
-        let moment = self.moment_of_delete(name, now)?;
+        let moment = self.accept_delete(name, now)?;
         let rooted = rooted_by(&self.disk, &self.slots, &self.contents);
         let mut plan = plan_delete(self.alloc, &mut self.used, &rooted, name, moment)?;
         self.finish(&mut plan)
@@ -155,7 +155,7 @@ impl<D: Disk> Source<D> {
     pub fn publish(&mut self, now: Moment) -> Result<Reply, Refusal>
         ensures { Answers D.state self.old self.new Publish now result }
     {
-        let moment = self.moment_of_publish(now)?;
+        let moment = self.accept_publish(now)?;
         let rooted = rooted_by(&self.disk, &self.slots, &self.contents);
         let mut plan = plan_publish(self.alloc, &mut self.used, &rooted, moment)?;
         self.finish(&mut plan)

@@ -18,9 +18,11 @@ use rs_plan::dropped_parts;
 use rs_record::{LONGEST_BODY, MOST_ITEMS, Name};
 use rs_time::Moment;
 
+// `let moment = ..?; Ok(moment)`, and not the call alone: by `?` the prover takes an accepted command and a refused one
+// apart, and each clause here is of one of them.
 impl<D: Disk> Source<D> {
-    /// The moment at which the source accepts a put of `body_length` bytes, or why it refuses it at once.
-    pub(crate) fn moment_of_put(
+    /// Accepts a put of `body_length` bytes at the moment that it gives, or refuses it at once.
+    pub(crate) fn accept_put(
         &self,
         name: &Name,
         body_length: u64,
@@ -43,12 +45,12 @@ impl<D: Disk> Source<D> {
         if self.resources() >= MOST_ITEMS && !self.holds(name) {
             return Err(Refusal::TooManyResources);
         }
-        let moment = self.moment_of_change(now)?;
+        let moment = self.accept_change(now)?;
         Ok(moment)
     }
 
-    /// The moment at which the source accepts a delete, or why it refuses it at once.
-    pub(crate) fn moment_of_delete(&self, name: &Name, now: Moment) -> Result<Moment, Refusal>
+    /// Accepts a delete at the moment that it gives, or refuses it at once.
+    pub(crate) fn accept_delete(&self, name: &Name, now: Moment) -> Result<Moment, Refusal>
         ensures decided { result ≡ moment_unless
             (decided self.now (state_of D.state self.now) (Delete name.now) now)
             (moment_at (state_of D.state self.now) now) }
@@ -62,12 +64,12 @@ impl<D: Disk> Source<D> {
         if !self.holds(name) {
             return Err(Refusal::NotHeld);
         }
-        let moment = self.moment_of_change(now)?;
+        let moment = self.accept_change(now)?;
         Ok(moment)
     }
 
-    /// The moment at which the source accepts a publish, or why it refuses it at once.
-    pub(crate) fn moment_of_publish(&self, now: Moment) -> Result<Moment, Refusal>
+    /// Accepts a publish at the moment that it gives, or refuses it at once.
+    pub(crate) fn accept_publish(&self, now: Moment) -> Result<Moment, Refusal>
         ensures decided { result ≡ moment_unless
             (decided self.now (state_of D.state self.now) Publish now)
             (moment_at (state_of D.state self.now) now) }
@@ -87,8 +89,8 @@ impl<D: Disk> Source<D> {
         Ok(moment)
     }
 
-    /// The moment of a put or a delete for which the held resources leave room.
-    fn moment_of_change(&self, now: Moment) -> Result<Moment, Refusal>
+    /// Accepts a put or a delete for which the held resources leave room.
+    fn accept_change(&self, now: Moment) -> Result<Moment, Refusal>
         ensures decided { result ≡ moment_unless
             (or_spent (change_refusal (state_of D.state self.now)) (is_spent self.now))
             (moment_at (state_of D.state self.now) now) }

@@ -45,7 +45,7 @@ impl<D: Disk> Source<D> {
     pub fn group(&mut self, items: &[Item], now: Moment) -> Result<Reply, Refusal>
         ensures { Answers D.state self.old self.new (Group items.now) now result }
     {
-        let moment = self.moment_of_group(items, now)?;
+        let moment = self.accept_group(items, now)?;
         let mut plan = self.planned_group(items, moment)?;
         self.carry_out_group(&mut plan, items)
     }
@@ -82,8 +82,8 @@ impl<D: Disk> Source<D> {
         self.finish(plan)
     }
 
-    /// The moment at which the source accepts the first item, or why it refuses the group at once.
-    fn moment_of_group(&self, items: &[Item], now: Moment) -> Result<Moment, Refusal>
+    /// Accepts a group, whose first item gets the moment that it gives, or refuses it at once.
+    fn accept_group(&self, items: &[Item], now: Moment) -> Result<Moment, Refusal>
         ensures decided { result ≡ moment_unless
             (decided self.now (state_of D.state self.now) (Group items.now) now)
             (moment_at (state_of D.state self.now) now) }

@@ -109,7 +109,7 @@ impl<D: Disk> Source<D> {
             (D.state disk) (D.state (disk_of result)) }
     {
         let mut disk = disk;
-        match recover(alloc, &mut disk) {
+        match read_settled(alloc, &mut disk) {
             Ok((slots, found)) => Ok(Source {
                 disk,
                 slots,
@@ -124,7 +124,7 @@ impl<D: Disk> Source<D> {
 }
 
 /// Syncs a disk, and reads the source that it holds.
-fn recover<D: Disk>(alloc: Global, disk: &mut D) -> Result<(Slots, Loaded), OpenFault>
+fn read_settled<D: Disk>(alloc: Global, disk: &mut D) -> Result<(Slots, Loaded), OpenFault>
     ensures sound { IfOk result (λ x.
         MemoryIsSound (rooted (D.state disk.new).size x.0.root x.1.contents) x.1.used) }
     ensures resting { OnOk result ((D.state disk.new).now ≡ resting (D.state disk.old).now.seen) }

@@ -2,7 +2,7 @@
 
 ghost use Rattle.std.specs.Prelude.{◌≡◌, ◌<◌, ◌≤◌, ◌+◌, ◌*◌, ◌++◌, ◌^◌, ℕ, Bool, List, false, None, length, take, drop, IfOk, IfErr, OnOk, OnErr, IsErrOf, [], ◌∷◌};
 ghost use Rattle.std.specs.Io.KnownBytes.{Consumes, Keeps, IsAtEnd};
-ghost use Rattle.rs_io.specs.Watch.{watched, EndFailed, TellsEnd, Took};
+ghost use Rattle.rs_io.specs.Watch.{watched, calls, failures, EndFailed, TellsEnd, Took};
 ghost use Rattle.rs_extent.specs.Blocks.{block_size};
 ghost use Rattle.rs_extent.specs.Extents.{IsOnDisk};
 ghost use Rattle.rs_fixity.specs.Digests.{digests};
@@ -16,7 +16,7 @@ ghost use Rattle.rs_plan.specs.Drafts.{AwaitsBody, IsDraft, IsDraftOf};
 ghost use Rattle.rs_model.specs.Step.{moment_at};
 ghost use Rattle.rs_store.specs.Source.{rooted_in, state_of};
 ghost use Rattle.rs_store.specs.Refusals.{decided};
-ghost use Rattle.rs_store.specs.Received.{AnswersFrom, IsCut, IsStopped, coming_put};
+ghost use Rattle.rs_store.specs.Received.{AnswersFrom, IsCut, IsStopped, ReadsFor, coming_put, empty_reads, empty_reads_of};
 
 use crate::source::rooted_by;
 use crate::{Refusal, Source};
@@ -38,7 +38,7 @@ impl<D: Disk> Source<D> {
     /// Puts the next `body_length` bytes of a reader as [`Source::put`] puts bytes. It first finds the
     /// blocks for everything that it will write. Then it reads the body in pieces of at most 4,096 bytes,
     /// and writes each before it reads the next, so memory does not grow with the body. It reads no byte
-    /// behind the body.
+    /// behind the body, makes one read for each byte at most, and none after one that failed.
     ///
     /// # Errors
     ///
@@ -58,12 +58,13 @@ impl<D: Disk> Source<D> {
     ) -> Result<Reply, Refusal>
         ensures came { (came : List ℕ)
             × Consumes (R.remaining (watched reader.old)) (R.remaining (watched reader.new)) came
-            × AnswersFrom D.state self.old self.new (coming_put name.now kind.now body_length now) came result }
+            × AnswersFrom D.state self.old self.new (coming_put name.now kind.now body_length now) came result
+            × ReadsFor (empty_reads_of result) reader.old reader.new came }
         ensures failed { TellsEnd (IsErrOf result Refusal.ReadFault) reader.old reader.new }
         ensures ended { IsErrOf result Refusal.ShortBody
             → IsAtEnd (R.remaining (watched reader.new)) }
     {
-        let moment = self.moment_of_put(name, body_length, now)?;
+        let moment = self.accept_put(name, body_length, now)?;
         let length = body_length as u32;
         let mut plan = self.drafted_put(name, kind, length, moment)?;
         self.receive_planned(&mut plan, name, reader, length)
@@ -117,7 +118,8 @@ impl<D: Disk> Source<D> {
             → decided self.old (state_of D.state self.old) (Put name.now kind bytes) now ≡ None)
             → IsDraftOf (rooted_in D.state self.old) name.now kind body_length
             (moment_at (state_of D.state self.old) now) plan.old
-            → AnswersFrom D.state self.old self.new (coming_put name.now kind body_length now) came result) }
+            → AnswersFrom D.state self.old self.new (coming_put name.now kind body_length now) came result)
+            × ReadsFor (empty_reads_of result) reader.old reader.new came }
         ensures failed { TellsEnd (IsErrOf result Refusal.ReadFault) reader.old reader.new }
         ensures ended { IsErrOf result Refusal.ShortBody
             → IsAtEnd (R.remaining (watched reader.new)) }
@@ -155,7 +157,9 @@ fn receive<R: Read, D: Disk>(
         ≡ digests (part extent body_length (D.state disk.new).now.seen)) }
     ensures stopped { IfErr result (λ refusal. (came : List ℕ)
         × Consumes (R.remaining (watched reader.old)) (R.remaining (watched reader.new)) came
-        × IsStopped body_length (R.remaining (watched reader.new)) came refusal) }
+        × IsStopped body_length (R.remaining (watched reader.new)) came refusal
+        × ReadsFor (empty_reads refusal) reader.old reader.new came) }
+    ensures reads { OnOk result (calls reader.new ≤ calls reader.old + body_length) }
     ensures failed { TellsEnd (IsErrOf result Refusal.ReadFault) reader.old reader.new }
     ensures writes { WritesOnly (extent ∷ []) (IsErrOf result Refusal.Device)
         (D.state disk.old) (D.state disk.new) }
@@ -188,7 +192,9 @@ fn receive_piece<R: Read, D: Disk>(
         ≡ part extent at (D.state disk.old).now.seen ++ piece.new) }
     ensures stopped { IfErr result (λ refusal. (came : List ℕ)
         × Consumes (R.remaining (watched reader.old)) (R.remaining (watched reader.new)) came
-        × IsStopped (length piece.old) (R.remaining (watched reader.new)) came refusal) }
+        × IsStopped (length piece.old) (R.remaining (watched reader.new)) came refusal
+        × ReadsFor (empty_reads refusal) reader.old reader.new came) }
+    ensures called { OnOk result (calls reader.new ≤ calls reader.old + length piece.new) }
     ensures failed { TellsEnd (IsErrOf result Refusal.ReadFault) reader.old reader.new }
     ensures writes { WritesOnly (extent ∷ []) (IsErrOf result Refusal.Device)
         (D.state disk.old) (D.state disk.new) }
@@ -216,6 +222,8 @@ fn read_behind<R: Read>(
     ensures err { OnErr result
         (Keeps (R.remaining (watched reader.old)) (R.remaining (watched reader.new))) }
     ensures failed { OnErr result (EndFailed reader.old reader.new) }
+    ensures called { calls reader.new ≤ calls reader.old + 1 }
+    ensures once { (failures reader.new).all ≤ (failures reader.old).all + 1 }
 {
     reader.read(&mut buf[filled..])
 }
@@ -231,7 +239,9 @@ pub fn read_into<R: Read>(reader: &mut Watched<R>, buf: &mut [u8]) -> Result<(),
     ensures ok { OnOk result (Took R.remaining reader.old reader.new buf.new) }
     ensures cut { IfErr result (λ refusal. (came : List ℕ)
         × Consumes (R.remaining (watched reader.old)) (R.remaining (watched reader.new)) came
-        × IsCut (length buf.old) (R.remaining (watched reader.new)) came refusal) }
+        × IsCut (length buf.old) (R.remaining (watched reader.new)) came refusal
+        × ReadsFor (empty_reads refusal) reader.old reader.new came) }
+    ensures reads { OnOk result (calls reader.new ≤ calls reader.old + length buf.new) }
     ensures failed { TellsEnd (IsErrOf result Refusal.ReadFault) reader.old reader.new }
 {
     let mut filled = 0;

@@ -1,8 +1,10 @@
-use Rattle.std.proofs.Common.{◌≡◌, ◌+◌, ◌++◌, List, ℕ, take, drop, sym, ◌∙◌, ap, subst, arith}
+use Rattle.std.proofs.Common.{◌≡◌, ◌+◌, ◌++◌, length, List, ℕ, take, drop, sym, ◌∙◌, ap, subst, arith}
 use Rattle.std.specs.Io.KnownBytes.{Consumes}
-use Rattle.std.proofs.KnownBytes.{Consumes-trans}
+use Rattle.std.proofs.KnownBytes.{Consumes-kept, Consumes-trans}
+use Rattle.std.proofs.lemmas.List.{length-take}
 use Rattle.std.proofs.Math.Seq.{take-add}
 use Rattle.rs_io.specs.Watch.{watched}
+use Rattle.rs_store.proofs.ReaderCounts.{reads_last}
 use Rattle.rs_store.proofs.receiving.read_into.Goals as goal
 
 pub loop-filled-preserved : goal.loop-filled-preserved
@@ -23,4 +25,18 @@ loop-filled-preserved g c =
         subst (λ (came : List ℕ). Consumes (g.R.Read.remaining (watched c.args.reader.now)) (g.R.Read.remaining (watched c.read_behind.new.reader)) came) (sym joined) same,
         e.ok.1 ∙ inv.came.1,
       );
+      reads = omega (arith, inv.reads, e.called);
     }
+
+-- a read failed: it was the last
+pub returns-in-Err-clause-cut : goal.returns-in-Err-clause-cut
+returns-in-Err-clause-cut g c =
+    let inv = c.loop-filled.invariant in
+    let front : List ℕ = take c.loop-filled.filled c.loop-filled.buf in
+    let long : length front ≡ c.loop-filled.filled = omega (arith, length-take {A = ℕ}, inv.within) in (
+      front,
+      Consumes-kept (g.R.Read.remaining (watched c.args.reader.now)) (g.R.Read.remaining (watched c.loop-filled.reader)) (g.R.Read.remaining (watched c.read_behind.new.reader)) front inv.came.0
+          c.in-Err.ensures.err,
+      omega (arith, long, inv.size, c.loop-filled-test.true),
+      reads_last c.args.reader.now c.loop-filled.reader c.read_behind.new.reader front (omega (arith, inv.reads, long)) inv.came.1 c.read_behind.ensures.called c.read_behind.ensures.once,
+    )

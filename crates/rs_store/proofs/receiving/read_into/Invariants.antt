@@ -1,6 +1,6 @@
 -- The front of the buffer is what was read so far.
-use Rattle.std.proofs.Common.{◌≡◌, ◌-◌, ◌≤◌, length, take}
-use Rattle.rs_io.specs.Watch.{Took}
+use Rattle.std.proofs.Common.{◌≡◌, ◌+◌, ◌-◌, ◌≤◌, length, take}
+use Rattle.rs_io.specs.Watch.{calls, Took}
 use Rattle.rs_store.proofs.receiving.read_into.Given as goal
 
 abbrev pub invariant-loop-filled : goal.invariant-loop-filled
@@ -9,6 +9,7 @@ invariant-loop-filled g l =
       within : l.filled ≤ length l.buf;
       size : length l.buf ≡ length l.fn.buf;
       came : Took g.R.Read.remaining l.fn.reader l.reader (take l.filled l.buf);
+      reads : calls l.reader ≤ calls l.fn.reader + l.filled;
     }
 
 abbrev pub decreases-loop-filled : goal.decreases-loop-filled

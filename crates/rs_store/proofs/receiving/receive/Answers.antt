@@ -8,6 +8,7 @@ use Rattle.rs_body.specs.Blocks.{part}
 use Rattle.rs_store.proofs.FromBelow.{only_on, only_then}
 use Rattle.rs_io.specs.Watch.{watched}
 use Rattle.rs_store.proofs.Received.{stops_behind}
+use Rattle.rs_store.proofs.ReaderCounts.{reads_behind}
 use Rattle.rs_store.proofs.receiving.receive.Goals as goal
 
 pub returns-in_err-receive_piece-clause-stopped : goal.returns-in_err-receive_piece-clause-stopped
@@ -24,6 +25,7 @@ returns-in_err-receive_piece-clause-stopped g c =
       front ++ cut.0,
       Consumes-trans (remaining (watched c.args.reader.now)) (remaining (watched c.loop-at.reader)) rest front cut.0 inv.took.0 cut.1,
       stops_behind c.args.body_length (length piece) rest front cut.0 c.in_err-receive_piece.field-0.0 fits cut.2,
+      reads_behind c.args.reader.now c.loop-at.reader c.receive_piece.new.reader front cut.0 _ (omega (arith, inv.reads, inv.whole)) inv.took.1 cut.3,
     )
 
 pub returns-in_err-receive_piece-clause-writes : goal.returns-in_err-receive_piece-clause-writes
@@ -57,6 +59,7 @@ loop-at-preserved g c =
             (Consumes-trans (remaining (watched c.args.reader.now)) (remaining (watched c.loop-at.reader)) (remaining (watched c.receive_piece.new.reader)) front piece inv.took.0 e.ok.0),
         e.ok.1 ∙ inv.took.1,
       );
+      reads = omega (arith, inv.reads, e.called, same);
       whole = ap length joined ∙ omega (arith, length-append front piece, same, inv.whole);
       hashed = subst (λ (came : List ℕ). HasTaken c.add.new.self came) (sym joined) (c.add.ensures front inv.hashed);
       writes = only_on alone alone alone old mid new (λ b is. is) (λ b is. is) (λ none. none) (λ is. absurd cc) (λ none. absurd none) inv.writes e.writes;

@@ -1,9 +1,9 @@
 -- The front of the extent is what came so far.
-use Rattle.std.proofs.Common.{◌≡◌, ◌-◌, ◌≤◌, [], ◌∷◌, length}
+use Rattle.std.proofs.Common.{◌≡◌, ◌+◌, ◌-◌, ◌≤◌, [], ◌∷◌, length}
 use Rattle.rs_body.specs.Blocks.{part}
 use Rattle.rs_body.specs.Outside.{WritesOnly}
 use Rattle.rs_fixity.specs.Hashed.{HasTaken}
-use Rattle.rs_io.specs.Watch.{Took}
+use Rattle.rs_io.specs.Watch.{calls, Took}
 use Rattle.rs_store.proofs.receiving.receive.Given as goal
 
 abbrev pub invariant-loop-at : goal.invariant-loop-at
@@ -12,6 +12,7 @@ invariant-loop-at g l =
     record {
       within : l.at ≤ l.fn.body_length;
       took : Took g.R.Read.remaining l.fn.reader l.reader came;
+      reads : calls l.reader ≤ calls l.fn.reader + l.at;
       whole : length came ≡ l.at;
       hashed : HasTaken l.hashing came;
       writes : WritesOnly (l.fn.extent ∷ []) ⊥ (g.D.Disk.state l.fn.disk) (g.D.Disk.state l.disk);

@@ -20,7 +20,7 @@ returns-in_err-read_into-clause-stopped g c =
     let given = err_from_is_err_and c.from_residual.result c.from_residual.ensures.1 in
     let r = c.in_err-read_into.field-0.0 in
     let cut = c.in_err-read_into.ensures.cut in
-    rw (given.1, given.2) (cut.0, cut.1, cut_stops (length c.args.piece.now) (g.R.Read.remaining (watched c.read_into.new.reader)) cut.0 r cut.2)
+    rw (given.1, given.2) (cut.0, cut.1, cut_stops (length c.args.piece.now) (g.R.Read.remaining (watched c.read_into.new.reader)) cut.0 r cut.2, cut.3)
 
 pub returns-then-is_err-clause-writes : goal.returns-then-is_err-clause-writes
 returns-then-is_err-clause-writes g c =

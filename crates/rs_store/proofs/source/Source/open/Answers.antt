@@ -5,7 +5,7 @@ use Rattle.rs_store.proofs.source.Source.open.Goals as goal
 pub returns-in-Ok-clause-opened : goal.returns-in-Ok-clause-opened
 returns-in-Ok-clause-opened g c =
     let device = g.D.Disk.state in
-    let disk = c.recover.new.disk in
+    let disk = c.read_settled.new.disk in
     let seen = (device c.args.disk).now.seen in
     let is = c.in-Ok.ensures in
     let slots = c.in-Ok.slots in

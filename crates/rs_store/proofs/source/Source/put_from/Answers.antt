@@ -17,6 +17,7 @@ use Rattle.rs_plan.specs.Drafts.{IsDraftOf}
 use Rattle.rs_store.specs.Received.{AnswersFrom, coming_put}
 use Rattle.rs_store.proofs.Answered.{unless_ok, at_once, not_planned}
 use Rattle.rs_store.proofs.Received.{nothing_came, refused_as, zeros}
+use Rattle.rs_store.proofs.ReaderCounts.{no_reads}
 use Rattle.rs_store.proofs.source.Source.put_from.Goals as goal
 
 pub returns-in_err-moment-clause-came : goal.returns-in_err-moment-clause-came
@@ -30,6 +31,7 @@ returns-in_err-moment-clause-came g c =
       Consumes-nil (g.R.Read.remaining (watched c.args.reader.now)),
       rw (given.1, given.2) (refused_as device old old c.args.name.now c.args.kind.now n c.args.now [] r (replicate n 0) (zeros n) (nothing_came n r)
           (λ body is. at_once device g.met.D.Disk.holds old (Put c.args.name.now c.args.kind.now body) c.args.now r (c.in_err-moment.ensures.decided c.args.kind.now body is.len))),
+      no_reads _ c.args.reader.now,
     )
 
 pub returns-in_err-moment-clause-failed : goal.returns-in_err-moment-clause-failed
@@ -65,6 +67,7 @@ returns-in_err-plan-clause-came g c =
           (refused_as device old c.drafted_put.new.self name kind n c.args.now [] (of_plan fault) (replicate n 0) (zeros n) (nothing_came n (of_plan fault))
           (λ body is. not_planned device g.met.D.Disk.holds old (Put name kind body) c.args.now _ c.drafted_put.ensures.same
           c.in_ok-moment.moment (c.in_ok-moment.ensures.decided kind body is.len) fault (λ full. c.in_err-plan.ensures.full (ap (λ (x : PlanFault). Err x) full) body is.len))),
+      no_reads _ c.args.reader.now,
     )
 
 -- the plan is a draft for the lists in memory
@@ -96,4 +99,5 @@ returns-clause-came g c =
           (came.2 kind c.args.now
           (subst (λ (s : Stored g.row.D.Denot). (body : List ℕ) → length body ≡ n → decided s (state_of device s) (Put name kind body) c.args.now ≡ None) (sym same) (λ body is. (free body is).0))
           (subst (λ (s : Stored g.row.D.Denot). IsDraftOf (rooted_in device s) name kind n (moment_at (state_of device s) c.args.now) plan) (sym same) drafted)),
+      came.3,
     )

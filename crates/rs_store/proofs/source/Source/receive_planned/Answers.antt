@@ -17,10 +17,11 @@ use Rattle.rs_store.specs.declared.refusal.Refusal.TheVariants.{ReadFault, Short
 use Rattle.rs_store.specs.Source.{Stored, rooted_in, state_of}
 use Rattle.rs_store.specs.Writing.{HasWrittenBodies}
 use Rattle.rs_store.specs.Answered.{Answers}
-use Rattle.rs_store.specs.Received.{IsStopped}
+use Rattle.rs_store.specs.Received.{IsStopped, ReadsFor, empty_reads}
 use Rattle.rs_store.proofs.Begun.{begun, only_one, broken_body, on_disk_one, one_extent, sized_one, some_extent, stand_one, stopped_body}
 use Rattle.rs_store.proofs.Written.{inside_each}
 use Rattle.rs_store.proofs.Received.{answered_whole, zeros, left_by, cut_from, refused_elsewhere}
+use Rattle.rs_store.proofs.ReaderCounts.{sound_reads}
 use Rattle.rs_store.proofs.source.Source.receive_planned.Goals as goal
 
 -- there is an extent for the body
@@ -73,6 +74,7 @@ returns-in-Device-clause-came g c =
         λ body is. broken_body g.D.Disk.state g.met.D.Disk.holds c.args.self.now _ c.self.view_is (plan_filled name (digests body) plan) c.receive.new.disk _ writes
             c.self.invariant.rooted.whole (Put name kind body) now (free body is.len) (planned body is.len) (ap (λ (x : Refusal). Err x) c.in-Device.is),
       ),
+      subst (λ (r : Refusal). ReadsFor (empty_reads r) c.args.reader.now c.receive.new.reader stop.0) c.in-Device.is stop.3,
     )
 
 -- the reader failed or ended
@@ -99,6 +101,7 @@ returns-in_default-clause-came g c =
                 c.self.invariant.rooted.whole (Put name kind (replicate n 0)) now (free _ none.len) (planned _ none.len)
                 (λ is. absurd (c.in_default.not-Device cc)));
           }),
+      stop.3,
     )
 
 pub returns-in_default-clause-failed : goal.returns-in_default-clause-failed
@@ -168,4 +171,5 @@ returns-clause-came g c =
           (subst (λ (p : Plan). HasWrittenBodies device old left p (bytes ∷ [])) (sym filled) stands) (free bytes whole)
           (subst (λ (p : Plan). IsPlanned (rooted_in device old) command (moment_at (state_of device old) now) p) (sym filled) (planned bytes whole)) in
           answered_whole device old c.finish.new.self name kind n now bytes c.finish.result c.finish.ensures.late whole said,
+      sound_reads _ c.args.reader.now c.receive.new.reader bytes (omega (arith, c.in-Ok.ensures.reads, whole)) c.in-Ok.ensures.took.1,
     )

@@ -9,8 +9,8 @@ use Rattle.rs_model.specs.declared.command.Refusal.TheVariants.{TooManyChanges, 
 use Rattle.rs_store.specs.Source.{Stored, state_of}
 use Rattle.rs_store.specs.Refusals.{is_spent}
 use Rattle.rs_store.proofs.Decided.{change_is_decided, and_none, is_short, are_few}
-use Rattle.rs_store.proofs.source.Source.moment_of_put.Goals.{else-resources-ge-MOST_ITEMS-via-then-resources-ge-MOST_ITEMS+else-not-holds, else-resources-ge-MOST_ITEMS-via-else-resources-ge-MOST_ITEMS}
-use Rattle.rs_store.proofs.source.Source.moment_of_put.Goals as goal
+use Rattle.rs_store.proofs.source.Source.accept_put.Goals.{else-resources-ge-MOST_ITEMS-via-then-resources-ge-MOST_ITEMS+else-not-holds, else-resources-ge-MOST_ITEMS-via-else-resources-ge-MOST_ITEMS}
+use Rattle.rs_store.proofs.source.Source.accept_put.Goals as goal
 
 pub returns-in_err-moment-clause-decided : goal.returns-in_err-moment-clause-decided
 returns-in_err-moment-clause-decided g c kind bytes long =

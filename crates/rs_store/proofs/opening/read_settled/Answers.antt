@@ -8,7 +8,7 @@ use Rattle.rs_image.specs.declared.contents.Loaded.{Loaded}
 use Rattle.rs_store.specs.declared.opening.OpenFault.{OpenFault}
 use Rattle.rs_store.specs.Opening.{IsFound, IsNotOpened}
 use Rattle.rs_store.proofs.Opened.{not_opened_before}
-use Rattle.rs_store.proofs.opening.recover.Goals as goal
+use Rattle.rs_store.proofs.opening.read_settled.Goals as goal
 
 -- what is found on a disk that was settled before
 found_settled : (r : Result (Standing × Loaded) OpenFault) (old mid new : DiskState) → AreSettled mid.now → mid.now.seen ≡ old.now.seen

@@ -5,7 +5,7 @@ use Rattle.rs_model.specs.declared.command.Command.TheVariants.{Group}
 use Rattle.rs_store.specs.Source.{Stored, state_of}
 use Rattle.rs_store.specs.Refusals.{is_spent}
 use Rattle.rs_store.proofs.Decided.{moment_is_left, left_is_decided}
-use Rattle.rs_store.proofs.source.Source.moment_of_group.Goals as goal
+use Rattle.rs_store.proofs.source.Source.accept_group.Goals as goal
 
 pub returns-in_err-moment-clause-decided : goal.returns-in_err-moment-clause-decided
 returns-in_err-moment-clause-decided g c =
