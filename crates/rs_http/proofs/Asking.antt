@@ -1,5 +1,5 @@
 -- The outcomes by the answers of the source.
-use Rattle.std.proofs.Common.{◌≡◌, ℕ, List, [], ◌++◌, append_assoc, append-nil, codes, Option, Some, None, Result, Ok, Err, Vec, Global, Bool, true, false, ◌↔◌, length, refl, ap, sym, subst, ◌∙◌, if◌then◌else◌, IsErrOf, IsTrue, option_map}
+use Rattle.std.proofs.Common.{◌≡◌, ℕ, List, [], ◌++◌, append_assoc, append-nil, codes, Option, Some, None, Result, Ok, Err, Vec, Global, Bool, true, false, ◌↔◌, length, refl, ap, sym, subst, ◌∙◌, if◌then◌else◌, IsErrOf, IsTrue}
 use Rattle.rs_disk.specs.Medium.{DiskState}
 use Rattle.rs_http.proofs.FromBelow.{reading_as}
 use Rattle.rs_model.specs.Step.{is_held}
@@ -96,11 +96,6 @@ module _ {D : Type 0} {device : D → DiskState} (turn : Turn device) (name : Li
     outcome_is = refl;
   }
 
--- a document with a length exists
-pub is_there : (found : Option (List ℕ)) (count : ℕ) → option_map length found ≡ Some count → (text : List ℕ) × (found ≡ Some text) × (length text ≡ count)
-is_there None count e = absurd cc
-is_there (Some text) count e = (text, refl, let same : Some (length text) ≡ Some count = e in cc)
-
 no_body : (b : Bool) (text : List ℕ) → text ≡ [] → (if b then [] else text) ≡ []
 no_body true text none = refl
 no_body false text none = none
@@ -115,11 +110,6 @@ document_head framing text count same =
     let bare : framed framing 200 lines [] ≡ first ++ lines = ap (λ (l : List ℕ). first ++ (lines ++ l)) none ∙ ap (λ (l : List ℕ). first ++ l) (append-nil lines) in
     ap (λ (l : List ℕ). l ++ sent_body framing text) bare ∙ append_assoc first lines (sent_body framing text)
     ∙ ap (λ (n : ℕ). first ++ (content_lines (codes "application/xml") n ++ sent_body framing text)) (sym same)
-
--- a document without a length does not exist
-pub shown_none : (found : Option (List ℕ)) → option_map length found ≡ None → found ≡ None
-shown_none None e = refl
-shown_none (Some text) e = absurd cc
 
 when_open : (closed : Bool) (outcome : RequestOutcome) → closed ≡ false → outcome ≡ (if closed then refused Closed else outcome)
 when_open closed outcome is = sym (ap (λ b. if b then refused Closed else outcome) is)

@@ -1,36 +1,37 @@
 -- How the answer to a plan and to a request ends.
-use Rattle.std.proofs.Common.{◌≡◌, ◌/◌, ℕ, List, [], ◌++◌, Option, Result, Ok, Err, refl, ap, sym, ◌∙◌, subst, inl, inr, ◌⊎◌, arith, append-nil}
+use Rattle.std.proofs.Common.{◌≡◌, ◌+◌, ◌≤◌, ◌/◌, ℕ, List, [], ◌++◌, length, Option, Result, Ok, Err, refl, ap, sym, ◌∙◌, subst, inl, inr, ◌⊎◌, arith, append-nil}
 use Rattle.std.specs.Prelude.{MatchResult, OnOk, OnErr, IfErr, IsErrOf, Some, Bool}
 use Rattle.std.specs.Result.{IsErr, IsErrAnd}
 use Rattle.std.specs.Io.KnownBytes.{Consumes, Appends, Keeps, IsAtEnd}
+use Rattle.std.proofs.lemmas.List.{length-append}
 use Rattle.std.proofs.KnownBytes.{Consumes-nil, Consumes-trans, Appends-trans, Appends-kept}
 use Rattle.httpdate.specs.Date.{unix_secs}
 use Rattle.httpdate.specs.declared.date.HttpDate.{HttpDate}
 use Rattle.rs_disk.specs.Medium.{DiskState}
 use Rattle.rs_io.specs.declared.watch.Watched.{Watched}
-use Rattle.rs_io.specs.Watch.{watched, seen_by, failures, EndFailed, FlushFailed, Wrote, FailedWithin, TellsEnd, End, Ends, ends_of}
-use Rattle.rs_http.proofs.FromBelow.{later_fault, later_put_fault}
+use Rattle.rs_io.specs.Watch.{watched, calls, seen_by, failures, EndFailed, FlushFailed, Wrote, FailedWithin, TellsEnd, End, Ends, ends_of}
+use Rattle.rs_http.proofs.FromBelow.{later_fault, later_put_fault, no_reads, reads_behind}
 use Rattle.rs_model.specs.declared.command.Reply.{Reply}
-use Rattle.rs_store.specs.Received.{AnswersFrom, coming_put}
+use Rattle.rs_store.specs.Received.{AnswersFrom, ReadsFor, coming_put, empty_reads_of}
 use Rattle.rs_store.specs.declared.refusal.Refusal.{Refusal}
 use Rattle.rs_store.specs.declared.refusal.Refusal.TheVariants.{ReadFault, ShortBody}
 use Rattle.rs_http.specs.declared.fault.FrontFault.{FrontFault}
 use Rattle.rs_http.specs.declared.fault.FrontFault.TheVariants.{Read, Write}
 use Rattle.rs_http.specs.declared.head.HeadRead.{HeadRead}
-use Rattle.rs_http.specs.declared.head.HeadRead.TheVariants.{Ended}
+use Rattle.rs_http.specs.declared.head.HeadRead.TheVariants.{Whole, TooLong, Ended}
 use Rattle.rs_http.specs.declared.request.RequestPlan.{RequestPlan}
-use Rattle.rs_http.specs.declared.request.RequestPlan.TheVariants.{Put}
+use Rattle.rs_http.specs.declared.request.RequestPlan.TheVariants.{Put, Group}
 use Rattle.rs_http.specs.declared.request.NoPlan.{NoPlan}
 use Rattle.rs_http.specs.declared.request.Request.{Request}
 use Rattle.rs_http.specs.declared.response.Framing.{Framing}
 use Rattle.rs_http.specs.declared.serve.Served.TheVariants.{Answered}
 use Rattle.rs_http.specs.Turn.{Turn}
-use Rattle.rs_http.specs.Head.{HeadIs}
+use Rattle.rs_http.specs.Head.{HeadIs, head_reads}
 use Rattle.rs_http.specs.Requests.{Asks}
 use Rattle.rs_http.specs.Responses.{RequestOutcome, response_text, go_on}
 use Rattle.rs_http.specs.Outcomes.{outcome_replied, RequestGives, Sends, Responds}
 use Rattle.rs_http.specs.Laws.{RequestsRecover, BrokenBodiesRecover, RequestsMakeWalks, BrokenBodiesMakeNoEvent}
-use Rattle.rs_http.specs.Serving.{bytes_of, PlanEnds, RequestEnds, TakesPart, preface_of, IsUnsaid, IsCutOff, Stands, Reads, Serves, Breaks, Halts}
+use Rattle.rs_http.specs.Serving.{bytes_of, PlanEnds, RequestEnds, TakesPart, preface_of, empty_reads_for, IsUnsaid, IsCutOff, Stands, Reads, Serves, Breaks, Halts}
 use Rattle.rs_http.proofs.Asking.{answered}
 
 -- a response that was sent is not answered as unread
@@ -55,12 +56,13 @@ module _ {D R W : Type 0} {device : D → DiskState} {turn : Turn device} {plan 
     (asked : Result RequestPlan NoPlan) (remaining : R → Option (List ℕ)) where
   -- an answer that was sent ends a plan that read these bytes
   pub sent_ends : (reader left : Watched R) (more : List ℕ) → plan ≡ asked → Consumes (remaining (watched reader)) (remaining (watched left)) more → failures left ≡ failures reader
-      → Responds contents before after framing comes result
+      → ReadsFor (empty_reads_for asked) reader left more → Responds contents before after framing comes result
       → ((outcome : RequestOutcome) → comes outcome → RequestGives turn asked more (remaining (watched left)) outcome)
       → PlanEnds turn plan framing (ends_of remaining reader left contents before after) result
-  sent_ends reader left more same came sound r gives = record {
+  sent_ends reader left more same came sound few r gives = record {
     more = more;
     came = came;
+    reads = subst (λ p. ReadsFor (empty_reads_for p) (seen_by remaining reader) (seen_by remaining left) more) (sym same) (record { reads = few.reads; once = few.once });
     reader = record { failed = λ is. absurd (unread result r.sends.2 is); sound = λ _. sound };
     broken = λ is. absurd (unread result r.sends.2 is);
     answered = λ _. record {
@@ -74,17 +76,33 @@ module _ {D R W : Type 0} {device : D → DiskState} {turn : Turn device} {plan 
   pub sent_bare : (reader : Watched R) → plan ≡ asked → Responds contents before after framing comes result
       → ((outcome : RequestOutcome) → comes outcome → RequestGives turn asked [] (remaining (watched reader)) outcome)
       → PlanEnds turn plan framing (ends_of remaining reader reader contents before after) result
-  sent_bare reader same r gives = sent_ends reader reader [] same (Consumes-nil (remaining (watched reader))) refl r gives
+  sent_bare reader same r gives = sent_ends reader reader [] same (Consumes-nil (remaining (watched reader))) refl (no_reads _ reader) r gives
+
+-- at most one read gave no byte
+few_empty : (answer : Result Reply Refusal) → empty_reads_of answer ≤ 1
+few_empty (Ok reply) = omega arith
+few_empty (Err ReadFault) = omega arith
+few_empty (Err ShortBody) = omega arith
+few_empty (Err refusal) = omega arith
+
+few_for : (plan : Result RequestPlan NoPlan) → empty_reads_for plan ≤ 1
+few_for (Ok (Put name kind n waits)) = omega arith
+few_for (Ok (Group n waits)) = omega arith
+few_for plan = omega arith
+
+one_read_more : {R : Type 0} (n : ℕ) (reader left : Watched R) (came : List ℕ) → n ≤ 1 → ReadsFor n reader left came → ReadsFor 1 reader left came
+one_read_more n reader left came few reads = record { reads = omega (arith, few, reads.reads); once = reads.once }
 
 -- what the source answered to a put is answered, unless the reader failed
 pub put_ends : {D R W : Type 0} {device : D → DiskState} {turn : Turn device} {framing : Framing} {result : Result ℕ FrontFault} {name kind : List ℕ} {n : ℕ} {waits : Bool}
     (remaining : R → Option (List ℕ)) (reader left : Watched R) (contents : W → Option (List ℕ)) (before after : Watched W) (answer : Result Reply Refusal)
     → (came : List ℕ) × Consumes (remaining (watched reader)) (remaining (watched left)) came × AnswersFrom device turn.old turn.new (coming_put name kind n turn.now) came answer
+    × ReadsFor (empty_reads_of answer) reader left came
     → (IsErrOf answer ReadFault → ⊥) → TellsEnd (IsErrOf answer ReadFault) reader left → (IsErrOf answer ShortBody → IsAtEnd (remaining (watched left)))
     → Sends contents before after framing (outcome_replied answer) result
     → PlanEnds turn (Ok (Put name kind n waits)) framing (ends_of remaining reader left contents before after) result
 put_ends {turn = turn} {name = name} {kind = kind} {n = n} {waits = waits} remaining reader left contents before after answer came unbroken tells ended sends =
-    sent_ends (Ok (Put name kind n waits)) remaining reader left came.0 refl came.1 (tells.sound unbroken)
+    sent_ends (Ok (Put name kind n waits)) remaining reader left came.0 refl came.1 (tells.sound unbroken) (one_read_more (empty_reads_of answer) reader left came.0 (few_empty answer) came.3)
     (answered {contents = contents} {before = before} {after = after} {comes = λ outcome. RequestGives turn (Ok (Put name kind n waits)) came.0 (remaining (watched left)) outcome}
     (outcome_replied answer) (record { result = answer; answers = came.2; unbroken = unbroken; outcome_is = refl }, ended) sends) (λ o h. h)
 
@@ -150,6 +168,7 @@ module _ {D : Type 0} {device : D → DiskState} (turn : Turn device) (request :
       let text = response_text framing r.outcome in record {
         more = e.more;
         came = e.came;
+        reads = e.reads;
         reader = record { failed = λ no. absurd cc; sound = λ _. e.reader.sound (λ no. absurd cc) };
         writer = record { failed = λ no. absurd cc; sound = λ _. sound ∙ r.sends.1.1 ∙ preface.1 };
         answered = (
@@ -166,6 +185,7 @@ module _ {D : Type 0} {device : D → DiskState} (turn : Turn device) (request :
       let text = response_text framing r.outcome in record {
         more = e.more;
         came = e.came;
+        reads = e.reads;
         reader = record { failed = λ no. absurd cc; sound = λ _. e.reader.sound (λ no. absurd cc) };
         writer = record { failed = λ _. later_fault before after kept (r.sends.1.1 ∙ preface.1) failed; sound = λ no. absurd (no refl) };
         answered = tt;
@@ -180,6 +200,7 @@ module _ {D : Type 0} {device : D → DiskState} (turn : Turn device) (request :
       let broken = e.broken refl in record {
         more = e.more;
         came = e.came;
+        reads = e.reads;
         reader = e.reader;
         writer = record { failed = λ no. absurd cc; sound = λ _. ap failures broken.0 ∙ preface.1 };
         answered = tt;
@@ -191,6 +212,7 @@ module _ {D : Type 0} {device : D → DiskState} (turn : Turn device) (request :
       let w = r.sends.1 in record {
         more = e.more;
         came = e.came;
+        reads = e.reads;
         reader = e.reader;
         writer = record { failed = λ _. later_fault before mid after preface.1 w.failed.0; sound = λ no. absurd (no refl) };
         answered = tt;
@@ -210,6 +232,7 @@ pub unsaid : {D : Type 0} {device : D → DiskState} {turn : Turn device} (reque
 unsaid request ends unread same failed took = record {
   more = [];
   came = subst (λ (rest : End). Consumes (watched ends.left) (watched rest) []) (sym unread) (Consumes-nil (watched ends.left));
+  reads = subst (λ (rest : End). ReadsFor (empty_reads_for request.plan) ends.left rest []) (sym unread) (no_reads _ ends.left);
   reader = record { failed = λ no. absurd cc; sound = λ _. ap failures unread };
   writer = record { failed = λ _. failed; sound = λ no. absurd (no refl) };
   answered = tt;
@@ -217,9 +240,24 @@ unsaid request ends unread same failed took = record {
   stands = λ _. inl (took.0, refl, same, took.1);
 }
 
+-- A head and then a body: only one of them is cut off.
+reads_behind_head : (read : HeadRead) (bytes more : List ℕ) (request : Request) → Asks bytes read (Some request) → (left behind rest : End)
+    → calls behind ≤ calls left + (length bytes + head_reads read) → failures behind ≡ failures left
+    → ReadsFor (empty_reads_for request.plan) behind rest more → ReadsFor 1 left rest (bytes ++ more)
+reads_behind_head Ended bytes more request asks left behind rest few same then =
+    let none : empty_reads_for request.plan ≡ 0 = ap (λ (r : Request). empty_reads_for r.plan) asks.1 in
+    record {
+      reads = omega (arith, few, then.reads, none, length-append bytes more);
+      once = omega (arith, ap (λ f. f.all) same, then.once);
+    }
+reads_behind_head Whole bytes more request asks left behind rest few same then =
+    one_read_more (empty_reads_for request.plan) left rest (bytes ++ more) (few_for request.plan) (reads_behind left behind rest bytes more _ (omega (arith, few)) same then)
+reads_behind_head TooLong bytes more request asks left behind rest few same then =
+    one_read_more (empty_reads_for request.plan) left rest (bytes ++ more) (few_for request.plan) (reads_behind left behind rest bytes more _ (omega (arith, few)) same then)
+
 module _ {D : Type 0} {device : D → DiskState} (turn : Turn device) (recovers : RequestsRecover device) (idles : BrokenBodiesRecover device)
     (walks : RequestsMakeWalks device) (stays : BrokenBodiesMakeNoEvent device) (ends : Ends) (behind : End) (request : Request) (bytes : List ℕ) (read : HeadRead)
-    (came : Consumes (watched ends.left) (watched behind) bytes) (sound : failures behind ≡ failures ends.left) (head : HeadIs bytes read)
+    (came : Consumes (watched ends.left) (watched behind) bytes) (sound : failures behind ≡ failures ends.left) (few : calls behind ≤ calls ends.left + (length bytes + head_reads read)) (head : HeadIs bytes read)
     (ended : read ≡ Ended → IsAtEnd (watched behind)) (asks : Asks bytes read (Some request)) where
   abbrev later : Ends
   later = record { left = behind; rest = ends.rest; before = ends.before; after = ends.after }
@@ -240,6 +278,10 @@ module _ {D : Type 0} {device : D → DiskState} (turn : Turn device) (recovers 
   all_came : (more : List ℕ) → Consumes (watched behind) (watched ends.rest) more → Consumes (watched ends.left) (watched ends.rest) (bytes ++ more)
   all_came more then = Consumes-trans (watched ends.left) (watched behind) (watched ends.rest) bytes more came then
 
+  -- one read at most gave no byte: where that was one within the head, there is no body
+  all_reads : (more : List ℕ) → ReadsFor (empty_reads_for request.plan) behind ends.rest more → ReadsFor 1 ends.left ends.rest (bytes ++ more)
+  all_reads more then = reads_behind_head read bytes more request asks ends.left behind ends.rest few sound then
+
   -- a request that was read was answered
   pub served : (status : ℕ) → RequestEnds turn request later (Ok status) → Serves turn ends (Answered status)
   served status e =
@@ -247,6 +289,7 @@ module _ {D : Type 0} {device : D → DiskState} (turn : Turn device) (recovers 
         input = bytes ++ e.more;
         output = e.answered.0;
         came = all_came e.more e.came;
+        sparing = all_reads e.more e.reads;
         written = e.answered.1;
         reader = e.reader.sound (λ no. absurd cc) ∙ sound;
         writer = e.writer.sound (λ no. absurd cc);
@@ -268,6 +311,7 @@ module _ {D : Type 0} {device : D → DiskState} (turn : Turn device) (recovers 
         input = bytes ++ e.more;
         output = preface_of request.plan;
         came = all_came e.more e.came;
+        sparing = all_reads e.more e.reads;
         written = is.0;
         reader = later_fault ends.left behind ends.rest sound (e.reader.failed refl);
         writer = e.writer.sound (λ no. absurd cc);
@@ -288,6 +332,7 @@ module _ {D : Type 0} {device : D → DiskState} (turn : Turn device) (recovers 
   halted Write is e = record {
     input = bytes ++ e.more;
     came = all_came e.more e.came;
+    sparing = all_reads e.more e.reads;
     reader = e.reader.sound (λ no. absurd cc) ∙ sound;
     writer = e.writer.failed refl;
     more = e.more;

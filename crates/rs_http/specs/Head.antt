@@ -29,3 +29,8 @@ abbrev pub HeadIs : List ℕ → HeadRead → Type 0
 HeadIs bytes Whole = (length bytes ≤ head_limit) × IsHead bytes
 HeadIs bytes TooLong = (length bytes ≡ head_limit) × HasNoEnd bytes
 HeadIs bytes Ended = (length bytes < head_limit) × HasNoEnd bytes
+
+-- how many reads of the head give no byte: one, where the input ended within it
+abbrev pub head_reads : HeadRead → ℕ
+head_reads Ended = 1
+head_reads read = 0

@@ -5,7 +5,7 @@ use Rattle.httpdate.specs.Date.{unix_secs}
 use Rattle.httpdate.specs.declared.date.HttpDate.{HttpDate}
 use Rattle.rs_disk.specs.Medium.{DiskState}
 use Rattle.rs_io.specs.Watch.{watched, failures, EndFailed, PutFailed, FlushFailed, TellsEnd, End, Ends}
-use Rattle.rs_store.specs.Received.{IsCutShort, coming_put}
+use Rattle.rs_store.specs.Received.{IsCutShort, ReadsFor, coming_put}
 use Rattle.rs_recovery.specs.Prefixes.{Recovers}
 use Rattle.rs_http.specs.declared.fault.FrontFault.{FrontFault}
 use Rattle.rs_http.specs.declared.fault.FrontFault.TheVariants.{Read, Write}
@@ -32,6 +32,12 @@ preface_of (Ok (Put name kind n true)) = go_on
 preface_of (Ok (Group n true)) = go_on
 preface_of plan = []
 
+-- how many reads for a body may give no byte: one, where there is a body to read
+abbrev pub empty_reads_for : Result RequestPlan NoPlan → ℕ
+empty_reads_for (Ok (Put name kind n waits)) = 1
+empty_reads_for (Ok (Group n waits)) = 1
+empty_reads_for plan = 0
+
 -- a put or a group was not done: these bytes of its body came, and the reader failed
 abbrev pub IsBroken : {D : Type 0} {device : D → DiskState} → Turn device → Result RequestPlan NoPlan → List ℕ → Type 0
 IsBroken {device = device} turn (Ok (Put name kind n waits)) came = IsCutShort device turn.old turn.new (coming_put name kind n turn.now) came
@@ -51,13 +57,14 @@ pub record TakesPart (before after : End) (first text : List ℕ) : Type 0 where
 abbrev pub bytes_of : Option (List ℕ) → Option (List ℕ)
 bytes_of bytes = bytes
 
--- How the answer to a plan ends. These bytes were read past the head, and the result is `Read` only where the reader
+-- How the answer to a plan ends. These bytes were read past the head, each read but one gave some, and the result is `Read` only where the reader
 -- failed: then it failed in the body of a put or of a group, and nothing is written. Otherwise the outcome of the plan
 -- is answered: its response is written, or a beginning of it where the writer failed.
 pub record PlanEnds {D : Type 0} {device : D → DiskState} (turn : Turn device) (plan : Result RequestPlan NoPlan) (framing : Framing)
     (ends : Ends) (result : Result ℕ FrontFault) : Type 0 where
   pub more : List ℕ
   pub came : Consumes (watched ends.left) (watched ends.rest) more
+  pub reads : ReadsFor (empty_reads_for plan) ends.left ends.rest more
   pub reader : TellsEnd (IsErrOf result Read) ends.left ends.rest
   pub broken : IsErrOf result Read → (ends.after ≡ ends.before) × IsBroken turn plan more
   pub answered : ¬ IsErrOf result Read
@@ -94,6 +101,7 @@ IsUnsaid turn request more ends =
 pub record RequestEnds {D : Type 0} {device : D → DiskState} (turn : Turn device) (request : Request) (ends : Ends) (result : Result ℕ FrontFault) : Type 0 where
   pub more : List ℕ
   pub came : Consumes (watched ends.left) (watched ends.rest) more
+  pub reads : ReadsFor (empty_reads_for request.plan) ends.left ends.rest more
   pub reader : TellsEnd (IsErrOf result Read) ends.left ends.rest
   pub writer : TellsEnd (IsErrOf result Write) ends.before ends.after
   pub answered : IfOk result (λ status. (output : List ℕ) × Appends (watched ends.before) (watched ends.after) output
@@ -125,11 +133,13 @@ IsResponse turn ends input output (Answered status) =
     × (answered : IsAnswered turn request more (watched ends.rest) output status)
     × RequestRecovers turn request.plan more answered.outcome × MakesWalk turn request more answered.outcome
 
--- a request was served: no call of either end failed, and the response to the input was written
+-- A request was served: no call of either end failed, and the response to the input was written. `sparing`: each read but one
+-- gave a byte of the input.
 pub record Serves {D : Type 0} {device : D → DiskState} (turn : Turn device) (ends : Ends) (served : Served) : Type 0 where
   pub input : List ℕ
   pub output : List ℕ
   pub came : Consumes (watched ends.left) (watched ends.rest) input
+  pub sparing : ReadsFor 1 ends.left ends.rest input
   pub written : Appends (watched ends.before) (watched ends.after) output
   pub reader : failures ends.rest ≡ failures ends.left
   pub writer : failures ends.after ≡ failures ends.before
@@ -148,6 +158,7 @@ pub record Breaks {D : Type 0} {device : D → DiskState} (turn : Turn device) (
   pub input : List ℕ
   pub output : List ℕ
   pub came : Consumes (watched ends.left) (watched ends.rest) input
+  pub sparing : ReadsFor 1 ends.left ends.rest input
   pub written : Appends (watched ends.before) (watched ends.after) output
   pub reader : EndFailed ends.left ends.rest
   pub writer : failures ends.after ≡ failures ends.before
@@ -164,6 +175,7 @@ Stands turn request more ends =
 pub record Halts {D : Type 0} {device : D → DiskState} (turn : Turn device) (ends : Ends) : Type 0 where
   pub input : List ℕ
   pub came : Consumes (watched ends.left) (watched ends.rest) input
+  pub sparing : ReadsFor 1 ends.left ends.rest input
   pub reader : failures ends.rest ≡ failures ends.left
   pub writer : EndFailed ends.before ends.after
   pub more : List ℕ

@@ -1,7 +1,6 @@
 //! Asking the source, and writing its answer.
 
-ghost use Rattle.std.specs.Prelude.{◌≡◌, Some, option_map, length, ℕ, List, codes};
-ghost use Rattle.rs_caps.specs.DocumentTexts.{document_text};
+ghost use Rattle.std.specs.Prelude.{◌≡◌, ℕ, codes};
 ghost use Rattle.rs_http.specs.Turn.{turn};
 ghost use Rattle.rs_http.specs.Responses.{shown};
 ghost use Rattle.rs_http.specs.Outcomes.{RunComesTo, ReadComesTo, document_shown, Sends, Responds};
@@ -10,10 +9,10 @@ use crate::fault::FrontFault;
 use crate::outcome::{write_fault, write_refusal, write_reply, write_shown};
 use crate::request::RequestFault;
 use crate::response::{Framing, write_document_head};
-use rs_caps::{document_length, write_document};
+use rs_caps::Document;
 use rs_disk::Disk;
 use rs_io::Watched;
-use rs_lists::{Doc, ListError, View};
+use rs_lists::{Doc, View};
 use rs_model::Command;
 use rs_record::Name;
 use rs_recovery::laws::documents_are_of_the_state;
@@ -58,28 +57,21 @@ pub(crate) fn show_body<D: Disk, W: Write>(
     }
 }
 
-/// Writes the response with a document that exists.
+/// Writes the response with a document.
 fn write_shown_document<V: View, W: Write>(
-    view: &V,
-    doc: Doc,
-    count: u64,
+    document: &Document<'_, V>,
     writer: &mut Watched<W>,
     framing: Framing,
 ) -> Result<u16, FrontFault>
-    requires { option_map length (document_text (V.shown view.now) doc) ≡ Some count }
-    ensures { (text : List ℕ) × (document_text (V.shown view.now) doc ≡ Some text)
-        × Sends W.contents writer.old writer.new framing
-        (shown (codes "application/xml") text) result }
+    ensures { Sends W.contents writer.old writer.new framing
+        (shown (codes "application/xml") document.now) result }
 {
-    write_document_head(writer, framing, count)?;
+    write_document_head(writer, framing, document.len())?;
     if framing.is_head {
         return Ok(200);
     }
-    match write_document(view, doc, writer) {
-        Ok(()) => Ok(200),
-        Err(ListError::NoSuchDocument) => unreachable!(),
-        Err(ListError::WriteFault) => Err(FrontFault::Write),
-    }
+    document.write(writer)?;
+    Ok(200)
 }
 
 /// Writes the response with a document.
@@ -97,8 +89,8 @@ pub(crate) fn show_document<D: Disk, W: Write>(
         Ok(view) => view,
         Err(refusal) => return write_refusal(writer, framing, refusal),
     };
-    match document_length(&view, doc) {
-        Some(length) => write_shown_document(&view, doc, length, writer, framing),
+    match Document::of(&view, doc) {
+        Some(document) => write_shown_document(&document, writer, framing),
         None => write_fault(writer, framing, RequestFault::NoSuchDocument),
     }
 }

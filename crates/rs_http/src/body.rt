@@ -1,8 +1,9 @@
 //! The body of a request, in memory.
 
-ghost use Rattle.std.specs.Prelude.{◌≡◌, ℕ, List, length, IfOk, IfErr, IsErrOf};
+ghost use Rattle.std.specs.Prelude.{◌≡◌, ◌≤◌, ◌+◌, ℕ, List, length, IfOk, IfErr, OnOk, IsErrOf};
 ghost use Rattle.std.specs.Io.KnownBytes.{Consumes};
-ghost use Rattle.rs_io.specs.Watch.{watched, TellsEnd, Took};
+ghost use Rattle.rs_io.specs.Watch.{watched, calls, TellsEnd, Took};
+ghost use Rattle.rs_store.specs.Received.{ReadsFor};
 ghost use Rattle.rs_http.specs.Groups.{IsUnread};
 
 use rs_io::Watched;
@@ -26,7 +27,9 @@ pub(crate) fn read_body<R: Read>(
         × Took R.remaining reader.old reader.new body.items) }
     ensures unread { IfErr result (λ refusal. (came : List ℕ)
         × Consumes (R.remaining (watched reader.old)) (R.remaining (watched reader.new)) came
-        × IsUnread body_length (R.remaining (watched reader.new)) came refusal) }
+        × IsUnread body_length (R.remaining (watched reader.new)) came refusal
+        × ReadsFor 1 reader.old reader.new came) }
+    ensures reads { OnOk result (calls reader.new ≤ calls reader.old + body_length) }
     ensures failed { TellsEnd (IsErrOf result Refusal.ReadFault) reader.old reader.new }
 {
     let mut body = vec![in alloc; 0u8; body_length as usize]?;

@@ -1,9 +1,10 @@
 //! The head of a request.
 
-ghost use Rattle.std.specs.Prelude.{◌≡◌, ℕ, List, ◌<◌, ◌≤◌, length, take, IfOk, OnErr, IfNone, option_to_list};
+ghost use Rattle.std.specs.Prelude.{◌≡◌, ℕ, List, ◌<◌, ◌≤◌, ◌+◌, length, take, IfOk, OnErr, IfNone, option_to_list};
 ghost use Rattle.std.specs.Io.KnownBytes.{Consumes, Keeps, IsAtEnd};
-ghost use Rattle.rs_io.specs.Watch.{watched, EndFailed, Took};
-ghost use Rattle.rs_http.specs.Head.{ends_head, HasNoEnd, HeadIs};
+ghost use Rattle.rs_io.specs.Watch.{watched, calls, failures, EndFailed, Took};
+ghost use Rattle.rs_store.specs.Received.{ReadsFor};
+ghost use Rattle.rs_http.specs.Head.{ends_head, HasNoEnd, HeadIs, head_reads};
 
 use rs_io::{ReadFault, Watched};
 use std::io::Read;
@@ -45,6 +46,8 @@ pub(crate) fn read_byte<R: Read>(reader: &mut Watched<R>) -> Result<Option<u8>, 
     ensures err { OnErr result
         (Keeps (R.remaining (watched reader.old)) (R.remaining (watched reader.new))) }
     ensures failed { OnErr result (EndFailed reader.old reader.new) }
+    ensures called { calls reader.new ≤ calls reader.old + 1 }
+    ensures once { (failures reader.new).all ≤ (failures reader.old).all + 1 }
 {
     let mut byte = [0u8; 1];
     let count = reader.read(&mut byte)?;
@@ -71,7 +74,10 @@ pub(crate) fn read_head<R: Read>(
         → IsAtEnd (R.remaining (watched reader.new))) }
     ensures err { OnErr result ((bytes : List ℕ)
         × Consumes (R.remaining (watched reader.old)) (R.remaining (watched reader.new)) bytes
-        × HasNoEnd bytes × (length bytes < 8192)) }
+        × HasNoEnd bytes × (length bytes < 8192)
+        × ReadsFor 1 reader.old reader.new bytes) }
+    ensures reads { IfOk result (λ r.
+        ReadsFor (head_reads r.0) reader.old reader.new (take r.1 buf.new)) }
     ensures failed { OnErr result (EndFailed reader.old reader.new) }
 {
     for came in 0..buf.len() {

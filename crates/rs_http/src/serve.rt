@@ -83,7 +83,8 @@ pub fn serve_one<D: Disk, R: Read, W: Write>(
     ensures run { RunsAtMost D.state source.old 1 source.new }
 
     // Whatever the result, where the source held a state, its disk saw commands answered from that state
-    // on. The reply that the writer took is that to the accepted one of these commands.
+    // on. The reply that the writer took is that to the accepted one of these commands. If it is open at
+    // the end, it holds the state after those that count. A closed source accepts none and stays closed.
     ensures answered { TellsReply D.state source.old source.new
         (seen_by W.contents writer.old) (seen_by W.contents writer.new) }
 {

@@ -7,7 +7,7 @@ use Rattle.std.specs.Fmt.{digits}
 use Rattle.hex.specs.Hex.{encode_with, decode_pairs}
 use Rattle.md5.specs.Md5.{block_words, rounds, compress, hash_after, digest_bytes, md5}
 use Rattle.sha2.specs.Sha256.{first_words, schedule, rounds as rounds_256, compress as compress_256, hash_after as hash_after_256, digest_bytes as digest_bytes_256, sha256}
-use Rattle.rs_disk.specs.Medium.{DiskState}
+use Rattle.rs_disk.specs.Medium.{DiskState, Medium, IsImage, IsImageAt, resting}
 use Rattle.rs_time.specs.Calendar.{date_of, period_of, days_of}
 use Rattle.rs_time.specs.Moment.{moment_text}
 use Rattle.rs_time.specs.ReadMoment.{read_moment, moment_digits, same_bytes}
@@ -36,7 +36,8 @@ use Rattle.rs_caps.specs.Gather.{parts_at, gather_resources, gather_changes}
 use Rattle.rs_caps.specs.Destination.{part_paths}
 use Rattle.rs_store.specs.declared.running.Ack.{Ack}
 use Rattle.rs_store.specs.Runs.{Holding, AreAnswered}
-use Rattle.rs_recovery.specs.Sessions.{Session, IsStop, AreSessions}
+use Rattle.rs_recovery.specs.Sessions.{Session, IsStop, IsLeftBy, AreSessions}
+use Rattle.rs_recovery.proofs.FromBelow.{resting_image}
 use Rattle.rs_recovery.specs.Served.{Asking, CouldServe, HasServed, IsNoLater}
 use Rattle.rs_recovery.specs.Mirrored.{AreLawfulSessions, list_head, changes_head, Asked, answered_by, IsAskedPart, AsksBoth}
 use Rattle.rs_recovery.proofs.Below.{Commands, Acks}
@@ -94,6 +95,14 @@ are_sessions d e f g image other a one is_stop left then is_later = (
   record { answered = then; stopped = is_later },
   answers_may_be_missing d start published first_commands first_acks (put (codes "c")) a e 27 image one refl refl is_stop,
 )
+
+-- A disk that holds what the first stop left, all of it settled, is as the first session left it.
+pub is_left : (d e disk : DiskState) (image : List ℕ) → IsStop d e 27 image → disk.now ≡ resting image → IsLeftBy (first d e image) disk
+is_left d e disk image is_stop now = record {
+  images = λ other is.
+      let same : other ≡ image = resting_image image other (subst (λ (m : Medium). IsImage m other) now is) in
+      subst (λ (bytes : List ℕ). IsImageAt e 27 bytes) (sym same) is_stop.left;
+}
 
 pub are_lawful : (d e f g : DiskState) (image other : List ℕ) → AreLawfulSessions (two d e f g image other)
 are_lawful d e f g image other = (

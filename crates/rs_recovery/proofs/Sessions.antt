@@ -20,6 +20,7 @@ use Rattle.rs_store.specs.Runs.{StandsForPrefix, Holding, InDoubt, condition_aft
 use Rattle.rs_recovery.specs.Sessions.{Session, all_asked, all_ended, asked, ended, counted, IsStopped, AreSessions, commands_left, AreLeft, OneStanding, OpeningsStopToo}
 use Rattle.rs_recovery.specs.Served.{Asking, CouldServe, HasServed, IsNoLater, IsPrefixOf, CommandsStand, SessionsStand}
 use Rattle.rs_recovery.specs.Recovered.{YieldsHeld}
+use Rattle.rs_recovery.proofs.FromBelow.{doubt_stays, held_is}
 use Rattle.rs_recovery.proofs.Counts.{answered_length, one_number}
 use Rattle.rs_recovery.proofs.Below.{Commands, Acks, one, weaker}
 
@@ -117,20 +118,11 @@ answered_first test commands acks (Some c) n same =
 prefix_in : (front mid whole : Commands) → IsPrefixOf front mid → IsPrefixOf mid whole → IsPrefixOf front whole
 prefix_in front mid whole (rest, is) more = subst (λ (l : Commands). IsPrefixOf front l) more.1 (subst (λ (l : Commands). IsPrefixOf front (l ++ more.0)) is (rest ++ more.0, sym (append_assoc front rest more.0)))
 
--- a doubt stays
-doubt_stays : (s next : Source) (cs : Commands) (acks : Acks) (t : Source) → condition_behind (InDoubt s next) cs acks ≡ Holding t → ⊥
-doubt_stays s next [] acks t is = cc
-doubt_stays s next (c ∷ cs) [] t is = cc
-doubt_stays s next (c ∷ cs) (a ∷ acks) t is = doubt_stays s next cs acks t is
-
-held_is : (s t : Source) → Holding s ≡ Holding t → t ≡ s
-held_is s t is = cc
-
 -- where the answers leave a source that holds a state, none of them leaves a doubt, and the accepted commands make the state
 held_is_made : (s : Source) (cs : Commands) (acks : Acks) (t : Source) → condition_behind (Holding s) cs acks ≡ Holding t
     → (answered is_in_doubt cs acks ≡ []) × (t ≡ fold_of s (answered is_accepted cs acks))
-held_is_made s [] acks t is = (refl, held_is s t is)
-held_is_made s (c ∷ cs) [] t is = (refl, held_is s t is)
+held_is_made s [] acks t is = (refl, sym (held_is s t is))
+held_is_made s (c ∷ cs) [] t is = (refl, sym (held_is s t is))
 held_is_made s (c ∷ cs) (a ∷ acks) t is = after a.reply (λ u same. held_is_made u cs acks t same) is
   where
     after : (reply : Result Reply Refusal)
@@ -290,7 +282,7 @@ module _ (once : StandsOnce) where
 -- a session whose stop left another image of the same moment
 pub openings_stop_too : OpeningsStopToo
 openings_stop_too start x past before after are as_left opening =
-    weaker before after (λ _. IsImage before.now) (λ _ image. AreSessions start (record x { image = image } ∷ past)) (λ m image is. again past are (as_left image is)) opening
+    weaker before after (λ _. IsImage before.now) (λ _ image. AreSessions start (record x { image = image } ∷ past)) (λ m image is. again past are (as_left.images image is)) opening
   where
     stopped_with : {image : List ℕ} (s : Source) → IsStopped s x → IsImageAt x.last x.stop image → IsStopped s (record x { image = image })
     stopped_with s is at = record { answered = is.answered; stopped = record { from = is.stopped.from; to = is.stopped.to; left = at } }

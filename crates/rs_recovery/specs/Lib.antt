@@ -1,7 +1,7 @@
 pub mod Below
 pub mod Turns
-pub mod Prefixes
 pub mod Replies
+pub mod Prefixes
 pub mod Sessions
 pub mod Served
 pub mod Recovered

@@ -25,7 +25,7 @@ IsExcuse before after Damaged = ⊥
 IsExcuse before after Device = HasFailed before after
 IsExcuse before after NoMemory = Unit {0}
 
--- An opening gives back a state: the source that is opened holds it.
+-- An opening gives back the state, so that the source that is opened holds it, or has an excuse.
 abbrev pub HandsBack : {D : Type 0} → (D → DiskState) → D → Result (Stored D) (D × OpenFault) → Source → Type 0
 HandsBack device disk (Ok source) s = Holds device source s
 HandsBack device disk (Err refused) s = IsExcuse (device disk) (device refused.0) refused.1
@@ -45,7 +45,7 @@ GivesBackRun device disk result = (s : Source) (commands : List (Command × ℕ)
     → IsTrue (device (disk_of result)).honest → HandsBackPrefix (HandsBack device disk result) s commands acks m
 
 -- The latest Resource List, followed by the changes recorded after its at-moment in their order, yields exactly the
--- resources held; and the length, the hashes and the type of each are those of its bytes.
+-- resources held. The length and the hashes of each are those of its bytes; its type is the recorded one.
 pub record YieldsHeld (s : Source) : Type 0 where
   pub mirrored : mirror_of s.listed s.at s.changes ≡ entries s.held
   pub facts : AllByRecursion (λ held. held.1.entry.facts ≡ facts_of held.1.entry.facts.kind held.1.bytes) s.held

@@ -12,15 +12,16 @@ use Rattle.rs_store.specs.Counted.{counted_commands, acknowledged, begun}
 use Rattle.rs_store.specs.Runs.{Holding, condition_behind, AreAnswered}
 
 -- A stop: it came before or within any disk call, after any number of calls from the first moment to the last, with any
--- image of that moment.
+-- image of that moment. The call in progress is thought to its end, and the stop is put inside it.
 pub record IsStop (first last : DiskState) (stop : ℕ) (image : List ℕ) : Type 0 where
   pub from : first.calls ≤ stop
   pub to : stop ≤ last.calls
   pub left : IsImageAt last stop image
 
 -- A session, on a disk of any type: the disk when its source was made or opened; the commands with their answers; the
--- command that was never answered, if the machine stopped in one; the disk after them; and the stop: after how many
--- counted calls it came, and which image of the disk it left.
+-- command that was never answered, if the machine stopped in one; `last`, the disk as it would be had the machine not
+-- stopped (`commands` may hold some that come after the stop); and the stop: after how many counted calls it came, and
+-- which image of the disk it left.
 pub record Session : Type 0 where
   pub first : DiskState
   pub commands : List (Command × ℕ)
@@ -83,8 +84,8 @@ OneStanding = (start : Source) (sessions : List Session) (standing others : List
     → AreLeft start sessions standing → AreLeft start sessions others → others ≡ standing
 
 -- A disk is as a session left it: the stop might have left each of its images.
-abbrev pub IsLeftBy : Session → DiskState → Type 0
-IsLeftBy x disk = (image : List ℕ) → IsImage disk.now image → IsImageAt x.last x.stop image
+pub record IsLeftBy (x : Session) (disk : DiskState) : Type 0 where
+  pub images : (image : List ℕ) → IsImage disk.now image → IsImageAt x.last x.stop image
 
 -- A stop within an opening leaves an image that the stop before it might have left: the sessions stay, with that image.
 abbrev pub OpeningsStopToo : Type 0
@@ -92,8 +93,8 @@ OpeningsStopToo = (start : Source) (x : Session) (past : List Session) (before a
     → AreSessions start (x ∷ past) → IsLeftBy x before → Leaves before after (λ _. IsImage before.now)
     → Leaves before after (λ _ image. AreSessions start (record x { image = image } ∷ past))
 
--- A command that the model accepts may be left without an answer. What was seen of it with its answer was seen without:
--- whatever a machine that stopped in it had done by then is the beginning of what the whole command does.
+-- If the last command is one that the model accepts, its answer may be struck out: the session with Device in its place is
+-- a stopped session too.
 abbrev pub AnswersMayBeMissing : Type 0
 AnswersMayBeMissing =
     (first : DiskState) (s t : Source) (commands : List (Command × ℕ)) (acks : List Ack) (c : Command × ℕ) (a : Ack) (last : DiskState) (stop : ℕ) (image : List ℕ)

@@ -1,5 +1,5 @@
 -- The answer to each kind of request.
-use Rattle.std.proofs.Common.{◌≡◌, ℕ, List, [], Option, Some, None, Result, Ok, Err, Vec, Global, Bool, true, false, ◌⊎◌, ◌<◌, ◌≤◌, length, refl, inl, inr, ap, sym, subst, ◌∙◌, ◌-◌, if◌then◌else◌, ◌↔◌, IsErrOf, IsTrue, option_map, codes, decimal, ◌++◌, ◌∷◌}
+use Rattle.std.proofs.Common.{◌≡◌, ℕ, List, [], Option, Some, None, Result, Ok, Err, Vec, Global, Bool, true, false, ◌⊎◌, ◌<◌, ◌≤◌, length, refl, inl, inr, ap, sym, subst, ◌∙◌, ◌-◌, if◌then◌else◌, ◌↔◌, IsErrOf, IsTrue, codes, decimal, ◌++◌, ◌∷◌}
 use Rattle.rs_disk.specs.Medium.{DiskState}
 use Rattle.rs_script.proofs.FromBelow.{reading_none, rests}
 use Rattle.rs_model.specs.declared.command.Command.{Command}
@@ -187,16 +187,6 @@ pub is_closed : {T : Type 0} (result : Result T denials.Refusal) (refusal : deni
     → IsErrOf result Closed ↔ IsTrue closed → closed ≡ true
 is_closed result refusal closed is same h = h.0 (is ∙ ap Err same)
 
--- a document with a length exists
-pub is_there : (found : Option (List ℕ)) (count : ℕ) → option_map length found ≡ Some count → (text : List ℕ) × (found ≡ Some text) × (length text ≡ count)
-is_there None count e = absurd cc
-is_there (Some text) count e = (text, refl, let same : Some (length text) ≡ Some count = e in cc)
-
 -- its answer: its length, its text and a line feed
 pub shown_head : (text : List ℕ) (count : ℕ) → length text ≡ count → (codes "bytes " ++ (decimal count ++ codes "\n")) ++ (text ++ 10 ∷ []) ≡ shown_text text
 shown_head text count same = ap (λ (n : ℕ). (codes "bytes " ++ (decimal n ++ codes "\n")) ++ (text ++ 10 ∷ [])) (sym same)
-
--- a document without a length does not exist
-pub shown_none : (found : Option (List ℕ)) → option_map length found ≡ None → found ≡ None
-shown_none None e = refl
-shown_none (Some text) e = absurd cc

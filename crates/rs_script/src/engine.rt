@@ -89,7 +89,8 @@ pub fn script<D: Disk, R: Read, W: Write>(
         (ends_of R.remaining reader.old reader.new W.contents writer.old writer.new) }
 
     // Whatever the result, where the source held a state, its disk saw commands answered from that state
-    // on. The replies that the writer took are those to the accepted ones of these commands.
+    // on. The replies that the writer took are those to the accepted ones of these commands. If it is open
+    // at the end, it holds the state after those that count. A closed source accepts none and stays closed.
     ensures answered { TellsReplies D.state source.old source.new
         (seen_by W.contents writer.old) (seen_by W.contents writer.new) }
 

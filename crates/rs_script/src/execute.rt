@@ -8,13 +8,13 @@ ghost use Rattle.rs_script.specs.Requests.{request_of};
 ghost use Rattle.rs_script.specs.Room.{TakesRoom};
 ghost use Rattle.rs_script.specs.Session.{script_state};
 ghost use Rattle.rs_script.specs.Taken.{KeepsItems};
-ghost use Rattle.rs_script.specs.declared.request.Request.TheVariants.{Run, Document, Body as Shown, Status as Counted, Verify as Verified};
+ghost use Rattle.rs_script.specs.declared.request.Request.TheVariants.{Run, Document as Listed, Body as Shown, Status as Counted, Verify as Verified};
 
 use crate::answer::{write_refusal, write_reply, write_status, write_verified};
 use crate::refusal::Refusal;
 use crate::request::{Request, parse_request};
 use crate::show::{write_shown, write_shown_document};
-use rs_caps::document_length;
+use rs_caps::Document;
 use rs_disk::Disk;
 use rs_io::{Watched, WriteFault};
 use rs_lists::Doc;
@@ -78,7 +78,7 @@ fn show_document<D: Disk, W: Write>(
     writer: &mut Watched<W>,
 ) -> Result<(), WriteFault>
     ensures answered { IsAnswered
-        (RequestGives D.state (script_state source.now now) (Ok (Document doc)))
+        (RequestGives D.state (script_state source.now now) (Ok (Listed doc)))
         (script_state source.now now) (WritesOut W.contents writer.old writer.new result) }
     ensures failed { OnErr result (EndFailed writer.old writer.new) }
 {
@@ -87,8 +87,8 @@ fn show_document<D: Disk, W: Write>(
         Ok(view) => view,
         Err(refusal) => return write_refusal(Refusal::Source(refusal), writer),
     };
-    match document_length(&view, doc) {
-        Some(length) => write_shown_document(&view, doc, length, writer),
+    match Document::of(&view, doc) {
+        Some(document) => write_shown_document(&document, writer),
         None => write_refusal(Refusal::NoSuchDocument, writer),
     }
 }

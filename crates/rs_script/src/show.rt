@@ -1,15 +1,14 @@
 //! Showing documents and bodies.
 
-ghost use Rattle.std.specs.Prelude.{◌≡◌, ◌++◌, Some, ℕ, List, OnErr, codes, length, option_map};
+ghost use Rattle.std.specs.Prelude.{◌++◌, OnErr, codes};
 ghost use Rattle.std.specs.Fmt.{decimal};
-ghost use Rattle.rs_caps.specs.DocumentTexts.{document_text};
 ghost use Rattle.rs_io.specs.Watch.{EndFailed, WritesOut};
 ghost use Rattle.rs_script.specs.Answers.{shown_text};
 
 use itoa::Buffer;
-use rs_caps::write_document;
+use rs_caps::Document;
 use rs_io::{Watched, WriteFault};
-use rs_lists::{Doc, ListError, View};
+use rs_lists::View;
 use std::io::Write;
 
 /// Writes `bytes N`, a line feed, the N bytes and a line feed.
@@ -41,26 +40,19 @@ fn write_count<W: Write>(count: u64, writer: &mut Watched<W>) -> Result<(), Writ
     writer.put_all(&[b"bytes ", digits.format(count).as_bytes(), b"\n"])
 }
 
-/// Writes `bytes N`, a line feed, the N bytes of the text of a document that exists, and a line feed.
+/// Writes `bytes N`, a line feed, the N bytes of the text of a document, and a line feed.
 ///
 /// # Errors
 ///
 /// [`WriteFault`] where the writer failed. It took a beginning of the text.
 pub fn write_shown_document<V: View, W: Write>(
-    view: &V,
-    doc: Doc,
-    count: u64,
+    document: &Document<'_, V>,
     writer: &mut Watched<W>,
 ) -> Result<(), WriteFault>
-    requires { option_map length (document_text (V.shown view.now) doc) ≡ Some count }
-    ensures written { (text : List ℕ) × (document_text (V.shown view.now) doc ≡ Some text)
-        × WritesOut W.contents writer.old writer.new result (shown_text text) }
+    ensures written { WritesOut W.contents writer.old writer.new result (shown_text document.now) }
     ensures failed { OnErr result (EndFailed writer.old writer.new) }
 {
-    write_count(count, writer)?;
-    match write_document(view, doc, writer) {
-        Ok(()) => writer.put(b"\n"),
-        Err(ListError::NoSuchDocument) => unreachable!(),
-        Err(ListError::WriteFault) => Err(WriteFault),
-    }
+    write_count(document.len(), writer)?;
+    document.write(writer)?;
+    writer.put(b"\n")
 }

@@ -32,9 +32,7 @@ fn run_script<R: Input + Print + AllocGlobal, D: Disk>(
     rt: &R,
     source: &mut Source<D>,
 ) -> Result<(), ProgramError> {
-    let Ok(output) = BufWriter::new(rt.alloc(), io::writer(rt)) else {
-        return Err(ProgramError::NoMemory);
-    };
+    let output = BufWriter::new(rt.alloc(), io::writer(rt)).map_err(|_| ProgramError::NoMemory)?;
     let mut reader = Watched::new(rt.reader());
     let mut writer = Watched::new(output);
     script(rt.alloc(), source, &mut reader, &mut writer)?;
@@ -57,10 +55,7 @@ fn run_format<R: Files<File = File> + Print + AllocGlobal>(
     made: &SourceArguments<'_>,
 ) -> Result<(), ProgramError> {
     format_file(rt, rt.alloc(), file, made, Unknown)?;
-    match println!(rt; "formatted {}", made.size) {
-        Ok(()) => Ok(()),
-        Err(_) => Err(ProgramError::Write),
-    }
+    println!(rt; "formatted {}", made.size).map_err(|_| ProgramError::Write)
 }
 
 /// `run`: runs the script on standard input on the source of a file.
@@ -78,15 +73,11 @@ fn serve<R: Net<Listener = TcpListener, Stream = TcpStream> + Clock + Print + Al
     source: &mut Source<D>,
     serving: ServingArguments,
 ) -> Result<(), ProgramError> {
-    let Ok(listener) = TcpListener::bind(rt, (Ipv4Addr::LOCALHOST, serving.port)) else {
-        return Err(ProgramError::Device);
-    };
-    let Ok(address) = listener.local_addr() else {
-        return Err(ProgramError::Device);
-    };
-    let Ok(()) = println!(rt; "listening {address}") else {
-        return Err(ProgramError::Write);
-    };
+    let listener = TcpListener::bind(rt, (Ipv4Addr::LOCALHOST, serving.port)).map_err(
+        |_| ProgramError::Device,
+    )?;
+    let address = listener.local_addr().map_err(|_| ProgramError::Device)?;
+    println!(rt; "listening {address}").map_err(|_| ProgramError::Write)?;
     serve_connections(rt.alloc(), source, &listener, serving.count, rt);
     Ok(())
 }
@@ -112,10 +103,7 @@ fn run_copy<R: Files<File = File> + Print + AllocGlobal>(
 ) -> Result<(), ProgramError> {
     let mut source = open_file(rt, rt.alloc(), old, Unknown)?;
     copy_to_file(rt, &mut source, new, size, Unknown)?;
-    match println!(rt; "copied {size}") {
-        Ok(()) => Ok(()),
-        Err(_) => Err(ProgramError::Write),
-    }
+    println!(rt; "copied {size}").map_err(|_| ProgramError::Write)
 }
 
 /// Does what the arguments of the program ask for.
@@ -128,13 +116,10 @@ fn run<
         + Print
         + AllocGlobal,
 >(rt: &R) -> Result<(), ProgramError> {
-    let arguments = match env::args(rt) {
-        Ok(arguments) => arguments,
-        Err(error) => return Err(unread(error.kind())),
-    };
-    let Ok(words) = arguments.collect::<Vec<String>>(rt.alloc()) else {
-        return Err(ProgramError::NoMemory);
-    };
+    let arguments = env::args(rt).map_err(|error| unread(error.kind()))?;
+    let words = arguments
+        .collect::<Vec<String>>(rt.alloc())
+        .map_err(|_| ProgramError::NoMemory)?;
     match asked(words.as_slice()) {
         Some(Invocation::Mem(made)) => run_mem(rt, &made),
         Some(Invocation::Format(file, made)) => run_format(rt, file, &made),

@@ -81,7 +81,7 @@ fn is_refused(served: Result<Served, FrontFault>) -> bool {
 }
 
 /// Serves one request of a connection at the moment `now`, and answers whether it was refused.
-fn serve_stream<D: Disk>(
+fn answer_stream<D: Disk>(
     alloc: Global,
     source: &mut Source<D>,
     stream: &TcpStream,
@@ -136,7 +136,7 @@ fn has_passed<C: Clock>(begun: Duration, clock: &C) -> bool {
 
 /// Accepts the next connection and serves it at the moment that the clock shows then. Does nothing where it cannot
 /// accept it.
-fn serve_next<D: Disk, C: Clock>(
+fn accept_one<D: Disk, C: Clock>(
     alloc: Global,
     source: &mut Source<D>,
     listener: &TcpListener,
@@ -148,7 +148,7 @@ fn serve_next<D: Disk, C: Clock>(
         return;
     };
     let now = moment_of(clock.since_1970());
-    if serve_stream(alloc, source, &stream, now) {
+    if answer_stream(alloc, source, &stream, now) {
         read_rest(&stream, clock);
     }
 }
@@ -177,12 +177,13 @@ pub fn serve_connections<D: Disk, C: Clock>(
     // stops, it holds the state after the first of these commands.
     ensures run { RunsAtMost D.state source.old count source.new }
 
-    // Where the source held a state, its disk saw commands answered from that state on.
+    // Where the source held a state, its disk saw commands answered from that state on. If it is open at
+    // the end, it holds the state after those that count. A closed source accepts none and stays closed.
     ensures answered { HasAnswered D.state source.old source.new }
 {
     held_sources_rest::<D>();
     runs_recover::<D>();
     for _ in 0..count {
-        serve_next(alloc, source, listener, clock);
+        accept_one(alloc, source, listener, clock);
     }
 }

@@ -3,12 +3,14 @@ use Rattle.std.proofs.Common.{◌<◌, ◌≤◌, ◌+◌, take, set, length, ar
 use Rattle.std.proofs.lemmas.Grind.{common_steps}
 use Rattle.std.proofs.KnownBytes.{Consumes-nil, Consumes-kept}
 use Rattle.rs_io.specs.Watch.{watched}
+use Rattle.rs_http.proofs.FromBelow.{reads_last}
 use Rattle.rs_http.proofs.Ends.{HasNoEnd-more, IsHead-more, came_more, no_end_at_none, on_err}
 use Rattle.rs_http.proofs.head.read_head.Goals as goal
 
 pub loop-came-init : goal.loop-came-init
 loop-came-init g c = record {
   came = (Consumes-nil (g.R.Read.remaining (watched c.args.reader.now)), refl);
+  reads = omega arith;
   open_yet = no_end_at_none;
 }
 
@@ -23,6 +25,8 @@ returns-in_err-byte-clause-err g c =
           c.loop-came.invariant.came.0 c.in_err-byte.ensures.err,
       c.loop-came.invariant.open_yet,
       short,
+      reads_last c.args.reader.now c.loop-came.reader c.read_byte.new.reader bytes (grind (arith, common_steps)) c.loop-came.invariant.came.1
+          c.read_byte.ensures.called c.read_byte.ensures.once,
     )
 
 pub returns-then-is_end-clause-ok : goal.returns-then-is_end-clause-ok
@@ -49,5 +53,6 @@ loop-came-preserved g c =
             c.loop-came.buf c.loop-came.came c.in-Some.byte small c.loop-came.invariant.came.0 e.0,
         e.1 ∙ c.loop-came.invariant.came.1,
       );
+      reads = omega (arith, c.loop-came.invariant.reads, c.read_byte.ensures.called);
       open_yet = HasNoEnd-more c.loop-came.buf c.loop-came.came c.in-Some.byte small c.loop-came.invariant.open_yet (sym c.is_end.ensures ∙ c.if-is_end.false);
     }

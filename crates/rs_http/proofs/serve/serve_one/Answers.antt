@@ -14,7 +14,7 @@ returns-clause-ok g c =
     served _ c.requests_recover.ensures.answered c.requests_recover.ensures.broken c.requests_make_walks.ensures.answered c.requests_make_walks.ensures.broken
     (ends_of g.R.Read.remaining c.args.reader.now c.answer.new.reader g.W.Write.contents c.args.writer.now c.answer.new.writer)
     (seen_by g.R.Read.remaining c.read_head.new.reader) c.in-Some.request (take c.in-Ok.came c.read_head.new.buf) c.in-Ok.read
-    c.in-Ok.ensures.ok.1.0 c.in-Ok.ensures.ok.1.1 c.in-Ok.ensures.ok.2 c.in-Ok.ensures.end c.in-Some.ensures c.in_ok-status.status c.in_ok-status.ensures.ends
+    c.in-Ok.ensures.ok.1.0 c.in-Ok.ensures.ok.1.1 c.in-Ok.ensures.reads.reads c.in-Ok.ensures.ok.2 c.in-Ok.ensures.end c.in-Some.ensures c.in_ok-status.status c.in_ok-status.ensures.ends
 
 pub returns-in_err-status-clause-read : goal.returns-in_err-status-clause-read
 returns-in_err-status-clause-read g c = λ e.
@@ -23,7 +23,7 @@ returns-in_err-status-clause-read g c = λ e.
     broken _ c.requests_recover.ensures.answered c.requests_recover.ensures.broken c.requests_make_walks.ensures.answered c.requests_make_walks.ensures.broken
     (ends_of g.R.Read.remaining c.args.reader.now c.answer.new.reader g.W.Write.contents c.args.writer.now c.answer.new.writer)
     (seen_by g.R.Read.remaining c.read_head.new.reader) c.in-Some.request (take c.in-Ok.came c.read_head.new.buf) c.in-Ok.read
-    c.in-Ok.ensures.ok.1.0 c.in-Ok.ensures.ok.1.1 c.in-Ok.ensures.ok.2 c.in-Ok.ensures.end c.in-Some.ensures c.in_err-status.field-0.0 is c.in_err-status.ensures.ends
+    c.in-Ok.ensures.ok.1.0 c.in-Ok.ensures.ok.1.1 c.in-Ok.ensures.reads.reads c.in-Ok.ensures.ok.2 c.in-Ok.ensures.end c.in-Some.ensures c.in_err-status.field-0.0 is c.in_err-status.ensures.ends
 
 pub returns-in_err-status-clause-write : goal.returns-in_err-status-clause-write
 returns-in_err-status-clause-write g c = λ e.
@@ -32,7 +32,7 @@ returns-in_err-status-clause-write g c = λ e.
     halted _ c.requests_recover.ensures.answered c.requests_recover.ensures.broken c.requests_make_walks.ensures.answered c.requests_make_walks.ensures.broken
     (ends_of g.R.Read.remaining c.args.reader.now c.answer.new.reader g.W.Write.contents c.args.writer.now c.answer.new.writer)
     (seen_by g.R.Read.remaining c.read_head.new.reader) c.in-Some.request (take c.in-Ok.came c.read_head.new.buf) c.in-Ok.read
-    c.in-Ok.ensures.ok.1.0 c.in-Ok.ensures.ok.1.1 c.in-Ok.ensures.ok.2 c.in-Ok.ensures.end c.in-Some.ensures c.in_err-status.field-0.0 is c.in_err-status.ensures.ends
+    c.in-Ok.ensures.ok.1.0 c.in-Ok.ensures.ok.1.1 c.in-Ok.ensures.reads.reads c.in-Ok.ensures.ok.2 c.in-Ok.ensures.end c.in-Some.ensures c.in_err-status.field-0.0 is c.in_err-status.ensures.ends
 
 pub returns-clause-goes_on : goal.returns-clause-goes_on
 returns-clause-goes_on g c = request_goes _ c.in-Some.request _ (Ok c.in_ok-status.status) c.in_ok-status.ensures.ends

@@ -5,7 +5,7 @@ use Rattle.rs_source.proofs.Connecting.{connections_go, connections_run}
 use Rattle.rs_source.proofs.serving.serve_connections.Goals as goal
 
 pub loop-preserved : goal.loop-preserved
-loop-preserved g c = rw add-one (c.loop.source, c.loop.invariant, c.serve_next.ensures)
+loop-preserved g c = rw add-one (c.loop.source, c.loop.invariant, c.accept_one.ensures)
 
 pub returns-clause-goes_on : goal.returns-clause-goes_on
 returns-clause-goes_on g c =

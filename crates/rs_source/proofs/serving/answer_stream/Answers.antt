@@ -1,6 +1,6 @@
 -- The request was served.
 use Rattle.std.proofs.Common.{inr}
-use Rattle.rs_source.proofs.serving.serve_stream.Goals as goal
+use Rattle.rs_source.proofs.serving.answer_stream.Goals as goal
 
 pub returns : goal.returns
 returns g c = inr (record {
