@@ -1,11 +1,16 @@
 #!/usr/bin/env python3
-"""Proves and builds the program: the crates below it side by side, then itself over them by `rt run`, on examples/first.script.
-The one word is the base of its addresses, http://127.0.0.1:8080 if left out."""
+"""Proves and builds the program as the gate does: `rt ci` in a copy that has the program's crates and those below it, without must-fail edits.
 
+What `rt ci` proves it keeps on this machine by the checksums of all that it read. So after `make test` this proves nothing again, and after
+this `make test` proves only the crates of tests. Nothing runs where the program is made of these files already.
+"""
+
+import hashlib
+import os
+import shutil
 import subprocess
 import sys
-import time
-from itertools import count
+import tempfile
 from pathlib import Path
 
 ROOT = Path(__file__).resolve().parent.parent
@@ -13,38 +18,84 @@ sys.path.insert(0, str(ROOT / "gate" / "edits"))
 
 import kit
 import runs
-from libraries import Libraries
 
 LOG = ROOT / "out" / "build.log"
 PROGRAM = "rs_source"
+BUILT = ROOT / "crates" / PROGRAM / "out" / PROGRAM
+# Of which files the program is made, and its own sum: a line of `sha256sum` each.
+MADE_OF = BUILT.with_suffix(".made_of")
 
 
-def main():
-    built, jobs, number = Libraries(ROOT, kit.lanes()), kit.lanes(), count(1)
-    below, made = kit.below(built.uses, PROGRAM), ROOT / "crates" / PROGRAM / "out" / f"{PROGRAM}.stamp"
-    is_made = made.is_file() and made.read_text().startswith(built.stamps[PROGRAM])
-    due = [it for it in below if not built.is_built(it)] + [PROGRAM] * (not is_made)
-    what = f"make build: proves {len(due)} of {len(below) + 1} crates, and builds the program."
-    runs.announce(what, runs.proving(built.uses, due, jobs), jobs, LOG)
+def copied(root: Path, room: str, names: list[str]) -> Path:
+    """A copy of these crates, without must-fail edits, with the list of them. What git ignores is left out."""
+    copy = Path(room, "copy")
+    for name in runs.files_of_repository(root):
+        parts = name.split("/")
+        if name == "HANDLES" or parts[0] == "crates" and parts[1] in names and parts[2] != "must-fail":
+            (copy / name).parent.mkdir(parents=True, exist_ok=True)
+            shutil.copy2(root / name, copy / name)
+    lines = Path(root, "crates.txt").read_text().splitlines(keepends=True)
+    Path(copy, "crates.txt").write_text("".join(line for line in lines if line.partition(":")[0].split()[:1] in [[name] for name in names]))
+    return copy
+
+
+def sum_of(copy: Path) -> str:
+    """A sum of all that the program is made of: the files of a copy, and the kit."""
+    total = hashlib.sha256(" ".join(kit.identity()).encode())
+    for file in sorted(path for path in copy.rglob("*") if path.is_file()):
+        total.update(f"{file.relative_to(copy)}\0{hashlib.sha256(file.read_bytes()).hexdigest()}\0".encode())
+    return total.hexdigest()
+
+
+def note(made_of: str, program: Path) -> str:
+    """What is noted of a program: what it is made of, and its own sum."""
+    return f"{made_of}  its files and the kit\n{hashlib.sha256(program.read_bytes()).hexdigest()}  {program.name}\n"
+
+
+def is_made(made_of: str) -> bool:
+    """Whether the program is there, as it was made of these files."""
+    return BUILT.is_file() and MADE_OF.is_file() and MADE_OF.read_text() == note(made_of, BUILT)
+
+
+def take(copy: Path, made_of: str) -> None:
+    """Takes the program out of a copy, in one step, and notes what it is made of."""
+    BUILT.parent.mkdir(parents=True, exist_ok=True)
+    new = BUILT.with_suffix(".new")
+    shutil.copyfile(copy / "crates" / PROGRAM / "out" / PROGRAM, new)
+    new.chmod(0o755)
+    MADE_OF.unlink(missing_ok=True)
+    os.replace(new, BUILT)
+    MADE_OF.write_text(note(made_of, BUILT))
+
+
+def build(names: list[str], copy: Path, room: str) -> list[str]:
+    """Proves and builds in the copy, and gives what failed."""
     LOG.parent.mkdir(exist_ok=True)
-    with open(LOG, "w", buffering=1) as log, open(ROOT / "examples" / "first.script") as script:
+    jobs = kit.lanes()
+    what = f"make build: proves {len(names)} crates, those that no earlier run here proved, and builds the program."
+    runs.announce(what, runs.proving(kit.crates_of(ROOT), names, jobs), jobs, LOG)
+    with runs.Meter(room) as meter:
+        failed: list[str] = runs.rt_ci(copy, names, LOG, meter.seconds)[1]
+    return failed
 
-        def when_done(name, told):
-            log.write(f"== {name}\n{told.text}")
-            print("" if told.is_proved else told.text, end="")
-            if name in due:
-                print(f"{next(number)} of {len(due)} {name} {f'{told.seconds:.0f} s' if told.is_proved else 'NOT PROVED'}", flush=True)
 
-        if wrong := built.build_each({*due} - {PROGRAM}, when_done):
-            sys.exit(wrong.partition(":")[0])
-        started, words = time.time(), [kit.RT, "run", "--", "mem", "65536", (sys.argv[1:] or ["http://127.0.0.1:8080"])[0], "2"]
-        how = {"stdin": script, "stdout": subprocess.DEVNULL, "stderr": subprocess.PIPE, "text": True, "errors": "replace"}
-        ran = subprocess.run(words, cwd=ROOT / "crates" / PROGRAM, **how)
-        when_done(PROGRAM, kit.Told(ran.returncode, ran.stderr, time.time() - started))
-    if ran.returncode:
-        sys.exit(f"{PROGRAM}: rt run ended with status {ran.returncode}")
-    print(f"crates/{PROGRAM}/out/{PROGRAM}")
+def main() -> int:
+    """Builds the program, if it is not made of these files already; its path is printed last."""
+    names = [*kit.below(kit.crates_of(ROOT), PROGRAM), PROGRAM]
+    with tempfile.TemporaryDirectory(prefix="build-") as room:
+        # The toolchain runs programs as nobody, on copies below this folder.
+        os.chmod(room, 0o711)
+        copy = copied(ROOT, room, names)
+        made_of = sum_of(copy)
+        if not is_made(made_of):
+            failed = build(names, copy, room)
+            if failed:
+                print("\n".join(failed), file=sys.stderr)
+                return 1
+            take(copy, made_of)
+    print(BUILT.relative_to(ROOT))
+    return 0
 
 
 if __name__ == "__main__":
-    main()
+    sys.exit(main())

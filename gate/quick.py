@@ -18,12 +18,12 @@ sys.path[:0] = [str(ROOT / "gate" / "edits"), str(ROOT)]
 import gate
 import kit
 import touched
-from tests.checks import Check, checks
+from tests.table import Check, checks
 
 # All is done within so many seconds, except a proof or a check that is longer by itself.
 LIMIT = 300
 PROGRAM = ROOT / "crates" / "rs_source" / "out" / "rs_source"
-Part = Callable[[], tuple[int, list[str], list[str]]]
+Part = Callable[[], gate.Came]
 
 
 def not_tried(why: str) -> Part:
@@ -103,7 +103,7 @@ def main() -> int:
             parts.run(check.name, gate.script("-m", *check.words, folder=ROOT))
         else:
             later.append(check)
-    parts.skipped += [f"{it.name}: NOT TRIED: it would end behind {LIMIT} seconds ({it.seconds} s): make tests.{it.name}" for it in later]
+    parts.skipped += [f"{it.name}: NOT TRIED: it would end behind {LIMIT} seconds ({it.seconds} s): make {it.module}" for it in later]
     print(f"{time.monotonic() - started:.0f} seconds")
     return int(gate.conclude(parts, gate.is_strict()))
 

@@ -6,6 +6,7 @@ import os
 import re
 import subprocess
 import threading
+from collections.abc import Callable, Collection, Mapping
 from itertools import count
 from pathlib import Path
 
@@ -17,37 +18,46 @@ DONE = re.compile(r"rt: (\w+)(: its tests are)? (proved|NOT PROVED|is kept)")
 SECONDS = Path(__file__).with_name("seconds.txt")
 
 
-def table():
+def files_of_repository(root: str | Path) -> list[str]:
+    """The files of a repository as they stand, from its top. What git ignores is left out."""
+    words = ["git", "ls-files", "-z", "--cached", "--others", "--exclude-standard"]
+    listed = subprocess.run(words, cwd=root, capture_output=True, check=True).stdout.decode().split("\0")
+    return [name for name in listed if name and Path(root, name).is_file()]
+
+
+def table() -> dict[str, list[int]]:
     """Seconds of a processor by name."""
     rows = [it.split() for it in SECONDS.read_text().splitlines() if it and not it.startswith("#")]
     return {name: [int(it) for it in figures] for name, *figures in rows}
 
 
-def proving(uses, names, processors, with_tests=False):
+def proving(uses: Mapping[str, list[str]], names: Collection[str], processors: int, with_tests: bool = False) -> float:
     """About how many seconds it takes to prove these crates from nothing on this many processors: at least those of their longest chain."""
-    known, chain, ends, total = table(), {}, [0], 0
+    known, ends, total = table(), [0], 0
+    chain: dict[str, int] = {}
     for name in uses:
-        own, tests = known.get(name, (60, 0)) if name in names else (0, 0)
+        own, tests = known.get(name, [60, 0]) if name in names else (0, 0)
         chain[name] = own + max((chain[it] for it in uses[name] if it in chain), default=0)
         ends.append(chain[name] + tests * with_tests)
         total += own + tests * with_tests
     return max(*ends, total / processors)
 
 
-def announce(what, seconds, processors, log):
+def announce(what: str, seconds: float, processors: int, log: Path) -> None:
     """The two lines with which a run begins."""
     took = f"about {round(seconds / 60)} minutes" if seconds > 60 else "less than a minute"
     print(f"{what}\nThat takes {took} on {processors} of the processors here, and less over kept work. What the toolchain says goes to {log}.",
           flush=True)
 
 
-def rt_ci(copy, crates, log, seconds):
+def rt_ci(copy: str | Path, crates: Collection[str], log: str | Path, seconds: Callable[[str, str], float]) -> tuple[int, list[str]]:
     """The toolchain's own run in a copy of the repository, with a line for each crate: how many passed, and what failed.
     All that it says goes to a log, and is shown where it fails. `seconds` gives those of a processor."""
-    number, since, last = count(1), [], ""
-    how = {"stdout": subprocess.PIPE, "stderr": subprocess.STDOUT, "text": True, "errors": "replace"}
-    with open(log, "w") as kept, subprocess.Popen([kit.RT, "ci"], cwd=copy, **how) as ran:
-        for line in ran.stdout:
+    number, last = count(1), ""
+    since: list[str] = []
+    pipe, same = subprocess.PIPE, subprocess.STDOUT
+    with open(log, "w") as kept, subprocess.Popen([kit.RT, "ci"], cwd=copy, stdout=pipe, stderr=same, text=True, errors="replace") as ran:
+        for line in ran.stdout or ():
             kept.write(line)
             since.append(line)
             last = line if line.strip() else last
@@ -69,23 +79,26 @@ def rt_ci(copy, crates, log, seconds):
 class Meter:
     """Looks at the prover's processes below a folder once a second while it is entered: what the last second of one took is missed."""
 
-    def __init__(self, folder):
-        self.folder, self.seen, self.stop = os.path.realpath(folder), {}, threading.Event()
+    def __init__(self, folder: str | Path) -> None:
+        self.folder, self.stop = os.path.realpath(folder), threading.Event()
+        self.seen: dict[tuple[str, str, str, str], float] = {}
 
-    def __enter__(self):
+    def __enter__(self) -> "Meter":
         threading.Thread(target=self.look_on, daemon=True).start()
         return self
 
-    def __exit__(self, *_):
+    def __exit__(self, *_: object) -> None:
         self.stop.set()
 
-    def look_on(self):
+    def look_on(self) -> None:
+        """Looks at all processes, until it is stopped."""
         while not self.stop.wait(1.0):
             for it in glob.glob("/proc/[0-9]*"):
                 with contextlib.suppress(OSError):
                     self.look(it)
 
-    def look(self, process):
+    def look(self, process: str) -> None:
+        """Looks at one process."""
         words = Path(f"{process}/cmdline").read_text(errors="replace").split("\0")
         folder = os.readlink(f"{process}/cwd") if "--crate-name" in words else ""
         if folder.startswith(self.folder):
@@ -95,6 +108,6 @@ class Meter:
             key = (process, fields[19], words[words.index("--crate-name") + 1], next(filter(kinds.get, kinds)))
             self.seen[key] = (int(fields[11]) + int(fields[12])) / os.sysconf("SC_CLK_TCK")
 
-    def seconds(self, crate, kind):
+    def seconds(self, crate: str, kind: str) -> float:
         """Those of a processor that a crate's proofs, its tests, its edits or its compiling took."""
         return sum(it for key, it in [*self.seen.items()] if key[2:] == (crate, kind))

@@ -5,7 +5,10 @@ import subprocess
 from functools import cache
 from pathlib import Path
 
-from tests.checks import Check
+from tests.table import Check
+
+# Where packages lie that are imported by their own name.
+ELSEWHERE = {"ropepeach": "tools"}
 
 
 def changed(root: Path) -> list[str]:
@@ -22,11 +25,17 @@ def crates(uses: list[str], names: list[str]) -> list[str]:
     return [it for it in uses if it in touched]
 
 
+def place_of(root: Path, module: str) -> Path:
+    """The folder of a module, or its file without the suffix, if it is one of the repository."""
+    parts = module.split(".")
+    return root.joinpath(ELSEWHERE.get(parts[0], ""), *parts)
+
+
 def files_of(root: Path, module: str) -> list[Path]:
-    """The files of a module: its own, or all of its folder. The tools' package lies below tools/."""
-    places = [base.joinpath(*module.split(".")) for base in (root, root / "tools")]
-    folders = [file for it in places if it.is_dir() for file in sorted(it.rglob("*.py"))]
-    return [it.with_suffix(".py") for it in places if it.with_suffix(".py").is_file()] + folders
+    """The files of a module: its own, or all of its folder."""
+    place = place_of(root, module)
+    own = [place.with_suffix(".py")] if place.with_suffix(".py").is_file() else []
+    return own + (sorted(place.rglob("*.py")) if place.is_dir() else [])
 
 
 @cache
@@ -48,7 +57,7 @@ def imported(file: Path) -> frozenset[str]:
 def behind(root: Path, check: Check) -> set[Path]:
     """All files of Python that a check is made of: its own, and what these bring in."""
     seen: set[Path] = set()
-    left = files_of(root, f"tests.{check.name}")
+    left = files_of(root, check.module)
     while left:
         file = left.pop()
         if file not in seen:
@@ -60,12 +69,12 @@ def behind(root: Path, check: Check) -> set[Path]:
 
 def own_files(root: Path, module: str) -> list[Path]:
     """The one file of a module that is brought in, if it is one of the repository."""
-    places = [base.joinpath(*module.split(".")) for base in (root, root / "tools")]
-    return [file for it in places for file in (it.with_suffix(".py"), it / "__init__.py") if file.is_file()]
+    place = place_of(root, module)
+    return [file for file in (place.with_suffix(".py"), place / "__init__.py") if file.is_file()]
 
 
 def is_touched(root: Path, check: Check, names: list[str]) -> bool:
     """Whether one of these files is a check's own, or brought in by it, or among those that its line names."""
     own = {str(it.relative_to(root)) for it in behind(root, check)}
-    folders = (f"tests/{check.name.replace('.', '/')}/", *(f"{it}/" for it in check.touched))
+    folders = (f"{check.module.replace('.', '/')}/", *(f"{it}/" for it in check.touched))
     return any(it in own or it in check.touched or it.startswith(folders) for it in names)

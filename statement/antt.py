@@ -34,23 +34,24 @@ class Definition:
     kind: str
     path: str
     line: int
-    comment: list
-    lines: list
+    comment: list[str]
+    lines: list[str]
     section: str = ""
     # The one field of a record that stands here, where a promise names no other.
     part: str = ""
 
     @property
-    def crate(self):
+    def crate(self) -> str:
+        """The crate that it stands in."""
         return self.module.split(".")[1]
 
     @property
-    def label(self):
+    def label(self) -> str:
         """Its crate, its file and its name, as the table of evidence has it."""
         return f"{self.crate}.{self.module.split('.', 3)[3]}.{self.name}"
 
     @property
-    def code(self):
+    def code(self) -> list[str]:
         """Its lines without comments."""
         return [it for it in self.lines if not it.lstrip().startswith("--")]
 
@@ -60,41 +61,44 @@ class Specs:
     """A file of specs."""
 
     module: str
-    definitions: dict = field(default_factory=dict)
+    definitions: dict[str, Definition] = field(default_factory=dict)
     # The definition that each constructor of a `data` belongs to.
-    constructors: dict = field(default_factory=dict)
-    brought: dict = field(default_factory=dict)
+    constructors: dict[str, Definition] = field(default_factory=dict)
+    brought: dict[str, Name] = field(default_factory=dict)
     # Modules that go by another name.
-    aliases: dict = field(default_factory=dict)
+    aliases: dict[str, str] = field(default_factory=dict)
     # What the file passes on to those who bring it in from here.
-    passed: set = field(default_factory=set)
+    passed: set[str] = field(default_factory=set)
 
 
-def brought_by(line):
+def brought_by(line: str) -> tuple[dict[str, Name], dict[str, str], bool]:
     """What a `use` brings in: the names, and the module that goes by another name, if there is one."""
-    found = USE.match(line)
-    public, module, names, alias = found.groups()
+    use = USE.match(line)
+    if not use:
+        raise ValueError(f"it brings nothing in: {line}")
+    public, module, names, alias = use.groups()
     if names is None:
-        return {}, {alias or module.split(".")[-1]: module}, public
-    pairs = [it.strip().split(" as ") for it in names.split(",") if it.strip()]
-    return {it[-1].strip(): Name(module, it[0].strip()) for it in pairs}, {}, public
+        return {}, {alias or module.split(".")[-1]: module}, bool(public)
+    pairs = [name.strip().split(" as ") for name in names.split(",") if name.strip()]
+    return {pair[-1].strip(): Name(module, pair[0].strip()) for pair in pairs}, {}, bool(public)
 
 
-def kind_of(said):
+def kind_of(words: list[str]) -> str:
     """What a definition is by the words before its name. One that is public and no more is a statement with its proof."""
-    return next((it for it in ("record", "data") if it in said), "proof" if said in (["pub"], []) else "function")
+    return next((word for word in ("record", "data") if word in words), "proof" if words in (["pub"], []) else "function")
 
 
 class Reading:
     """The reading of one file, line by line."""
 
-    def __init__(self, module, path):
+    def __init__(self, module: str, path: str) -> None:
         self.specs, self.path = Specs(module), path
-        self.comment, self.current = [], None
+        self.comment: list[str] = []
+        self.current: Definition | None = None
         # What each `module _` that stands around takes, the outer ones first.
-        self.sections = []
+        self.sections: list[str] = []
 
-    def take(self, number, line):
+    def take(self, number: int, line: str) -> None:
         """Takes a line, with its number in the file."""
         if not line.strip():
             self.comment = []
@@ -116,7 +120,8 @@ class Reading:
         elif not line.startswith(LAYOUT):
             self.begin_or_go_on(number, line)
 
-    def bring(self, line):
+    def bring(self, line: str) -> None:
+        """A line that brings names in."""
         names, aliases, public = brought_by(line)
         self.specs.brought.update(names)
         self.specs.aliases.update(aliases)
@@ -124,7 +129,7 @@ class Reading:
             self.specs.passed.update(names)
         self.comment = []
 
-    def begin_or_go_on(self, number, line):
+    def begin_or_go_on(self, number: int, line: str) -> None:
         """A line at the left edge begins a definition, or is an equation of the one before it."""
         head = HEAD.match(line) or STATEMENT.match(line)
         if head:
@@ -135,7 +140,8 @@ class Reading:
             self.go_on([*self.comment, line])
         self.comment = []
 
-    def go_on(self, lines):
+    def go_on(self, lines: list[str]) -> None:
+        """Further lines of the definition that began."""
         if self.current is None:
             raise ValueError(f"{self.path}: no definition begins before: {lines[-1]}")
         within = [*self.comment, *lines] if lines[0].startswith(" ") else lines
@@ -146,7 +152,7 @@ class Reading:
             self.specs.constructors[constructor[1]] = self.current
 
 
-def read(module, path, text):
+def read(module: str, path: str, text: str) -> Specs:
     """The file of specs of this module."""
     reading = Reading(module, path)
     for number, line in enumerate(text.splitlines(), 1):

@@ -1,23 +1,26 @@
 """Reads the tables beside the tool, which are plain text: kit_words.txt and evidence.txt."""
 
+from collections.abc import Iterable, Mapping
 from pathlib import Path
+from typing import Any
 
 HERE = Path(__file__).resolve().parent
 LANGUAGE = "language."
 
 
-def rows(name, text=None):
+def rows(name: str, text: str | None = None) -> list[str]:
     """The lines of a table that are no comments."""
     lines = (text if text is not None else (HERE / name).read_text()).splitlines()
-    return [it for it in lines if it.strip() and not it.startswith("#")]
+    return [line for line in lines if line.strip() and not line.startswith("#")]
 
 
-def kit_words(text=None):
+def kit_words(text: str | None = None) -> dict[str, str]:
     """What each word of the kit means."""
-    return dict(it.split(": ", 1) for it in rows("kit_words.txt", text))
+    pairs = [line.split(": ", 1) for line in rows("kit_words.txt", text)]
+    return {word: meaning for word, meaning in pairs}
 
 
-def faults_of_kit(promises, meanings):
+def faults_of_kit(promises: Iterable[Any], meanings: Mapping[str, str]) -> list[str]:
     """The words that have no line, and the lines that have no word."""
     reached = {it.label for promise in promises for it in promise.reach.kit}
     known = {it for it in meanings if not it.startswith(LANGUAGE)}

@@ -1,7 +1,11 @@
 """What holds the program, its tools and its pictures to what the pages say (README.md)."""
+import atexit
 import importlib.util
+import os
 import pathlib
+import shutil
 import sys
+import tempfile
 
 # The Python that runs the tools: this one if it has what they import, else Debian's, whose packages this one then finds too.
 PYTHON = sys.executable
@@ -11,3 +15,8 @@ if not all(map(importlib.util.find_spec, ["urllib3", "tqdm", "defusedxml"])):
 
 # The package of what users run.
 sys.path.insert(0, str(pathlib.Path(__file__).resolve().parent.parent / "tools"))
+
+# What the command keeps between runs lies in a folder of the tests' own (a process of a test's process has its parent's).
+if "ROPEPEACH_TESTS_STATE" not in os.environ:
+    os.environ["ROPEPEACH_TESTS_STATE"] = os.environ["XDG_STATE_HOME"] = tempfile.mkdtemp(prefix="ropepeach-state-")
+    atexit.register(shutil.rmtree, os.environ["XDG_STATE_HOME"], ignore_errors=True)

@@ -4,36 +4,42 @@ A copy has the function's contract and proof files, and an edit's body. What the
 since names alone differ: a function that any other text of the crate's contracts, specs or proofs names is not copied.
 """
 
+from __future__ import annotations
+
 import re
 from functools import cache
 from pathlib import Path
+from typing import TYPE_CHECKING
 
-import source
+import functions
+
+if TYPE_CHECKING:
+    from edit import Edit, Texts
 
 
-def proof_folder(symbol):
+def proof_folder(symbol: str) -> Path:
     """Where a function's proof files stand in its crate."""
     return Path("proofs", *symbol.split("::")[1:])
 
 
-def proof_module(symbol):
+def proof_module(symbol: str) -> str:
     """By what name proof files speak of a function's proof."""
     crate, *names = symbol.split("::")
     return ".".join(["Rattle", crate, "proofs", *names])
 
 
 @cache
-def texts_of(folder):
+def texts_of(folder: str | Path) -> list[tuple[Path, str]]:
     """The texts of a crate's code, specs and proofs, by their files."""
     return [(it, it.read_text()) for part in ("src", "specs", "proofs") for it in Path(folder, part).rglob("*") if it.is_file()]
 
 
-def can_be_copied(edit, folder):
+def can_be_copied(edit: Edit, folder: str | Path) -> bool:
     """Whether an edit changes one function alone, whose copy can stand beside it.
 
     Such a function is no method of a trait, does not call itself, has no proof by hand, and only its own proof files name it.
     """
-    if len(edit.symbols) != 1 or len({path for path, _, _ in edit.pairs}) != 1:
+    if edit.function is None or len(edit.symbols) != 1 or len({path for path, _, _ in edit.pairs}) != 1:
         return False
     symbol = next(iter(edit.symbols))
     place, name = Path(folder, proof_folder(symbol)), re.escape(".".join(symbol.split("::")[1:]))
@@ -43,18 +49,20 @@ def can_be_copied(edit, folder):
     return not any(re.search(rf"\b(?:proofs|contracts)\.{name}\b", text) for file, text in texts_of(folder) if file.parent != place)
 
 
-def with_copy(texts, folder, edit, edited, number):
+def with_copy(texts: Texts, folder: str | Path, edit: Edit, edited: Texts, number: int) -> tuple[Texts, set[str]]:
     """These texts, with a copy of the function that the edit changes and the copy's proof files; and the copy's symbol, in a set.
 
     The copy is as `edited` has the function.
     """
     symbol, path = next(iter(edit.symbols)), edit.pairs[0][0]
-    text, edited = texts.get(path) or Path(folder, path).read_text(), edited[path]
-    is_it = lambda it: (it.name, it.block) == (edit.function.name, edit.function.block)
-    function = next(filter(is_it, source.functions_of(text)))
-    changed = next(filter(is_it, source.functions_of(edited)))
+    text, new_text = texts.get(path) or Path(folder, path).read_text(), edited[path]
+    wanted = edit.function
+    assert wanted is not None, f"{edit.label} changes no function"
+    function, changed = (
+        next(one for one in functions.functions_of(each) if (one.name, one.block) == (wanted.name, wanted.block)) for each in (text, new_text)
+    )
     name = f"{changed.name}_tried_{number}"
-    copy = f"{edited[source.item_of(edited, changed) : changed.at]}{name}{edited[changed.at + len(changed.name) : changed.end]}"
+    copy = f"{new_text[functions.item_of(new_text, changed) : changed.at]}{name}{new_text[changed.at + len(changed.name) : changed.end]}"
     texts = {**texts, path: f"{text[:function.end]}\n\n{copy}{text[function.end:]}"}
     copied = f"{symbol.rpartition('::')[0]}::{name}"
     for file in sorted(Path(folder, proof_folder(symbol)).glob("*.antt")):

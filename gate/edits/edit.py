@@ -2,12 +2,16 @@
 
 import os
 import re
+from collections.abc import Iterable, Mapping
 from dataclasses import dataclass, field
 from enum import Enum
 from pathlib import Path
 
 import copies
-import source
+import functions
+
+# The texts of files, by their paths in a crate.
+Texts = dict[str, str]
 
 
 class Outcome(Enum):
@@ -26,22 +30,28 @@ class Edit:
     """An edit of a crate: pairs of texts, the symbols of the functions whose bodies alone it changes, and the first of these functions."""
 
     label: str
-    pairs: list
+    pairs: list[tuple[str, str, str]]
     outcome: Outcome = Outcome.NOT_TRIED
     why: str = ""
-    symbols: set = field(default_factory=set)
-    function: source.Function | None = None
+    symbols: set[str] = field(default_factory=set)
+    function: functions.Function | None = None
     # The goal by which it was last seen refused, or '' where none is known, and those of its function as it is.
     goal: str = ""
-    others: list = field(default_factory=list)
-    is_refused = property(lambda self: self.outcome is Outcome.REFUSED)
+    others: list[str] = field(default_factory=list)
+
+    @property
+    def is_refused(self) -> bool:
+        """Whether it came out as wanted."""
+        return self.outcome is Outcome.REFUSED
 
 
-def of_crate(root, name, known):
+def of_crate(root: str | Path, name: str, known: Mapping[str, str]) -> list[Edit]:
     """The edits of a crate, with the goals that are known. A file has lines 'file: PATH', each before pairs of lines 'old: TEXT' and 'new: TEXT'."""
-    found = []
+    found: list[Edit] = []
     for file in sorted(Path(root, "crates", name, "must-fail").glob("*.edit")):
-        pairs, path, old, label = [], "", None, f"{name}/{file.stem}"
+        pairs: list[tuple[str, str, str]] = []
+        path, label = "", f"{name}/{file.stem}"
+        old: str | None = None
         for word, text in re.findall(r"(?m)^(file|old|new): ?(.*)$", file.read_text()):
             if word == "file":
                 path = text.strip()
@@ -54,7 +64,7 @@ def of_crate(root, name, known):
     return found
 
 
-def applied(edit, folder, texts=None):
+def applied(edit: Edit, folder: str | Path, texts: Texts | None = None) -> Texts | None:
     """The texts of the files that the edit changes, by their paths, on top of these texts. None where it can't be applied."""
     texts = dict(texts or {})
     for path, old, new in edit.pairs:
@@ -67,33 +77,37 @@ def applied(edit, folder, texts=None):
     return texts if edit.pairs else None
 
 
-def look(edit, folder, symbols):
+def look(edit: Edit, folder: str | Path, symbols: Iterable[str]) -> None:
     """Finds the functions in whose bodies all that the edit changes lies: none where it changes anything else."""
-    found, texts = {}, {}
+    found: dict[str | None, functions.Function | None] = {}
+    texts: Texts = {}
     for path, old, new in edit.pairs:
         text = texts.get(path) or Path(folder, path).read_text()
         texts[path] = text.replace(old, new)
         start = text.index(old) + len(os.path.commonprefix([old, new]))
         end = max(start, text.index(old) + len(old) - len(os.path.commonprefix([old[::-1], new[::-1]])))
-        functions = source.functions_of(text) if path.startswith("src/") else []
-        inside = [it for it in functions if it.start < start and end < it.end]
+        every = functions.functions_of(text) if path.startswith("src/") else []
+        inside = [one for one in every if one.start < start and end < one.end]
         # Of a function inside another one it could not be told which of them fails.
-        symbol = source.symbol_of(path, inside[0], symbols) if len(inside) == 1 else None
+        symbol = functions.symbol_of(path, inside[0], symbols) if len(inside) == 1 else None
         found.setdefault(symbol, inside[0] if inside else None)
-    edit.symbols, edit.function = {*found} if all(found) else set(), next(iter(found.values()))
+    edit.symbols = {symbol for symbol in found if symbol} if all(found) else set()
+    edit.function = next(iter(found.values()))
 
 
 @dataclass
 class Group:
     """Edits that are tried in one check: the edit of each function or copy by its symbol, and the texts that they make together."""
 
-    tried: dict = field(default_factory=dict)
-    texts: dict = field(default_factory=dict)
+    tried: dict[str, Edit] = field(default_factory=dict)
+    texts: Texts = field(default_factory=dict)
 
-    def takes(self, edit, folder):
+    def takes(self, edit: Edit, folder: str | Path) -> bool:
         """Takes an edit, on a copy of its function or, where that can't be copied, in its place. False where it can't."""
-        if copies.can_be_copied(edit, folder):
-            texts, symbols = copies.with_copy(self.texts, folder, edit, applied(edit, folder), len(self.tried))
+        texts: Texts | None
+        edited = applied(edit, folder)
+        if edited and copies.can_be_copied(edit, folder):
+            texts, symbols = copies.with_copy(self.texts, folder, edit, edited, len(self.tried))
         else:
             symbols = edit.symbols
             texts = None if symbols & {*self.tried} else applied(edit, folder, self.texts)
@@ -102,11 +116,11 @@ class Group:
         return bool(texts)
 
 
-def grouped(edits, folder):
+def grouped(edits: Iterable[Edit], folder: str | Path) -> list[Group]:
     """Groups of edits, each of which is tried in one check. Those that no copy serves come first, while each text stands once."""
-    groups = []
-    for edit in sorted(edits, key=lambda it: copies.can_be_copied(it, folder)):
-        if not any(it.takes(edit, folder) for it in groups):
+    groups: list[Group] = []
+    for edit in sorted(edits, key=lambda one: copies.can_be_copied(one, folder)):
+        if not any(group.takes(edit, folder) for group in groups):
             groups.append(Group())
             groups[-1].takes(edit, folder)
     return groups

@@ -4,11 +4,18 @@ One open goal refuses an edit, and the prover searches long for all others. So t
 it: the others get an answer that no check takes. Where it has an answer by hand, all these stay, since one may cite another.
 """
 
+from __future__ import annotations
+
 import json
 import re
+from collections.abc import Iterable
 from pathlib import Path
+from typing import TYPE_CHECKING
 
 import copies
+
+if TYPE_CHECKING:
+    from edit import Edit, Texts
 
 FILE = "gate/edits/goals.txt"
 HEAD = "# The goal by which each must-fail edit was last seen refused. Written by `make edits`.\n"
@@ -21,42 +28,43 @@ NO_ANSWER = "left_out_of_this_trial"
 NO_GOAL = "no_goal_of_any_function"
 
 
-def known(root):
+def known(root: str | Path) -> dict[str, str]:
     """The goal of each edit that has a line, by its label."""
     text = Path(root, FILE).read_text() if Path(root, FILE).is_file() else ""
-    return dict(it.split(": ") for it in text.splitlines() if it and not it.startswith("#"))
+    rows = [line.split(": ") for line in text.splitlines() if line and not line.startswith("#")]
+    return {label: goal for label, goal in rows}
 
 
-def write(root, crate, edits):
+def write(root: str | Path, crate: str, edits: Iterable[Edit]) -> None:
     """Writes the lines of a crate's edits anew."""
     lines = {label: goal for label, goal in known(root).items() if not label.startswith(f"{crate}/")}
     lines.update({it.label: it.goal for it in edits if it.is_refused and it.goal})
     Path(root, FILE).write_text(HEAD + "".join(f"{label}: {lines[label]}\n" for label in sorted(lines)))
 
 
-def of_function(kept, symbol):
+def of_function(kept: str | Path, symbol: str) -> list[str]:
     """The goals of a function as it is, by what kept work says that its proof declares. Where that is kept in another way it gives none,
     which costs only time."""
     crate, *names = symbol.split("::")
     file = next(Path(kept).glob(f"*/Rattle-{crate}-proofs.{'.'.join(names)}.Proof.oantt"), None)
     declared = DECLARED.search(file.read_bytes()) if file else None
-    found = [it["spelling"] for it in json.loads(declared[1])["exports"] if not it["pub"]] if declared else []
+    found: list[str] = [it["spelling"] for it in json.loads(declared[1])["exports"] if not it["pub"]] if declared else []
     return [it for it in found if not any(other.startswith(f"{it}-clause-") for other in found)]
 
 
-def beside(edit, folder):
+def beside(edit: Edit, folder: str | Path) -> list[str]:
     """The goals that get an answer in a trial of an edit that is none: that of no function alone, where no goal of it is known."""
     if not edit.goal:
         return [NO_GOAL]
     answers = Path(folder, copies.proof_folder(next(iter(edit.symbols))), "Answers.antt")
     by_hand = ANSWERED.findall(answers.read_text()) if answers.is_file() else []
     # A goal covers its clauses, and one of them covers it.
-    is_part = lambda it: it.startswith(f"{edit.goal}-clause-") or edit.goal.startswith(f"{it}-clause-")
-    stays = lambda it: it in [*by_hand, edit.goal] or is_part(it)
-    return [*(by_hand if edit.goal not in by_hand else []), *(it for it in edit.others if not stays(it)), NO_GOAL]
+    parts = [goal for goal in edit.others if goal.startswith(f"{edit.goal}-clause-") or edit.goal.startswith(f"{goal}-clause-")]
+    stay = {*by_hand, edit.goal, *parts}
+    return [*(by_hand if edit.goal not in by_hand else []), *(goal for goal in edit.others if goal not in stay), NO_GOAL]
 
 
-def left_out(texts, folder, symbol, edit):
+def left_out(texts: Texts, folder: str | Path, symbol: str, edit: Edit) -> Texts:
     """These texts, with the answers of a function or its copy in which all but the known goal of an edit are left out of its trial.
     Over an answer to no goal, the prover does not run once more to print what it would offer for the open ones."""
     place, left = copies.proof_folder(symbol), beside(edit, folder)

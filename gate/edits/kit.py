@@ -4,6 +4,7 @@ import os
 import re
 import shutil
 import subprocess
+from collections.abc import Iterable, Mapping
 from dataclasses import dataclass
 from functools import cache
 from pathlib import Path
@@ -19,35 +20,40 @@ class Told:
     status: int
     text: str
     seconds: float = 0.0
-    is_proved = property(lambda self: self.status == 0)
+
+    @property
+    def is_proved(self) -> bool:
+        """Whether it ended well."""
+        return self.status == 0
 
 
 @cache
-def folder():
+def folder() -> Path:
     """The kit's folder: that of the page that `rt doc` names."""
     told = subprocess.run([RT, "doc"], capture_output=True, text=True, check=True)
     return Path(told.stdout.strip()).parent
 
 
-def identity():
+def identity() -> tuple[str, str]:
     """The kit's name, and the sum of the program logic that it proves in: several kits can have one logic."""
     told = subprocess.run([RT, "version"], capture_output=True, text=True, check=True).stdout
-    return re.fullmatch(r"(\S+) logic (\w+)\s*", told).groups()
+    name, logic = re.findall(r"\A(\S+) logic (\w+)\s*\Z", told)[0]
+    return name, logic
 
 
-def lanes():
+def lanes() -> int:
     """How many checks go side by side: one a processor, with 4 GB of free memory for each. None was seen to take more than 3.1 GB."""
-    free = int(re.search(r"MemAvailable:\s+(\d+)", Path("/proc/meminfo").read_text())[1])
+    free = int(re.findall(r"MemAvailable:\s+(\d+)", Path("/proc/meminfo").read_text())[0])
     return max(1, min(len(os.sched_getaffinity(0)), free // 4_000_000))
 
 
-def crates_of(root):
+def crates_of(root: str | Path) -> dict[str, list[str]]:
     """Each crate that crates.txt lists, with the libraries that it uses, the lowest first."""
     rows = re.findall(r"(?m)^(\w+)[^\n#:]*:([^\n#]*)", Path(root, "crates.txt").read_text())
     return {name: uses.split() for name, uses in rows}
 
 
-def below(uses, name):
+def below(uses: Mapping[str, Iterable[str]], name: str) -> list[str]:
     """The repository's crates that this one stands on, near or far, the lowest first."""
     lower = {*uses[name]}
     for it in reversed([*uses]):
@@ -55,16 +61,19 @@ def below(uses, name):
     return [it for it in uses if it in lower]
 
 
-def check(words, crate_folder):
+def check(words: list[str], crate_folder: str | Path) -> Told:
     """Runs a check in a crate's folder."""
-    streams = {"stdin": subprocess.DEVNULL, "stdout": subprocess.PIPE, "stderr": subprocess.STDOUT}
-    with subprocess.Popen(words, cwd=crate_folder, errors="replace", **streams) as ran:
-        text = ran.stdout.read()
+    none, pipe, same = subprocess.DEVNULL, subprocess.PIPE, subprocess.STDOUT
+    with subprocess.Popen(words, cwd=crate_folder, errors="replace", stdin=none, stdout=pipe, stderr=same) as ran:
+        text = ran.stdout.read() if ran.stdout else ""
         _, status, took = os.wait4(ran.pid, 0)
         ran.returncode = os.waitstatus_to_exitcode(status)
     return Told(ran.returncode, text, took.ru_utime + took.ru_stime)
 
 
-def linked_copy(kept, to):
+def linked_copy(kept: str | Path, to: str | Path) -> None:
     """A copy of kept work by links, which serve since the prover replaces files and never writes into one."""
-    return shutil.copytree(kept, to, copy_function=os.link) if os.path.isdir(kept) else os.makedirs(to)
+    if os.path.isdir(kept):
+        shutil.copytree(kept, to, copy_function=os.link)
+    else:
+        os.makedirs(to)

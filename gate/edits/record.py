@@ -6,65 +6,67 @@ it (their source without bodies and comments, and their specs), and of the progr
 
 import datetime
 import hashlib
+from collections.abc import Iterable, Mapping
 from functools import cache
 from pathlib import Path
 
 import kit
-import source
+import functions
 
 FILE = "gate/edits/record.txt"
 HEAD = "# Crates all of whose must-fail edits were seen refused: name, number of edits, day, kit, hash. Written by `make edits`.\n"
 # What a text says is read once, however many crates stand above it.
-outline = cache(source.outline)
+outline = cache(functions.outline)
 
 
-def files(folder, *parts):
+def files(folder: str | Path, *parts: str) -> list[str]:
     """The paths of the crate's files below these folders, in a fixed order."""
     return sorted(it.relative_to(folder).as_posix() for part in parts for it in Path(folder, part).rglob("*") if it.is_file())
 
 
-def edits_of(root, name):
+def edits_of(root: str | Path, name: str) -> list[str]:
+    """The edits of a crate."""
     return files(Path(root, "crates", name), "must-fail")
 
 
-def hash_of(root, uses, name, logic):
+def hash_of(root: str | Path, uses: Mapping[str, list[str]], name: str, logic: str) -> str:
     """The hash that a crate's line of the record must have now."""
-    total, folder = hashlib.sha256(logic.encode()), lambda crate: Path(root, "crates", crate)
-    texts = [(it, Path(folder(name), it).read_bytes()) for it in files(folder(name), "src", "specs", "proofs", "must-fail")]
+    total, crates = hashlib.sha256(logic.encode()), Path(root, "crates")
+    texts = [(it, (crates / name / it).read_bytes()) for it in files(crates / name, "src", "specs", "proofs", "must-fail")]
     for lower in kit.below(uses, name):
-        said = [(it, Path(folder(lower), it).read_text()) for it in files(folder(lower), "src", "specs")]
+        said = [(it, (crates / lower / it).read_text()) for it in files(crates / lower, "src", "specs")]
         texts += [(f"{lower}/{it}", (outline(text) if it.endswith(".rt") else text).encode()) for it, text in said]
     for label, data in [(name, " ".join(uses[name]).encode()), *texts]:
         total.update(f"{label} {len(data)}\n".encode() + data)
     return total.hexdigest()
 
 
-def lines(root):
+def lines(root: str | Path) -> dict[str, tuple[str, ...]]:
     """The record's lines by crate: number of edits, day, kit and hash."""
     text = Path(root, FILE).read_text() if Path(root, FILE).is_file() else ""
     rows = [it.split() for it in text.splitlines() if it and not it.startswith("#")]
     return {it[0]: tuple(it[1:]) for it in rows if len(it) == 5}
 
 
-def uncovered(root):
+def uncovered(root: str | Path) -> list[str]:
     """The crates with edits that the record does not cover as they stand."""
     uses, known, (_, logic) = kit.crates_of(root), lines(root), kit.identity()
     return [name for name in uses if edits_of(root, name) and known.get(name, ("",))[-1] != hash_of(root, uses, name, logic)]
 
 
-def outdated(root):
+def outdated(root: str | Path) -> list[str]:
     """The crates that have a line, which is older than they are, or which no crate has any more."""
     crates = {name for name in kit.crates_of(root) if edits_of(root, name)} - {*uncovered(root)}
     return [name for name in lines(root) if name not in crates]
 
 
-def picked(root, commit, number=2):
+def picked(root: str | Path, commit: str, number: int = 2) -> list[str]:
     """This many crates with edits that a commit's own hash picks."""
     with_edits = [name for name in kit.crates_of(root) if edits_of(root, name)]
     return sorted(with_edits, key=lambda it: hashlib.sha256(f"{commit} {it}".encode()).digest())[:number]
 
 
-def write(root, names):
+def write(root: str | Path, names: Iterable[str]) -> None:
     """Writes the lines of these crates anew, and drops those of crates that are gone."""
     uses, known, (named, logic) = kit.crates_of(root), lines(root), kit.identity()
     today = datetime.date.today().isoformat()

@@ -1,7 +1,10 @@
 """Reads what a check told: which functions it refuses for their own sake, and why."""
 
 import re
+from collections.abc import Mapping
 from dataclasses import dataclass
+
+from kit import Told
 
 # The lines of a check: an error, a goal that stays open, and that goal's function, or another item, which comes after it.
 ERROR = re.compile(r"(?:\./)?((?:src|specs|proofs)/\S+?):\d+:\d+: error:? ?(.*)")
@@ -27,30 +30,34 @@ class Verdict:
     """
 
     is_read: bool
-    own: dict
-    goals: dict
-    by_hand: dict
+    own: dict[str, str]
+    goals: dict[str, list[str]]
+    by_hand: dict[str, list[str]]
     first: str
 
-    def refused(self, symbol):
+    def refused(self, symbol: str) -> list[str]:
         """The goals by which a function is refused: those that are left open, then those whose answers by hand are refused."""
         return [*self.goals.get(symbol, []), *self.by_hand.get(symbol, [])]
 
 
-def owner(symbol):
+def owner(symbol: str) -> str:
     """The function of a symbol: those of closures are m::fn::f::map for one in m::f."""
     return re.sub(r"::fn::((?:[A-Z]\w*::)?\w+)::.*", r"::\1", symbol)
 
 
-def named(goals):
+def named(goals: list[str]) -> list[str]:
     """The names of open goals: first those that the prover found to be false, then those of what a function ensures."""
     names = [(IS_FALSE not in it, not name[1].startswith("returns"), name[1]) for it in goals if (name := NAME.search(it))]
     return [it[-1] for it in sorted(names, key=lambda it: it[:-1])]
 
 
-def read(crate, told, left_out={}):
+def read(crate: str, told: Told, left_out: Mapping[str, list[str]] = {}) -> Verdict:
     """Reads what a check of a crate told, but for the answers of these goals, by function."""
-    own, in_files, goals, opened, by_hand = {}, {}, [], {}, {}
+    own: dict[str, str] = {}
+    in_files: dict[str, str] = {}
+    opened: dict[str, list[str]] = {}
+    by_hand: dict[str, list[str]] = {}
+    goals: list[str] = []
     is_read = told.status == 1 and ENDED.search(told.text) is not None
     for line in CUT.sub(" ", told.text).split("\n"):
         if found := ERROR.match(line):
@@ -74,6 +81,6 @@ def read(crate, told, left_out={}):
     return Verdict(is_read, own, opened, by_hand, first[0] if first else told.text[:200])
 
 
-def proved(told):
+def proved(told: Told) -> list[str]:
     """The symbols of the functions that a check proved."""
     return re.findall(r"(?m)^fn (\S+): proved", told.text)

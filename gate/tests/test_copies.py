@@ -11,7 +11,7 @@ from samples import CODE, repository, rows, write
 import copies
 import edit
 import goals
-import source
+import functions
 
 ANSWERS = """use Rattle.sample.proofs.next.Goals as goal
 
@@ -37,12 +37,12 @@ class Copying(unittest.TestCase):
         return found
 
     def test_functions_and_their_symbols(self):
-        found = source.functions_of(CODE)
+        found = functions.functions_of(CODE)
         self.assertEqual([it.name for it in found], ["next", "after_next", "smaller", "nothing"])
         self.assertEqual(CODE[found[2].start : found[2].end].strip().split("\n")[1].strip(), "if a < b { a } else { b }")
         text = "impl<T: Disk> Disk for Box<T> {\n    fn read(&self) {}\n}\nimpl Used {\n    fn take(&self) {}\n}\nfn take() {}\n"
         symbols = ["a::m::BoxTDisk::read", "a::m::n::Used::take", "a::m::take", "a::take"]
-        self.assertEqual([source.symbol_of("src/m.rt", it, symbols) for it in source.functions_of(text)][1:], ["a::m::n::Used::take", "a::m::take"])
+        self.assertEqual([functions.symbol_of("src/m.rt", it, symbols) for it in functions.functions_of(text)][1:], ["a::m::n::Used::take", "a::m::take"])
         self.assertEqual(self.edit("u16::from(x) + 1", "u16::from(x) + 2").symbols, {"sample::next"})
         self.assertEqual(self.edit("result ≤ a", "result ≤ b", "smaller").symbols, set())
 
@@ -64,7 +64,7 @@ class Copying(unittest.TestCase):
         for head, place, text, can_be in rows("copied"):
             with tempfile.TemporaryDirectory() as room, self.subTest(head=head, place=place, text=text):
                 write(text, room, "proofs", place)
-                [function] = source.functions_of(head + " {\n    fn turn() ensures { P } {}\n}\n")
+                [function] = functions.functions_of(head + " {\n    fn turn() ensures { P } {}\n}\n")
                 it = edit.Edit("", [("src/lib.rt", "", "")], symbols={"low::Kind::turn"}, function=function)
                 self.assertEqual(copies.can_be_copied(it, room), can_be == "yes")
 

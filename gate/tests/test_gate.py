@@ -18,6 +18,16 @@ import runs
 
 # A toolchain by which one crate is proved, one is kept and the tests of one are proved; and what it may say of another one.
 RAN, FAILED = text("told_by_rt_ci"), "== high\nof high\nrt: high NOT PROVED\nwhat else failed\n"
+# Checks that need more than Python.
+WITH_TOOLS = """
+tests.page
+tests.collection
+tests.machine
+tests.tools.served
+tests.system.tour
+tests.powercut
+tests.replicas
+""".split()
 
 
 class Parts(unittest.TestCase):
@@ -86,14 +96,14 @@ class Parts(unittest.TestCase):
     def test_each_check_that_has_not_its_tools_says_so(self):
         """Checks on a machine with no tool but Python: each says what it lacks, and none passes."""
         with tempfile.TemporaryDirectory() as room:
-            for name in ("page", "collection", "machine", "tools.served", "system.tour", "powercut", "replicas"):
+            for name in WITH_TOOLS:
                 ran = self.without_tools(name, room)
                 self.assertEqual((name, ran.returncode), (name, gate.SKIPPED))
                 self.assertTrue(any(map(gate.NOT_TRIED.search, ran.stdout.splitlines())), ran.stdout)
 
     def without_tools(self, name, room):
         """A check with a search path of no folder with tools, as far as it looks for them there."""
-        words = [sys.executable, "-c", f"import os, runpy, shutil\nshutil.which = lambda *_, **__: None\nrunpy.run_module('tests.{name}', "
+        words = [sys.executable, "-c", f"import os, runpy, shutil\nshutil.which = lambda *_, **__: None\nrunpy.run_module('{name}', "
                  "run_name='__main__', alter_sys=True)"]  # fmt: skip
         return subprocess.run(words, cwd=gate.ROOT, env={"PATH": room, "HOME": room}, capture_output=True, text=True)
 
@@ -128,7 +138,7 @@ class Parts(unittest.TestCase):
     def test_each_check_has_a_program(self):
         self.assertGreater(len(gate.checks()), 30)
         for check in gate.checks():
-            place = Path(gate.ROOT, "tests", *check.name.split("."))
+            place = Path(gate.ROOT, *check.module.split("."))
             self.assertTrue(place.with_suffix(".py").is_file() or (place / "__main__.py").is_file(), check.name)
 
     def test_what_has_no_tool_is_told_by_name(self):

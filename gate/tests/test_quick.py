@@ -14,14 +14,14 @@ import gate
 import kit
 import quick
 import touched
-from tests.checks import Check, checks
+from tests.table import Check, checks
 
 
 def committed(room):
     """A repository with one commit: a check, what it brings in, a page and a crate."""
     some = {"tests/rows/__main__.py": "from tests.reading import reader\n", "tests/reading/reader.py": "import tests.low\n"}
     write("out/\n", room, ".gitignore")
-    none = ("tests/__init__.py", "tests/reading/__init__.py", "tests/low.py", "tests/other.py", "docs/PAGE.md", "tools/fill.py")
+    none = ("tests/__init__.py", "tests/reading/__init__.py", "tests/low.py", "tests/other.py", "docs/A.md", "bench/fill.py")
     for name, text in {**some, **dict.fromkeys(none, "")}.items():
         write(text, room, name)
     for words in (["init", "-q"], ["add", "-A"], ["-c", "user.name=a", "-c", "user.email=a@a", "commit", "-qm", "all"]):
@@ -29,7 +29,7 @@ def committed(room):
 
 
 def check(name, touched_by=(), seconds=0):
-    return Check(name, "whole", "", "-", seconds, tuple(touched_by))
+    return Check("tests", name, "whole", "", "-", seconds, tuple(touched_by))
 
 
 class Touched(unittest.TestCase):
@@ -45,16 +45,24 @@ class Touched(unittest.TestCase):
         write("x = 1\n", self.room, "tests/low.py")
         write("", self.room, "tests/new file.py")
         write("", self.room, "out/built.py")
-        (self.room / "docs" / "PAGE.md").unlink()
-        self.assertEqual(touched.changed(self.room), ["docs/PAGE.md", "tests/low.py", "tests/new file.py"])
+        (self.room / "docs" / "A.md").unlink()
+        self.assertEqual(touched.changed(self.room), ["docs/A.md", "tests/low.py", "tests/new file.py"])
 
     def test_a_check_is_touched_by_what_it_brings_in_and_by_its_line(self):
-        rows, tools = check("rows", ["docs/PAGE.md"]), check("other", ["tools"])
+        rows, other = check("rows", ["docs/A.md"]), check("other", ["bench"])
         for name, wanted in (("tests/low.py", (True, False)), ("tests/reading/reader.py", (True, False)), ("tests/rows/a.in", (True, False)),
-                             ("tests/rows_more.py", (False, False)), ("docs/PAGE.md", (True, False)), ("docs/PAGE.md.old", (False, False)),
-                             ("tests/other.py", (False, True)), ("tools/fill.py", (False, True)), ("toolset/fill.py", (False, False))):  # fmt: skip
-            found = tuple(touched.is_touched(self.room, it, [name]) for it in (rows, tools))
+                             ("tests/rows_more.py", (False, False)), ("docs/A.md", (True, False)), ("docs/A.md.old", (False, False)),
+                             ("tests/other.py", (False, True)), ("bench/fill.py", (False, True)), ("benches/fill.py", (False, False))):  # fmt: skip
+            found = tuple(touched.is_touched(self.room, it, [name]) for it in (rows, other))
             self.assertEqual((name, found), (name, wanted))
+
+    def test_a_package_of_its_own_name_touches_what_brings_it_in(self):
+        write("from sent.files import Files\n", self.room, "tests/other.py")
+        write("", self.room, "bench/sent/files.py")
+        touched.imported.cache_clear()
+        for elsewhere, wanted in (({"sent": "bench"}, True), ({}, False)):
+            with mock.patch.object(touched, "ELSEWHERE", elsewhere):
+                self.assertEqual(touched.is_touched(self.room, check("other"), ["bench/sent/files.py"]), wanted)
 
     def test_a_check_that_is_no_python_is_touched_by_itself(self):
         for text in (b"def (:", b"\xff\xfe", b"x\x00"):
@@ -63,12 +71,12 @@ class Touched(unittest.TestCase):
             self.assertTrue(touched.is_touched(self.room, check("other"), ["tests/other.py"]))
 
     def test_a_crate_is_touched_by_its_code_and_proofs(self):
-        names = ["crates/high/proofs/a/B.antt", "crates/low/src/lib.rt", "crates/mid/README.md", "crates/mid/must-fail/a.edit", "docs/PAGE.md"]
+        names = ["crates/high/proofs/a/B.antt", "crates/low/src/lib.rt", "crates/mid/README.md", "crates/mid/must-fail/a.edit", "docs/A.md"]
         self.assertEqual(touched.crates(["low", "mid", "high"], names), ["low", "high"])
 
     def test_each_check_here_is_touched_by_itself(self):
         for it in checks():
-            own = touched.files_of(gate.ROOT, f"tests.{it.name}")
+            own = touched.files_of(gate.ROOT, it.module)
             self.assertTrue(own and touched.is_touched(gate.ROOT, it, [str(own[-1].relative_to(gate.ROOT))]), it.name)
 
 
@@ -96,11 +104,11 @@ class Quick(unittest.TestCase):
         self.assertEqual((status, told[-1]), (0, "1 passed, 0 failed"))
 
     def test_checks_that_are_touched_run(self):
-        some = [check("rows", ["docs"]), check("ends"), check("machine", ["docs"], seconds=900)]
+        some = [check("rows", ["docs"]), check("ends"), check("slow", ["docs"], seconds=900)]
         status, told = self.told(["docs/DISK.md"], some)
         self.assertEqual((status, told[0]), (0, "make quick: 1 files changed; 0 crates and 2 checks are touched"))
         self.assertIn("== rows", told)
-        why = "machine: NOT TRIED: it would end behind 300 seconds (900 s): make tests.machine"
+        why = "slow: NOT TRIED: it would end behind 300 seconds (900 s): make tests.slow"
         self.assertEqual(told[-2:], [f"SKIPPED: {why}", "1 passed, 0 failed, 1 skipped"])
 
     def test_no_program_is_no_pass(self):

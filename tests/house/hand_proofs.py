@@ -9,6 +9,7 @@ where a file is there that is not expected, or an expected one is not.
 import os
 import pathlib
 import sys
+from collections.abc import Iterator
 
 ROOT = pathlib.Path(__file__).resolve().parents[2]
 NAME = "proof.antt"
@@ -18,12 +19,12 @@ EXPECTED = {
 }
 
 
-def is_made(folder):
+def is_made(folder: pathlib.Path) -> bool:
     """Whether the prover makes this folder."""
     return folder.name == "out" and folder.parent.parent == ROOT / "crates"
 
 
-def hand_proofs():
+def hand_proofs() -> Iterator[str]:
     """The path of each proof by hand, from the top of the repository."""
     for folder, folders, files in os.walk(ROOT):
         here = pathlib.Path(folder)
@@ -33,7 +34,8 @@ def hand_proofs():
                 yield (here / name).relative_to(ROOT).as_posix()
 
 
-def main():
+def main() -> int:
+    """Names the proofs by hand, and gives the status."""
     found = set(hand_proofs())
     for path in sorted(found):
         print(path if path in EXPECTED else f"{path}: a proof by hand that is not expected")

@@ -1,13 +1,16 @@
 """The figures of the program's limits: the pages tell those that the code has."""
 
 import re
+from collections.abc import Iterator, Mapping
+from pathlib import Path
 
 NUMBER, LARGE = r"(\d[\d,]*\d(?: [MG]iB)?)", r"(\d+,[\d,]*\d)"
+Limit = tuple[str, str, str, str, float]
 ITEMS = "rs_record/src/limits.rt", r"MOST_ITEMS: usize = (\S+);"
 BLOCKS = "rs_image/src/used.rt", r"MOST_BLOCKS: u64 = (\S+);"
 # What a limit is, how pages tell its figures (a space matches any white space), in which file of crates/ and how the code has them, and
 # by what the code's are multiplied.
-LIMITS = [
+LIMITS: list[Limit] = [
     ("most resources", rf"TooManyResources`(?:\*\*:| \|) (?:[a-z ]+ )?{NUMBER}|{NUMBER} are held"
                        rf"|{NUMBER} resources (?:of 16 MiB at most|(?:and )?4 GiB)|(?:holds|most|beyond|to|more than) {LARGE} (?:resources|records)",
      *ITEMS, 1),
@@ -36,25 +39,25 @@ LIMITS = [
 ]
 
 
-def value(figure):
+def value(figure: str) -> int:
     """The number that a figure is, in a page (`50,000`, `16 MiB`) or in the code (`50_000`)."""
     return int(re.sub(r"\D", "", figure)) * {"M": 2**20, "G": 2**30}.get(figure[-3:-2], 1)
 
 
-def of_code(root, limit):
+def of_code(root: Path, limit: Limit) -> list[int] | None:
     """The figures of a limit as the code has them."""
     _, _, file, where, times = limit
     found = re.search(where, (root / "crates" / file).read_text())
     return [int(value(it) * times) for it in found.groups()] if found else None
 
 
-def told(text, limit):
+def told(text: str, limit: Limit) -> Iterator[tuple[int, str, list[int]]]:
     """Where a text tells figures of a limit, and which."""
     for it in re.finditer(limit[1].replace(" ", r"\s+"), text):
         yield it.start(), it[0], [value(figure) for figure in it.groups() if figure]
 
 
-def wrong(root, texts):
+def wrong(root: Path, texts: Mapping[Path, str]) -> Iterator[tuple[Path | None, int, str]]:
     """The places (page, offset, what is wrong) where pages tell other figures than the code's, and the limits that no page tells."""
     for limit in LIMITS:
         right, count = of_code(root, limit), 0

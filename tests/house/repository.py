@@ -3,41 +3,47 @@
 import fnmatch
 import os
 import re
+from collections.abc import Iterator
 from pathlib import Path
 
-SOURCES = ["crates/*/src/**/*.rt", "crates/*/specs/**/*.antt", "crates/*/proofs/*.antt", "Makefile", "crates.txt", "packages.txt",
-           "tests/house/words.txt", "statement/kit_words.txt", "tools/*", "install/*", "install/site/*", "package/debian/*", "examples/*"]
+SOURCES = ["crates/*/src/**/*.rt", "crates/*/specs/**/*.antt", "crates/*/proofs/*.antt", "crates.txt", "packages.txt"]
+SOURCES += ["tests/house/words.txt", "statement/kit_words.txt", "Makefile", "operations/Makefile", "examples/*"]
+SOURCES += ["tools/*", "install/*", "install/site/*", "debian/*", "pyproject.toml", "MANIFEST.in"]
 SOURCES += [f"{folder}/**/*.py" for folder in ("bench", "gate", "package", "rust", "statement", "tests", "tools")]
+# The files that have targets of `make`.
+MAKEFILES = ["Makefile", "operations/Makefile"]
 SOURCES += ["rust/*/src/*.rs", "rust/*/Cargo.toml"]
 COMMENT, WORD, FLAG = re.compile(r"(?m)(?<!\S)(?://|--(?=\s)).*"), re.compile(r"[^\W\d]\w*"), re.compile(r"(?<![\w-])--[a-z][a-z-]*")
 FENCE, SPAN = re.compile(r"(?ms)^ *```(\w*)\n(.*?)^ *```"), re.compile(r"(?<!`)`([^`]+)`(?!`)")
 
 
-def found_below(root):
+def found_below(root: Path) -> Iterator[str]:
     """All files and folders, but for what is built."""
     for top, folders, files in os.walk(root):
         folders[:] = [it for it in folders if it not in (".git", "out", "__pycache__")]
         yield from (os.path.relpath(Path(top, it), root) for it in [*folders, *files])
 
 
-def read(file):
+def read(file: Path) -> str:
     """The text of a source, code and definitions without their comments."""
     text = file.read_text(errors="replace")
     return COMMENT.sub("", text) if file.suffix in (".rt", ".antt") else text
 
 
-def blanked(kind, text):
+def blanked(kind: re.Pattern[str], text: str) -> str:
     """A text without what is of this kind, with everything else at its place."""
     return kind.sub(lambda found: re.sub(r"\S", " ", found[0]), text)
 
 
-def prose(text):
+def prose(text: str) -> str:
     """A page without its blocks of code."""
     return blanked(FENCE, text)
 
 
 class Repository:
-    def __init__(self, root):
+    """The files of a repository, and the words, flags and targets of its sources."""
+
+    def __init__(self, root: Path) -> None:
         self.root = root
         # Each path and each end of one, with and without what stands behind its dot.
         ends = {"/".join(parts[at:]) for parts in (it.split("/") for it in found_below(root)) for at in range(len(parts))}
@@ -45,14 +51,15 @@ class Repository:
         self.sources = {it: read(it) for kind in SOURCES for it in sorted(root.glob(kind)) if it.is_file() and "out" not in it.parts}
         self.words = {word for text in [*self.sources.values(), *self.ends] for word in WORD.findall(text)}
         self.flags = {flag for text in self.sources.values() for flag in FLAG.findall(text)}
-        self.targets = {it for line in re.findall(r"(?m)^([\w -]+):", (root / "Makefile").read_text()) for it in line.split()}
+        rules = "".join(file.read_text() for file in (root / name for name in MAKEFILES) if file.is_file())
+        self.targets = {target for line in re.findall(r"(?m)^([\w -]+):", rules) for target in line.split()}
 
-    def texts(self, *crates):
+    def texts(self, *crates: str) -> list[str]:
         """The texts of code and definitions of these crates, of all where none is named."""
         own = {self.root / "crates" / it for it in crates} or {self.root / "crates"}
         return [text for it, text in self.sources.items() if own & set(it.parents) and "proofs" not in it.parts]
 
-    def has(self, path):
+    def has(self, path: str) -> bool:
         """Whether a file or folder ends in this path, where a part in capitals matches any."""
         wanted = re.sub(r"(?<![\w.])[A-Z][A-Z_]+(?!\w|\.md)", "*", path)
         return path in self.ends or "*" in wanted and bool(fnmatch.filter(self.ends, wanted))

@@ -9,6 +9,7 @@ import os
 import shutil
 import subprocess
 import sys
+from collections.abc import Iterator
 from dataclasses import dataclass
 from pathlib import Path
 
@@ -31,25 +32,26 @@ class Package:
     use: str
 
     @property
-    def is_there(self):
+    def is_there(self) -> bool:
+        """Whether this machine has it."""
         if self.mark.startswith("/"):
             return Path(self.mark).exists()
         return bool(shutil.which(self.mark, path=f"{os.environ.get('PATH', os.defpath)}:{PATH}"))
 
 
-def packages(text):
+def packages(text: str) -> list[Package]:
     """The packages of a table, in its order."""
     rows = [line.split(" | ") for line in text.splitlines() if line.strip() and not line.startswith("#")]
-    return [Package(*(it.strip() for it in row)) for row in rows]
+    return [Package(*(field.strip() for field in row)) for row in rows]
 
 
-def missing(text):
+def missing(text: str) -> list[Package]:
     """The packages that the tests use and this machine has not."""
-    return [it for it in packages(text) if it.user in ("gate", "test") and not it.is_there]
+    return [package for package in packages(text) if package.user in ("gate", "test") and not package.is_there]
 
 
 @contextlib.contextmanager
-def nothing_is_started():
+def nothing_is_started() -> Iterator[None]:
     """While this lasts no package starts a service. A policy that is there already stays as it is."""
     if POLICY.exists():
         yield
@@ -62,7 +64,7 @@ def nothing_is_started():
         POLICY.unlink()
 
 
-def ran(*words):
+def ran(*words: str) -> bool:
     """Whether a command ends well; where it does not, its last lines are printed."""
     try:
         quiet = {**os.environ, "DEBIAN_FRONTEND": "noninteractive"}
@@ -75,7 +77,7 @@ def ran(*words):
     return not done.returncode
 
 
-def install(names):
+def install(names: list[str]) -> bool:
     """Whether Debian's registry gives these packages, and they are installed."""
     with nothing_is_started():
         if not ran("apt-get", "update", "-q") or not ran("apt-get", "install", "-q", "-y", "--no-install-recommends", *names):
@@ -84,26 +86,27 @@ def install(names):
     return not services or not shutil.which("systemctl") or ran("systemctl", "disable", "--quiet", *services)
 
 
-def setup(text):
+def setup(text: str) -> bool:
     """Installs what is missing, where it may, and names what is left out in the end. Gives whether the gate can begin."""
     lacking = missing(text)
     if not lacking:
         return True
-    print(f"== this machine lacks of Debian: {', '.join(it.name for it in lacking)} (packages.txt)", flush=True)
+    print(f"== this machine lacks of Debian: {', '.join(package.name for package in lacking)} (packages.txt)", flush=True)
     if os.environ.get("SETUP") == "no":
         print("SETUP=no: nothing is installed")
     elif os.getuid():
         print("nothing is installed, as this does not run as root")
     else:
         print("installing them by apt-get; SETUP=no leaves the machine alone", flush=True)
-        print("they are installed" if install([it.name for it in lacking]) else "not all could be installed", flush=True)
-    left = missing(text)
-    for it in left:
-        print(f"NOT TRIED, as there is no {it.mark} here: {it.use}", flush=True)
-    return all(it.user == "test" for it in left)
+        print("they are installed" if install([package.name for package in lacking]) else "not all could be installed", flush=True)
+    still_missing = missing(text)
+    for package in still_missing:
+        print(f"NOT TRIED, as there is no {package.mark} here: {package.use}", flush=True)
+    return all(package.user == "test" for package in still_missing)
 
 
-def main():
+def main() -> None:
+    """Sets the machine up by packages.txt."""
     if not setup(Path(ROOT, "packages.txt").read_text()):
         sys.exit("the gate cannot begin without what packages.txt has for it")
 

@@ -2,12 +2,12 @@
 
 import unittest
 
-from tests import checks
+from tests import checks, table
 from tests.house import imports
 from tests.program import ROOT
 
 # What is run and is no check of the program.
-OTHERS = ("tests.house", "tests.checks", "tests.pictures.draw")
+OTHERS = ("tests.house", "tests.checks")
 TABLE = """# of checks
 
 rows | whole | answers | - | 7 | examples docs
@@ -19,30 +19,49 @@ memory | never | memory | - | 0 | -
 class Table(unittest.TestCase):
     def test_each_check_has_a_line(self) -> None:
         run = {imports.module_of(it).removesuffix(".__main__") for it in imports.FILES if imports.is_run(it)}
-        wanted = {it for it in run if it.startswith("tests.") and not it.startswith(OTHERS)}
-        self.assertEqual({f"tests.{it.name}" for it in checks.checks()}, wanted)
+        wanted = {it for it in run if it.startswith(tuple(f"{room}." for room in table.ROOMS)) and not it.startswith(OTHERS)}
+        self.assertEqual({it.module for it in table.checks()}, wanted)
 
     def test_what_touches_a_check_is_there(self) -> None:
-        for check in checks.checks():
+        for check in table.checks():
             for name in check.touched:
                 self.assertTrue((ROOT / name).exists(), f"{check.name}: {name}")
 
     def test_the_page_is_made_from_it(self) -> None:
-        page = checks.PAGE.read_text()
-        self.assertEqual(page, checks.with_table(page, checks.checks()), "python3 -m tests.checks --write")
-        self.assertNotEqual(page, checks.with_table(page, checks.checks()[1:]))
-        with self.assertRaises(checks.BadTable):
-            checks.with_table(page.replace(checks.END, ""), checks.checks())
+        for room in table.ROOMS:
+            page, own = (table.folder(room) / table.PAGE).read_text(), table.checks(room)
+            self.assertEqual(page, checks.with_table(page, own), "python3 -m tests.checks --write")
+            self.assertNotEqual(page, checks.with_table(page, own[1:]))
+            with self.assertRaises(table.BadTable):
+                checks.with_table(page.replace(checks.END, ""), own)
 
     def test_lines_are_read(self) -> None:
-        rows, ends, memory = checks.checks(TABLE)
+        rows, ends, memory = table.listed("tests", TABLE)
         self.assertEqual((rows.words, rows.seconds, rows.touched), (["tests.rows"], 7, ("examples", "docs")))
         self.assertEqual((ends.words, ends.needs, memory.touched), (["tests.ends", "--short"], "cc", ()))
         for wrong in ("rows | whole | answers | - | 7", "rows | often | answers | - | 7 | -", "rows | whole | answers | - | soon | -"):
-            with self.assertRaises(checks.BadTable):
-                checks.checks(wrong)
+            with self.assertRaises(table.BadTable):
+                table.listed("tests", wrong)
+
+    def test_each_short_check_has_a_long_form(self) -> None:
+        forms = table.long_forms()
+        every = {check.module: check for check in table.checks()}
+        self.assertLessEqual({module for module, check in every.items() if check.form != "whole"}, set(forms))
+        self.assertEqual({module: form.name for module, form in forms.items()}, {module: every[module].name for module in forms})
+        for form in forms.values():
+            self.assertNotIn("$", " ".join(form.words({})))
+
+    def test_long_forms_are_read(self) -> None:
+        form = table.parsed_long("tests", "some | --rounds $ROUNDS --fast | ROUNDS=200 | 7")
+        self.assertEqual((form.name, form.seconds, form.words({})), ("some", 7, ["--rounds", "200", "--fast"]))
+        self.assertEqual(form.words({"ROUNDS": "3", "OTHER": "4"}), ["--rounds", "3", "--fast"])
+        self.assertEqual(table.parsed_long("tests", "some | - | - | 0").words({}), [])
+        for wrong in ("some | - | -", "some | - | ROUNDS | 0", "some | - | - | soon"):
+            with self.assertRaises(table.BadTable):
+                table.parsed_long("tests", wrong)
 
     def test_seconds_are_noted(self) -> None:
         found = checks.noted(TABLE, checks.seconds_of("rows 12\nthe layout 3\nends 40\n"))
-        self.assertEqual([it.seconds for it in checks.checks(found)], [12, 40, 0])
+        self.assertEqual([it.seconds for it in table.listed("tests", found)], [12, 40, 0])
         self.assertEqual(found.replace("12", "7").replace("40", "0"), TABLE)
+        self.assertEqual(checks.noted("ends | - | - | 0\n", {"ends": 40}, 3), "ends | - | - | 40\n")

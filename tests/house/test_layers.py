@@ -16,42 +16,45 @@ import kit
 # A line of the picture: the layer, the crate, what it is, and the crates that it stands on.
 LINE = re.compile(r"(?m)^ *(\d+)  (rs_\w+) +\S.*?(?:  +(rs_\w+(?: rs_\w+)*))?$")
 
+# The layer of a crate, and those that it stands on.
+Layer = tuple[int, set[str]]
+
 # What names the proofs of a crate, and the file of them: `Rattle.rs_disk.proofs.Images`.
 CITATION = re.compile(r"\bRattle\.(rs_\w+)\.proofs\.(\w+)")
 
 
-def strays(crate, place, text):
+def strays(crate: str, place: str, text: str) -> list[str]:
     """What a file of a crate cites of proofs and should not: in src/ and specs/ any, in proofs/ another crate's."""
     found = [it for it in CITATION.finditer(text) if it[1] != crate or not place.startswith("proofs/")]
     is_taken = place == "proofs/FromBelow.antt"
     return [it[0] for it in found if not (is_taken and it[2] == "ForCallers")]
 
 
-def layers(uses):
+def layers(uses: dict[str, list[str]]) -> dict[str, Layer]:
     """Of each crate its layer, and the crates that it stands on, without those that stand below another one of them."""
     own = {name: [it for it in named if it in uses] for name, named in uses.items()}
-    found = {}
+    found: dict[str, Layer] = {}
     for name, named in own.items():
         lower = {deeper for it in named for deeper in kit.below(uses, it)}
         found[name] = 1 + max((found[it][0] for it in named), default=0), set(named) - lower
     return found
 
 
-def drawn(page):
+def drawn(page: str) -> list[tuple[str, Layer]]:
     """The same, by the lines of a page; a crate that stands there twice comes twice."""
     return [(name, (int(layer), set(named.split()))) for layer, name, named in LINE.findall(page)]
 
 
 class Layers(unittest.TestCase):
-    def test_the_picture_is_that_of_the_crates(self):
+    def test_the_picture_is_that_of_the_crates(self) -> None:
         page = Path(gate.ROOT, "docs", "ARCHITECTURE.md").read_text()
         self.assertEqual(sorted(drawn(page)), sorted(layers(kit.crates_of(gate.ROOT)).items()))
 
-    def test_what_stands_below_another_one_is_left_out(self):
+    def test_what_stands_below_another_one_is_left_out(self) -> None:
         uses = {"rs_a": ["std"], "rs_b": ["rs_a"], "rs_c": ["rs_a", "rs_b"]}
         self.assertEqual(layers(uses), {"rs_a": (1, set()), "rs_b": (2, {"rs_a"}), "rs_c": (3, {"rs_b"})})
 
-    def test_proofs_are_cited_by_their_interface(self):
+    def test_proofs_are_cited_by_their_interface(self) -> None:
         crates = Path(gate.ROOT, "crates")
         files = [it for kind in ("*.rt", "*.antt") for it in sorted(crates.rglob(kind)) if "out" not in it.parts]
         found = {}
@@ -60,7 +63,7 @@ class Layers(unittest.TestCase):
             found[f"{crate}/{place}"] = strays(crate, place, file.read_text())
         self.assertEqual({place: named for place, named in found.items() if named}, {})
 
-    def test_a_stray_citation_is_found(self):
+    def test_a_stray_citation_is_found(self) -> None:
         lemma, offered = "use Rattle.rs_a.proofs.Images.{settled}", "pub use Rattle.rs_a.proofs.ForCallers.{settled}"
         self.assertEqual(strays("rs_b", "proofs/Pages.antt", lemma), ["Rattle.rs_a.proofs.Images"])
         self.assertEqual(strays("rs_b", "proofs/FromBelow.antt", lemma), ["Rattle.rs_a.proofs.Images"])
@@ -69,5 +72,5 @@ class Layers(unittest.TestCase):
         self.assertEqual(strays("rs_a", "proofs/Pages.antt", lemma), [])
         self.assertEqual(strays("rs_a", "specs/Pages.antt", lemma), ["Rattle.rs_a.proofs.Images"])
 
-    def test_a_line_is_read(self):
+    def test_a_line_is_read(self) -> None:
         self.assertEqual(drawn("  2  rs_b  what it is, and more   rs_a\n  1  rs_a  the lowest\n"), [("rs_b", (2, {"rs_a"})), ("rs_a", (1, set()))])

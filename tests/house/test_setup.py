@@ -19,13 +19,13 @@ file | /no/such/file | test | pages
 
 
 class SetUp(unittest.TestCase):
-    def test_what_is_missing(self):
+    def test_what_is_missing(self) -> None:
         self.assertEqual([it.name for it in setup.packages(TABLE)], ["shell", "none", "later", "file"])
         self.assertEqual([it.name for it in setup.missing(TABLE)], ["none", "file"])
 
-    def said(self, user, **environment):
+    def said(self, user: int, **environment: str) -> tuple[str, list[str]]:
         """What it prints for a user, and what it installed."""
-        installed = []
+        installed: list[str] = []
         with contextlib.ExitStack() as patched, contextlib.redirect_stdout(io.StringIO()) as out:
             patched.enter_context(unittest.mock.patch.dict(os.environ, environment))
             patched.enter_context(unittest.mock.patch.object(os, "getuid", lambda: user))
@@ -33,24 +33,24 @@ class SetUp(unittest.TestCase):
             self.assertTrue(setup.setup(TABLE))
         return out.getvalue(), installed
 
-    def test_each_part_that_is_left_out_is_named(self):
-        for user, environment, wanted in ((0, {}, ["none", "file"]), (0, {"SETUP": "no"}, []), (1000, {}, [])):
-            told, installed = self.said(user, **{"SETUP": "", **environment})
+    def test_each_part_that_is_left_out_is_named(self) -> None:
+        for user, is_set_up, wanted in ((0, "", ["none", "file"]), (0, "no", []), (1000, "", [])):
+            told, installed = self.said(user, SETUP=is_set_up)
             self.assertEqual(installed, wanted)
             self.assertTrue(told.startswith("== this machine lacks of Debian: none, file (packages.txt)\n"))
             left_out = [("no-such-command", "the tour"), ("/no/such/file", "pages")]
             self.assertTrue(told.endswith("".join(f"NOT TRIED, as there is no {what} here: {part}\n" for what, part in left_out)))
 
-    def test_nothing_is_said_where_nothing_is_missing(self):
+    def test_nothing_is_said_where_nothing_is_missing(self) -> None:
         with contextlib.redirect_stdout(io.StringIO()) as out:
             self.assertTrue(setup.setup("shell | sh | gate | to begin with\n"))
         self.assertEqual(out.getvalue(), "")
 
-    def test_nothing_begins_without_what_the_gate_needs(self):
+    def test_nothing_begins_without_what_the_gate_needs(self) -> None:
         with contextlib.redirect_stdout(io.StringIO()), unittest.mock.patch.dict(os.environ, {"SETUP": "no"}):
             self.assertFalse(setup.setup("none | no-such-command | gate | to begin with\n"))
 
-    def test_the_table_says_what_for(self):
+    def test_the_table_says_what_for(self) -> None:
         every = setup.packages(Path(setup.ROOT, "packages.txt").read_text())
         self.assertEqual(len({it.name for it in every}), len(every))
-        self.assertTrue(all(it.name and it.mark and it.use and it.user in ("gate", "test", "bench", "replicas", "arm64") for it in every))
+        self.assertTrue(all(it.name and it.mark and it.use and it.user in ("gate", "test", "bench", "replicas", "arm64", "pictures") for it in every))

@@ -1,4 +1,4 @@
-"""Tests that VERSION has one number, and that CHANGELOG.md and the manual's page have the same."""
+"""Tests that VERSION has one number, and that all other places have the same."""
 
 import re
 import sys
@@ -9,11 +9,12 @@ sys.path[:0] = [str(Path(__file__).resolve().parents[2] / "gate" / it) for it in
 
 import gate
 
-PLACES = {"CHANGELOG.md": r"(?m)^## \[(.*?)\]", "install/rs_source.8": r"(?m)^This page is that of Ropepeach (\S+)\.$"}
+PLACES = {"CHANGELOG.md": r"(?m)^## \[(.*?)\]", "install/rs_source.8": r"(?m)^This page is that of Ropepeach (\S+)\.$",
+          "tools/ropepeach/__init__.py": r'(?m)^__version__ = "(.*)"$', "debian/changelog": r"\Aropepeach \((\S+)\)"}
 
 
 class Version(unittest.TestCase):
-    def test_each_place_has_the_number(self):
+    def test_each_place_has_the_number(self) -> None:
         number = Path(gate.ROOT, "VERSION").read_text()
         self.assertRegex(number, r"\A\d+\.\d+\.\d+\n\Z")
         for name, place in PLACES.items():

@@ -36,7 +36,7 @@ A **group** does up to 16. A media type has 3 to 100 bytes, and 50,000 resources
 
 
 class Pages(unittest.TestCase):
-    def setUp(self):
+    def setUp(self) -> None:
         folder = tempfile.TemporaryDirectory()
         self.addCleanup(folder.cleanup)
         self.root = Path(folder.name)
@@ -45,16 +45,16 @@ class Pages(unittest.TestCase):
             (self.root / name).write_text(text)
         self.repo = Repository(self.root)
 
-    def told(self, old="", new=""):
+    def told(self, old: str = "", new: str = "") -> list[str]:
         """What is found on the page with a text in the place of another."""
         self.assertIn(old, PAGE)
         page = self.root / "crates/rs_a/README.md"
         return [what for look in words.LOOKS for _, what in look(self.repo, page, PAGE.replace(old, new, 1))]
 
-    def test_a_page_as_it_should_be_passes(self):
+    def test_a_page_as_it_should_be_passes(self) -> None:
         self.assertEqual(self.told(), [])
 
-    def test_what_is_wrong_is_told(self):
+    def test_what_is_wrong_is_told(self) -> None:
         changed = ["n ≤ at }", "n < at }"], ["(length", "(size"], ["n: u32", "n: u64"], ["    ensures", "ensures none { result ≡ 0 }\nensures"]
         gone = ["docs/PLAN.md,", "docs/PLANS.md,"], ["../../docs", "../docs"], ["Runs.antt", "Sets.antt"], ["NAME/specs", "NAME/spec"]
         unknown = ["rs_a::find", "lost_word"], ["rs_a::find", "rs_a::finds"], ["2 words", "`IsFreed at 2`"], ["of rs_b", "of it"]
@@ -62,12 +62,17 @@ class Pages(unittest.TestCase):
         for old, new in [*changed, *gone, *unknown, *commands]:
             self.assertTrue(self.told(old, new), f"{old} -> {new}")
 
-    def test_each_figure_off_by_one_is_told(self):
-        self.assertEqual([what for page, _, what in limits.wrong(ROOT, {1: FIGURES}) if page], [])
+    def test_a_strange_word_is_told_with_a_plain_one(self) -> None:
+        for old, new in (["2 words", "2 Words such\na one"], ["2 words", "what Comes to"]):
+            self.assertEqual(len(self.told(old, new)), 1, new)
+        self.assertEqual(self.told("2 words", "becomes tonight"), [])
+
+    def test_each_figure_off_by_one_is_told(self) -> None:
+        self.assertEqual([what for page, _, what in limits.wrong(ROOT, {ROOT: FIGURES}) if page], [])
         for it in re.finditer(r"\d[\d,]*\d|\b[248]\b", FIGURES):
             text = f"{FIGURES[: it.start()]}{int(it[0].replace(',', '')) + 1:,}{FIGURES[it.end() :]}"
-            self.assertTrue([what for page, _, what in limits.wrong(ROOT, {1: text}) if page], it[0])
+            self.assertTrue([what for page, _, what in limits.wrong(ROOT, {ROOT: text}) if page], it[0])
 
-    def test_the_words_of_the_world_are_sorted(self):
+    def test_the_words_of_the_world_are_sorted(self) -> None:
         listed = (ROOT / "tests" / "house" / "words.txt").read_text().split("\n")
         self.assertEqual(listed, [*sorted(set(filter(None, listed))), ""])

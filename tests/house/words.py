@@ -10,36 +10,43 @@
   - A path exists: what begins with a folder of ours, or ends as our files do. `NAME` and `*` stand for anything, and what is below out/ is
     passed over. So does the target of a link, that of a `make`, the module of a `python3 -m`, and a flag beside a command of ours.
   - A figure of a limit is the code's, and some page tells it (limits.py).
+  - No word stands there that readers stumble at (strange.txt).
 """
 
 import re
 import sys
+from collections.abc import Callable, Iterator
 from pathlib import Path
 
 from tests.house import limits
 from tests.house.repository import COMMENT, FENCE, FLAG, SPAN, WORD, Repository, blanked, prose
 
 PAGES = ["README.md", "CONTRIBUTING.md", "SECURITY.md", "docs/**/*.md", "crates/*/README.md", "tests/**/README.md",
-         "tools/**/README.md", "examples/README.md", "rust/README.md"]
+         "operations/**/*.md", "examples/README.md", "rust/README.md"]
+STRANGE = Path(__file__).with_name("strange.txt")
+# What is found on a page: where, and what is wrong.
+Found = Iterator[tuple[int, str]]
 CLAUSE, CUT = r"^ *(?:pub |fn |requires\b|ensures\b)", r"(?:(?!\b(?:ensures|requires|fn)\b)[\s\S])*?"
-FILE = re.compile(r"(?<![\w/.:~%-])(?:(?:crates|docs|tests|tools|gate|statement|bench|examples|install|specs|src|proofs|must-fail)/[\w./*-]*"
+FILE = re.compile(r"(?<![\w/.:~%-])(?:(?:crates|docs|tests|tools|gate|statement|bench|examples|install|operations|specs|src|proofs|must-fail)/[\w./*-]*"
                   r"|[\w*-]+(?:/[\w*-]+)*\.(?:md|py|rt|antt|sh|svg|session|disks|edit|txt|http))(?![\w/])")
-OURS = re.compile(r"\brs_source\b|\bmake\b|\b(?:tools|gate|statement)/|\b(?:tests|bench)\.\w|^--"
+OURS = re.compile(r"\brs_source\b|\bmake\b|\b(?:tools|gate|statement|operations)/|\b(?:tests|bench)\.\w|^--"
                   r"|\bropepeach (?:fill|mirror|look|size|why|health|collection|grow|takeover)\b")
 
 
-def crate_of(page):
+def crate_of(page: Path) -> list[str]:
+    """The crate of a page, if it is one's."""
     return [page.parent.name] if page.parent.parent.name == "crates" else []
 
 
-def pattern(quoted):
+def pattern(quoted: str) -> re.Pattern[str]:
     """What finds a quoted piece of code, whatever its spaces, line breaks and cuts."""
     tokens = re.findall(r"\.\.|\w+|[^\w\s]", re.sub(r"\(\.\. [^()]* \.\.\)", "..", quoted).rstrip("; \n"))
     marks = {"..": CUT, ")": r",?\s*\)", "}": r"[)\s]*\}"}
     return re.compile(r"\s*".join(marks.get(it) or (rf"\b{it}\b" if it[0].isalnum() else re.escape(it)) for it in tokens))
 
 
-def clauses(repo, page, text):
+def clauses(repo: Repository, page: Path, text: str) -> Found:
+    """Quoted clauses that no source has."""
     for block in (it for it in FENCE.finditer(text) if it[1] == "rust"):
         scope = texts = repo.texts(*crate_of(page))
         for part in re.finditer(rf"(?ms){CLAUSE}.*?(?={CLAUSE}|\Z)", blanked(COMMENT, block[2])):
@@ -52,7 +59,8 @@ def clauses(repo, page, text):
                 yield block.start(2) + part.start(), f"no source has it so: {' '.join(part[0].split())}"
 
 
-def words(repo, page, text):
+def words(repo: Repository, page: Path, text: str) -> Found:
+    """Words in backticks that no source has."""
     for span in SPAN.finditer(prose(text)):
         is_name = re.fullmatch(r"(?![0-9a-f]{16})[A-Za-z_][\w:.<>()]*", span[1])
         for word in WORD.findall(re.sub(r"\S*[*/]\S*|(?<!\S)-\w+", "", span[1])):
@@ -60,17 +68,20 @@ def words(repo, page, text):
                 yield span.start(), f"no source has the word {word}"
 
 
-def own_words(repo, page, text):
+def own_words(repo: Repository, page: Path, text: str) -> Found:
+    """Words of a crate's \"Its words\" that it does not define."""
     part = re.search(r"(?ms)^## Its words\n(.*?)(?=^## |\Z)", text)
     code = "\n".join(repo.texts(*crate_of(page)))
     for line in re.finditer(r"(?m)^- ((?:`[^`]+`(?:, )?)+).*(?:\n  .*)*", part[1] if part else ""):
-        for word in (it[0] for it in (WORD.match(span[1]) for span in SPAN.finditer(line[1])) if it):
+        firsts = [WORD.match(span[1]) for span in SPAN.finditer(line[1])]
+        for word in (first[0] for first in firsts if first):
             defined = rf"(?m)^(?:(?:pub|record|data|abbrev) )*{word}\b|^ +(?:pub )?{word} :|\b(?:fn|struct|enum|trait|const|type) {word}\b"
-            if not re.search(defined, code) and not set(re.findall(r"\brs_\w+", line[0])) - set(crate_of(page)):
+            if part and not re.search(defined, code) and not set(re.findall(r"\brs_\w+", line[0])) - set(crate_of(page)):
                 yield part.start(1) + line.start(), f"{page.parent.name} does not define {word}"
 
 
-def paths(repo, page, text):
+def paths(repo: Repository, page: Path, text: str) -> Found:
+    """Paths and links that lead to nothing."""
     for it in FILE.finditer(text):
         path, near = it[0].rstrip("./"), re.findall(r"\brs_\w+", text[max(0, it.start() - 30) : it.start()])
         ends = [f"{crate}/{path}" for crate in crate_of(page) + near if crate_of(page) and path.startswith(("src/", "specs/", "proofs/"))]
@@ -81,23 +92,35 @@ def paths(repo, page, text):
             yield it.start(), f"a link to nothing: {it[1]}"
 
 
-def commands(repo, page, text):
+def commands(repo: Repository, page: Path, text: str) -> Found:
+    """Targets, modules and flags that are not there."""
     lines = [(block.start(2) + it.start(), it[0]) for block in FENCE.finditer(text) for it in re.finditer(r".+", block[2])]
     for at, code in lines + [(it.start(), it[1]) for it in SPAN.finditer(prose(text))]:
         code = re.sub(r"\s#.*", "", code).strip("$ ")
         targets = [it for it in re.findall(r"(?:^|[(;&] ?|=\S+ )make ([a-z][\w.-]*)", code) if it not in repo.targets]
-        modules = re.findall(r"-m ((?:tests|bench)[\w.]*\w)", code) + [it for it in targets if it.startswith("tests.")]
+        modules = re.findall(r"-m ((?:tests|bench|operations)\b[\w.]*\w)", code) + [it for it in targets if re.match(r"(?:operations\.)?tests\.", it)]
         yield from ((at, f"no target of the Makefile: {it}") for it in targets if it not in modules)
         yield from ((at, f"there is no module {it}") for it in modules if not repo.has(it.replace(".", "/")))
         yield from ((at, f"no source names the flag {it}") for it in FLAG.findall(code) if OURS.search(code) and it not in repo.flags)
 
 
-LOOKS = clauses, words, own_words, paths, commands
+def strange(repo: Repository, page: Path, text: str) -> Found:
+    """Words that a reader stumbles at."""
+    for line in STRANGE.read_text().splitlines():
+        phrase, _, plain = line.partition(" | ")
+        wanted = rf"(?i)\b{phrase}\b".replace(" ", r"\s+")
+        places = re.finditer(wanted, prose(text)) if plain else ()
+        yield from ((place.start(), f"{phrase!r} is strange to a reader: {plain}") for place in places)
 
 
-def main(root):
+LOOKS: tuple[Callable[[Repository, Path, str], Found], ...] = clauses, words, own_words, paths, commands, strange
+
+
+def main(root: Path) -> int:
+    """Looks at all pages of a repository, and gives the status."""
     repo, texts = Repository(root), {it: it.read_text() for kind in PAGES for it in sorted(root.glob(kind))}
-    found = [(page, at, what) for page, text in texts.items() for look in LOOKS for at, what in look(repo, page, text)]
+    found: list[tuple[Path | None, int, str]] = []
+    found += [(page, at, what) for page, text in texts.items() for look in LOOKS for at, what in look(repo, page, text)]
     found += limits.wrong(root, texts)
     for page, at, what in found:
         print(f"{page.relative_to(root)}:{texts[page].count(chr(10), 0, at) + 1}: {what}" if page else what)

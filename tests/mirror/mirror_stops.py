@@ -11,7 +11,7 @@ import os
 import shutil
 
 from ropepeach import mirror_folder, mirror_tree
-from ropepeach.facts import packed
+from ropepeach.facts import exact_facts
 from tests.program import Differs
 
 # Any moment.
@@ -62,7 +62,7 @@ def bring(folder, wanted):
         folder.remove(name)
     for name, body in wanted.items():
         if body is not None:
-            if not folder.has(name, packed({"length": str(len(body)), "hash": f"sha-256:{hashlib.sha256(body).hexdigest()}"})):
+            if not folder.has(name, exact_facts({"length": str(len(body)), "hash": f"sha-256:{hashlib.sha256(body).hexdigest()}"})):
                 folder.write(name, body)
     folder.settle()
     folder.remember(MOMENT, MOMENT)

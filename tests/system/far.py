@@ -5,8 +5,8 @@ is tested. The files are sparse, and spelled from docs/DISK.md (tests/disks/far_
 in the last blocks; on one disk all else is free, and on others bodies of zeros take the blocks below 2 GiB, or more, so that each command
 writes behind them. Each is opened, looked at, verified and commanded; a body in the last blocks is damaged; a source is copied; a
 command is killed at each of its calls, and what it wrote since the last sync is torn. What the files hold then is read by
-tests/reading, the calls are those of call_rules.py, and `ropepeach look` tells the same. At the end programs are made up whose offsets
-lose a bit on their way to the system: each has to be noticed.
+tests/reading, and the calls are those of call_rules.py. At the end programs are made up whose offsets lose a bit on their way to the
+system: each has to be noticed.
 
 usage: python3 -m tests.system.far [PROGRAM]     exit status 1 where anything differs
 """
@@ -15,12 +15,11 @@ import io
 import os
 import pathlib
 import random
-import subprocess
 import sys
 
 from tests.disks import far_disk
 from tests.disks.far_disk import BLOCKS, BODIES, FILLERS, MOST_FILLERS, Holes
-from tests.program import PROGRAM, TOOLS, room_in_memory
+from tests.program import PROGRAM, room_in_memory
 from tests.reading import disk_judge, disk_reader
 from tests.reading.disk_formats import BLOCK
 from tests.system import call_rules
@@ -116,17 +115,6 @@ def look_at_commands(what: str, room: Room, filled: int) -> None:
         compare(f"{what}: what is written below 2 GiB beside the slots", low, [])
 
 
-def look_at_tool(what: str, room: Room, filled: int) -> None:
-    """`ropepeach look` tells how many blocks are used, and what is held."""
-    disk = Holes(pathlib.Path(room.folder, DISK))
-    used = 2 + sum(blocks for _, blocks in disk_reader.extents(disk_reader.source_of(disk)))
-    ran = subprocess.run([TOOLS / "ropepeach-command", "look", DISK], cwd=room.folder, capture_output=True, text=True)
-    lines = ran.stdout.splitlines()
-    compare(f"{what}, look: the status", (ran.returncode, ran.stderr), (0, ""))
-    for wanted in (f"blocks: {used:,} used of {BLOCKS:,} ", f"resources: {filled + len(BODIES)} of 50,000 "):
-        compare(f"{what}, look", [wanted for it in lines if it.startswith(wanted)], [wanted])
-
-
 def look_at_copy(what: str, room: Room, filled: int) -> None:
     """The source is copied to a file of as many bytes, by the calls of the rules, and the copy has its bodies."""
     if filled:
@@ -194,7 +182,7 @@ def looked_at(room: Room, filled: int) -> None:
     """All looks at a disk in front of whose bodies so many of zeros lie."""
     what = f"{filled} bodies of zeros before all else"
     far_disk.written(pathlib.Path(room.folder, DISK), far_disk.parts(filled))
-    for look in (look_at_tool, look_at_bodies, look_at_copy, look_at_commands, look_at_crashes):
+    for look in (look_at_bodies, look_at_copy, look_at_commands, look_at_crashes):
         try:
             look(what, room, filled)
         except (OSError, disk_reader.Unread) as fault:

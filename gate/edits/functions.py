@@ -1,6 +1,7 @@
 """Reads Rattle's source texts as far as the gate has to: where functions stand, and what they say to callers."""
 
 import re
+from collections.abc import Iterable
 from dataclasses import dataclass
 
 # Comments, strings and character literals, in which braces and words mean nothing.
@@ -22,12 +23,12 @@ class Function:
     end: int
 
 
-def blanked(text):
+def blanked(text: str) -> str:
     """The text with blanks in place of comments, strings and characters, at the same places."""
     return QUIET.sub(lambda it: re.sub(r"[^\n]", " ", it[0]), text)
 
 
-def closed(code, at):
+def closed(code: str, at: int) -> int:
     """Where the brace that opens at `at` is closed."""
     depth = 0
     for brace in re.compile(r"[{}]").finditer(code, at):
@@ -37,7 +38,7 @@ def closed(code, at):
     return len(code)
 
 
-def body_of(code, at):
+def body_of(code: str, at: int) -> int:
     """Where the body of the function begins whose signature goes on at `at`, past its clauses."""
     start, depth = at, 0
     while at < len(code) and (depth or code[at] not in "{;" or CLAUSE.search(code, start, at)):
@@ -46,9 +47,10 @@ def body_of(code, at):
     return at
 
 
-def functions_of(text):
+def functions_of(text: str) -> list[Function]:
     """Each function of a source text that has a body."""
-    code, found = blanked(text), []
+    code = blanked(text)
+    found: list[Function] = []
     blocks = [(it.end(), closed(code, it.end() - 1), it[1]) for it in BLOCK.finditer(code)]
     for it in re.finditer(r"\bfn\s+(\w+)", code):
         at = body_of(code, it.end())
@@ -58,22 +60,26 @@ def functions_of(text):
     return found
 
 
-def symbol_of(path, function, symbols):
+def words_of(head: str) -> list[str]:
+    """The names of a block's head, without their paths and lifetimes."""
+    return re.findall(r"\b[A-Za-z]\w*\b(?!\s*::)", re.sub(r"'\w+", "", head))
+
+
+def symbol_of(path: str, function: Function, symbols: Iterable[str]) -> str | None:
     """The one symbol of a check's lines that a function of the file can have, or None."""
     module = [it for it in path.removeprefix("src/").removesuffix(".rt").split("/") if it not in ("lib", "main", "mod")]
     head = re.sub(r"\A(impl|trait)\s*(<([^<>]|<[^<>]*>)*>)?", "", function.block.split("where")[0]).strip()
     trait, _, owner = head.rpartition(" for ")
-    words = lambda it: re.findall(r"\b[A-Za-z]\w*\b(?!\s*::)", re.sub(r"'\w+", "", it))
-    owner = (words(owner) or [""])[0]
+    owner = (words_of(owner) or [""])[0]
     # A method of a plain impl has its type's module, wherever the impl stands.
     is_plain = function.block and not trait
-    parts = [*([] if is_plain else module), *([owner + "".join(words(trait))] if function.block else []), function.name]
+    parts = [*([] if is_plain else module), *([owner + "".join(words_of(trait))] if function.block else []), function.name]
     end = "::" + "::".join(parts)
     found = [it for it in symbols if it.endswith(end) and (is_plain or it.count("::") == end.count("::"))]
     return found[0] if len(found) == 1 and (owner or not function.block) else None
 
 
-def item_of(text, function):
+def item_of(text: str, function: Function) -> int:
     """Where a function begins, with its attributes, its words before `fn` and the comments above them."""
     at = text.rfind("\n", 0, function.at) + 1
     while at and not re.search(r"(\A|[{};]|//![^\n]*|\n)\n\Z", text[:at]):
@@ -81,7 +87,7 @@ def item_of(text, function):
     return at
 
 
-def outline(text):
+def outline(text: str) -> str:
     """What a source text says to the crates above: all of it but comments and the bodies of functions. (No test says anything to them.)"""
     for function in reversed(functions_of(text)):
         if function.end <= len(text):

@@ -1,0 +1,120 @@
+"""Tests of `make build`: what it copies, when it runs, and what it takes."""
+
+import contextlib
+import io
+import subprocess
+import tempfile
+import unittest
+from pathlib import Path
+from unittest import mock
+
+from samples import write
+
+import build
+import kit
+
+# A toolchain that proves the program, or does not; it makes the program of the words that its source has.
+RT = """#!/bin/sh
+[ "$1" = version ] && echo 'a-kit logic 1a' && exit
+echo run >> {room}/runs
+cat crates.txt > {room}/crates
+mkdir -p crates/rs_source/out
+cat crates/low/src/lib.rt crates/rs_source/src/main.rt > crates/rs_source/out/rs_source
+echo 'rt: low is kept: an earlier run'
+echo 'rt: rs_source proved'
+echo '2 passed, {failed} failed'
+exit {failed}
+"""
+CRATES = "# the lowest first\nlow: std\nlow_tests: low\nother: std\nrs_source: low\n"
+
+
+class Build(unittest.TestCase):
+    def setUp(self) -> None:
+        folder = tempfile.TemporaryDirectory()
+        self.addCleanup(folder.cleanup)
+        self.room = Path(folder.name)
+        self.root = self.room / "repository"
+        for name in ("low/src/lib.rt", "low/must-fail/a.edit", "low_tests/src/lib.rt", "other/src/lib.rt", "rs_source/src/main.rt"):
+            write(f"{name}\n", self.root, f"crates/{name}")
+        write(CRATES, self.root, "crates.txt")
+        write("Handles allowed: none.\n", self.root, "HANDLES")
+        write("out/\n", self.root, ".gitignore")
+        subprocess.run(["git", "init", "-q"], cwd=self.root, check=True)
+        out = self.root / "crates/rs_source/out"
+        places = {"ROOT": self.root, "LOG": self.root / "out/build.log", "BUILT": out / "rs_source", "MADE_OF": out / "rs_source.made_of"}
+        for name, value in places.items():
+            self.patch(build, name, value)
+        self.patch(kit, "RT", f"{self.room}/rt")
+        self.toolchain(failed=0)
+
+    def patch(self, where: object, name: str, value: object) -> None:
+        """Gives a module another value while a test runs."""
+        patched = mock.patch.object(where, name, value)
+        patched.start()
+        self.addCleanup(patched.stop)
+
+    def toolchain(self, failed: int) -> None:
+        """Sets the toolchain up, which fails where `failed` is 1."""
+        write(RT.format(room=self.room, failed=failed), self.room, "rt")
+        Path(self.room, "rt").chmod(0o755)
+
+    def built(self) -> tuple[int, str]:
+        """The status of `make build`, and its last line."""
+        with contextlib.redirect_stdout(io.StringIO()) as out, contextlib.redirect_stderr(io.StringIO()):
+            status = build.main()
+        return status, out.getvalue().splitlines()[-1]
+
+    def runs(self) -> int:
+        """How often the toolchain ran."""
+        noted = self.room / "runs"
+        return len(noted.read_text().splitlines()) if noted.exists() else 0
+
+    def test_it_proves_the_program_and_those_below_it_and_no_more(self) -> None:
+        copy = build.copied(self.root, str(self.room), ["low", "rs_source"])
+        names = sorted(str(path.relative_to(copy)) for path in copy.rglob("*") if path.is_file())
+        self.assertEqual(names, ["HANDLES", "crates.txt", "crates/low/src/lib.rt", "crates/rs_source/src/main.rt"])
+        self.assertEqual((copy / "crates.txt").read_text(), "low: std\nrs_source: low\n")
+        self.assertEqual(self.built(), (0, "crates/rs_source/out/rs_source"))
+        self.assertEqual((self.room / "crates").read_text(), "low: std\nrs_source: low\n")
+
+    def test_the_program_is_that_of_the_copy(self) -> None:
+        self.assertEqual(self.built()[0], 0)
+        self.assertEqual(build.BUILT.read_text(), "low/src/lib.rt\nrs_source/src/main.rt\n")
+        self.assertEqual(build.BUILT.stat().st_mode & 0o777, 0o755)
+
+    def test_it_runs_again_where_a_file_the_kit_or_the_program_is_another_one(self) -> None:
+        self.built()
+        self.built()
+        self.assertEqual(self.runs(), 1)
+        changes = (
+            lambda: write("changed\n", self.root, "crates/low/src/lib.rt"),
+            lambda: write("new\n", self.root, "crates/rs_source/specs/New.antt"),
+            lambda: write("Handles allowed: Net.\n", self.root, "HANDLES"),
+            lambda: write("low: std hex\nrs_source: low\n", self.root, "crates.txt"),
+            lambda: build.BUILT.write_text("another program"),
+            lambda: self.patch(kit, "identity", lambda: ("another-kit", "2b")),
+        )
+        for number, change in enumerate(changes, 2):
+            change()
+            self.built()
+            self.built()
+            self.assertEqual(self.runs(), number)
+
+    def test_it_does_not_run_for_what_the_program_is_not_made_of(self) -> None:
+        self.built()
+        for name in ("crates/other/src/lib.rt", "crates/low_tests/src/lib.rt", "crates/low/must-fail/a.edit", "docs/A.md"):
+            write("changed\n", self.root, name)
+        self.built()
+        self.assertEqual(self.runs(), 1)
+
+    def test_what_is_not_proved_leaves_the_program_that_was(self) -> None:
+        self.built()
+        write("wrong\n", self.root, "crates/low/src/lib.rt")
+        self.toolchain(failed=1)
+        self.assertEqual(self.built()[0], 1)
+        self.assertEqual(build.BUILT.read_text(), "low/src/lib.rt\nrs_source/src/main.rt\n")
+        self.assertEqual(self.built()[0], 1)
+
+
+if __name__ == "__main__":
+    unittest.main()

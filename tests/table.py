@@ -1,0 +1,106 @@
+"""The tables of checks: checks.txt (what each holds the program to, and what touches it) and long.txt (their long forms)."""
+
+import shlex
+from collections.abc import Mapping
+from dataclasses import dataclass
+from pathlib import Path
+from string import Template
+
+from tests.program import ROOT
+
+# The packages that have checks. Each has a table of them, and a page that is made from it (checks.py).
+ROOMS = ("tests",)
+TABLE, LONG, PAGE = "checks.txt", "long.txt", "README.md"
+FORMS = ("whole", "short", "never")
+
+
+@dataclass(frozen=True)
+class Check:
+    """A check of the program: its package and its module there, how `make test` runs it, and what is said of it."""
+
+    room: str
+    name: str
+    form: str
+    holds: str
+    needs: str
+    seconds: int
+    # The files that touch it, beside those that it imports.
+    touched: tuple[str, ...]
+
+    @property
+    def module(self) -> str:
+        """Its module as it is run."""
+        return f"{self.room}.{self.name}"
+
+    @property
+    def words(self) -> list[str]:
+        """The words behind `python3 -m` by which `make test` runs it."""
+        return [self.module, *(["--short"] if self.form == "short" else [])]
+
+
+class BadTable(ValueError):
+    """A line of the table that is none."""
+
+
+def folder(room: str) -> Path:
+    """The folder of a package."""
+    return ROOT.joinpath(*room.split("."))
+
+
+def parsed(room: str, line: str) -> Check:
+    """A line of the table of a package."""
+    parts = [it.strip() for it in line.split(" | ")]
+    if len(parts) != 6 or parts[1] not in FORMS or not parts[4].isdigit():
+        raise BadTable(f"{room}, {TABLE}: not a line of the table: {line}")
+    name, form, holds, needs, seconds, touched = parts
+    return Check(room, name, form, holds, needs, int(seconds), () if touched == "-" else tuple(touched.split()))
+
+
+def lines(text: str) -> list[str]:
+    """The lines of a table that are no comments."""
+    return [it for it in text.splitlines() if it.strip() and not it.startswith("#")]
+
+
+def listed(room: str, text: str) -> list[Check]:
+    """The checks of a table, in their order."""
+    return [parsed(room, line) for line in lines(text)]
+
+
+def checks(*rooms: str) -> list[Check]:
+    """The checks of these packages in their order; of all, where none is named."""
+    return [check for room in rooms or ROOMS for check in listed(room, (folder(room) / TABLE).read_text())]
+
+
+@dataclass(frozen=True)
+class Long:
+    """The long form of a check: its words, the settings in them, and the seconds that it last took."""
+
+    name: str
+    form: str
+    settings: dict[str, str]
+    seconds: int
+
+    def words(self, environment: Mapping[str, str]) -> list[str]:
+        """Its words, with the settings of an environment where it has them."""
+        chosen = {name: environment.get(name) or value for name, value in self.settings.items()}
+        return shlex.split(Template(self.form).substitute(chosen))
+
+
+def parsed_long(room: str, line: str) -> Long:
+    """A line of the table of long forms of a package."""
+    parts = [part.strip() for part in line.split(" | ")]
+    settings = [word.partition("=") for word in parts[2].split()] if len(parts) == 4 and parts[2] != "-" else []
+    if len(parts) != 4 or not parts[3].isdigit() or not all(name and value for name, _, value in settings):
+        raise BadTable(f"{room}, {LONG}: not a line of the table: {line}")
+    form = "" if parts[1] == "-" else parts[1]
+    return Long(parts[0], form, {name: value for name, _, value in settings}, int(parts[3]))
+
+
+def long_forms() -> dict[str, Long]:
+    """The long forms by the modules of their checks. One that is short in `make test` and has no line runs without words."""
+    found: dict[str, Long] = {}
+    for room in ROOMS:
+        listed_forms = [parsed_long(room, line) for line in lines((folder(room) / LONG).read_text())]
+        found |= {f"{room}.{form.name}": form for form in listed_forms}
+        found |= {it.module: Long(it.name, "", {}, 0) for it in checks(room) if it.form != "whole" and it.module not in found}
+    return found
